@@ -1,0 +1,86 @@
+//! Sets of nodes of one kind.
+ghost use Rattle.std.specs.Prelude.{◌≡◌, ℕ, ◌≤◌, ◌||◌, ◌&&◌, ◌==◌, not, false, nat_lt};
+ghost use Rattle.rb_base.specs.Nodes.{has, set_of, size};
+
+use crate::NodeId;
+use std::marker::{Model, PhantomData};
+
+/// A set of nodes of one kind.
+#[derive(Clone, Copy, Debug, PartialEq, Eq)]
+pub struct NodeSet<K> {
+    bits: u16,
+    kind: PhantomData<K>,
+}
+
+impl<K> Model for NodeSet<K> {
+    ghost Value = { ℕ };
+
+    ghost view = { λ s. s.bits };
+
+    ghost inverse = { λ n. record { bits = n; kind = record {} } };
+}
+
+impl<K: Copy> NodeSet<K> {
+    /// The set with no node.
+    pub fn empty() -> NodeSet<K>
+        ensures value { result ≡ 0 }
+        ensures none { (i : ℕ) → has result i ≡ false }
+    {
+        NodeSet::from_bits(0)
+    }
+
+    /// The nodes with the numbers below `count`, at most 16 of them.
+    pub fn first(count: u8) -> NodeSet<K>
+        requires { count ≤ 16 }
+        ensures { result ≡ set_of (λ i. nat_lt i count) }
+    {
+        let next: u32 = 1 << count;
+        NodeSet::from_bits((next - 1) as u16)
+    }
+
+    /// Adds the node, which may be in the set already.
+    pub fn insert(&mut self, id: NodeId<K>)
+        ensures { self.new ≡ set_of (λ i. has self.old i || (i == id)) }
+    {
+        self.bits |= 1 << id.index();
+    }
+
+    /// Takes the node out, which need not be in the set.
+    pub fn remove(&mut self, id: NodeId<K>)
+        ensures { self.new ≡ set_of (λ i. has self.old i && not (i == id)) }
+    {
+        self.bits &= !(1 << id.index());
+    }
+
+    /// Whether the node is in the set.
+    pub fn contains(&self, id: NodeId<K>) -> bool
+        ensures { result ≡ has self.now id }
+    {
+        (self.bits >> id.index()) & 1 == 1
+    }
+
+    /// The number of nodes in the set.
+    pub fn count(&self) -> u8
+        ensures value { result ≡ size self.now }
+        ensures most { result ≤ 16 }
+    {
+        self.bits.count_ones() as u8
+    }
+
+    /// The set as a mask: bit i is set exactly where node i is in the set.
+    pub fn bits(&self) -> u16
+        ensures { result ≡ self.now }
+    {
+        self.bits
+    }
+
+    /// The set with this mask.
+    pub fn from_bits(bits: u16) -> NodeSet<K>
+        ensures { result ≡ bits }
+    {
+        NodeSet {
+            bits,
+            kind: PhantomData,
+        }
+    }
+}
