@@ -1,0 +1,32 @@
+-- Who is convicted, and who is not.
+use Rattle.std.proofs.Common.{◌≡◌, ℕ, ◌<◌, ◌≤◌, Bool, true, false, ◌&&◌, nat_lt, refl, ◌∙◌, ap, arith}
+use Rattle.std.proofs.lemmas.Bool.Decides.{nat_tests}
+use Rattle.rb_base.specs.Nodes.{has}
+use Rattle.rb_base.proofs.Sets.{has-set_of}
+use Rattle.rb_base.specs.declared.values.Heard.{Heard}
+use Rattle.rb_rules.specs.Conviction.{naming, sparing, convicted_by}
+
+-- a node below 16 is convicted by the test that the definition names
+pub convicted_is : (others senders trusted : ℕ) (vector : ℕ → Heard) (j : ℕ) → j < 16
+    → has (convicted_by others senders trusted vector) j ≡ (has trusted j && nat_lt (sparing others senders vector j) (naming others senders vector j))
+unfolding convicted_by
+convicted_is others senders trusted vector j below =
+    has-set_of j (λ j. has trusted j && nat_lt (sparing others senders vector j) (naming others senders vector j)) below
+
+-- a trusted node that more vectors name than spare is convicted
+pub named_is_convicted : (others senders trusted : ℕ) (vector : ℕ → Heard) (j : ℕ) → j < 16 → has trusted j ≡ true
+    → sparing others senders vector j < naming others senders vector j → has (convicted_by others senders trusted vector) j ≡ true
+named_is_convicted others senders trusted vector j below t more =
+    let test : nat_lt (sparing others senders vector j) (naming others senders vector j) ≡ true = grind (arith, nat_tests) in
+    convicted_is others senders trusted vector j below ∙ ap (λ b. has trusted j && b) test ∙ ap (λ b. b && true) t
+
+and_false : (b : Bool) → (b && false) ≡ false
+and_false true = refl
+and_false false = refl
+
+-- a node that no more vectors name than spare is not
+pub spared_is_not_convicted : (others senders trusted : ℕ) (vector : ℕ → Heard) (j : ℕ) → j < 16
+    → naming others senders vector j ≤ sparing others senders vector j → has (convicted_by others senders trusted vector) j ≡ false
+spared_is_not_convicted others senders trusted vector j below few =
+    let test : nat_lt (sparing others senders vector j) (naming others senders vector j) ≡ false = grind (arith, nat_tests) in
+    convicted_is others senders trusted vector j below ∙ ap (λ b. has trusted j && b) test ∙ and_false (has trusted j)

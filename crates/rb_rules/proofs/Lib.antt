@@ -1,0 +1,14 @@
+pub mod Stamps
+pub mod Drift
+pub mod Spellings
+pub mod Majorities
+pub mod Ranks
+pub mod Middles
+pub mod Senses
+pub mod Standings
+pub mod Probation
+pub mod Passes
+pub mod ExactStages
+pub mod Votes
+pub mod Convictions
+pub mod Feasibility

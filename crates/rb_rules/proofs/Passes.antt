@@ -1,0 +1,73 @@
+-- As many passes as there are data slots are enough: more of them give the same owners.
+use Rattle.std.proofs.Common.{◌≡◌, ℕ, zero, suc, ◌+◌, ◌≤◌, Bool, true, false, ◌&&◌, nat_lt, cond, List, [], ◌∷◌, ◌++◌, take, filter, get_or, refl, sym, ◌∙◌, ap, arith}
+use Rattle.std.specs.List.{flat_map, range_with_len}
+use Rattle.std.proofs.lemmas.Bool.Decides.{nat_tests}
+use Rattle.rb_base.specs.Counting.{numbers}
+use Rattle.rb_base.specs.Nodes.{has}
+use Rattle.rb_base.specs.Sizes.{Sizes}
+use Rattle.rb_base.specs.declared.values.Heard.{Heard}
+use Rattle.rb_base.specs.declared.values.Heard.TheVariants.{Fault}
+use Rattle.rb_rules.specs.Owners.{requested, owners_in_pass, owners_of}
+
+-- lists that begin alike begin alike after a list
+same_beginning : {X : Type 0} (xs ys zs : List X) (d : ℕ) → ((e : ℕ) → e ≤ d → take e ys ≡ take e zs) → take d (xs ++ ys) ≡ take d (xs ++ zs)
+same_beginning [] ys zs d same = same d (omega arith)
+same_beginning (x ∷ xs) ys zs zero same = refl
+same_beginning (x ∷ xs) ys zs (suc d) same = ap (λ l. x ∷ l) (same_beginning xs ys zs d (λ e le. same e (omega arith)))
+
+-- an empty pass is followed by empty passes alone
+abbrev Stops : (ℕ → List ℕ) → Type 0
+Stops pass = (p : ℕ) → pass p ≡ [] → pass (p + 1) ≡ []
+
+nothing_after : (pass : ℕ → List ℕ) → Stops pass → (n p : ℕ) → pass p ≡ [] → flat_map pass (range_with_len p n) ≡ []
+nothing_after pass stops zero p empty = refl
+nothing_after pass stops (suc n) p empty = ap (λ l. l ++ flat_map pass (range_with_len (p + 1) n)) empty ∙ nothing_after pass stops n (p + 1) (stops p empty)
+
+-- the first d owners are the same after n passes and after m, both at least d
+same_first : (pass : ℕ → List ℕ) → Stops pass → (n m p d : ℕ) → d ≤ n → d ≤ m
+    → take d (flat_map pass (range_with_len p n)) ≡ take d (flat_map pass (range_with_len p m))
+same_first pass stops zero m p zero le_n le_m = refl
+same_first pass stops zero m p (suc d) le_n le_m = absurd (omega arith)
+same_first pass stops (suc n) zero p zero le_n le_m = refl
+same_first pass stops (suc n) zero p (suc d) le_n le_m = absurd (omega arith)
+same_first pass stops (suc n) (suc m) p zero le_n le_m = refl
+same_first pass stops (suc n) (suc m) p (suc d) le_n le_m =
+    let go : (l : List ℕ) → pass p ≡ l
+    → take (suc d) (l ++ flat_map pass (range_with_len (p + 1) n)) ≡ take (suc d) (l ++ flat_map pass (range_with_len (p + 1) m)) =
+    λ l. elim l as (λ l. pass p ≡ l → take (suc d) (l ++ flat_map pass (range_with_len (p + 1) n)) ≡ take (suc d) (l ++ flat_map pass (range_with_len (p + 1) m))) [
+      | [] ↦ λ empty.
+          let left : flat_map pass (range_with_len (p + 1) n) ≡ [] = nothing_after pass stops n (p + 1) (stops p empty) in
+          let right : flat_map pass (range_with_len (p + 1) m) ≡ [] = nothing_after pass stops m (p + 1) (stops p empty) in
+          ap (take (suc d)) (left ∙ sym right)
+      | x ∷ xs ↦ λ is.
+          ap (λ l. x ∷ l) (same_beginning xs (flat_map pass (range_with_len (p + 1) n)) (flat_map pass (range_with_len (p + 1) m)) d
+          (λ e le. same_first pass stops n m (p + 1) e (omega arith) (omega arith)))
+    ] in
+    go (pass p) refl
+
+-- where none passes a test, none passes one that asks for more
+none_pass : (t u : ℕ → Bool) → ((i : ℕ) → u i ≡ true → t i ≡ true) → (is : List ℕ) → filter t is ≡ [] → filter u is ≡ []
+none_pass t u more [] none = refl
+none_pass t u more (i ∷ is) none =
+    let go : (b c : Bool) → (c ≡ true → b ≡ true) → cond b (i ∷ filter t is) (filter t is) ≡ [] → cond c (i ∷ filter u is) (filter u is) ≡ [] =
+    λ b c. elim b as (λ b. (c ≡ true → b ≡ true) → cond b (i ∷ filter t is) (filter t is) ≡ [] → cond c (i ∷ filter u is) (filter u is) ≡ []) [
+      | true ↦ λ gives some. cc
+      | false ↦ elim c as (λ c. (c ≡ true → false ≡ true) → filter t is ≡ [] → cond c (i ∷ filter u is) (filter u is) ≡ []) [
+        | true ↦ λ gives rest. let no : false ≡ true = gives refl in cc
+        | false ↦ λ gives rest. none_pass t u more is rest
+      ]
+    ] in
+    go (t i) (u i) (more i) none
+
+-- who asks for more than p + 1 slots asks for more than p
+asks_for_more : (a : Bool) (p asked : ℕ) → (a && nat_lt (p + 1) asked) ≡ true → (a && nat_lt p asked) ≡ true
+asks_for_more true p asked h = grind (arith, nat_tests)
+asks_for_more false p asked h = h
+
+pub enough_passes : (sizes : Sizes) (trusted : ℕ) (requests : List Heard) (n : ℕ) → sizes.data_slots ≤ n
+    → take sizes.data_slots (flat_map (owners_in_pass sizes trusted requests) (numbers n)) ≡ owners_of sizes trusted requests
+enough_passes sizes trusted requests n le =
+    same_first (owners_in_pass sizes trusted requests)
+    (λ p. none_pass (λ i. has trusted i && nat_lt p (requested (get_or requests i Fault))) (λ i. has trusted i && nat_lt (p + 1) (requested (get_or requests i Fault)))
+    (λ i. asks_for_more (has trusted i) p (requested (get_or requests i Fault))) (numbers sizes.bius))
+    n sizes.data_slots 0 sizes.data_slots le (omega arith)

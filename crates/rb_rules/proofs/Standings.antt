@@ -1,0 +1,84 @@
+-- Who is accused, and who is not.
+use Rattle.std.proofs.Common.{◌≡◌, ℕ, ◌<◌, ◌^◌, Bool, true, false, not, ◌&&◌, ◌||◌, nat_le, Option, Some, None, is_some, refl, sym, ◌∙◌, ap}
+use Rattle.rb_base.specs.Nodes.{has}
+use Rattle.rb_base.proofs.Sets.{has-set_of, is_set_of}
+use Rattle.rb_base.specs.declared.values.Heard.{Heard}
+use Rattle.rb_rules.specs.declared.sense.Sense.{Sense}
+use Rattle.rb_rules.proofs.Majorities.{same_heard_self}
+use Rattle.rb_rules.specs.Standing.{Standing, is_eligible, taken_of, does_wrong, has_evidence, with_evidence, is_unlike, with_mismatch, lapses, lapsed, calm_after}
+
+-- where something unlike a value was taken, something was taken
+pub unlike_is_taken : (value : Heard) (taken : Option Heard) → is_unlike value taken ≡ true → is_some taken ≡ true
+unlike_is_taken value None h = h
+unlike_is_taken value (Some v) h = refl
+
+-- the value itself is not unlike it
+pub alike_is_not_unlike : (value : Heard) → is_unlike value (Some value) ≡ false
+alike_is_not_unlike value = ap not (same_heard_self value)
+
+-- nothing is taken of a source that is not expected
+pub unexpected_not_taken : {X : Type 0} (part : Sense → Option X) (s : Standing) (expected : ℕ → Bool) (sense : ℕ → Sense) (j : ℕ)
+    → expected j ≡ false → taken_of part s expected sense j ≡ None
+unexpected_not_taken part s expected sense j h = rw h refl
+
+-- of a source that is expected and eligible all that is wanted is taken
+pub expected_is_taken : {X : Type 0} (part : Sense → Option X) (s : Standing) (expected : ℕ → Bool) (sense : ℕ → Sense) (j : ℕ)
+    → expected j ≡ true → is_eligible s j ≡ true → taken_of part s expected sense j ≡ part (sense j)
+expected_is_taken part s expected sense j h e = rw (h, e) refl
+
+-- there is evidence against a trusted source that did wrong
+pub wrong_is_evidence : (s : Standing) (expected : ℕ → Bool) (sense : ℕ → Sense) (j : ℕ)
+    → has s.trusted j ≡ true → does_wrong (expected j) (sense j) ≡ true → has_evidence s expected sense j ≡ true
+wrong_is_evidence s expected sense j t w = rw (t, w) refl
+
+and_false : (b c : Bool) → c ≡ false → (b && c) ≡ false
+and_false true c h = h
+and_false false c h = refl
+
+-- and none against one that did right
+pub right_is_no_evidence : (s : Standing) (expected : ℕ → Bool) (sense : ℕ → Sense) (j : ℕ)
+    → does_wrong (expected j) (sense j) ≡ false → has_evidence s expected sense j ≡ false
+right_is_no_evidence s expected sense j r = and_false (has s.trusted j) (does_wrong (expected j) (sense j)) r
+
+or_true : (b c : Bool) → c ≡ true → (b || c) ≡ true
+or_true true c h = refl
+or_true false c h = h
+
+or_false : (b : Bool) → (b || false) ≡ b
+or_false true = refl
+or_false false = refl
+
+-- evidence accuses
+pub evidence_accuses : (evidence : ℕ → Bool) (s : Standing) (j : ℕ) → j < 16 → evidence j ≡ true → has (with_evidence evidence s).direct j ≡ true
+evidence_accuses evidence s j below h = has-set_of j (λ j. has s.direct j || evidence j) below ∙ or_true (has s.direct j) (evidence j) h
+
+-- a node against which there is none stays as it was
+pub others_stay : (evidence : ℕ → Bool) (s : Standing) (j : ℕ) → j < 16 → evidence j ≡ false → has (with_evidence evidence s).direct j ≡ has s.direct j
+others_stay evidence s j below h =
+    has-set_of j (λ j. has s.direct j || evidence j) below ∙ ap (λ c. has s.direct j || c) h ∙ or_false (has s.direct j)
+
+-- a value that differs accuses by mismatch
+pub mismatch_accuses : (differs : ℕ → Bool) (s : Standing) (j : ℕ) → j < 16 → differs j ≡ true → has (with_mismatch differs s).mismatch j ≡ true
+mismatch_accuses differs s j below h = has-set_of j (λ j. has s.mismatch j || differs j) below ∙ or_true (has s.mismatch j) (differs j) h
+
+-- a node of which none differed stays as it was
+pub alike_stay : (differs : ℕ → Bool) (s : Standing) (j : ℕ) → j < 16 → differs j ≡ false → has (with_mismatch differs s).mismatch j ≡ has s.mismatch j
+alike_stay differs s j below h =
+    has-set_of j (λ j. has s.mismatch j || differs j) below ∙ ap (λ c. has s.mismatch j || c) h ∙ or_false (has s.mismatch j)
+
+-- with no probation no accusation lapses
+pub none_lapses : (s : Standing) (j : ℕ) → lapses 0 s j ≡ false
+none_lapses s j =
+    let go : (a b c : Bool) → (a && not b && false && c) ≡ false =
+    λ a b c. elim a as (λ a. (a && not b && false && c) ≡ false) [
+      | true ↦ elim b as (λ b. (true && not b && false && c) ≡ false) [ true ↦ refl | false ↦ refl ]
+      | false ↦ refl
+    ] in
+    go (has s.direct j) (has s.fresh j) (nat_le 0 (calm_after s j))
+
+-- so a frame's end leaves the accused as they are
+pub accused_stay : (s : Standing) → s.direct < 2 ^ 16 → (lapsed 0 s).direct ≡ s.direct
+accused_stay s fits =
+    let and_true : (b : Bool) → b ≡ (b && true) = λ b. elim b as (λ b. b ≡ (b && true)) [ true ↦ refl | false ↦ refl ] in
+    sym (is_set_of s.direct (λ j. has s.direct j && not (lapses 0 s j)) fits (λ j below.
+    and_true (has s.direct j) ∙ ap (λ l. has s.direct j && not l) (sym (none_lapses s j))))

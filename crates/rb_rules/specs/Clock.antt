@@ -1,0 +1,63 @@
+-- Clocks: the time of each tick, and the stamp of each time.
+use Rattle.std.specs.Prelude.{◌≡◌, ℕ, zero, suc, ◌+◌, ◌<◌, ◌≤◌, ◌==◌, ◌&&◌, Bool, true, false, List, [], ◌∷◌, nat_le, nat_lt, if◌then◌else◌}
+
+-- what a clock shows: the time of tick 0, and from which ticks on which lengths stand, each a first tick and a length
+pub record Timeline : Type 0 where
+  pub start : ℕ
+  pub segments : List (ℕ × ℕ)
+
+-- the length that stands at a tick, where this one stood before the segments
+abbrev pub length_after : ℕ → List (ℕ × ℕ) → ℕ → ℕ
+length_after before [] tick = before
+length_after before (s ∷ ss) tick = length_after (if nat_le s.0 tick then s.1 else before) ss tick
+
+-- the length of a tick: that of the last segment that begins at or before it
+abbrev pub tick_length : Timeline → ℕ → ℕ
+tick_length clock tick = length_after 0 clock.segments tick
+
+-- the time of a tick, added up tick by tick
+abbrev pub time_of : Timeline → ℕ → ℕ
+time_of clock zero = clock.start
+time_of clock (suc tick) = time_of clock tick + tick_length clock tick
+
+-- the stamp of a time is the least tick that is not before it
+pub record IsStamp (clock : Timeline) (time stamp : ℕ) : Type 0 where
+  pub reached : time ≤ time_of clock stamp
+  pub least : (tick : ℕ) → tick < stamp → time_of clock tick < time
+
+-- the time comes by this tick: at it or at an earlier one
+pub record ComesBy (last : ℕ) (clock : Timeline) (time : ℕ) : Type 0 where
+  pub tick : ℕ
+  pub in_time : tick ≤ last
+  pub come : time ≤ time_of clock tick
+
+-- the first tick at or after a time among so many ticks from one on, of which `now` is the time
+abbrev pub first_among : Timeline → ℕ → ℕ → ℕ → ℕ → ℕ
+first_among clock zero tick now time = tick
+first_among clock (suc others) tick now time =
+    elim (nat_le time now) [ true ↦ tick | false ↦ first_among clock others (suc tick) (now + tick_length clock tick) time ]
+
+-- the stamp, looked for tick by tick. Each tick takes at least one unit, so there are no more ticks than units
+abbrev pub stamp_of : Timeline → ℕ → ℕ
+stamp_of clock time = first_among clock time 0 clock.start time
+
+-- the first ticks rise strictly, each above the one before
+abbrev pub rise_above : ℕ → List (ℕ × ℕ) → Bool
+rise_above tick [] = true
+rise_above tick (s ∷ ss) = nat_lt tick s.0 && rise_above s.0 ss
+
+-- the segments begin at tick 0 and rise strictly
+abbrev pub are_rising : List (ℕ × ℕ) → Bool
+are_rising [] = false
+are_rising (s ∷ ss) = (s.0 == 0) && rise_above 0 ss
+
+-- each length lies within the bounds
+abbrev pub are_within : ℕ → ℕ → List (ℕ × ℕ) → Bool
+are_within shortest longest [] = true
+are_within shortest longest (s ∷ ss) = (nat_le shortest s.1 && nat_le s.1 longest) && are_within shortest longest ss
+
+-- the clock starts early enough, and its segments begin at tick 0, rise, and have lengths within the bounds
+pub record IsClock (shortest longest : ℕ) (clock : Timeline) : Type 0 where
+  pub start : clock.start ≤ 1000000000000
+  pub rising : are_rising clock.segments ≡ true
+  pub within : are_within shortest longest clock.segments ≡ true

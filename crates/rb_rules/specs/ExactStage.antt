@@ -1,0 +1,178 @@
+-- The stages below the sync slot: what a node says in one, and what it makes of the arrivals when it closes one.
+use Rattle.std.specs.Prelude.{ℕ, ◌+◌, ◌%◌, ◌==◌, ◌&&◌, not, Bool, false, if◌then◌else◌, Option, Some, None, unwrap_or, is_some, List, map, get_or, slice_set, take}
+use Rattle.std.specs.List.{filter_map}
+use Rattle.rb_base.specs.Counting.{numbers}
+use Rattle.rb_base.specs.Nodes.{Side, other}
+use Rattle.rb_base.specs.Nodes.Side.{Biu}
+use Rattle.rb_base.specs.Sizes.{Sizes}
+use Rattle.rb_base.specs.declared.values.Delivery.{Delivery}
+use Rattle.rb_base.specs.declared.values.Heard.{Heard}
+use Rattle.rb_base.specs.declared.values.Heard.TheVariants as heard
+use Rattle.rb_base.specs.declared.values.See.{See}
+use Rattle.rb_base.specs.declared.values.See.TheVariants.{Nothing, Value}
+use Rattle.rb_rules.specs.declared.closing.Closed.{Closed}
+use Rattle.rb_rules.specs.declared.closing.Closing.{Closing}
+use Rattle.rb_rules.specs.declared.message.Message.{Message}
+use Rattle.rb_rules.specs.declared.message.Tag.TheVariants as tag
+use Rattle.rb_rules.specs.declared.role.Role.{Role}
+use Rattle.rb_rules.specs.declared.role.Role.TheVariants.{Schedule, Data, DiagBiu, DiagRmu, Sync}
+use Rattle.rb_rules.specs.declared.sense.Sense.{Sense}
+use Rattle.rb_rules.specs.Majority.{majority_of}
+use Rattle.rb_rules.specs.NodeState.{NodeState, trusted_of, sender_at}
+use Rattle.rb_rules.specs.Owners.{owners_of}
+use Rattle.rb_rules.specs.Sense.{value_in}
+use Rattle.rb_rules.specs.Slots.{Sender, same_side, sender_kind, listens, expects, role_of}
+use Rattle.rb_rules.specs.Slots.Sender.{Nobody, Node, EachTrusted}
+use Rattle.rb_rules.specs.Standing.{Standing, taken_of, has_evidence, with_evidence, is_unlike, with_mismatch, vector_of}
+
+-- What a node says.
+
+-- what the sender of a slot says: its request, its word or its vector; `word` is its request or its word
+abbrev pub own_value : NodeState → Role → ℕ → Heard
+own_value st (Schedule i) word = heard.Word word
+own_value st (Data n) word = heard.Word word
+own_value st (DiagBiu i) word = heard.Word (vector_of st.far)
+own_value st (DiagRmu i) word = heard.Word (vector_of st.far)
+own_value st Sync word = heard.Fault
+
+-- node `index` is the slot's sender
+abbrev pub is_sender : Side → ℕ → Role → Sender → Bool
+is_sender me index role Nobody = false
+is_sender me index role (Node i) = same_side me (sender_kind role) && (index == i)
+is_sender me index role EachTrusted = false
+
+-- what a node says in a stage in which its kind may send: its own value in its own slot, then what it took of the slot's
+-- sender, Fault where it took nothing, then its vote
+abbrev pub value_said : Side → ℕ → NodeState → ℕ → Role → Sender → ℕ → ℕ → Option Heard
+value_said me index st slot role sender stage word =
+    if stage == 1 then (if is_sender me index role sender then Some (own_value st role word) else None)
+    else (if stage == 2 then Some (unwrap_or st.got heard.Fault) else Some (get_or st.votes slot heard.Fault))
+
+-- what it says, if anything. In an idle slot all are silent
+abbrev pub says_of : Side → ℕ → NodeState → ℕ → Role → Sender → ℕ → ℕ → Option Heard
+says_of me index st slot role Nobody stage word = None
+says_of me index st slot role (Node i) stage word =
+    if listens (other me) role stage then value_said me index st slot role (Node i) stage word else None
+says_of me index st slot role EachTrusted stage word = None
+
+-- what node `index` of kind me says in a stage of a slot
+abbrev pub says : Sizes → Side → ℕ → NodeState → ℕ → ℕ → ℕ → Option Heard
+says sizes me index st slot stage word = says_of me index st slot (role_of sizes slot) (sender_at sizes me st slot) stage word
+
+-- a value as a message of this stage of this slot
+abbrev pub message_of : NodeState → ℕ → ℕ → Heard → Message
+message_of st slot stage (heard.Word word) =
+    record { tag = tag.Word; frame = st.frame % 65536; slot = slot; stage = stage; value = word }
+message_of st slot stage heard.Fault =
+    record { tag = tag.Fault; frame = st.frame % 65536; slot = slot; stage = stage; value = 0 }
+
+-- a sender keeps the value that it says in its own slot
+abbrev pub keeping : Sizes → Side → ℕ → NodeState → ℕ → ℕ → ℕ → NodeState
+keeping sizes me index st slot stage word =
+    if (stage == 1) && is_some (says sizes me index st slot stage word)
+    then record st { sent = says sizes me index st slot stage word }
+    else st
+
+-- What a node makes of the arrivals.
+
+-- one for each node that there may be
+abbrev pub each_node : {X : Type 0} → (ℕ → X) → List X
+each_node of_node = map of_node (numbers 16)
+
+-- the values that are there
+abbrev pub present : {X : Type 0} → List (Option X) → List X
+present values = filter_map (λ v. v) values
+
+-- the source's value
+abbrev pub at_source : {X : Type 0} → List (Option X) → ℕ → Option X
+at_source taken j = get_or taken j None
+
+-- what is taken of each source, and the majority of it
+abbrev pub closing_of : Standing → (ℕ → Bool) → (ℕ → Sense) → Closing
+closing_of s expected sense =
+    let taken = each_node (taken_of value_in s expected sense) in
+    record { taken = taken; voted = majority_of (present taken) }
+
+-- what a relay took of the slot's sender
+abbrev pub got_of : Sender → Closing → Option Heard
+got_of Nobody c = None
+got_of (Node i) c = at_source c.taken i
+got_of EachTrusted c = None
+
+-- a node votes in each of the stages 2 and 3 in which it listens. The vote over nothing, as in an idle slot, is Fault
+abbrev pub votes_in : Side → Role → ℕ → Bool
+votes_in me role stage = listens me role stage && not (stage == 1)
+
+-- the value with which what was taken is compared: in stage 2 the sender's own, in stage 3 the voter's vote
+abbrev pub reference_value : Side → ℕ → NodeState → Role → Sender → ℕ → Closing → Option Heard
+reference_value me index st role sender stage c =
+    if (stage == 2) && is_sender me index role sender then st.sent
+    else (if (stage == 3) && votes_in me role stage then Some c.voted else None)
+
+-- a mismatch accusation of each source of which something other than the value was taken
+abbrev pub with_unlike : Heard → List (Option Heard) → Standing → Standing
+with_unlike value taken s = with_mismatch (λ j. is_unlike value (at_source taken j)) s
+
+-- these accusations by the reference value, where there is one
+abbrev pub compared : Option Heard → Closing → Standing → Standing
+compared None c s = s
+compared (Some value) c s = with_unlike value c.taken s
+
+-- the standing after a close: direct evidence, then mismatch accusations
+abbrev pub standing_after : Side → ℕ → NodeState → Role → Sender → ℕ → (ℕ → Sense) → Closing → Standing
+standing_after me index st role sender stage sense c =
+    compared (reference_value me index st role sender stage c) c
+    (with_evidence (has_evidence st.far (expects me role sender st.far.trusted stage) sense) st.far)
+
+-- the votes after a close
+abbrev pub votes_after : Side → NodeState → ℕ → Role → ℕ → Closing → List Heard
+votes_after me st slot role stage c = if votes_in me role stage then slice_set st.votes slot c.voted else st.votes
+
+-- the schedule stands from the close of the last stage of the last schedule slot on
+abbrev pub owners_after : Sizes → Side → NodeState → ℕ → ℕ → List Heard → List ℕ
+owners_after sizes me st slot stage votes =
+    if (stage == 3) && (slot + 1 == sizes.bius)
+    then owners_of sizes (trusted_of me Biu st) (take sizes.bius votes)
+    else st.owners
+
+-- in a data slot each BIU delivers its vote at the close of stage 2
+abbrev pub delivery_of : Side → NodeState → ℕ → Role → Sender → ℕ → Heard → Option Delivery
+delivery_of Biu st slot (Data n) (Node i) stage voted =
+    if stage == 2 then Some (record { frame = st.frame; slot = slot; sender = i; value = voted }) else None
+delivery_of me st slot role sender stage voted = None
+
+abbrev pub see_value : Option Heard → See
+see_value None = Nothing
+see_value (Some value) = Value value
+
+-- what a close makes of a node: its new state, and what it shows
+pub record Outcome : Type 0 where
+  pub state : NodeState
+  pub closed : Closed
+
+-- the close of a stage by what was taken in it
+unfoldable pub outcome_of : Sizes → Side → ℕ → NodeState → ℕ → ℕ → Role → Sender → (ℕ → Sense) → Closing → Outcome
+outcome_of sizes me index st slot stage role sender sense c =
+    let votes = votes_after me st slot role stage c in
+    record {
+      state = record st {
+        far = standing_after me index st role sender stage sense c;
+        sent = if stage == 2 then None else st.sent;
+        got = if stage == 1 then got_of sender c else st.got;
+        votes = votes;
+        owners = owners_after sizes me st slot stage votes;
+      };
+      closed = record {
+        place = record { frame = st.frame; slot = slot; stage = stage };
+        sees = map see_value c.taken;
+        delivered = delivery_of me st slot role sender stage c.voted;
+      };
+    }
+
+-- node `index` of kind me closes a stage below the sync slot, `sense` being what came of each source
+unfoldable pub close_exact : Sizes → Side → ℕ → NodeState → ℕ → ℕ → (ℕ → Sense) → Outcome
+close_exact sizes me index st slot stage sense =
+    let role = role_of sizes slot in
+    let sender = sender_at sizes me st slot in
+    outcome_of sizes me index st slot stage role sender sense
+    (closing_of st.far (expects me role sender st.far.trusted stage) sense)

@@ -1,0 +1,15 @@
+pub mod Clock
+pub mod Plan
+pub mod Windows
+pub mod Spelling
+pub mod Sense
+pub mod Standing
+pub mod Majority
+pub mod Middle
+pub mod Slots
+pub mod Owners
+pub mod NodeState
+pub mod ExactStage
+pub mod SyncStage
+pub mod Conviction
+pub mod NodeSteps

@@ -1,0 +1,88 @@
+-- The sync slot, in which all nodes resynchronise: the BIUs call, the RMUs call at the middle of these calls, and the BIUs
+-- once more at the middle of those.
+use Rattle.std.specs.Prelude.{ℕ, ◌+◌, ◌%◌, ◌==◌, ◌&&◌, Bool, if◌then◌else◌, Option, Some, None, option_map, unwrap_or, map}
+use Rattle.rb_base.specs.Nodes.{Side, other}
+use Rattle.rb_base.specs.Nodes.Side.{Biu, Rmu}
+use Rattle.rb_base.specs.Sizes.{Sizes, sync_slot_of}
+use Rattle.rb_base.specs.declared.values.See.{See}
+use Rattle.rb_base.specs.declared.values.See.TheVariants.{Nothing, Time}
+use Rattle.rb_rules.specs.declared.closing.SyncClosing.{SyncClosing}
+use Rattle.rb_rules.specs.declared.message.Message.{Message}
+use Rattle.rb_rules.specs.declared.message.Tag.TheVariants as tag
+use Rattle.rb_rules.specs.declared.plan.Plan.{Plan}
+use Rattle.rb_rules.specs.declared.role.Role.TheVariants.{Sync}
+use Rattle.rb_rules.specs.declared.sense.Sense.{Sense}
+use Rattle.rb_rules.specs.ExactStage.{Outcome, each_node, present}
+use Rattle.rb_rules.specs.Middle.{middle_of}
+use Rattle.rb_rules.specs.NodeState.{NodeState}
+use Rattle.rb_rules.specs.Plan.{f0_of}
+use Rattle.rb_rules.specs.Sense.{stamp_in}
+use Rattle.rb_rules.specs.Slots.{listens, expects}
+use Rattle.rb_rules.specs.Slots.Sender.{EachTrusted}
+use Rattle.rb_rules.specs.Standing.{Standing, taken_of, has_evidence, with_evidence}
+use Rattle.rb_rules.specs.Windows.{send_offset_of}
+
+-- a call to resynchronise
+abbrev pub call_of : Sizes → NodeState → ℕ → Message
+call_of sizes st stage =
+    record { tag = tag.Sync; frame = st.frame % 65536; slot = sync_slot_of sizes; stage = stage; value = 0 }
+
+-- the call that a node of kind me sends in a stage
+abbrev pub calls : Sizes → Side → NodeState → ℕ → Option Message
+calls sizes me st stage = if listens (other me) Sync stage then Some (call_of sizes st stage) else None
+
+-- the stamps that are taken of each source, and the middle of them; where none is taken, the window's first tick
+abbrev pub sync_closing_of : Standing → (ℕ → Bool) → (ℕ → Sense) → ℕ → SyncClosing
+sync_closing_of s expected sense first =
+    let taken = each_node (taken_of stamp_in s expected sense) in
+    record { taken = taken; middle = unwrap_or (middle_of (present taken)) first }
+
+-- whom a node of kind me expects in a stage of the sync slot; in the tail, stage 4, nobody
+abbrev pub expects_call : Side → NodeState → ℕ → ℕ → Bool
+expects_call me st stage j = expects me Sync EachTrusted st.far.trusted stage j
+
+-- the middle of a stage, kept where the node listens in it
+abbrev pub middle_after : Side → ℕ → Option ℕ → ℕ → ℕ → Option ℕ
+middle_after me of_stage before stage middle = if listens me Sync stage && (stage == of_stage) then Some middle else before
+
+abbrev pub see_time : Option ℕ → See
+see_time None = Nothing
+see_time (Some stamp) = Time stamp
+
+-- the close of a stage by what was taken in it
+unfoldable pub sync_outcome_of : Sizes → Side → NodeState → ℕ → (ℕ → Sense) → SyncClosing → Outcome
+sync_outcome_of sizes me st stage sense c = record {
+  state = record st {
+    far = with_evidence (has_evidence st.far (expects_call me st stage) sense) st.far;
+    k1 = middle_after me 1 st.k1 stage c.middle;
+    k2 = middle_after me 2 st.k2 stage c.middle;
+    k3 = middle_after me 3 st.k3 stage c.middle;
+  };
+  closed = record {
+    place = record { frame = st.frame; slot = sync_slot_of sizes; stage = stage };
+    sees = map see_time c.taken;
+    delivered = None;
+  };
+}
+
+-- a node of kind me closes a stage of the sync slot, or the tail; `first` is the window's first tick
+unfoldable pub close_sync : Sizes → Side → NodeState → ℕ → ℕ → (ℕ → Sense) → Outcome
+close_sync sizes me st stage first sense =
+    sync_outcome_of sizes me st stage sense (sync_closing_of st.far (expects_call me st stage) sense first)
+
+-- the tick at which the call of a stage is sent. In stages 2 and 3 the middle of the stage before fixes it, so there is none
+-- until the node has taken that middle in this frame
+abbrev pub call_tick_of : Sizes → Plan → NodeState → ℕ → Option ℕ
+call_tick_of sizes plan st stage =
+    if stage == 1 then Some (st.epoch + f0_of sizes plan + plan.h)
+    else (if stage == 2 then option_map (λ k1. k1 + plan.l) st.k1 else option_map (λ k2. k2 + plan.v) st.k2)
+
+-- the tick at which the message of a stage of any slot is sent
+abbrev pub send_tick_of : Sizes → Plan → NodeState → ℕ → ℕ → Option ℕ
+send_tick_of sizes plan st slot stage =
+    if slot == sync_slot_of sizes then call_tick_of sizes plan st stage else Some (st.epoch + send_offset_of plan slot stage)
+
+-- the tick of the next epoch. There is none until the node has taken the middle that fixes it in this frame
+abbrev pub new_epoch_of : Plan → Side → NodeState → Option ℕ
+new_epoch_of plan Biu st = option_map (λ k2. k2 + plan.v + plan.z + plan.c) st.k2
+new_epoch_of plan Rmu st = option_map (λ k3. k3 + plan.z) st.k3
