@@ -1,0 +1,2 @@
+pub mod Accused
+pub mod TooLong

@@ -1,0 +1,31 @@
+-- Of which arrivals an inbox is the record.
+use Rattle.std.specs.Prelude.{ℕ, ◌≡◌, ◌≤◌, ◌<◌, ◌==◌, List, [], ◌∷◌, length, take, filter, map, slice_index_or}
+use Rattle.rb_rules.specs.Sense.{Arrival}
+use Rattle.rb_eligible.specs.declared.inbox.Kept.{Kept}
+use Rattle.rb_eligible.specs.declared.inbox.Kept.TheVariants.{Nothing, Single, Long, Many}
+
+-- an arrival, and the number of the node that it came from
+pub record Received : Type 0 where
+  pub source : ℕ
+  pub arrival : Arrival
+
+-- the arrivals of one source, in their order
+abbrev pub arrivals_of : ℕ → List Received → List Arrival
+arrivals_of source received = map (λ r. r.arrival) (filter (λ r. r.source == source) received)
+
+-- a sole arrival that is longer than any message
+pub record IsLong (arrival : Arrival) (arrivals : List Arrival) : Type 0 where
+  pub sole : arrivals ≡ arrival ∷ []
+  pub long : 12 < length arrival.bytes
+
+-- what is kept of one source is what its arrivals show: that there is none, the only one, that the only one is longer than
+-- any message, or that there are more
+abbrev pub IsKept : Kept → List Arrival → Type 0
+IsKept Nothing arrivals = arrivals ≡ []
+IsKept (Single at len bytes) arrivals = (len ≤ 12) × (arrivals ≡ record { stamp = at; bytes = take len bytes } ∷ [])
+IsKept Long arrivals = (arrival : Arrival) × IsLong arrival arrivals
+IsKept Many arrivals = 1 < length arrivals
+
+-- the inbox stands for what was received
+abbrev pub Shows : List Kept → List Received → Type 0
+Shows kept received = (source : ℕ) → source < 16 → IsKept (slice_index_or kept source Nothing) (arrivals_of source received)

@@ -1,0 +1,181 @@
+//! What a node holds of the nodes of the other kind.
+ghost use Rattle.std.specs.Prelude.{◌≡◌, ◌≤◌, ◌<◌, ◌+◌, ◌==◌, ◌||◌, if◌then◌else◌, map, min};
+ghost use Rattle.rb_base.specs.Counting.{numbers};
+ghost use Rattle.rb_base.specs.Nodes.{has, set_of};
+ghost use Rattle.rb_rules.specs.Standing.{calm_after, first_standing, is_eligible, lapsed, lapses, vector_of, with_evidence, with_mismatch, without};
+ghost use Rattle.rb_eligible.specs.Standings.{calm_at_end, standing_of};
+
+use rb_base::{NodeId, NodeSet};
+
+/// What a node holds of the nodes of the other kind: which it trusts, which it accuses for what came of them or did not
+/// come (`direct`), which for a value that differed (`mismatch`), and against which it had direct evidence in the frame
+/// that runs (`fresh`). `calm` is by node the number of whole frames in a row without direct evidence while it is accused
+/// directly, counted up to 4096.
+#[derive(Clone, Copy, Debug, PartialEq, Eq)]
+pub struct Standing<K> {
+    pub trusted: NodeSet<K>,
+    pub direct: NodeSet<K>,
+    pub mismatch: NodeSet<K>,
+    pub fresh: NodeSet<K>,
+    pub calm: [u16; 16],
+}
+
+// One frame more, counted up to 4096.
+fn one_more(calm: u16) -> u16
+    ensures { result ≡ min (calm + 1) 4096 }
+{
+    if calm < 4096 { calm + 1 } else { 4096 }
+}
+
+impl<K: Copy> Standing<K> {
+    /// At first the nodes with the numbers below `count`, at most 16 of them, are trusted, and none is accused.
+    pub fn new(count: u8) -> Standing<K>
+        requires { count ≤ 16 }
+        ensures { standing_of result ≡ first_standing count }
+    {
+        Standing {
+            trusted: NodeSet::first(count),
+            direct: NodeSet::empty(),
+            mismatch: NodeSet::empty(),
+            fresh: NodeSet::empty(),
+            calm: [0; 16],
+        }
+    }
+
+    /// Whether what comes of the node may be taken: it is trusted and not accused directly.
+    pub fn eligible(&self, id: NodeId<K>) -> bool
+        ensures { result ≡ is_eligible (standing_of self.now) id }
+    {
+        self.trusted.contains(id) && !self.direct.contains(id)
+    }
+
+    /// Direct evidence against the node: it is accused, which it may be already, and the evidence is of this frame.
+    pub fn accuse_direct(&mut self, id: NodeId<K>)
+        ensures { standing_of self.new ≡ with_evidence (λ j. j == id) (standing_of self.old) }
+    {
+        self.direct.insert(id);
+        self.fresh.insert(id);
+    }
+
+    /// Accuses the node for a value that differed. It stays eligible.
+    pub fn accuse_mismatch(&mut self, id: NodeId<K>)
+        ensures { standing_of self.new ≡ with_mismatch (λ j. j == id) (standing_of self.old) }
+    {
+        self.mismatch.insert(id);
+    }
+
+    /// Trusts the nodes of the set no longer, for good.
+    pub fn convict(&mut self, set: NodeSet<K>)
+        ensures { standing_of self.new
+            ≡ record (standing_of self.old) { trusted = without self.old.trusted set } }
+    {
+        self.trusted = NodeSet::from_bits(self.trusted.bits() & !set.bits());
+    }
+
+    /// The vector that the node sends in its diagnosis slot: the mask of the trusted nodes that it accuses in one way or
+    /// the other, bit i for node i.
+    pub fn vector(&self) -> u32
+        ensures { result ≡ vector_of (standing_of self.now) }
+    {
+        u32::from(self.trusted.bits() & (self.direct.bits() | self.mismatch.bits()))
+    }
+
+    // The node's calm at the end of a frame, while it stays accused.
+    fn calm_after(&self, id: NodeId<K>) -> u16
+        ensures { result ≡ calm_after (standing_of self.now) id }
+    {
+        if self.fresh.contains(id) {
+            0
+        } else {
+            one_more(self.calm[usize::from(id.index())])
+        }
+    }
+
+    // Whether the direct accusation of the node lapses.
+    fn lapses(&self, id: NodeId<K>, probation: u16) -> bool
+        ensures { result ≡ lapses probation (standing_of self.now) id }
+    {
+        self.direct.contains(id)
+            && !self.fresh.contains(id)
+            && 1 <= probation
+            && probation <= self.calm_after(id)
+    }
+
+    // The node's calm in the next frame.
+    fn calm_at_end(&self, id: NodeId<K>, probation: u16) -> u16
+        ensures { result ≡ calm_at_end probation (standing_of self.now) id }
+    {
+        if !self.direct.contains(id) {
+            self.calm[usize::from(id.index())]
+        } else if self.lapses(id, probation) {
+            0
+        } else {
+            self.calm_after(id)
+        }
+    }
+
+    // The set, with node i where its direct accusation lapses.
+    fn with_lapsing(&self, set: NodeSet<K>, i: u8, probation: u16) -> NodeSet<K>
+        requires { i < 16 }
+        ensures { result ≡ (if lapses probation (standing_of self.now) i
+            then set_of (λ j. has set j || (j == i)) else set) }
+    {
+        match NodeId::new(i) {
+            Some(id) => {
+                if self.lapses(id, probation) {
+                    let mut grown = set;
+                    grown.insert(id);
+                    grown
+                } else {
+                    set
+                }
+            }
+            None => set,
+        }
+    }
+
+    // The nodes whose direct accusation lapses.
+    fn lapsing(&self, probation: u16) -> NodeSet<K>
+        ensures { result ≡ set_of (lapses probation (standing_of self.now)) }
+    {
+        let mut set = NodeSet::empty();
+        for i in 0..16u8 {
+            set = self.with_lapsing(set, i, probation);
+        }
+        set
+    }
+
+    // The calm of node i in the next frame.
+    fn calm_of(&self, i: u8, probation: u16) -> u16
+        requires { i < 16 }
+        ensures { result ≡ calm_at_end probation (standing_of self.now) i }
+    {
+        match NodeId::new(i) {
+            Some(id) => self.calm_at_end(id, probation),
+            None => 0,
+        }
+    }
+
+    // The calm of each node in the next frame.
+    fn calms(&self, probation: u16) -> [u16; 16]
+        ensures { result ≡ map (calm_at_end probation (standing_of self.now)) (numbers 16) }
+    {
+        let mut calms = [0; 16];
+        for i in 0..16u8 {
+            calms[usize::from(i)] = self.calm_of(i, probation);
+        }
+        calms
+    }
+
+    /// The end of a frame. Where `probation` is at least 1, the direct accusation of a node lapses after so many whole
+    /// frames in a row without direct evidence against it; with 0 none lapses. Mismatch accusations stay, and so do
+    /// convictions. The next frame begins without evidence.
+    pub fn lapse(&mut self, probation: u16)
+        ensures { standing_of self.new ≡ lapsed probation (standing_of self.old) }
+    {
+        let lapsing = self.lapsing(probation);
+        self.calm = self.calms(probation);
+        self.direct = NodeSet::from_bits(self.direct.bits() & !lapsing.bits());
+        self.fresh = NodeSet::empty();
+    }
+}
