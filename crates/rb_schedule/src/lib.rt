@@ -1,0 +1,182 @@
+//! Who owns the data slots of a frame.
+#![tactic(auto)]
+
+ghost use Rattle.std.specs.Prelude.{◌≡◌, ℕ, [], ◌∷◌, ◌++◌, ◌<◌, ◌≤◌, ◌&&◌, nat_lt, get_or, length, take, slice_get, List};
+ghost use Rattle.rb_base.specs.Nodes.{has};
+ghost use Rattle.rb_rules.specs.Owners.{owners_of, owners_in_pass, requested};
+
+use arrayvec::ArrayVec;
+use rb_base::{Biu, Heard, NodeSet, Shape};
+use std::marker::Model;
+
+/// The owners of a frame's data slots in order, at most 64: each the number of a BIU. A data slot past their end has none.
+#[derive(Clone, Debug, Drop)]
+pub struct Owners {
+    bius: ArrayVec<u8, 64>,
+}
+
+impl Model for Owners {
+    ghost Value = { List ℕ };
+
+    ghost view = { λ o. o.bius.items };
+}
+
+impl Owners {
+    /// No data slot has an owner, as at the beginning of a frame.
+    pub fn none() -> Owners
+        ensures { result ≡ [] }
+    {
+        Owners {
+            bius: ArrayVec::new(),
+        }
+    }
+
+    /// The number of the BIU that owns the data slot with this number, counted from 0. None exactly where it has no owner.
+    pub fn owner(&self, number: u16) -> Option<u8>
+        ensures { result ≡ slice_get self.now number }
+    {
+        self.bius.as_slice().get(usize::from(number)).copied()
+    }
+
+    fn count(&self) -> usize
+        ensures { result ≡ length self.now }
+    {
+        self.bius.len()
+    }
+
+    fn push(&mut self, index: u8)
+        requires { length self.old < 64 }
+        ensures { self.new ≡ self.old ++ index ∷ [] }
+    {
+        self.bius.push(index);
+    }
+}
+
+// Whether a voted request asks for more slots than there were passes.
+fn asks_more(request: Heard, pass: u32) -> bool
+    ensures { result ≡ nat_lt pass (requested request) }
+{
+    match request {
+        Heard::Word(slots) => pass < slots,
+        Heard::Fault => false,
+    }
+}
+
+// Whether the BIU gets a slot in this pass, where there is one left.
+fn gets_one(requests: &[Heard; 16], trusted: u16, index: u8, pass: u32) -> bool
+    requires { index < 16 }
+    ensures { result ≡ (has trusted index && nat_lt pass (requested (get_or requests.now index Heard.Fault))) }
+{
+    (trusted >> index) & 1 == 1 && asks_more(requests[usize::from(index)], pass)
+}
+
+// One slot for each trusted BIU that asks for more, while there are slots left.
+fn add_pass(
+    owners: &mut Owners,
+    requests: &[Heard; 16],
+    trusted: NodeSet<Biu>,
+    shape: &Shape,
+    pass: u32,
+)
+    requires { length owners.old ≤ shape.now.data_slots }
+    ensures { owners.new ≡ take shape.now.data_slots (owners.old ++ owners_in_pass shape.now trusted requests.now pass) }
+{
+    let slots = usize::from(shape.slots());
+    let trusted = trusted.bits();
+    for index in 0..shape.biu() {
+        if owners.count() == slots {
+            return;
+        }
+        if gets_one(requests, trusted, index, pass) {
+            owners.push(index);
+        }
+    }
+}
+
+/// The owners of the data slots by the voted requests, that of BIU i at index i. A word is the number of slots that its BIU
+/// asks for, and Fault asks for none. The slots are given in passes: in each pass every trusted BIU that hasn't as many as it
+/// asks for gets one, in order of the BIUs, until all slots are given or nobody asks.
+pub fn owners_of(requests: &[Heard; 16], trusted: NodeSet<Biu>, shape: &Shape) -> Owners
+    ensures { result ≡ owners_of shape.now trusted requests.now }
+{
+    let mut owners = Owners::none();
+    for pass in 0..u32::from(shape.slots()) {
+        let before = owners.count();
+        add_pass(&mut owners, requests, trusted, shape, pass);
+        if owners.count() == before {
+            return owners;
+        }
+    }
+    owners
+}
+
+#[cfg(test)]
+mod tests {
+    use super::*;
+    use Heard::{Fault, Word};
+    use std::test::Fail;
+
+    // The requests of four BIUs for eight data slots.
+    #[test]
+    fn owners(rt: HostRuntime) -> Result<(), Fail> {
+        let cases: [([Heard; 4], u16, [Option<u8>; 9]); 4] = [
+            (
+                [Word(3), Word(1), Word(0), Word(2)],
+                0b1111,
+                [
+                    Some(0),
+                    Some(1),
+                    Some(3),
+                    Some(0),
+                    Some(3),
+                    Some(0),
+                    None,
+                    None,
+                    None,
+                ],
+            ),
+            (
+                [Word(1), Word(1), Word(4294967295), Word(1)],
+                0b1111,
+                [
+                    Some(0),
+                    Some(1),
+                    Some(2),
+                    Some(3),
+                    Some(2),
+                    Some(2),
+                    Some(2),
+                    Some(2),
+                    None,
+                ],
+            ),
+            (
+                [Word(2), Word(2), Word(1), Fault],
+                0b1110,
+                [
+                    Some(1),
+                    Some(2),
+                    Some(1),
+                    None,
+                    None,
+                    None,
+                    None,
+                    None,
+                    None,
+                ],
+            ),
+            ([Fault, Fault, Fault, Fault], 0b1111, [None; 9]),
+        ];
+        let shape = Shape::new(4, 3, 8).expect(&rt, "a shape");
+        for (asked, trusted, owned) in cases {
+            let mut requests = [Fault; 16];
+            requests[..4].copy_from_slice(&asked);
+            let owners = owners_of(&requests, NodeSet::from_bits(trusted), &shape);
+            for (number, owner) in (0..9).zip(owned) {
+                assert_eq!(rt; owners.owner(number), owner, "slot {number} of {asked:?}");
+            }
+        }
+        assert_eq!(rt; Owners::none().owner(0), None);
+        Ok(())
+    }
+}
