@@ -1,0 +1,240 @@
+//! Whom the votes of a frame on the nodes' vectors convict.
+#![tactic(auto)]
+
+ghost use Rattle.std.specs.Prelude.{◌≡◌, ℕ, ◌≤◌, ◌<◌, ◌*◌, ◌&&◌, nat_lt, get_or, slice_set};
+ghost use Rattle.rb_base.specs.Counting.{count_if, numbers};
+ghost use Rattle.rb_base.specs.Nodes.{has, set_of, size};
+ghost use Rattle.rb_rules.specs.Conviction.{convicted_by, is_valid, names};
+ghost use Rattle.rb_diag.specs.Votes.{Votes, against, counts, most_against, no_vectors, vector_of};
+
+use rb_base::{Heard, Kind, NodeId, NodeSet};
+use std::marker::{Model, PhantomData};
+
+/// The votes of one frame on the vectors of the nodes of kind K: bit i of a vector accuses node i of the other kind.
+#[derive(Drop)]
+pub struct Ballot<K: Kind> {
+    others: u8,
+    vectors: [Heard; 16],
+    senders: PhantomData<K>,
+}
+
+impl<K: Kind> Model for Ballot<K> {
+    ghost Value = { Votes };
+
+    ghost view = { λ b. record { others = b.others; vectors = b.vectors } };
+
+    ghost invariant = { λ b. b.others ≤ 16 };
+}
+
+impl<K: Kind> Ballot<K> {
+    /// A ballot with no vector, where there are `others` nodes of the other kind.
+    pub fn new(others: u8) -> Ballot<K>
+        requires { others ≤ 16 }
+        ensures { result ≡ record { others = others; vectors = no_vectors } }
+    {
+        Ballot {
+            others,
+            vectors: [Heard::Fault; 16],
+            senders: PhantomData,
+        }
+    }
+
+    /// Enters the vote on the vector of this sender, in place of one that was entered before.
+    pub fn enter(&mut self, sender: NodeId<K>, voted: Heard)
+        ensures { self.new ≡ record self.old { vectors = slice_set self.old.vectors sender voted } }
+    {
+        self.vectors[usize::from(sender.index())] = voted;
+    }
+
+    /// Takes all vectors out, as at the beginning of a frame.
+    pub fn clear(&mut self)
+        ensures { self.new ≡ record self.old { vectors = no_vectors } }
+    {
+        self.vectors = [Heard::Fault; 16];
+    }
+
+    /// The nodes to convict: of the `trusted` ones of the other kind those that more of the valid vectors name than spare. Only
+    /// the vectors of `senders`, the trusted nodes of kind K, count. A vector is valid where it names none but the nodes that
+    /// there are.
+    pub fn convicted(&self, senders: NodeSet<K>, trusted: NodeSet<K::Other>) -> NodeSet<K::Other>
+        ensures { result ≡ convicted_by self.now.others senders trusted (vector_of self.now) }
+    {
+        let valid = valid_senders(&self.vectors, self.others, senders.bits());
+        let suspects = suspects(&self.vectors, valid, trusted.bits());
+        NodeSet::from_bits(named_by_most(&self.vectors, valid, suspects))
+    }
+}
+
+// Whether a vector names none but the nodes that there are.
+fn is_valid(voted: Heard, others: u8) -> bool
+    requires { others ≤ 16 }
+    ensures { result ≡ is_valid others voted }
+{
+    let past: u32 = 1 << others;
+    match voted {
+        Heard::Word(mask) => mask < past,
+        Heard::Fault => false,
+    }
+}
+
+// Whether a vector names node j.
+fn names(voted: Heard, j: u8) -> bool
+    requires { j < 16 }
+    ensures { result ≡ names j voted }
+{
+    match voted {
+        Heard::Word(mask) => (mask >> j) & 1 == 1,
+        Heard::Fault => false,
+    }
+}
+
+// Whether the vector of sender i counts.
+fn counts(vectors: &[Heard; 16], others: u8, senders: u16, i: u8) -> bool
+    requires others { others ≤ 16 }
+    requires sender { i < 16 }
+    ensures { result ≡ counts others senders (λ k. get_or vectors.now k Heard.Fault) i }
+{
+    (senders >> i) & 1 == 1 && is_valid(vectors[usize::from(i)], others)
+}
+
+// The senders whose vectors count.
+fn valid_senders(vectors: &[Heard; 16], others: u8, senders: u16) -> u16
+    requires { others ≤ 16 }
+    ensures { result ≡ set_of (counts others senders (λ i. get_or vectors.now i Heard.Fault)) }
+{
+    let mut valid: u16 = 0;
+    for i in 0..16 {
+        if counts(vectors, others, senders, i) {
+            valid |= 1 << i;
+        }
+    }
+    valid
+}
+
+// The mask of the nodes that a vector names.
+fn mask_of(voted: Heard) -> u32
+    ensures { (j : ℕ) → has result j ≡ names j voted }
+{
+    match voted {
+        Heard::Word(mask) => mask,
+        Heard::Fault => 0,
+    }
+}
+
+// The mask of the nodes that the vector of sender i names, where it is one of the senders.
+fn named_by(vectors: &[Heard; 16], senders: u16, i: u8) -> u32
+    requires { i < 16 }
+    ensures { (j : ℕ) → has result j ≡ (has senders i && names j (get_or vectors.now i Heard.Fault)) }
+{
+    if (senders >> i) & 1 == 1 {
+        mask_of(vectors[usize::from(i)])
+    } else {
+        0
+    }
+}
+
+// The trusted nodes but for those that no sender names, who are most: counting would find nothing against them.
+fn suspects(vectors: &[Heard; 16], senders: u16, trusted: u16) -> u16
+    ensures { (j : ℕ) → (has result j && most_against senders (λ i. get_or vectors.now i Heard.Fault) j)
+        ≡ (has trusted j && most_against senders (λ i. get_or vectors.now i Heard.Fault) j) }
+{
+    let mut named: u32 = 0;
+    for i in 0..16 {
+        named |= named_by(vectors, senders, i);
+    }
+    (u32::from(trusted) & named) as u16
+}
+
+// Whether sender i is in the set and its vector names node j.
+fn is_against(vectors: &[Heard; 16], senders: u16, i: u8, j: u8) -> bool
+    requires sender { i < 16 }
+    requires node { j < 16 }
+    ensures { result ≡ (has senders i && names j (get_or vectors.now i Heard.Fault)) }
+{
+    (senders >> i) & 1 == 1 && names(vectors[usize::from(i)], j)
+}
+
+// How many of the senders' vectors name node j.
+fn naming(vectors: &[Heard; 16], senders: u16, j: u8) -> u8
+    requires { j < 16 }
+    ensures value { result ≡ against senders (λ i. get_or vectors.now i Heard.Fault) j }
+    ensures most { result ≤ 16 }
+{
+    let mut naming: u8 = 0;
+    for i in 0..16 {
+        naming += u8::from(is_against(vectors, senders, i, j));
+    }
+    naming
+}
+
+// Whether more than half of the senders' vectors name node j.
+fn most_name(vectors: &[Heard; 16], senders: u16, j: u8) -> bool
+    requires { j < 16 }
+    ensures { result ≡ most_against senders (λ i. get_or vectors.now i Heard.Fault) j }
+{
+    (senders.count_ones() as u8) < 2 * naming(vectors, senders, j)
+}
+
+// Whether node j is trusted until now, and more than half of the senders' vectors name it.
+fn is_convicted(vectors: &[Heard; 16], senders: u16, trusted: u16, j: u8) -> bool
+    requires { j < 16 }
+    ensures { result ≡ (has trusted j && most_against senders (λ i. get_or vectors.now i Heard.Fault) j) }
+{
+    (trusted >> j) & 1 == 1 && most_name(vectors, senders, j)
+}
+
+// The trusted nodes that more than half of the senders' vectors name.
+fn named_by_most(vectors: &[Heard; 16], senders: u16, trusted: u16) -> u16
+    ensures { result ≡ set_of (λ j. has trusted j && most_against senders (λ i. get_or vectors.now i Heard.Fault) j) }
+{
+    let mut named: u16 = 0;
+    for j in 0..16 {
+        if is_convicted(vectors, senders, trusted, j) {
+            named |= 1 << j;
+        }
+    }
+    named
+}
+
+#[cfg(test)]
+mod tests {
+    use super::*;
+    use Heard::{Fault, Word};
+    use rb_base::{Biu, Rmu};
+    use std::test::Fail;
+
+    // The votes on the vectors of four BIUs, where there are three RMUs and all of these are trusted.
+    #[test]
+    fn convictions(rt: HostRuntime) -> Result<(), Fail> {
+        let cases: [([Heard; 4], u16, u16); 6] = [
+            ([Word(0), Word(0), Word(0), Word(0)], 0b1111, 0b000),
+            ([Word(2), Word(2), Word(0), Word(2)], 0b1111, 0b010),
+            ([Word(2), Word(2), Word(0), Word(0)], 0b1111, 0b000),
+            ([Word(0), Word(10), Word(2), Fault], 0b1110, 0b010),
+            ([Word(5), Word(7), Word(1), Word(8)], 0b1111, 0b101),
+            ([Fault, Fault, Fault, Fault], 0b1111, 0b000),
+        ];
+        let mut ballot: Ballot<Biu> = Ballot::new(3);
+        for (votes, senders, convicted) in cases {
+            for (i, voted) in (0..4).zip(votes) {
+                ballot.enter(NodeId::new(i).expect(&rt, "an id"), voted);
+            }
+            let senders = NodeSet::from_bits(senders);
+            let trusted: NodeSet<Rmu> = NodeSet::first(3);
+            assert_eq!(rt;
+                ballot.convicted(senders, trusted).bits(),
+                convicted,
+                "by {votes:?}"
+            );
+            let others: NodeSet<Rmu> = NodeSet::from_bits(0b100);
+            assert_eq!(rt;
+                ballot.convicted(senders, others).bits(),
+                convicted & 0b100,
+                "by {votes:?}"
+            );
+            ballot.clear();
+            assert_eq!(rt; ballot.convicted(senders, trusted).bits(), 0);
+        }
+        Ok(())
+    }
+}
