@@ -1,0 +1,45 @@
+//! What a source and a sink of bytes promise.
+ghost use Rattle.std.specs.Prelude.{ℕ, List, Option};
+ghost use Rattle.std.specs.Io.{ReadsAtMost, WritesAtMost};
+ghost use Rattle.std.specs.Io.KnownBytes.{ReadConsumes, WriteAppends};
+ghost use Rattle.rb_outside.specs.Causes.{HasCause, TakesSome};
+
+/// A call of a source or a sink failed. The source or sink has counted it.
+#[derive(Clone, Copy, Debug, PartialEq, Eq)]
+pub struct Failed;
+
+/// Bytes that come in, in order.
+pub trait Source {
+    /// The bytes still to come, where the source tells them.
+    ghost left: { Self → Option (List ℕ) };
+
+    /// How many calls have failed, up to 2^64-1.
+    ghost faults: { Self → ℕ };
+
+    /// Gives the next bytes. `Ok(n)` put n bytes, at most the slice's length, at the front of
+    /// `into`; `Ok(0)` for a slice that is not empty is the end of the input. `Failed` comes only
+    /// where the count of faults rose or stands at 2^64-1, and nothing was given. The count never
+    /// falls.
+    fn read(&mut self, into: &mut [u8]) -> Result<usize, Failed>
+        ensures bound { ReadsAtMost result into.new }
+        ensures bytes { ReadConsumes (left self.old) (left self.new) result into.new }
+        ensures cause { HasCause (faults self.old) (faults self.new) result };
+}
+
+/// Bytes that go out, in order.
+pub trait Sink {
+    /// The bytes taken, where the sink tells them.
+    ghost held: { Self → Option (List ℕ) };
+
+    /// How many calls have failed, up to 2^64-1.
+    ghost faults: { Self → ℕ };
+
+    /// Takes bytes. `Ok(n)` took the first n bytes of `from`, and at least one where there is one.
+    /// `Failed` comes only where the count of faults rose or stands at 2^64-1, and nothing was
+    /// taken. The count never falls.
+    fn write(&mut self, from: &[u8]) -> Result<usize, Failed>
+        ensures bound { WritesAtMost result from.now }
+        ensures bytes { WriteAppends (held self.old) (held self.new) result from.now }
+        ensures some { TakesSome result from.now }
+        ensures cause { HasCause (faults self.old) (faults self.new) result };
+}

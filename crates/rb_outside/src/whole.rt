@@ -1,0 +1,78 @@
+//! All of some bytes out, and all of the input in.
+ghost use Rattle.std.specs.Prelude.{◌≡◌, ◌≢◌, ◌^◌, ◌<◌, ◌≤◌, ◌⊎◌, length, IsOk, IfOk, OnOk, OnErr, IsSomeAnd};
+ghost use Rattle.std.specs.Io.KnownBytes.{Appends};
+ghost use Rattle.rb_outside.specs.Bytes.{AppendsPart, Gave, ReadsToEnd};
+ghost use Rattle.rb_outside.specs.Causes.{HasCause, Rose};
+
+use crate::traits::{Failed, Sink, Source};
+use std::alloc::Global;
+
+/// Writes all the bytes, each call asking for the rest of them. At a fault a first part of them has
+/// been taken.
+#[tactic(auto, using(crate::proofs::Known::part_of_taken))]
+pub fn write_all<K: Sink>(output: &mut K, bytes: &[u8]) -> Result<(), Failed>
+    ensures all { OnOk result (Appends (K.held output.old) (K.held output.new) bytes.now) }
+    ensures part { OnErr result (AppendsPart (K.held output.old) (K.held output.new) bytes.now) }
+    ensures cause { HasCause (K.faults output.old) (K.faults output.new) result }
+{
+    let mut at = 0;
+    while at < bytes.len() {
+        at += output.write(&bytes[at..])?;
+    }
+    Ok(())
+}
+
+/// Why the input was not read to its end.
+#[derive(Clone, Copy, Debug, PartialEq, Eq)]
+pub enum Unread {
+    /// The source gave more bytes than the limit.
+    TooLong,
+    /// The source failed.
+    Fault,
+    /// An allocation failed.
+    OutOfMemory,
+}
+
+/// How many bytes are asked for at a time.
+const CHUNK: usize = 16_384;
+
+/// Reads until the first of three: a fault, the end of the input, a byte past the limit. Gives all
+/// the bytes read, at most `limit` of them.
+pub fn read_all<S: Source>(alloc: Global, input: &mut S, limit: usize) -> Result<Vec<u8>, Unread>
+    requires { limit < 2 ^ 32 }
+
+    ensures whole { IfOk result (λ v. ReadsToEnd (S.left input.old) (S.left input.new) v.items) }
+    ensures within { IfOk result (λ v. length v.items ≤ limit) }
+
+    // TooLong is the answer exactly where more bytes than the limit were given.
+    ensures too_long { result ≡ Err Unread.TooLong
+        → Gave (S.left input.old) (S.left input.new) (λ n. limit < n) }
+    ensures not_long { result ≢ Err Unread.TooLong
+        → Gave (S.left input.old) (S.left input.new) (λ n. n ≤ limit) }
+
+    ensures later { S.faults input.old ≤ S.faults input.new }
+    ensures fault { result ≡ Err Unread.Fault → Rose (S.faults input.old) (S.faults input.new) }
+
+    // A source that tells few enough bytes and has no fault is read to its end, if memory lasts.
+    ensures complete { IsSomeAnd (S.left input.old) (λ xs. length xs ≤ limit)
+        → ¬ Rose (S.faults input.old) (S.faults input.new)
+        → IsOk result ⊎ (result ≡ Err Unread.OutOfMemory) }
+{
+    let mut bytes = Vec::new(alloc);
+    let mut chunk = [0u8; CHUNK];
+    'reads: loop {
+        let room = (limit - bytes.len() + 1).min(CHUNK);
+        let Ok(count) = input.read(&mut chunk[..room]) else {
+            return Err(Unread::Fault);
+        };
+        if count == 0 {
+            return Ok(bytes);
+        }
+        if count > limit - bytes.len() {
+            return Err(Unread::TooLong);
+        }
+        let Ok(()) = bytes.extend_from_slice(&chunk[..count]) else {
+            return Err(Unread::OutOfMemory);
+        };
+    }
+}
