@@ -1,0 +1,4 @@
+pub mod Walks
+pub mod Lawful
+pub mod NameLemmas
+pub mod Documents

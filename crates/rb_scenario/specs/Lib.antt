@@ -1,0 +1,5 @@
+pub mod Walk
+pub mod Values
+pub mod Names
+pub mod Accepted
+pub mod Document
