@@ -1,0 +1,4 @@
+pub mod Carried
+pub mod Completeness
+pub mod Writing
+pub mod WordsLemmas

@@ -1,0 +1,10 @@
+//! The top call: words, input and output of the program as values.
+#![tactic(auto)]
+
+mod carrying;
+mod report;
+pub mod status;
+pub mod top;
+
+pub use status::Status;
+pub use top::run_robus;
