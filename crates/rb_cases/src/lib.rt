@@ -1,0 +1,5 @@
+//! The cases that no clause tells: inputs with the outputs that are wanted of them, through the top call.
+#![tactic(auto)]
+
+#[cfg(test)]
+mod first_path;
