@@ -19,6 +19,12 @@ IsRun [] = ⊥
 IsRun (word ∷ []) = string_bytes word ≡ codes "run"
 IsRun (word ∷ (other ∷ words)) = ⊥
 
+-- Usage comes exactly where the words are not `run`
+pub record UsageExactly (status : Status) (words : List (String Global)) : Type 0 where
+  pub unknown : status ≡ answer.Usage → ¬ IsRun words
+  pub refused : ¬ IsRun words → status ≡ answer.Usage
+  pub known : ¬ (status ≡ answer.Usage) → IsRun words
+
 -- the most bytes of a scenario
 abbrev pub scenario_limit : ℕ
 scenario_limit = 4194304

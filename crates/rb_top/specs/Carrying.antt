@@ -4,9 +4,9 @@ use Rattle.std.specs.List.{filter_map}
 use Rattle.arrayvec.specs.ArrayVec.{ArrayVec}
 use Rattle.rb_base.specs.declared.values.Heard.{Heard}
 use Rattle.rb_base.specs.declared.values.Heard.TheVariants as heard
+use Rattle.rb_rules.specs.Sense.{value_of}
 use Rattle.rb_rules.specs.Spelling.{message_in}
 use Rattle.rb_rules.specs.declared.message.Message.{Message}
-use Rattle.rb_rules.specs.declared.message.Tag.{Tag}
 use Rattle.rb_rules.specs.declared.message.Tag.TheVariants as tag
 use Rattle.rb_rules.specs.declared.message.Version.TheVariants.{One}
 
@@ -14,12 +14,6 @@ use Rattle.rb_rules.specs.declared.message.Version.TheVariants.{One}
 abbrev pub message_of : ℕ → ℕ → Heard → Message
 message_of slot stage (heard.Word word) = record { tag = tag.Word; frame = 0; slot = slot; stage = stage; value = word }
 message_of slot stage heard.Fault = record { tag = tag.Fault; frame = 0; slot = slot; stage = stage; value = 0 }
-
--- the value that a message carries; a call to resynchronise carries none
-abbrev pub value_of : Tag → ℕ → Option Heard
-value_of tag.Word value = Some (heard.Word value)
-value_of tag.Fault value = Some heard.Fault
-value_of tag.Sync value = None
 
 -- the value of a message that is meant for this stage of this slot of frame 0
 abbrev pub value_for : ℕ → ℕ → Option Message → Option Heard

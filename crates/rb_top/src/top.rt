@@ -3,7 +3,7 @@ ghost use Rattle.std.specs.Prelude.{◌≡◌, ◌↔◌, ◌≤◌, ◌<◌, Is
 ghost use Rattle.std.specs.Io.KnownBytes.{Appends};
 ghost use Rattle.rb_outside.specs.Bytes.{AppendsPart, Gave};
 ghost use Rattle.rb_outside.specs.Causes.{HasCause, Rose};
-ghost use Rattle.rb_top.specs.Answers.{Completes, ExceedsExactly, HasCode, IsRun, RefusalIsWritten, RunIsWritten, Untouched, WriteFails, WritesNothing, refusal_text};
+ghost use Rattle.rb_top.specs.Answers.{Completes, ExceedsExactly, HasCode, IsRun, RefusalIsWritten, RunIsWritten, Untouched, UsageExactly, WriteFails, WritesNothing, refusal_text};
 
 use crate::report::{write_line, write_run};
 use crate::status::Status;
@@ -92,7 +92,7 @@ pub fn run_robus<S: Source, K: Sink>(
     input: &mut S,
     output: &mut K,
 ) -> Status
-    ensures usage { (result ≡ Status.Usage) ↔ ¬ IsRun words.now }
+    ensures usage { UsageExactly result words.now }
     ensures untouched { Untouched result input.old input.new output.old output.new }
     ensures done { result ≡ Status.Done
         → RunIsWritten (S.left input.old) (S.left input.new) (K.held output.old) (K.held output.new) }
