@@ -1,7 +1,7 @@
 //! The timing plan of a bus, and whether it is feasible.
 #![tactic(auto)]
 
-ghost use Rattle.std.specs.Prelude.{◌≡◌, ◌≤◌, ◌<◌, ◌+◌, ◌*◌, ◌^◌, ◌↔◌, Some, None, IfOk, IfErr, IsNone, int_lt};
+ghost use Rattle.std.specs.Prelude.{◌≡◌, ◌≤◌, ◌<◌, ◌↔◌, Some, None, IfOk, IfErr, IsNone, int_lt};
 ghost use Rattle.rb_base.specs.Sizes.{sync_slot_of};
 ghost use Rattle.rb_rules.specs.Windows.{exact_window, send_offset_of, window_at, window_of};
 ghost use Rattle.rb_rules.specs.Plan.{IsFeasible, IsPlan, drift_in, f0_of, first_failing, next_skew_of, rest_of, sides_of, skew_of, tail_start_of};

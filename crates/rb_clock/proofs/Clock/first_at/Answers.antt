@@ -6,16 +6,6 @@ use Rattle.rb_clock.proofs.Times.{Ends, at_length, at_next, product_fits, sum_fi
 use Rattle.rb_clock.proofs.Clock.first_at.Goals as goal
 use Rattle.rb_clock.proofs.Clock.first_at.Goals.{else-loop-next-test, then-loop-next-test+then-next-ge-LAST_TICK, then-loop-next-test+else-next-ge-LAST_TICK+then-time-end}
 
-pub overflow_mul-end : goal.overflow_mul-end
-overflow_mul-end c =
-    let is : IsClock 1 2000000 c.args.self.now = search rules in
-    product_fits c.args.self.now _ _ _ _ 2147483648 _ is c.loop-next.invariant.walk (omega arith) (omega arith)
-
-pub overflow_add-end : goal.overflow_add-end
-overflow_add-end c =
-    let is : IsClock 1 2000000 c.args.self.now = search rules in
-    sum_fits c.args.self.now _ _ _ _ 2147483648 _ is c.loop-next.invariant.walk c.loop-next.invariant.early (omega arith) (omega arith)
-
 pub loop-next-preserved : goal.loop-next-preserved
 loop-next-preserved c =
     let more = drop_more _ c.loop-next.next-index (0, 0) c.loop-next-test.true in
@@ -24,11 +14,6 @@ loop-next-preserved c =
       early = omega arith;
       before = inr (omega arith);
     }
-
-pub div_ceil-requires : goal.div_ceil-requires
-div_ceil-requires c =
-    let is : IsClock 1 2000000 c.args.self.now = search rules in
-    omega (arith, (at_length c.args.self.now _ _ c.loop-next.length _ is c.loop-next.invariant.walk).0)
 
 -- where the walk stopped
 ends : (c : goal.After-div_ceil) → Ends c.args.self.now c.args.time c.loop-next.from c.loop-next.length
@@ -58,6 +43,21 @@ returns-else-time-now-clause-value c =
 
 pub returns-else-time-now-clause-most : goal.returns-else-time-now-clause-most
 returns-else-time-now-clause-most c = stamp_most c.args.self.now _ _ _ _ _ (ends c) (returns-else-time-now-clause-stamp c)
+
+pub overflow_mul-end : goal.overflow_mul-end
+overflow_mul-end c =
+    let is : IsClock 1 2000000 c.args.self.now = search rules in
+    product_fits c.args.self.now _ _ _ _ 2147483648 _ is c.loop-next.invariant.walk (omega arith) (omega arith)
+
+pub overflow_add-end : goal.overflow_add-end
+overflow_add-end c =
+    let is : IsClock 1 2000000 c.args.self.now = search rules in
+    sum_fits c.args.self.now _ _ _ _ 2147483648 _ is c.loop-next.invariant.walk c.loop-next.invariant.early (omega arith) (omega arith)
+
+pub div_ceil-requires : goal.div_ceil-requires
+div_ceil-requires c =
+    let is : IsClock 1 2000000 c.args.self.now = search rules in
+    omega (arith, (at_length c.args.self.now _ _ c.loop-next.length _ is c.loop-next.invariant.walk).0)
 
 pub overflow_add-result : goal.overflow_add-result
 overflow_add-result c = omega (arith, returns-else-time-now-clause-most c)

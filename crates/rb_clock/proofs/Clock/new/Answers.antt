@@ -5,7 +5,7 @@ use Rattle.rb_clock.proofs.Clock.new.Goals as goal
 
 pub invariant_of-result : goal.invariant_of-result
 invariant_of-result c = record {
-  start = c.requires.start;
+  start = omega arith;
   rising = search rules;
   within = within_wider (c.args.unit - c.args.drift) (c.args.unit + c.args.drift) 1 2000000 c.in_ok-segments.segments.items (omega arith) (omega arith) (search rules);
 }
