@@ -16,8 +16,8 @@ abbrev pub no_vectors : List Heard
 no_vectors = replicate 16 Fault
 
 -- the voted vector of a sender, Fault where none was entered
-abbrev pub vector_of : Votes → ℕ → Heard
-vector_of votes i = get_or votes.vectors i Fault
+abbrev pub vector_in : List Heard → ℕ → Heard
+vector_in vectors i = get_or vectors i Fault
 
 -- the vector of sender i counts: the sender is one of the set, and its vector is valid
 abbrev pub counts : ℕ → ℕ → (ℕ → Heard) → ℕ → Bool

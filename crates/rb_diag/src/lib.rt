@@ -1,11 +1,10 @@
 //! Whom the votes of a frame on the nodes' vectors convict.
 #![tactic(auto)]
 
-ghost use Rattle.std.specs.Prelude.{◌≡◌, ℕ, ◌≤◌, ◌<◌, ◌*◌, ◌&&◌, nat_lt, get_or, slice_set};
-ghost use Rattle.rb_base.specs.Counting.{count_if, numbers};
-ghost use Rattle.rb_base.specs.Nodes.{has, set_of, size};
+ghost use Rattle.std.specs.Prelude.{◌≡◌, ℕ, ◌≤◌, ◌<◌, ◌&&◌, slice_set};
+ghost use Rattle.rb_base.specs.Nodes.{has, set_of};
 ghost use Rattle.rb_rules.specs.Conviction.{convicted_by, is_valid, names};
-ghost use Rattle.rb_diag.specs.Votes.{Votes, against, counts, most_against, no_vectors, vector_of};
+ghost use Rattle.rb_diag.specs.Votes.{Votes, against, counts, most_against, no_vectors, vector_in};
 
 use rb_base::{Heard, Kind, NodeId, NodeSet};
 use std::marker::{Model, PhantomData};
@@ -57,7 +56,8 @@ impl<K: Kind> Ballot<K> {
     /// the vectors of `senders`, the trusted nodes of kind K, count. A vector is valid where it names none but the nodes that
     /// there are.
     pub fn convicted(&self, senders: NodeSet<K>, trusted: NodeSet<K::Other>) -> NodeSet<K::Other>
-        ensures { result ≡ convicted_by self.now.others senders trusted (vector_of self.now) }
+        ensures { result
+            ≡ convicted_by self.now.others senders trusted (vector_in self.now.vectors) }
     {
         let valid = valid_senders(&self.vectors, self.others, senders.bits());
         let suspects = suspects(&self.vectors, valid, trusted.bits());
@@ -92,7 +92,7 @@ fn names(voted: Heard, j: u8) -> bool
 fn counts(vectors: &[Heard; 16], others: u8, senders: u16, i: u8) -> bool
     requires others { others ≤ 16 }
     requires sender { i < 16 }
-    ensures { result ≡ counts others senders (λ k. get_or vectors.now k Heard.Fault) i }
+    ensures { result ≡ counts others senders (vector_in vectors.now) i }
 {
     (senders >> i) & 1 == 1 && is_valid(vectors[usize::from(i)], others)
 }
@@ -100,7 +100,7 @@ fn counts(vectors: &[Heard; 16], others: u8, senders: u16, i: u8) -> bool
 // The senders whose vectors count.
 fn valid_senders(vectors: &[Heard; 16], others: u8, senders: u16) -> u16
     requires { others ≤ 16 }
-    ensures { result ≡ set_of (counts others senders (λ i. get_or vectors.now i Heard.Fault)) }
+    ensures { result ≡ set_of (counts others senders (vector_in vectors.now)) }
 {
     let mut valid: u16 = 0;
     for i in 0..16 {
@@ -124,7 +124,7 @@ fn mask_of(voted: Heard) -> u32
 // The mask of the nodes that the vector of sender i names, where it is one of the senders.
 fn named_by(vectors: &[Heard; 16], senders: u16, i: u8) -> u32
     requires { i < 16 }
-    ensures { (j : ℕ) → has result j ≡ (has senders i && names j (get_or vectors.now i Heard.Fault)) }
+    ensures { (j : ℕ) → has result j ≡ (has senders i && names j (vector_in vectors.now i)) }
 {
     if (senders >> i) & 1 == 1 {
         mask_of(vectors[usize::from(i)])
@@ -135,8 +135,8 @@ fn named_by(vectors: &[Heard; 16], senders: u16, i: u8) -> u32
 
 // The trusted nodes but for those that no sender names, who are most: counting would find nothing against them.
 fn suspects(vectors: &[Heard; 16], senders: u16, trusted: u16) -> u16
-    ensures { (j : ℕ) → (has result j && most_against senders (λ i. get_or vectors.now i Heard.Fault) j)
-        ≡ (has trusted j && most_against senders (λ i. get_or vectors.now i Heard.Fault) j) }
+    ensures { (j : ℕ) → (has result j && most_against senders (vector_in vectors.now) j)
+        ≡ (has trusted j && most_against senders (vector_in vectors.now) j) }
 {
     let mut named: u32 = 0;
     for i in 0..16 {
@@ -149,7 +149,7 @@ fn suspects(vectors: &[Heard; 16], senders: u16, trusted: u16) -> u16
 fn is_against(vectors: &[Heard; 16], senders: u16, i: u8, j: u8) -> bool
     requires sender { i < 16 }
     requires node { j < 16 }
-    ensures { result ≡ (has senders i && names j (get_or vectors.now i Heard.Fault)) }
+    ensures { result ≡ (has senders i && names j (vector_in vectors.now i)) }
 {
     (senders >> i) & 1 == 1 && names(vectors[usize::from(i)], j)
 }
@@ -157,7 +157,7 @@ fn is_against(vectors: &[Heard; 16], senders: u16, i: u8, j: u8) -> bool
 // How many of the senders' vectors name node j.
 fn naming(vectors: &[Heard; 16], senders: u16, j: u8) -> u8
     requires { j < 16 }
-    ensures value { result ≡ against senders (λ i. get_or vectors.now i Heard.Fault) j }
+    ensures value { result ≡ against senders (vector_in vectors.now) j }
     ensures most { result ≤ 16 }
 {
     let mut naming: u8 = 0;
@@ -170,7 +170,7 @@ fn naming(vectors: &[Heard; 16], senders: u16, j: u8) -> u8
 // Whether more than half of the senders' vectors name node j.
 fn most_name(vectors: &[Heard; 16], senders: u16, j: u8) -> bool
     requires { j < 16 }
-    ensures { result ≡ most_against senders (λ i. get_or vectors.now i Heard.Fault) j }
+    ensures { result ≡ most_against senders (vector_in vectors.now) j }
 {
     (senders.count_ones() as u8) < 2 * naming(vectors, senders, j)
 }
@@ -178,14 +178,15 @@ fn most_name(vectors: &[Heard; 16], senders: u16, j: u8) -> bool
 // Whether node j is trusted until now, and more than half of the senders' vectors name it.
 fn is_convicted(vectors: &[Heard; 16], senders: u16, trusted: u16, j: u8) -> bool
     requires { j < 16 }
-    ensures { result ≡ (has trusted j && most_against senders (λ i. get_or vectors.now i Heard.Fault) j) }
+    ensures { result ≡ (has trusted j && most_against senders (vector_in vectors.now) j) }
 {
     (trusted >> j) & 1 == 1 && most_name(vectors, senders, j)
 }
 
 // The trusted nodes that more than half of the senders' vectors name.
 fn named_by_most(vectors: &[Heard; 16], senders: u16, trusted: u16) -> u16
-    ensures { result ≡ set_of (λ j. has trusted j && most_against senders (λ i. get_or vectors.now i Heard.Fault) j) }
+    ensures { result
+        ≡ set_of (λ j. has trusted j && most_against senders (vector_in vectors.now) j) }
 {
     let mut named: u16 = 0;
     for j in 0..16 {

@@ -11,6 +11,7 @@ use Rattle.rb_base.specs.Nodes.{has}
 use Rattle.rb_base.specs.Sizes.{Sizes}
 use Rattle.rb_base.specs.declared.values.Heard.{Heard}
 use Rattle.rb_base.specs.declared.values.Heard.TheVariants.{Fault}
+use Rattle.rb_schedule.specs.Asking.{asks}
 use Rattle.rb_rules.specs.Owners.{owners_in_pass, owners_of, requested}
 
 -- ---- lists
@@ -46,10 +47,6 @@ full_stays : {X : Type 0} (n : ℕ) (xs ys : List X) → length xs ≡ n → tak
 full_stays n xs ys full = take-append-le n xs ys (omega arith) ∙ take_all n xs (omega arith)
 
 -- ---- in a pass
-
--- who gets a slot in a pass, where there is one left
-abbrev pub asks : ℕ → List Heard → ℕ → ℕ → Bool
-asks trusted requests pass i = has trusted i && nat_lt pass (requested (get_or requests i Fault))
 
 -- the owners where those below k were asked in a pass
 abbrev pub given : ℕ → List ℕ → (ℕ → Bool) → ℕ → List ℕ

@@ -1,9 +1,9 @@
 //! Who owns the data slots of a frame.
 #![tactic(auto)]
 
-ghost use Rattle.std.specs.Prelude.{◌≡◌, ℕ, [], ◌∷◌, ◌++◌, ◌<◌, ◌≤◌, ◌&&◌, nat_lt, get_or, length, take, slice_get, List};
-ghost use Rattle.rb_base.specs.Nodes.{has};
+ghost use Rattle.std.specs.Prelude.{◌≡◌, ℕ, [], ◌∷◌, ◌++◌, ◌<◌, ◌≤◌, nat_lt, length, take, slice_get, List};
 ghost use Rattle.rb_rules.specs.Owners.{owners_of, owners_in_pass, requested};
+ghost use Rattle.rb_schedule.specs.Asking.{asks};
 
 use arrayvec::ArrayVec;
 use rb_base::{Biu, Heard, NodeSet, Shape};
@@ -62,10 +62,10 @@ fn asks_more(request: Heard, pass: u32) -> bool
     }
 }
 
-// Whether the BIU gets a slot in this pass, where there is one left.
-fn gets_one(requests: &[Heard; 16], trusted: u16, index: u8, pass: u32) -> bool
+// Whether the BIU asks for a slot in this pass.
+fn asks(requests: &[Heard; 16], trusted: u16, index: u8, pass: u32) -> bool
     requires { index < 16 }
-    ensures { result ≡ (has trusted index && nat_lt pass (requested (get_or requests.now index Heard.Fault))) }
+    ensures { result ≡ asks trusted requests.now pass index }
 {
     (trusted >> index) & 1 == 1 && asks_more(requests[usize::from(index)], pass)
 }
@@ -79,7 +79,8 @@ fn add_pass(
     pass: u32,
 )
     requires { length owners.old ≤ shape.now.data_slots }
-    ensures { owners.new ≡ take shape.now.data_slots (owners.old ++ owners_in_pass shape.now trusted requests.now pass) }
+    ensures { owners.new ≡ take shape.now.data_slots
+        (owners.old ++ owners_in_pass shape.now trusted requests.now pass) }
 {
     let slots = usize::from(shape.slots());
     let trusted = trusted.bits();
@@ -87,7 +88,7 @@ fn add_pass(
         if owners.count() == slots {
             return;
         }
-        if gets_one(requests, trusted, index, pass) {
+        if asks(requests, trusted, index, pass) {
             owners.push(index);
         }
     }

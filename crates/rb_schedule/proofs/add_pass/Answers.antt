@@ -1,9 +1,10 @@
 -- In a pass each BIU that asks gets a slot, while there is one.
 use Rattle.std.proofs.Common.{◌≡◌, ◌-◌, ◌≤◌, ◌<◌, length, sym, ◌∙◌, ap, arith}
 use Rattle.std.proofs.lemmas.List.{length_push}
-use Rattle.rb_schedule.proofs.Passes.{asks, given, given_none, given_more, given_same, given_all}
+use Rattle.rb_schedule.specs.Asking.{asks}
+use Rattle.rb_schedule.proofs.Passes.{given, given_none, given_more, given_same, given_all}
 use Rattle.rb_schedule.proofs.add_pass.Goals as goal
-use Rattle.rb_schedule.proofs.add_pass.Goals.{then-gets_one, else-gets_one}
+use Rattle.rb_schedule.proofs.add_pass.Goals.{then-asks, else-asks}
 
 pub loop-index-init : goal.loop-index-init
 loop-index-init c = record {
@@ -30,17 +31,17 @@ loop-index-preserved c =
     let gets = asks c.args.trusted c.args.requests.now c.args.pass in
     let k = c.loop-index.index in
     let now = c.loop-index.owners in
-    let says : c.gets_one.result ≡ gets k = c.gets_one.ensures ∙ ap (λ s. asks s c.args.requests.now c.args.pass k) c.bits-trusted.ensures in
-    elim c.if-gets_one.branch [
-      | then-gets_one w ↦
+    let says : c.asks.result ≡ gets k = c.asks.ensures ∙ ap (λ s. asks s c.args.requests.now c.args.pass k) c.bits-trusted.ensures in
+    elim c.if-asks.branch [
+      | then-asks w ↦
           let room : length now < slots = let fits = c.loop-index.invariant.fits in omega arith in
           let pushed = w.owners-is ∙ w.push.ensures in
           record {
-            is = pushed ∙ given_more slots before gets k now c.loop-index.invariant.is room (sym says ∙ w.if-gets_one.true);
+            is = pushed ∙ given_more slots before gets k now c.loop-index.invariant.is room (sym says ∙ w.if-asks.true);
             fits = omega (arith, ap length pushed, length_push now k);
           }
-      | else-gets_one w ↦ record {
-        is = w.owners-is ∙ given_same slots before gets k now c.loop-index.invariant.is c.loop-index.invariant.fits (sym says ∙ w.if-gets_one.false);
+      | else-asks w ↦ record {
+        is = w.owners-is ∙ given_same slots before gets k now c.loop-index.invariant.is c.loop-index.invariant.fits (sym says ∙ w.if-asks.false);
         fits = omega (arith, ap length w.owners-is);
       }
     ]

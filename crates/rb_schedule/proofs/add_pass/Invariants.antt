@@ -1,5 +1,6 @@
 use Rattle.std.proofs.Common.{◌≡◌, ◌≤◌, length}
-use Rattle.rb_schedule.proofs.Passes.{asks, given}
+use Rattle.rb_schedule.specs.Asking.{asks}
+use Rattle.rb_schedule.proofs.Passes.{given}
 use Rattle.rb_schedule.proofs.add_pass.Given as goal
 
 -- the BIUs so far have got their slots of this pass
