@@ -1,4 +1,5 @@
 pub mod Clock
+pub mod Links
 pub mod Plan
 pub mod Windows
 pub mod Spelling
@@ -13,3 +14,6 @@ pub mod ExactStage
 pub mod SyncStage
 pub mod Conviction
 pub mod NodeSteps
+pub mod Goodness
+pub mod Judging
+pub mod Ports

@@ -1,0 +1,62 @@
+-- Links: how long a message is on its way.
+use Rattle.std.specs.Prelude.{ℕ, ◌==◌, ◌&&◌, nat_le, Bool, true, false, if◌then◌else◌, List, [], ◌∷◌}
+use Rattle.rb_base.specs.Nodes.{Side}
+use Rattle.rb_base.specs.Nodes.Side.{Biu, Rmu}
+use Rattle.rb_base.specs.declared.node.NodeName.{NodeName}
+use Rattle.rb_base.specs.declared.node.NodeName.TheVariants as node
+use Rattle.rb_base.specs.declared.values.Place.{Place}
+use Rattle.rb_rules.specs.declared.link.Pattern.{Pattern}
+use Rattle.rb_rules.specs.declared.link.Pattern.TheVariants.{One, AllBiu, AllRmu}
+use Rattle.rb_rules.specs.declared.link.Rule.{Rule}
+
+-- node i of a kind
+abbrev pub name_of : Side → ℕ → NodeName
+name_of Biu i = node.Biu i
+name_of Rmu i = node.Rmu i
+
+abbrev pub same_node : NodeName → NodeName → Bool
+same_node (node.Biu i) (node.Biu j) = i == j
+same_node (node.Biu i) (node.Rmu j) = false
+same_node (node.Rmu i) (node.Biu j) = false
+same_node (node.Rmu i) (node.Rmu j) = i == j
+
+abbrev pub is_biu : NodeName → Bool
+is_biu (node.Biu i) = true
+is_biu (node.Rmu i) = false
+
+abbrev pub is_rmu : NodeName → Bool
+is_rmu (node.Biu i) = false
+is_rmu (node.Rmu i) = true
+
+-- the pattern stands for this node
+abbrev pub stands_for : Pattern → NodeName → Bool
+stands_for (One name) n = same_node name n
+stands_for AllBiu n = is_biu n
+stands_for AllRmu n = is_rmu n
+
+-- the number lies between the two, both included
+abbrev pub is_within : ℕ × ℕ → ℕ → Bool
+is_within range n = nat_le range.0 n && nat_le n range.1
+
+-- the ranges of frames, slots and stages have this place
+abbrev pub covers : ℕ × ℕ → ℕ × ℕ → ℕ × ℕ → Place → Bool
+covers frames slots stages place =
+    is_within frames place.frame && is_within slots place.slot && is_within stages place.stage
+
+-- the rule is for the messages of this place between these two nodes
+abbrev pub applies : Rule → NodeName → NodeName → Place → Bool
+applies r from to place = stands_for r.from from && stands_for r.to to && covers r.frames r.slots r.stages place
+
+-- the delays of a bus: the one of a message for which there is no rule, and the rules
+pub record DelayRules : Type 0 where
+  pub base : ℕ
+  pub rules : List Rule
+
+-- the delay of the last of the rules that applies, else the one before them
+abbrev pub delay_after : ℕ → List Rule → NodeName → NodeName → Place → ℕ
+delay_after delay [] from to place = delay
+delay_after delay (r ∷ rs) from to place = delay_after (if applies r from to place then r.delay else delay) rs from to place
+
+-- how long a message of this place is on its way
+unfoldable pub delay_of : DelayRules → NodeName → NodeName → Place → ℕ
+delay_of delays from to place = delay_after delays.base delays.rules from to place
