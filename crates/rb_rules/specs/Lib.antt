@@ -17,3 +17,4 @@ pub mod NodeSteps
 pub mod Goodness
 pub mod Judging
 pub mod Ports
+pub mod AbstractBus
