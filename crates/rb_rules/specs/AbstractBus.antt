@@ -58,11 +58,12 @@ IsOfGood sc bus offered (DiagBiu i) value = SparesGood sc bus Rmu value
 IsOfGood sc bus offered (DiagRmu i) value = SparesGood sc bus Biu value
 IsOfGood sc bus offered Sync value = ⊤
 
--- the value that a slot may have: Fault where it is idle, what a good sender says, and any value where the sender is not good
-abbrev pub MayHave : Scenario → AbstractBus → ℕ → Role → Sender → Heard → Type 0
+-- the value that a slot may have: Fault where it is idle, what a good sender says, and any value where the sender is not
+-- good; `offered` is the word that each BIU is offered
+abbrev pub MayHave : Scenario → AbstractBus → (ℕ → ℕ) → Role → Sender → Heard → Type 0
 MayHave sc bus offered role Nobody value = value ≡ Fault
 MayHave sc bus offered role (Node i) value =
-    is_good sc (sender_kind role) i bus.frame bus.slot ≡ true → IsOfGood sc bus offered role value
+    is_good sc (sender_kind role) i bus.frame bus.slot ≡ true → IsOfGood sc bus (offered i) role value
 MayHave sc bus offered role EachTrusted value = ⊤
 
 -- the bus after a slot with this value. The schedule stands after the last schedule slot
@@ -74,7 +75,7 @@ after_slot sizes value bus = record bus {
 }
 
 -- one slot
-pub record SlotStep (sc : Scenario) (offered : ℕ) (value : Heard) (before after : AbstractBus) : Type 0 where
+pub record SlotStep (sc : Scenario) (offered : ℕ → ℕ) (value : Heard) (before after : AbstractBus) : Type 0 where
   pub may_have : MayHave sc before offered (role_of sc.sizes before.slot) (sender_on sc.sizes before) value
   pub after_is : after ≡ after_slot sc.sizes value before
 
@@ -102,8 +103,9 @@ pub record FrameStep (sc : Scenario) (before after : AbstractBus) : Type 0 where
   pub after_is : after ≡ after_frame sc.sizes after.low before
   pub good_stay : (side : Side) (j : ℕ) → is_good sc side j after.frame 0 ≡ true → has (trusted_on side after) j ≡ true
 
--- a slot below the sync slot, or the sync slot with the step to the next frame; `offered` is the word of a frame's slot
-abbrev pub IsStep : Scenario → (ℕ → ℕ → ℕ) → AbstractBus → AbstractBus → Type 0
+-- a slot below the sync slot, or the sync slot with the step to the next frame; `offered` is the word that is offered in a
+-- frame's slot to each BIU
+abbrev pub IsStep : Scenario → (ℕ → ℕ → ℕ → ℕ) → AbstractBus → AbstractBus → Type 0
 IsStep sc offered before after =
     elim (nat_lt before.slot (sync_slot_of sc.sizes)) [
       | true ↦ (value : Heard) × SlotStep sc (offered before.frame before.slot) value before after
@@ -111,6 +113,6 @@ IsStep sc offered before after =
     ]
 
 -- so many steps of the machine, of which `bus` gives the state after each
-pub record IsRun (sc : Scenario) (offered : ℕ → ℕ → ℕ) (steps : ℕ) (bus : ℕ → AbstractBus) : Type 0 where
+pub record IsRun (sc : Scenario) (offered : ℕ → ℕ → ℕ → ℕ) (steps : ℕ) (bus : ℕ → AbstractBus) : Type 0 where
   pub first : bus 0 ≡ first_bus sc.sizes (bus 0).low
   pub each_step : (n : ℕ) → n < steps → IsStep sc offered (bus n) (bus (suc n))
