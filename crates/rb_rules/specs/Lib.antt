@@ -17,4 +17,7 @@ pub mod NodeSteps
 pub mod Goodness
 pub mod Judging
 pub mod Ports
+pub mod Book
+pub mod Hearing
+pub mod Rounds
 pub mod AbstractBus

@@ -1,0 +1,172 @@
+-- What a node sends in a window, and what it hears in one.
+use Rattle.std.specs.Prelude.{ℕ, ◌+◌, ◌-◌, ◌%◌, ◌&&◌, nat_le, min, Bool, true, false, Option, Some, None, option_and_then, option_map, unwrap_or, List, [], ◌∷◌, filter, map, get_or, slice_get}
+use Rattle.rb_base.specs.Nodes.{Side, other}
+use Rattle.rb_base.specs.Sizes.{Sizes}
+use Rattle.rb_base.specs.declared.values.Place.{Place}
+use Rattle.rb_base.specs.declared.values.See.{See}
+use Rattle.rb_base.specs.declared.values.See.TheVariants.{Nothing, Value, Time}
+use Rattle.rb_base.specs.declared.values.Delivery.{Delivery}
+use Rattle.rb_rules.specs.declared.closing.Closed.{Closed}
+use Rattle.rb_rules.specs.declared.message.Message.{Message}
+use Rattle.rb_rules.specs.declared.message.Tag.{Tag}
+use Rattle.rb_rules.specs.declared.message.Tag.TheVariants as tag
+use Rattle.rb_rules.specs.declared.message.Version.{Version}
+use Rattle.rb_rules.specs.declared.plan.Plan.{Plan}
+use Rattle.rb_rules.specs.declared.plan.Window.{Window}
+use Rattle.rb_rules.specs.declared.record.SlotLine.{SlotLine}
+use Rattle.rb_rules.specs.declared.role.Role.{Role}
+use Rattle.rb_rules.specs.declared.role.Role.TheVariants.{Schedule, Data, DiagBiu, DiagRmu, Sync}
+use Rattle.rb_rules.specs.declared.say.Content.{Content}
+use Rattle.rb_rules.specs.declared.say.Content.TheVariants.{Word, Fault, Sync as Call, Raw}
+use Rattle.rb_rules.specs.declared.say.Say.{Say}
+use Rattle.rb_rules.specs.Book.{Row}
+use Rattle.rb_rules.specs.Clock.{Timeline, time_of, stamp_of}
+use Rattle.rb_rules.specs.ExactStage.{each_node, at_source}
+use Rattle.rb_rules.specs.Goodness.{Scenario, is_good, clock_of}
+use Rattle.rb_rules.specs.Links.{name_of, same_node, stands_for, covers, delay_of}
+use Rattle.rb_rules.specs.NodeState.{NodeState, trusted_of}
+use Rattle.rb_rules.specs.NodeSteps.{message_said}
+use Rattle.rb_rules.specs.Ports.{PortState, fresh_port, offered_at}
+use Rattle.rb_rules.specs.Sense.{Arrival}
+use Rattle.rb_rules.specs.Spelling.{spelling_of}
+use Rattle.rb_rules.specs.SyncStage.{send_tick_of, new_epoch_of}
+use Rattle.rb_rules.specs.Windows.{windows_of_frame, tail_of}
+
+-- Windows.
+
+-- the tail of a node's frame. It is empty until the node knows its next epoch
+abbrev pub tail_at : Sizes → Plan → Side → NodeState → Window
+tail_at sizes plan me st = tail_of sizes plan (unwrap_or (new_epoch_of plan me st) 0 - st.epoch)
+
+-- the window of this number in a node's frame. The tail comes last
+abbrev pub window_numbered : Sizes → Plan → Side → NodeState → ℕ → Window
+window_numbered sizes plan me st n = unwrap_or (slice_get (windows_of_frame sizes plan) n) (tail_at sizes plan me st)
+
+-- a window as a node goes through it: its place, and its first and last tick
+pub record Span : Type 0 where
+  pub place : Place
+  pub first : ℕ
+  pub last : ℕ
+
+abbrev pub span_of : NodeState → Window → Span
+span_of st w = record {
+  place = record { frame = st.frame; slot = w.slot; stage = w.stage };
+  first = st.epoch + w.first;
+  last = st.epoch + w.last;
+}
+
+-- What a good node sends.
+
+-- a message, and the tick at which it is sent
+pub record Sending : Type 0 where
+  pub tick : ℕ
+  pub message : Message
+
+-- what node `index` of kind me sends in a stage, if anything; `word` is its request or its word
+unfoldable pub sending : Sizes → Plan → Side → ℕ → NodeState → ℕ → ℕ → ℕ → Option Sending
+sending sizes plan me index st slot stage word =
+    option_and_then (λ m. option_map (λ tick. record { tick = tick; message = m }) (send_tick_of sizes plan st slot stage))
+    (message_said sizes me index st slot stage word)
+
+-- the port of BIU i
+abbrev pub port_at : Scenario → List PortState → ℕ → PortState
+port_at sc ports i = get_or ports i (fresh_port (get_or sc.apps i 0) (get_or sc.words i 0))
+
+-- the word that BIU i has for a slot: in a schedule slot its request, in a data slot what its port offers
+abbrev pub word_for : Scenario → List PortState → ℕ → ℕ → Role → ℕ
+word_for sc ports i slot (Schedule n) = get_or sc.requests i 0
+word_for sc ports i slot (Data n) = offered_at (port_at sc ports i) slot
+word_for sc ports i slot (DiagBiu n) = 0
+word_for sc ports i slot (DiagRmu n) = 0
+word_for sc ports i slot Sync = 0
+
+-- What comes to a node.
+
+-- a message on its way to a node: when it comes, from which node of the other kind, and its bytes
+pub record Coming : Type 0 where
+  pub time : ℕ
+  pub from : ℕ
+  pub bytes : List ℕ
+
+-- what good source j sent in a frame comes to node i of kind me
+abbrev pub coming_of : Scenario → Side → ℕ → ℕ → ℕ → Sending → Coming
+coming_of sc me i j frame s = record {
+  time = time_of (clock_of sc (other me) j) s.tick
+      + delay_of sc.delays (name_of (other me) j) (name_of me i) (record { frame = frame; slot = s.message.slot; stage = s.message.stage });
+  from = j;
+  bytes = spelling_of sc.plan.version s.message;
+}
+
+-- a message with the header of a place. The tail has no stage of its own in messages
+abbrev pub message_at : Place → Tag → ℕ → Message
+message_at place tag value =
+    record { tag = tag; frame = place.frame % 65536; slot = place.slot; stage = min place.stage 3; value = value }
+
+-- the bytes that faulty nodes say in a window
+abbrev pub bytes_of : Version → Place → Content → List ℕ
+bytes_of version place (Word word) = spelling_of version (message_at place tag.Word word)
+bytes_of version place Fault = spelling_of version (message_at place tag.Fault 0)
+bytes_of version place Call = spelling_of version (message_at place tag.Sync 0)
+bytes_of version place (Raw bytes) = bytes.items
+
+-- the entry is what source j says to node i of kind me in a window. An offset outside the window isn't heard
+abbrev pub is_said : Side → ℕ → ℕ → Span → Say → Bool
+is_said me i j span s =
+    same_node s.from (name_of (other me) j) && stands_for s.to (name_of me i) && covers s.frames s.slots s.stages span.place
+    && nat_le (span.first + s.offset) span.last
+
+-- the entry as it comes to a node
+abbrev pub coming_said : Version → Timeline → ℕ → Span → Say → Coming
+coming_said version clock j span s = record {
+  time = time_of clock (span.first + s.offset) - s.early;
+  from = j;
+  bytes = bytes_of version span.place s.content;
+}
+
+-- what source j, which is not good, says to node i of kind me in a window, in the order of the scenario
+abbrev pub said_by : Scenario → Side → ℕ → Span → ℕ → List Coming
+said_by sc me i span j =
+    map (coming_said sc.plan.version (clock_of sc me i) j span) (filter (is_said me i j span) sc.says)
+
+abbrev pub sent_by : Scenario → Side → ℕ → Span → ℕ → Option Sending → List Coming
+sent_by sc me i span j None = []
+sent_by sc me i span j (Some s) = coming_of sc me i j span.place.frame s ∷ []
+
+-- what node i of kind me hears of source j in a window, in which this is what the nodes of the other kind send
+unfoldable pub heard_from : Scenario → Side → ℕ → Span → List (Option Sending) → ℕ → List Coming
+heard_from sc me i span sent j =
+    elim (is_good sc (other me) j span.place.frame span.place.slot) [
+      | true ↦ sent_by sc me i span j (at_source sent j)
+      | false ↦ said_by sc me i span j
+    ]
+
+-- as the node knows it: with a stamp in place of the time
+abbrev pub arrival_of : Timeline → Coming → Arrival
+arrival_of clock c = record { stamp = stamp_of clock c.time; bytes = c.bytes }
+
+-- What a node shows of a stage.
+
+-- the time of a sole message
+abbrev pub sole_time : List Coming → ℕ
+sole_time [] = 0
+sole_time (c ∷ []) = c.time
+sole_time (c ∷ (d ∷ others)) = 0
+
+-- a sight as it is judged: a stamp gives way to the reference time of the message taken
+abbrev pub judged_see : ℕ → See → See
+judged_see time Nothing = Nothing
+judged_see time (Value v) = Value v
+judged_see time (Time stamp) = Time time
+
+abbrev pub line_of : ℕ → Delivery → SlotLine
+line_of i d = record { receiver = i; sender = d.sender; value = d.value }
+
+-- what node i of kind me tells of a stage that it closed in this state, having heard this of each source
+unfoldable pub row_of : Side → ℕ → NodeState → (ℕ → List Coming) → Closed → Row
+row_of me i st heard c = record {
+  place = c.place;
+  sees = each_node (λ j. judged_see (sole_time (heard j)) (get_or c.sees j Nothing));
+  biu = trusted_of Side.Biu me st;
+  rmu = trusted_of Side.Rmu me st;
+  line = option_map (line_of i) c.delivered;
+}

@@ -1,0 +1,199 @@
+-- The rounds of a scenario: all good nodes go through the windows in lockstep.
+use Rattle.std.specs.Prelude.{◌≡◌, ◌≤◌, IfSome, All, ℕ, zero, suc, ◌+◌, ◌*◌, nat_lt, nat_le, ◌==◌, ◌&&◌, true, false, Option, Some, None, List, [], map, get_or, slice_get}
+use Rattle.rb_base.specs.Counting.{numbers}
+use Rattle.rb_base.specs.Nodes.{Side, other}
+use Rattle.rb_base.specs.Nodes.Side.{Biu, Rmu}
+use Rattle.rb_base.specs.Sizes.{Sizes, sync_slot_of}
+use Rattle.rb_rules.specs.declared.plan.Window.{Window}
+use Rattle.rb_rules.specs.declared.record.Epoch.{Epoch}
+use Rattle.rb_rules.specs.declared.record.PortLine.{PortLine}
+use Rattle.rb_rules.specs.declared.record.SlotLine.{SlotLine}
+use Rattle.rb_rules.specs.Book.{Each, of_kind, in_order, each_of, map_from, map_each, Record, Begun, Row, Book, fresh_book, with_stage, with_frame, with_end}
+use Rattle.rb_rules.specs.Clock.{time_of, stamp_of}
+use Rattle.rb_rules.specs.ExactStage.{Outcome, keeping, present}
+use Rattle.rb_rules.specs.Goodness.{Scenario, is_good, clock_of}
+use Rattle.rb_rules.specs.Hearing.{Sending, Coming, Span, window_numbered, span_of, sending, port_at, word_for, heard_from, arrival_of, row_of}
+use Rattle.rb_rules.specs.Links.{name_of}
+use Rattle.rb_rules.specs.NodeState.{NodeState, first_state}
+use Rattle.rb_rules.specs.NodeSteps.{expect_of, close, turned, convicted_of}
+use Rattle.rb_rules.specs.Ports.{PortState, HandIn, delivered_to, losses_of, handed}
+use Rattle.rb_rules.specs.Sense.{Arrival, sense_of}
+use Rattle.rb_rules.specs.Slots.{role_of}
+use Rattle.rb_rules.specs.Windows.{windows_of_frame}
+
+-- all nodes before a window, the ports, and the book
+pub record Moment : Type 0 where
+  pub frame : ℕ
+  pub window : ℕ  -- the number of the window in its frame
+  pub nodes : Each NodeState
+  pub ports : List PortState
+  pub book : Book
+
+-- A window.
+
+-- the windows of a frame, the tail with them
+abbrev pub windows_in : Sizes → ℕ
+windows_in sizes = 3 * sync_slot_of sizes + 4
+
+-- this moment's window at a node in this state
+abbrev pub window_in : Scenario → Moment → Side → NodeState → Window
+window_in sc m me st = window_numbered sc.sizes sc.plan me st m.window
+
+abbrev pub word_in : Scenario → Moment → ℕ → Window → ℕ
+word_in sc m i w = word_for sc m.ports i w.slot (role_of sc.sizes w.slot)
+
+abbrev pub sending_in : Scenario → Moment → Side → ℕ → NodeState → Window → Option Sending
+sending_in sc m me i st w = sending sc.sizes sc.plan me i st w.slot w.stage (word_in sc m i w)
+
+-- what each node sends if it is good
+unfoldable pub sent_in : Scenario → Moment → Each (Option Sending)
+sent_in sc m = map_each (λ me i st. sending_in sc m me i st (window_in sc m me st)) m.nodes
+
+-- what a window makes of a node: its state after it, and what it tells of it
+pub record Result : Type 0 where
+  pub state : NodeState
+  pub row : Option Row
+
+-- what node i of kind me makes of a window that it closes, by the outcome of the close
+abbrev pub result_of : Side → ℕ → (ℕ → List Coming) → Outcome → Result
+result_of me i heard x = record { state = x.state; row = Some (row_of me i x.state heard x.closed) }
+
+-- node i of kind me closes a window on what it heard of each source, the arrivals being what it knows of that
+unfoldable pub close_on : Scenario → Side → ℕ → NodeState → Window → (ℕ → List Coming) → Result
+close_on sc me i st w heard =
+    let expect = expect_of sc.sizes sc.plan.version st w.slot w.stage in
+    let arrivals : ℕ → List Arrival = λ j. map (arrival_of (clock_of sc me i)) (heard j) in
+    result_of me i heard (close sc.sizes me i st w.slot w.stage w.first (λ j. sense_of expect (arrivals j)))
+
+-- what node i of kind me hears of each source in a window, in which this is sent
+abbrev pub heard_at : Scenario → Side → ℕ → NodeState → Window → Each (Option Sending) → ℕ → List Coming
+heard_at sc me i st w sent = heard_from sc me i (span_of st w) (of_kind (other me) sent)
+
+-- a good node says what it has to say, and closes the window on what it hears. An empty tail is passed over
+unfoldable pub go_through : Scenario → Moment → Each (Option Sending) → Side → ℕ → NodeState → Window → Result
+go_through sc m sent me i st w =
+    elim (is_good sc me i m.frame w.slot && nat_le w.first w.last) [
+      | true ↦ close_on sc me i (keeping sc.sizes me i st w.slot w.stage (word_in sc m i w)) w (heard_at sc me i st w sent)
+      | false ↦ record { state = st; row = None }
+    ]
+
+unfoldable pub results_of : Scenario → Moment → Each Result
+results_of sc m =
+    let sent = sent_in sc m in
+    map_each (λ me i st. go_through sc m sent me i st (window_in sc m me st)) m.nodes
+
+-- the port after what its BIU delivered
+abbrev pub port_after : Option SlotLine → PortState → PortState
+port_after None port = port
+port_after (Some line) port = delivered_to port line.value
+
+abbrev pub port_told : Option Row → PortState → PortState
+port_told None port = port
+port_told (Some row) port = port_after row.line port
+
+abbrev pub ports_after : List (Option Row) → List PortState → List PortState
+ports_after rows ports = map_from 0 (λ i port. port_told (get_or rows i None) port) ports
+
+-- the tail is no stage, and isn't judged
+abbrev pub book_after : Scenario → ℕ → Option Window → Each (Option Row) → Book → Book
+book_after sc frame None rows b = b
+book_after sc frame (Some w) rows b = with_stage sc (record { frame = frame; slot = w.slot; stage = w.stage }) rows b
+
+unfoldable pub after_window : Scenario → Moment → Each Result → Moment
+after_window sc m results =
+    let rows = map_each (λ me i r. r.row) results in
+    record {
+      frame = m.frame;
+      window = m.window + 1;
+      nodes = map_each (λ me i r. r.state) results;
+      ports = ports_after rows.bius m.ports;
+      book = book_after sc m.frame (slice_get (windows_of_frame sc.sizes sc.plan) m.window) rows m.book;
+    }
+
+-- node i of kind me is good in this moment's window, and this is its state
+abbrev pub IsGoodIn : Scenario → Moment → Side → ℕ → NodeState → Type 0
+IsGoodIn sc m me i st =
+    (slice_get (of_kind me m.nodes) i ≡ Some st) × (is_good sc me i m.frame (window_in sc m me st).slot ≡ true)
+
+-- a tick of the window
+abbrev pub IsTickOf : Span → ℕ → Type 0
+IsTickOf span tick = (span.first ≤ tick) × (tick ≤ span.last)
+
+-- the window is timely: good nodes send at ticks of their own window, and what good nodes hear of good nodes comes with a
+-- stamp in theirs
+pub record IsTimely (sc : Scenario) (m : Moment) : Type 0 where
+  pub sent : (me : Side) (i : ℕ) (st : NodeState) → IsGoodIn sc m me i st
+      → IfSome (sending_in sc m me i st (window_in sc m me st)) (λ s. IsTickOf (span_of st (window_in sc m me st)) s.tick)
+  pub heard : (me : Side) (i j : ℕ) (st source : NodeState) → IsGoodIn sc m me i st → IsGoodIn sc m (other me) j source
+      → All (λ c. IsTickOf (span_of st (window_in sc m me st)) (stamp_of (clock_of sc me i) c.time))
+      (heard_at sc me i st (window_in sc m me st) (sent_in sc m) j)
+
+-- A frame.
+
+-- what a node tells of the frame that it is in
+abbrev pub epoch_of : Sizes → Side → NodeState → Epoch
+epoch_of sizes me st =
+    record { frame = st.frame; tick = st.epoch; biu = convicted_of sizes Biu me st; rmu = convicted_of sizes Rmu me st }
+
+-- at a BIU it tells of the port, too
+abbrev pub port_line : Side → ℕ → PortState → Option PortLine
+port_line Biu i port = Some (record { biu = i; state = port.state; losses = losses_of port })
+port_line Rmu i port = None
+
+-- what node i of kind me tells of a frame that it begins
+abbrev pub begun_of : Scenario → List PortState → Side → ℕ → Epoch → Begun
+begun_of sc ports me i e = record {
+  frame = e.frame;
+  line = record { node = name_of me i; tick = e.tick; time = time_of (clock_of sc me i) e.tick; biu = e.biu; rmu = e.rmu };
+  port = port_line me i (port_at sc ports i);
+}
+
+abbrev pub begun_if_good : Scenario → ℕ → List PortState → Side → ℕ → NodeState → Option Begun
+begun_if_good sc frame ports me i st =
+    elim (is_good sc me i frame 0) [ true ↦ Some (begun_of sc ports me i (epoch_of sc.sizes me st)) | false ↦ None ]
+
+-- a run ends with the begin of the frame that comes after its last
+abbrev pub end_if_over : Scenario → ℕ → Book → Book
+end_if_over sc frame b = elim (frame == sc.frames) [ true ↦ with_end b | false ↦ b ]
+
+-- a frame begins at these nodes. What is handed to a port comes after the frame's record
+unfoldable pub begin_frame : Scenario → List HandIn → ℕ → Each NodeState → List PortState → Book → Moment
+begin_frame sc hands frame nodes ports b = record {
+  frame = frame;
+  window = 0;
+  nodes = nodes;
+  ports = handed frame hands ports;
+  book = end_if_over sc frame (with_frame sc frame (present (in_order (map_each (begun_if_good sc frame ports) nodes))) b);
+}
+
+-- The run.
+
+abbrev pub first_moment : Scenario → List HandIn → Moment
+first_moment sc hands =
+    begin_frame sc hands 0 (each_of sc.sizes (λ me i. first_state sc.sizes me)) (map (port_at sc []) (numbers sc.sizes.bius)) fresh_book
+
+-- one window, or after the tail the next frame
+unfoldable pub step : Scenario → List HandIn → Moment → Moment
+step sc hands m =
+    elim (nat_lt m.window (windows_in sc.sizes)) [
+      | true ↦ after_window sc m (results_of sc m)
+      | false ↦ begin_frame sc hands (m.frame + 1) (map_each (λ me i st. turned sc.sizes sc.plan me st) m.nodes) m.ports m.book
+    ]
+
+-- the moment after so many steps. The states go on after a breach, the book does not
+abbrev pub moment : Scenario → List HandIn → ℕ → Moment
+moment sc hands zero = first_moment sc hands
+moment sc hands (suc n) = step sc hands (moment sc hands n)
+
+-- at most so many steps more, none after the last record
+abbrev pub until_end : Scenario → List HandIn → ℕ → Moment → Moment
+until_end sc hands zero m = m
+until_end sc hands (suc n) m = elim m.book.ended [ true ↦ m | false ↦ until_end sc hands n (step sc hands m) ]
+
+-- enough steps for all frames
+abbrev pub steps_of : Scenario → ℕ
+steps_of sc = sc.frames * (windows_in sc.sizes + 1)
+
+-- the records of a scenario with these hand-ins
+abbrev pub records_of : Scenario → List HandIn → List Record
+records_of sc hands = (until_end sc hands (steps_of sc) (first_moment sc hands)).book.given
