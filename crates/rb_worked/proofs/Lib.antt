@@ -1,10 +1,3 @@
 mod Lockstep
-mod WorkedSenses
-mod WorkedStandings
-mod WorkedSlots
-mod WorkedOwners
-mod WorkedStages
-mod WorkedConvictions
-mod WorkedSync
 mod WorkedFrame
 mod WorkedProbation

@@ -1,3 +1,5 @@
-//! Cases that are computed from the definitions of the bus alone, in `proofs/`: what they must give stands there as an
-//! equation that is proved by computing. No code is run, and nothing stands on this crate.
+//! Cases that are computed from the definitions of the bus alone: each is an equation on a function that does nothing, proved
+//! by computing. No code is run, and nothing stands on this crate.
 #![tactic(auto)]
+
+pub mod parts;
