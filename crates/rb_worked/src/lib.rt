@@ -2,4 +2,8 @@
 //! by computing. No code is run, and nothing stands on this crate.
 #![tactic(auto)]
 
+pub mod frames;
+pub mod lies;
+pub mod ordinary;
 pub mod parts;
+pub mod resynchronisation;

@@ -6,16 +6,37 @@ ghost use Rattle.rb_base.specs.Nodes.{set_of};
 ghost use Rattle.rb_base.specs.Nodes.Side.{Biu, Rmu};
 ghost use Rattle.rb_base.specs.declared.values.Heard.TheVariants.{Word, Fault};
 ghost use Rattle.rb_rules.specs.declared.message.Tag.TheVariants as tag;
+ghost use Rattle.rb_rules.specs.declared.message.Version.TheVariants as version;
 ghost use Rattle.rb_rules.specs.declared.role.Role.TheVariants.{Schedule, Data, DiagBiu, DiagRmu, Sync};
 ghost use Rattle.rb_rules.specs.declared.sense.Sense.TheVariants.{Silent, One, Bad};
 ghost use Rattle.rb_rules.specs.ExactStage.{says, keeping, close_exact};
+ghost use Rattle.rb_rules.specs.Middle.{middle_of};
 ghost use Rattle.rb_rules.specs.Owners.{owners_of};
 ghost use Rattle.rb_rules.specs.Sense.{sense_of};
 ghost use Rattle.rb_rules.specs.Slots.{role_of, sender_in, expects, expected_by};
 ghost use Rattle.rb_rules.specs.Slots.Sender.{Nobody, Node, EachTrusted};
 ghost use Rattle.rb_rules.specs.Standing.{is_eligible, vector_of, lapsed};
+ghost use Rattle.rb_rules.specs.Spelling.{spelling_of};
 ghost use Rattle.rb_rules.specs.SyncStage.{calls, close_sync, send_tick_of, new_epoch_of};
 ghost use Rattle.rb_worked.specs.Parts.{sizes, plan, biu, rmu, expected, word_10, accused, two_frames_later, accused_anew, comes, that_heard, that_heard_nothing, relayed_by, relays, sender, bystander, that_voted, that_scheduled, in_data_slot, in_idle_slot, called, rmu_after, biu_after, convicted};
+
+/// Messages as bytes, in both versions.
+pub fn messages_are_spelled()
+    ensures a_word { spelling_of version.One (record { tag = tag.Word; frame = 1; slot = 4; stage = 1; value = 10 }) ≡ (1 ∷ 0 ∷ 1 ∷ 0 ∷ 4 ∷ 1 ∷ 0 ∷ 0 ∷ 0 ∷ 10 ∷ 15 ∷ []) }
+    ensures a_call { spelling_of version.One (record { tag = tag.Sync; frame = 0; slot = 19; stage = 2; value = 0 }) ≡ (3 ∷ 0 ∷ 0 ∷ 0 ∷ 19 ∷ 2 ∷ 0 ∷ 0 ∷ 0 ∷ 0 ∷ 18 ∷ []) }
+    ensures a_fault { spelling_of version.One (record { tag = tag.Fault; frame = 65535; slot = 5; stage = 3; value = 0 }) ≡ (2 ∷ 255 ∷ 255 ∷ 0 ∷ 5 ∷ 3 ∷ 0 ∷ 0 ∷ 0 ∷ 0 ∷ 4 ∷ []) }
+    ensures on_bus_5 { spelling_of (version.Two 5) (record { tag = tag.Word; frame = 1; slot = 4; stage = 1; value = 10 }) ≡ (1 ∷ 0 ∷ 1 ∷ 0 ∷ 4 ∷ 1 ∷ 0 ∷ 0 ∷ 0 ∷ 10 ∷ 5 ∷ 10 ∷ []) }
+{}
+
+/// Middles of stamps: a BIU that calls early, an RMU that calls at the first or the last tick of the window.
+pub fn middles_of_stamps()
+    ensures early_first { middle_of (861 ∷ 862 ∷ 862 ∷ 862 ∷ []) ≡ Some 862 }
+    ensures early_last { middle_of (894 ∷ 897 ∷ 897 ∷ 897 ∷ []) ≡ Some 897 }
+    ensures at_the_first_tick { middle_of (870 ∷ 878 ∷ 878 ∷ []) ≡ Some 878 }
+    ensures at_the_last_tick { middle_of (878 ∷ 887 ∷ 878 ∷ []) ≡ Some 878 }
+    ensures of_four { middle_of (4 ∷ 1 ∷ 3 ∷ 2 ∷ []) ≡ Some 2 }
+    ensures of_none { middle_of [] ≡ None }
+{}
 
 /// What the arrivals of one source are worth.
 pub fn arrivals_of_a_source()

@@ -1,3 +1,0 @@
-mod Lockstep
-mod WorkedFrame
-mod WorkedProbation
