@@ -21,3 +21,4 @@ pub mod Book
 pub mod Hearing
 pub mod Rounds
 pub mod AbstractBus
+pub mod StandsFor
