@@ -1,7 +1,7 @@
 -- The sets that a standing holds, as the masks of the code and as the rules have them.
 use Rattle.std.proofs.Common.{◌≡◌, ℕ, ◌+◌, ◌-◌, ◌<◌, ◌^◌, Bool, true, false, not, ◌&&◌, ◌||◌, ◌==◌, if◌then◌else◌, bit_and, bit_or, refl, ◌∙◌, ap}
 use Rattle.rb_base.specs.Nodes.{has, set_of}
-use Rattle.rb_base.proofs.Sets.{common_is, has-or, has-set_of, same_set_of, without_is}
+use Rattle.rb_base.proofs.Sets.{common_is, has-and, has-complement, has-or, has-set_of, same_set_of, without_is}
 use Rattle.rb_base.proofs.SetLoops.{passing_below, passing_more, passing_same}
 
 -- `t & (d | m)`
@@ -24,3 +24,9 @@ passing_next p s t k so_far is =
       | false ↦ λ e h. h ∙ passing_same p s k so_far e
     ] in
     go (p k) refl is
+
+-- `set & (t & !d)`
+pub eligible_is : (set t d : ℕ) → set < 2 ^ 16 → d < 2 ^ 16 → bit_and set (bit_and t (65535 - d)) ≡ set_of (λ j. has set j && (has t j && not (has d j)))
+eligible_is set t d hs hd =
+    common_is set (bit_and t (65535 - d)) hs ∙ same_set_of _ _ (λ j h.
+    ap (λ b. has set j && b) (has-and t (65535 - d) j ∙ ap (λ b. has t j && b) (has-complement d j hd h)))

@@ -1,6 +1,8 @@
 -- Of which arrivals an inbox is the record.
 use Rattle.std.specs.Prelude.{ℕ, ◌≡◌, ◌≤◌, ◌<◌, ◌==◌, List, [], ◌∷◌, length, take, filter, map, slice_index_or}
-use Rattle.rb_rules.specs.Sense.{Arrival}
+use Rattle.rb_rules.specs.declared.sense.Expect.{Expect}
+use Rattle.rb_rules.specs.declared.sense.Sense.{Sense}
+use Rattle.rb_rules.specs.Sense.{Arrival, sense_of}
 use Rattle.rb_eligible.specs.declared.inbox.Kept.{Kept}
 use Rattle.rb_eligible.specs.declared.inbox.Kept.TheVariants.{Nothing, Single, Long, Many}
 
@@ -12,6 +14,10 @@ pub record Received : Type 0 where
 -- the arrivals of one source, in their order
 abbrev pub arrivals_of : ℕ → List Received → List Arrival
 arrivals_of source received = map (λ r. r.arrival) (filter (λ r. r.source == source) received)
+
+-- what came of each source
+abbrev pub sense_in : Expect → List Received → ℕ → Sense
+sense_in e received source = sense_of e (arrivals_of source received)
 
 -- a sole arrival that is longer than any message
 pub record IsLong (arrival : Arrival) (arrivals : List Arrival) : Type 0 where

@@ -1,8 +1,8 @@
 //! What came of each source in a window.
-ghost use Rattle.std.specs.Prelude.{◌≡◌, List, [], ◌∷◌, ◌++◌};
+ghost use Rattle.std.specs.Prelude.{◌≡◌, List, [], ◌∷◌, ◌++◌, ◌<◌};
 ghost use Rattle.rb_rules.specs.Sense.{Arrival, sense_of, sense_of_one, suits, tag_suits};
 ghost use Rattle.rb_rules.specs.Spelling.{message_in};
-ghost use Rattle.rb_eligible.specs.Inboxes.{IsKept, Received, Shows, arrivals_of};
+ghost use Rattle.rb_eligible.specs.Inboxes.{IsKept, Received, Shows, arrivals_of, sense_in};
 
 use rb_base::NodeId;
 use rb_frame::{Message, Tag, decode};
@@ -69,6 +69,15 @@ impl<K: Copy> Inbox<K> {
             → result ≡ sense_of expect.now (arrivals_of from received) }
     {
         sense_of_kept(&self.kept[usize::from(from.index())], expect)
+    }
+
+    /// The same for the source with this number, which is below 16.
+    pub fn sense_at(&self, source: u8, expect: &Expect) -> Sense
+        requires { source < 16 }
+        ensures { (received : List Received) → Shows self.now received
+            → result ≡ sense_in expect.now received source }
+    {
+        sense_of_kept(&self.kept[usize::from(source)], expect)
     }
 
     /// A new window begins, in which nothing came.

@@ -1,5 +1,5 @@
 //! What a node holds of the nodes of the other kind.
-ghost use Rattle.std.specs.Prelude.{◌≡◌, ◌≤◌, ◌<◌, ◌+◌, ◌==◌, ◌||◌, if◌then◌else◌, map, min};
+ghost use Rattle.std.specs.Prelude.{◌≡◌, ◌≤◌, ◌<◌, ◌+◌, ◌==◌, ◌||◌, ◌&&◌, if◌then◌else◌, map, min};
 ghost use Rattle.rb_base.specs.Counting.{numbers};
 ghost use Rattle.rb_base.specs.Nodes.{has, set_of};
 ghost use Rattle.rb_rules.specs.Standing.{calm_after, first_standing, is_eligible, lapsed, lapses, vector_of, with_evidence, with_mismatch, without};
@@ -49,12 +49,27 @@ impl<K: Copy> Standing<K> {
         self.trusted.contains(id) && !self.direct.contains(id)
     }
 
+    /// Those nodes of the set that are eligible.
+    pub fn eligible_of(&self, set: NodeSet<K>) -> NodeSet<K>
+        ensures { result ≡ set_of (λ j. has set j && is_eligible (standing_of self.now) j) }
+    {
+        NodeSet::from_bits(set.bits() & (self.trusted.bits() & !self.direct.bits()))
+    }
+
     /// Direct evidence against the node: it is accused, which it may be already, and the evidence is of this frame.
     pub fn accuse_direct(&mut self, id: NodeId<K>)
         ensures { standing_of self.new ≡ with_evidence (λ j. j == id) (standing_of self.old) }
     {
         self.direct.insert(id);
         self.fresh.insert(id);
+    }
+
+    /// The same against each node of the set.
+    pub fn accuse_each(&mut self, set: NodeSet<K>)
+        ensures { standing_of self.new ≡ with_evidence (has set) (standing_of self.old) }
+    {
+        self.direct = NodeSet::from_bits(self.direct.bits() | set.bits());
+        self.fresh = NodeSet::from_bits(self.fresh.bits() | set.bits());
     }
 
     /// Accuses the node for a value that differed. It stays eligible.
