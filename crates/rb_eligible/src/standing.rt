@@ -2,10 +2,11 @@
 ghost use Rattle.std.specs.Prelude.{◌≡◌, ◌≤◌, ◌<◌, ◌+◌, ◌==◌, ◌||◌, ◌&&◌, if◌then◌else◌, map, min};
 ghost use Rattle.rb_base.specs.Counting.{numbers};
 ghost use Rattle.rb_base.specs.Nodes.{has, set_of};
-ghost use Rattle.rb_rules.specs.Standing.{calm_after, first_standing, is_eligible, lapsed, lapses, vector_of, with_evidence, with_mismatch, without};
+ghost use Rattle.rb_rules.specs.Standing.{calm_after, does_wrong, first_standing, is_eligible, lapsed, lapses, vector_of, with_evidence, with_mismatch, without};
 ghost use Rattle.rb_eligible.specs.Standings.{calm_at_end, standing_of};
 
 use rb_base::{NodeId, NodeSet};
+use rb_rules::Sense;
 
 /// What a node holds of the nodes of the other kind: which it trusts, which it accuses for what came of them or did not
 /// come (`direct`), which for a value that differed (`mismatch`), and against which it had direct evidence in the frame
@@ -25,6 +26,17 @@ fn one_more(calm: u16) -> u16
     ensures { result ≡ min (calm + 1) 4096 }
 {
     if calm < 4096 { calm + 1 } else { 4096 }
+}
+
+// Whether a source did wrong by what came of it.
+fn does_wrong(expected: bool, sense: &Sense) -> bool
+    ensures { result ≡ does_wrong expected sense.now }
+{
+    match sense {
+        Sense::Silent => expected,
+        Sense::One { .. } => !expected,
+        Sense::Bad => true,
+    }
 }
 
 impl<K: Copy> Standing<K> {
@@ -64,7 +76,34 @@ impl<K: Copy> Standing<K> {
         self.fresh.insert(id);
     }
 
-    /// The same against each node of the set.
+    /// The set, with this source where what came of it is direct evidence: it is trusted, and it was expected and didn't
+    /// send exactly its message, or wasn't expected and sent something. The number of a source is below 16.
+    pub fn with_evidence(
+        &self,
+        set: NodeSet<K>,
+        source: u8,
+        expected: NodeSet<K>,
+        sense: &Sense,
+    ) -> NodeSet<K>
+        requires { source < 16 }
+        ensures { result ≡ (if has self.now.trusted source && does_wrong (has expected source) sense.now
+            then set_of (λ j. has set j || (j == source)) else set) }
+    {
+        match NodeId::new(source) {
+            Some(id) => {
+                if self.trusted.contains(id) && does_wrong(expected.contains(id), sense) {
+                    let mut grown = set;
+                    grown.insert(id);
+                    grown
+                } else {
+                    set
+                }
+            }
+            None => set,
+        }
+    }
+
+    /// Direct evidence against each node of the set.
     pub fn accuse_each(&mut self, set: NodeSet<K>)
         ensures { standing_of self.new ≡ with_evidence (has set) (standing_of self.old) }
     {
