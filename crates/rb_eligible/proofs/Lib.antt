@@ -1,2 +1,3 @@
 pub mod Accused
 pub mod TooLong
+pub mod Taking

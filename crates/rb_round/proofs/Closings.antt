@@ -1,0 +1,25 @@
+-- The close of a stage, and mismatch accusations.
+use Rattle.std.proofs.Common.{◌≡◌, ℕ, ◌<◌, ◌^◌, Bool, ◌||◌, Option, List, refl, ◌∙◌, ap}
+use Rattle.rb_base.specs.Nodes.{has, set_of}
+use Rattle.rb_base.proofs.Sets.{has-set_of, same_set_of}
+use Rattle.rb_base.specs.declared.values.Heard.{Heard}
+use Rattle.rb_rules.specs.Majority.{majority_of}
+use Rattle.rb_rules.specs.ExactStage.{closing_of, each_node, present}
+use Rattle.rb_rules.specs.declared.closing.Closing.{Closing}
+use Rattle.rb_rules.specs.declared.sense.Sense.{Sense}
+use Rattle.rb_rules.specs.Sense.{value_in}
+use Rattle.rb_rules.specs.Standing.{Standing, taken_of}
+
+-- what was taken of all, and the vote over it
+pub closing_is : (s : Standing) (expected : ℕ → Bool) (sense : ℕ → Sense) (taken : List (Option Heard)) (values : List Heard) (voted : Heard)
+    → taken ≡ each_node (taken_of value_in s expected sense) → values ≡ present taken → voted ≡ majority_of values
+    → ◌≡◌ {A = Closing} (record { taken = taken; voted = voted }) (closing_of s expected sense)
+closing_is s expected sense taken values voted taken_is values_are voted_is =
+    let vote : voted ≡ majority_of (present (each_node (taken_of value_in s expected sense))) =
+    voted_is ∙ ap majority_of values_are ∙ ap (λ t. majority_of (present t)) taken_is in
+    rw (taken_is, vote) refl
+
+-- `mismatch | differing`
+pub mismatch_is : (mismatch differing : ℕ) (p : ℕ → Bool) → mismatch < 2 ^ 16 → differing < 2 ^ 16 → differing ≡ set_of p
+    → set_of (λ j. has mismatch j || has differing j) ≡ set_of (λ j. has mismatch j || p j)
+mismatch_is mismatch differing p hm hd is = same_set_of _ _ (λ j h. ap (λ b. has mismatch j || b) (ap (λ t. has t j) is ∙ has-set_of j p h))
