@@ -13,21 +13,23 @@ use Rattle.rb_rules.specs.declared.message.Tag.TheVariants as tag
 use Rattle.rb_rules.specs.declared.message.Version.{Version}
 use Rattle.rb_rules.specs.declared.plan.Plan.{Plan}
 use Rattle.rb_rules.specs.declared.plan.Window.{Window}
+use Rattle.rb_rules.specs.declared.record.Epoch.{Epoch}
+use Rattle.rb_rules.specs.declared.record.PortLine.{PortLine}
 use Rattle.rb_rules.specs.declared.record.SlotLine.{SlotLine}
 use Rattle.rb_rules.specs.declared.role.Role.{Role}
 use Rattle.rb_rules.specs.declared.role.Role.TheVariants.{Schedule, Data, DiagBiu, DiagRmu, Sync}
 use Rattle.rb_rules.specs.declared.say.Content.{Content}
 use Rattle.rb_rules.specs.declared.say.Content.TheVariants.{Word, Fault, Sync as Call, Raw}
 use Rattle.rb_rules.specs.declared.say.Say.{Say}
-use Rattle.rb_rules.specs.Book.{Row}
+use Rattle.rb_rules.specs.Book.{Begun, Row}
 use Rattle.rb_rules.specs.Clock.{Timeline, time_of, stamp_of}
-use Rattle.rb_rules.specs.ExactStage.{each_node, at_source}
+use Rattle.rb_rules.specs.ExactStage.{Outcome, each_node, at_source}
 use Rattle.rb_rules.specs.Goodness.{Scenario, is_good, clock_of}
 use Rattle.rb_rules.specs.Links.{name_of, same_node, stands_for, covers, delay_of}
 use Rattle.rb_rules.specs.NodeState.{NodeState, trusted_of}
-use Rattle.rb_rules.specs.NodeSteps.{message_said}
-use Rattle.rb_rules.specs.Ports.{PortState, fresh_port, offered_at}
-use Rattle.rb_rules.specs.Sense.{Arrival}
+use Rattle.rb_rules.specs.NodeSteps.{expect_of, message_said, close, convicted_of}
+use Rattle.rb_rules.specs.Ports.{PortState, fresh_port, offered_at, losses_of}
+use Rattle.rb_rules.specs.Sense.{Arrival, sense_of}
 use Rattle.rb_rules.specs.Spelling.{spelling_of}
 use Rattle.rb_rules.specs.SyncStage.{send_tick_of, new_epoch_of}
 use Rattle.rb_rules.specs.Windows.{windows_of_frame, tail_of}
@@ -144,7 +146,13 @@ heard_from sc me i span sent j =
 abbrev pub arrival_of : Timeline → Coming → Arrival
 arrival_of clock c = record { stamp = stamp_of clock c.time; bytes = c.bytes }
 
--- What a node shows of a stage.
+-- node `index` of kind me closes a window on the arrivals of each source
+abbrev pub close_window : Sizes → Plan → Side → ℕ → NodeState → Window → (ℕ → List Arrival) → Outcome
+close_window sizes plan me index st w arrivals =
+    close sizes me index st w.slot w.stage w.first
+    (λ j. sense_of (expect_of sizes plan.version st w.slot w.stage) (arrivals j))
+
+-- What a node tells of itself.
 
 -- the time of a sole message
 abbrev pub sole_time : List Coming → ℕ
@@ -169,4 +177,22 @@ row_of me i st heard c = record {
   biu = trusted_of Side.Biu me st;
   rmu = trusted_of Side.Rmu me st;
   line = option_map (line_of i) c.delivered;
+}
+
+-- what a node tells of the frame that it is in
+abbrev pub epoch_of : Sizes → Side → NodeState → Epoch
+epoch_of sizes me st =
+    record { frame = st.frame; tick = st.epoch; biu = convicted_of sizes Side.Biu me st; rmu = convicted_of sizes Side.Rmu me st }
+
+-- a BIU tells of its port, too
+abbrev pub port_line : Side → ℕ → PortState → Option PortLine
+port_line Side.Biu i port = Some (record { biu = i; state = port.state; losses = losses_of port })
+port_line Side.Rmu i port = None
+
+-- what node i of kind me tells of a frame that it begins
+abbrev pub begun_of : Scenario → List PortState → Side → ℕ → Epoch → Begun
+begun_of sc ports me i e = record {
+  frame = e.frame;
+  line = record { node = name_of me i; tick = e.tick; time = time_of (clock_of sc me i) e.tick; biu = e.biu; rmu = e.rmu };
+  port = port_line me i (port_at sc ports i);
 }

@@ -20,5 +20,7 @@ pub mod Ports
 pub mod Book
 pub mod Hearing
 pub mod Rounds
+pub mod Core
+pub mod WorldStep
 pub mod AbstractBus
 pub mod StandsFor

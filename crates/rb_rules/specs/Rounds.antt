@@ -2,22 +2,17 @@
 use Rattle.std.specs.Prelude.{◌≡◌, ◌≤◌, IfSome, All, ℕ, zero, suc, ◌+◌, ◌*◌, nat_lt, nat_le, ◌==◌, ◌&&◌, true, false, Option, Some, None, List, [], map, get_or, slice_get}
 use Rattle.rb_base.specs.Counting.{numbers}
 use Rattle.rb_base.specs.Nodes.{Side, other}
-use Rattle.rb_base.specs.Nodes.Side.{Biu, Rmu}
 use Rattle.rb_base.specs.Sizes.{Sizes, sync_slot_of}
 use Rattle.rb_rules.specs.declared.plan.Window.{Window}
-use Rattle.rb_rules.specs.declared.record.Epoch.{Epoch}
-use Rattle.rb_rules.specs.declared.record.PortLine.{PortLine}
 use Rattle.rb_rules.specs.declared.record.SlotLine.{SlotLine}
 use Rattle.rb_rules.specs.Book.{Each, of_kind, in_order, each_of, map_from, map_each, Record, Begun, Row, Book, fresh_book, with_stage, with_frame, with_end}
-use Rattle.rb_rules.specs.Clock.{time_of, stamp_of}
+use Rattle.rb_rules.specs.Clock.{stamp_of}
 use Rattle.rb_rules.specs.ExactStage.{Outcome, keeping, present}
 use Rattle.rb_rules.specs.Goodness.{Scenario, is_good, clock_of}
-use Rattle.rb_rules.specs.Hearing.{Sending, Coming, Span, window_numbered, span_of, sending, port_at, word_for, heard_from, arrival_of, row_of}
-use Rattle.rb_rules.specs.Links.{name_of}
+use Rattle.rb_rules.specs.Hearing.{Sending, Coming, Span, window_numbered, span_of, sending, port_at, word_for, heard_from, arrival_of, close_window, row_of, epoch_of, begun_of}
 use Rattle.rb_rules.specs.NodeState.{NodeState, first_state}
-use Rattle.rb_rules.specs.NodeSteps.{expect_of, close, turned, convicted_of}
-use Rattle.rb_rules.specs.Ports.{PortState, HandIn, delivered_to, losses_of, handed}
-use Rattle.rb_rules.specs.Sense.{Arrival, sense_of}
+use Rattle.rb_rules.specs.NodeSteps.{turned}
+use Rattle.rb_rules.specs.Ports.{PortState, HandIn, delivered_to, handed}
 use Rattle.rb_rules.specs.Slots.{role_of}
 use Rattle.rb_rules.specs.Windows.{windows_of_frame}
 
@@ -58,12 +53,10 @@ pub record Result : Type 0 where
 abbrev pub result_of : Side → ℕ → (ℕ → List Coming) → Outcome → Result
 result_of me i heard x = record { state = x.state; row = Some (row_of me i x.state heard x.closed) }
 
--- node i of kind me closes a window on what it heard of each source, the arrivals being what it knows of that
+-- node i of kind me closes a window on what it heard of each source
 unfoldable pub close_on : Scenario → Side → ℕ → NodeState → Window → (ℕ → List Coming) → Result
 close_on sc me i st w heard =
-    let expect = expect_of sc.sizes sc.plan.version st w.slot w.stage in
-    let arrivals : ℕ → List Arrival = λ j. map (arrival_of (clock_of sc me i)) (heard j) in
-    result_of me i heard (close sc.sizes me i st w.slot w.stage w.first (λ j. sense_of expect (arrivals j)))
+    result_of me i heard (close_window sc.sizes sc.plan me i st w (λ j. map (arrival_of (clock_of sc me i)) (heard j)))
 
 -- what node i of kind me hears of each source in a window, in which this is sent
 abbrev pub heard_at : Scenario → Side → ℕ → NodeState → Window → Each (Option Sending) → ℕ → List Coming
@@ -130,31 +123,9 @@ pub record IsTimely (sc : Scenario) (m : Moment) : Type 0 where
 
 -- A frame.
 
--- what a node tells of the frame that it is in
-abbrev pub epoch_of : Sizes → Side → NodeState → Epoch
-epoch_of sizes me st =
-    record { frame = st.frame; tick = st.epoch; biu = convicted_of sizes Biu me st; rmu = convicted_of sizes Rmu me st }
-
--- at a BIU it tells of the port, too
-abbrev pub port_line : Side → ℕ → PortState → Option PortLine
-port_line Biu i port = Some (record { biu = i; state = port.state; losses = losses_of port })
-port_line Rmu i port = None
-
--- what node i of kind me tells of a frame that it begins
-abbrev pub begun_of : Scenario → List PortState → Side → ℕ → Epoch → Begun
-begun_of sc ports me i e = record {
-  frame = e.frame;
-  line = record { node = name_of me i; tick = e.tick; time = time_of (clock_of sc me i) e.tick; biu = e.biu; rmu = e.rmu };
-  port = port_line me i (port_at sc ports i);
-}
-
 abbrev pub begun_if_good : Scenario → ℕ → List PortState → Side → ℕ → NodeState → Option Begun
 begun_if_good sc frame ports me i st =
     elim (is_good sc me i frame 0) [ true ↦ Some (begun_of sc ports me i (epoch_of sc.sizes me st)) | false ↦ None ]
-
--- a run ends with the begin of the frame that comes after its last
-abbrev pub end_if_over : Scenario → ℕ → Book → Book
-end_if_over sc frame b = elim (frame == sc.frames) [ true ↦ with_end b | false ↦ b ]
 
 -- a frame begins at these nodes. What is handed to a port comes after the frame's record
 unfoldable pub begin_frame : Scenario → List HandIn → ℕ → Each NodeState → List PortState → Book → Moment
@@ -163,7 +134,7 @@ begin_frame sc hands frame nodes ports b = record {
   window = 0;
   nodes = nodes;
   ports = handed frame hands ports;
-  book = end_if_over sc frame (with_frame sc frame (present (in_order (map_each (begun_if_good sc frame ports) nodes))) b);
+  book = with_frame sc frame (present (in_order (map_each (begun_if_good sc frame ports) nodes))) b;
 }
 
 -- The run.
@@ -172,12 +143,16 @@ abbrev pub first_moment : Scenario → List HandIn → Moment
 first_moment sc hands =
     begin_frame sc hands 0 (each_of sc.sizes (λ me i. first_state sc.sizes me)) (map (port_at sc []) (numbers sc.sizes.bius)) fresh_book
 
--- one window, or after the tail the next frame
+abbrev pub next_frame : Scenario → List HandIn → Moment → Moment
+next_frame sc hands m =
+    begin_frame sc hands (m.frame + 1) (map_each (λ me i st. turned sc.sizes sc.plan me st) m.nodes) m.ports m.book
+
+-- one window, and after the tail the next frame. The run is over when the frame after its last has begun
 unfoldable pub step : Scenario → List HandIn → Moment → Moment
 step sc hands m =
-    elim (nat_lt m.window (windows_in sc.sizes)) [
-      | true ↦ after_window sc m (results_of sc m)
-      | false ↦ begin_frame sc hands (m.frame + 1) (map_each (λ me i st. turned sc.sizes sc.plan me st) m.nodes) m.ports m.book
+    elim (m.frame == sc.frames) [
+      | true ↦ record m { book = with_end m.book }
+      | false ↦ elim (nat_lt m.window (windows_in sc.sizes)) [ true ↦ after_window sc m (results_of sc m) | false ↦ next_frame sc hands m ]
     ]
 
 -- the moment after so many steps. The states go on after a breach, the book does not
@@ -190,9 +165,9 @@ abbrev pub until_end : Scenario → List HandIn → ℕ → Moment → Moment
 until_end sc hands zero m = m
 until_end sc hands (suc n) m = elim m.book.ended [ true ↦ m | false ↦ until_end sc hands n (step sc hands m) ]
 
--- enough steps for all frames
+-- enough steps for all frames, and one for the end
 abbrev pub steps_of : Scenario → ℕ
-steps_of sc = sc.frames * (windows_in sc.sizes + 1)
+steps_of sc = sc.frames * (windows_in sc.sizes + 1) + 1
 
 -- the records of a scenario with these hand-ins
 abbrev pub records_of : Scenario → List HandIn → List Record

@@ -1,0 +1,196 @@
+-- One node core. It takes the ticks of its clock and arrivals, one at a time.
+use Rattle.std.specs.Prelude.{ℕ, zero, suc, ◌+◌, ◌-◌, ◌^◌, max, nat_lt, nat_le, ◌==◌, ◌&&◌, ◌||◌, not, Bool, true, false, Option, Some, None, is_some, unwrap_or, List, [], ◌∷◌, ◌++◌, filter, map, fold}
+use Rattle.std.specs.List.{cons_option}
+use Rattle.rb_base.specs.Nodes.{Side, other}
+use Rattle.rb_base.specs.Nodes.Side.{Biu}
+use Rattle.rb_base.specs.Sizes.{Sizes}
+use Rattle.rb_rules.specs.declared.closing.Closed.{Closed}
+use Rattle.rb_rules.specs.declared.message.Message.{Message}
+use Rattle.rb_rules.specs.declared.plan.Plan.{Plan}
+use Rattle.rb_rules.specs.declared.plan.Window.{Window}
+use Rattle.rb_rules.specs.declared.record.Epoch.{Epoch}
+use Rattle.rb_rules.specs.ExactStage.{Outcome, keeping}
+use Rattle.rb_rules.specs.Hearing.{Sending, sending, tail_at, close_window, epoch_of}
+use Rattle.rb_rules.specs.NodeState.{NodeState, first_state}
+use Rattle.rb_rules.specs.NodeSteps.{turned}
+use Rattle.rb_rules.specs.Sense.{Arrival}
+use Rattle.rb_rules.specs.Slots.{count_of, first_diagnosis_of}
+use Rattle.rb_rules.specs.SyncStage.{new_epoch_of}
+use Rattle.rb_rules.specs.Windows.{window_at}
+
+pub record Core : Type 0 where
+  pub state : NodeState
+  pub had : ℕ  -- how many ticks it has had, which is the number of the next
+  pub inbox : List (ℕ × Arrival)  -- what came since the last close, each with its source
+
+abbrev pub first_core : Sizes → Side → Core
+first_core sizes me = record { state = first_state sizes me; had = 0; inbox = [] }
+
+-- a core that has had this many ticks is spent: nothing changes it any more
+abbrev pub is_spent : Core → Bool
+is_spent c = nat_le (2 ^ 31) c.had
+
+-- an arrival is stamped with the next tick. One from a node that there is not changes nothing
+unfoldable pub arrive : Sizes → Side → Core → ℕ → List ℕ → Core
+arrive sizes me c from bytes =
+    elim (nat_lt from (count_of (other me) sizes) && not (is_spent c)) [
+      | true ↦ record c { inbox = c.inbox ++ (from, record { stamp = c.had; bytes = bytes }) ∷ [] }
+      | false ↦ c
+    ]
+
+-- What there is to do at a tick.
+
+-- this is the tick, if there is one
+abbrev pub is_tick : Option ℕ → ℕ → Bool
+is_tick None k = false
+is_tick (Some tick) k = tick == k
+
+-- the state at tick k: at the node's next epoch it has turned
+unfoldable pub state_at : Sizes → Plan → Side → NodeState → ℕ → NodeState
+state_at sizes plan me st k =
+    elim (is_tick (new_epoch_of plan me st) k) [ true ↦ turned sizes plan me st | false ↦ st ]
+
+-- the window of tick k; after those of the slots it is the tail
+abbrev pub window_here : Sizes → Plan → Side → NodeState → ℕ → Window
+window_here sizes plan me st k = unwrap_or (window_at sizes plan (k - st.epoch)) (tail_at sizes plan me st)
+
+-- the message, if this is its tick
+abbrev pub if_at : ℕ → Option Sending → Option Message
+if_at k None = None
+if_at k (Some s) = elim (s.tick == k) [ true ↦ Some s.message | false ↦ None ]
+
+-- the first that there is
+abbrev pub first_of : Option Message → Option Message → Option Message
+first_of None later = later
+first_of (Some m) later = Some m
+
+-- the message that is sent at tick k in one of the stages of a slot
+abbrev pub said_in : Sizes → Plan → Side → ℕ → NodeState → ℕ → ℕ → ℕ → Option Message
+said_in sizes plan me index st word k slot =
+    first_of (if_at k (sending sizes plan me index st slot 1 word))
+    (first_of (if_at k (sending sizes plan me index st slot 2 word)) (if_at k (sending sizes plan me index st slot 3 word)))
+
+-- the message that node `index` of kind me sends at tick k. A call whose tick does not come before the next epoch is never
+-- sent: at that epoch the middles are forgotten, and with them the ticks of calls
+unfoldable pub said_at : Sizes → Plan → Side → ℕ → NodeState → ℕ → ℕ → Option Message
+said_at sizes plan me index st word k = said_in sizes plan me index st word k (window_here sizes plan me st k).slot
+
+-- tick k is the last of its window
+abbrev pub is_last : Sizes → Plan → Side → NodeState → ℕ → Bool
+is_last sizes plan me st k = k == st.epoch + (window_here sizes plan me st k).last
+
+-- A tick.
+
+-- what a tick gives: the core after it, the frame that begins with it, the message sent, and the window closed
+pub record Act : Type 0 where
+  pub core : Core
+  pub epoch : Option Epoch
+  pub message : Option Message
+  pub closed : Option Closed
+
+abbrev pub epoch_at : Sizes → Side → NodeState → ℕ → Option Epoch
+epoch_at sizes me st k = elim (st.epoch == k) [ true ↦ Some (epoch_of sizes me st) | false ↦ None ]
+
+-- a sender keeps the value that it says in its own slot
+abbrev pub state_kept : Sizes → Side → ℕ → NodeState → ℕ → Option Message → NodeState
+state_kept sizes me index st word None = st
+state_kept sizes me index st word (Some m) = keeping sizes me index st m.slot m.stage word
+
+-- the arrivals of source j
+abbrev pub of_source : List (ℕ × Arrival) → ℕ → List Arrival
+of_source inbox j = map (λ a. a.1) (filter (λ a. a.0 == j) inbox)
+
+-- the core after its last tick of a window, which it closes, or after another tick
+abbrev pub closed_core : Core → Outcome → Core
+closed_core c x = record { state = x.state; had = c.had + 1; inbox = [] }
+
+abbrev pub open_core : Core → NodeState → Core
+open_core c st = record { state = st; had = c.had + 1; inbox = c.inbox }
+
+-- the close, if this is the last tick of its window. A node that has turned stands in this state, and in `kept` after its message
+unfoldable pub act_on : Sizes → Plan → Side → ℕ → Core → NodeState → Option Message → NodeState → Act
+act_on sizes plan me index c st message kept =
+    let x = close_window sizes plan me index kept (window_here sizes plan me st c.had) (of_source c.inbox) in
+    let epoch = epoch_at sizes me st c.had in
+    elim (is_last sizes plan me st c.had) [
+      | true ↦ record { core = closed_core c x; epoch = epoch; message = message; closed = Some x.closed }
+      | false ↦ record { core = open_core c kept; epoch = epoch; message = message; closed = None }
+    ]
+
+-- at a tick a node first turns, then says its message, then closes the window
+unfoldable pub act_at : Sizes → Plan → Side → ℕ → Core → ℕ → Act
+act_at sizes plan me index c word =
+    let st = state_at sizes plan me c.state c.had in
+    let message = said_at sizes plan me index st word c.had in
+    act_on sizes plan me index c st message (state_kept sizes me index st word message)
+
+-- a tick; `word` is the request or the word, for the case that the node sends it
+unfoldable pub tick : Sizes → Plan → Side → ℕ → Core → ℕ → Act
+tick sizes plan me index c word =
+    elim (is_spent c) [
+      | true ↦ record { core = c; epoch = None; message = None; closed = None }
+      | false ↦ act_at sizes plan me index c word
+    ]
+
+-- the slot for which the message carries a request or a word from outside
+abbrev pub slot_wanted : Sizes → Option Message → Option ℕ
+slot_wanted sizes None = None
+slot_wanted sizes (Some m) =
+    elim ((m.stage == 1) && nat_lt m.slot (first_diagnosis_of Biu sizes)) [ true ↦ Some m.slot | false ↦ None ]
+
+-- the slot for which the node wants a word at its next tick
+unfoldable pub wants : Sizes → Plan → Side → ℕ → Core → Option ℕ
+wants sizes plan me index c = slot_wanted sizes (tick sizes plan me index c 0).message
+
+-- Quiet ticks.
+
+-- a tick is busy where a frame begins, a window is closed, or a message is sent
+unfoldable pub is_busy : Sizes → Plan → Side → ℕ → NodeState → ℕ → Bool
+is_busy sizes plan me index st k =
+    let now = state_at sizes plan me st k in
+    (now.epoch == k) || is_last sizes plan me now k || is_some (said_at sizes plan me index now 0 k)
+
+-- the first busy tick among so many from k on
+abbrev pub busy_among : Sizes → Plan → Side → ℕ → NodeState → ℕ → ℕ → Option ℕ
+busy_among sizes plan me index st zero k = None
+busy_among sizes plan me index st (suc others) k =
+    elim (is_busy sizes plan me index st k) [ true ↦ Some k | false ↦ busy_among sizes plan me index st others (suc k) ]
+
+-- the first tick from the next on that isn't quiet
+abbrev pub next_tick : Sizes → Plan → Side → ℕ → Core → Option ℕ
+next_tick sizes plan me index c = busy_among sizes plan me index c.state (2 ^ 31 - c.had) c.had
+
+-- the quiet ticks before tick k pass: they are only counted
+abbrev pub pass_to : ℕ → Core → Core
+pass_to k c = record c { had = max c.had k }
+
+-- so many ticks with word 0
+abbrev pub ticks : Sizes → Plan → Side → ℕ → ℕ → Core → Core
+ticks sizes plan me index zero c = c
+ticks sizes plan me index (suc n) c = ticks sizes plan me index n (tick sizes plan me index c 0).core
+
+-- Events in a row.
+
+pub data CoreEvent : Type 0 where
+  Tick : (word : ℕ) → CoreEvent
+  Arrive : (from : ℕ) (bytes : List ℕ) → CoreEvent
+
+-- the core after an event
+abbrev pub core_with : Sizes → Plan → Side → ℕ → Core → CoreEvent → Core
+core_with sizes plan me index c (Tick word) = (tick sizes plan me index c word).core
+core_with sizes plan me index c (Arrive from bytes) = arrive sizes me c from bytes
+
+-- the core after all of the events
+abbrev pub core_after : Sizes → Plan → Side → ℕ → Core → List CoreEvent → Core
+core_after sizes plan me index c events = fold (core_with sizes plan me index) c events
+
+-- what an event gives: a tick its act, an arrival nothing
+abbrev pub act_of : Sizes → Plan → Side → ℕ → Core → CoreEvent → Option Act
+act_of sizes plan me index c (Tick word) = Some (tick sizes plan me index c word)
+act_of sizes plan me index c (Arrive from bytes) = None
+
+-- the acts of the events in order
+abbrev pub acts_of : Sizes → Plan → Side → ℕ → Core → List CoreEvent → List Act
+acts_of sizes plan me index c [] = []
+acts_of sizes plan me index c (e ∷ events) =
+    cons_option (act_of sizes plan me index c e) (acts_of sizes plan me index (core_with sizes plan me index c e) events)

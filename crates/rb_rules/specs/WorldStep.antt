@@ -1,0 +1,383 @@
+-- The world's step: all node cores of a run with what is pending at each, one event after another in the order of time.
+use Rattle.std.specs.Prelude.{◌≡◌, ℕ, ◌-◌, min, ◌==◌, ◌&&◌, ◌||◌, not, Bool, true, false, Option, Some, None, is_some, option_and_then, option_map, option_to_list, List, [], ◌∷◌, ◌++◌, filter, flat_map, fold, length, map, remove, slice_get, slice_set}
+use Rattle.std.specs.List.{enumerate_from, list_all}
+use Rattle.rb_base.specs.Counting.{numbers}
+use Rattle.rb_base.specs.Nodes.{Side, other}
+use Rattle.rb_base.specs.Nodes.Side.{Biu, Rmu}
+use Rattle.rb_base.specs.Sizes.{Sizes}
+use Rattle.rb_base.specs.declared.event.Event.{Event}
+use Rattle.rb_base.specs.declared.event.EventKind.TheVariants as kind
+use Rattle.rb_base.specs.declared.values.Delivery.{Delivery}
+use Rattle.rb_base.specs.declared.values.Place.{Place}
+use Rattle.rb_rules.specs.declared.closing.Closed.{Closed}
+use Rattle.rb_rules.specs.declared.message.Message.{Message}
+use Rattle.rb_rules.specs.declared.plan.Plan.{Plan}
+use Rattle.rb_rules.specs.declared.record.Epoch.{Epoch}
+use Rattle.rb_rules.specs.Book.{Each, of_kind, in_order, each_of, map_each, Record, Begun, Row, Milestone, Book, fresh_book, with_stage, with_frame, with_end}
+use Rattle.rb_rules.specs.Book.Milestone.{Begin, Stage, End}
+use Rattle.rb_rules.specs.Clock.{time_of, stamp_of}
+use Rattle.rb_rules.specs.Core.{Core, Act, first_core, arrive, state_at, window_here, tick, wants, next_tick, pass_to}
+use Rattle.rb_rules.specs.ExactStage.{present}
+use Rattle.rb_rules.specs.Goodness.{Scenario, is_good, good_at, clock_of}
+use Rattle.rb_rules.specs.Hearing.{Span, Sending, Coming, span_of, port_at, word_for, coming_of, said_by, row_of, begun_of}
+use Rattle.rb_rules.specs.Links.{name_of}
+use Rattle.rb_rules.specs.NodeState.{NodeState}
+use Rattle.rb_rules.specs.Ports.{PortState, HandIn, delivered_to, with_state}
+use Rattle.rb_rules.specs.Rounds.{records_of}
+use Rattle.rb_rules.specs.Slots.{same_side, count_of, role_of}
+
+-- a tick and its time
+pub record Timed : Type 0 where
+  pub tick : ℕ
+  pub time : ℕ
+
+-- one node of the world
+pub record Site : Type 0 where
+  pub runs : Bool
+  pub core : Core
+  pub ahead : Option Timed  -- pending: its next tick that isn't quiet
+  pub coming : List Coming  -- pending: what comes to it, in the order of pushing
+  pub got : List Coming  -- what came since its last close
+  pub row : Option Row  -- what it told of the last stage that it closed
+  pub begun : Option Begun  -- what it told of the last frame that it began
+
+pub record World : Type 0 where
+  pub sites : Each Site
+  pub ports : List PortState
+  pub book : Book
+  pub hands : List HandIn  -- so far
+  pub turn : Option Record  -- the record that came last, unless an event without a record came after it
+
+-- What is due.
+
+-- the least of the times
+abbrev pub least : List ℕ → Option ℕ
+least [] = None
+least (t ∷ ts) = Some (elim (least ts) [ None ↦ t | Some u ↦ min t u ])
+
+-- the times of all that is pending at a node
+abbrev pub times_of : Site → List ℕ
+times_of s = option_to_list (option_map (λ a. a.time) s.ahead) ++ map (λ c. c.time) s.coming
+
+-- what may be taken at a node: its tick, or what stands at this place among all that comes to it
+pub data Pending : Type 0 where
+  Tick : (tick : ℕ) → Pending
+  Arrival : (place : ℕ) (coming : Coming) → Pending
+
+pub record Due : Type 0 where
+  pub side : Side
+  pub node : ℕ
+  pub pending : Pending
+
+-- what comes at a time from source j, in the order of pushing
+abbrev pub arrivals_at : Side → ℕ → ℕ → Site → ℕ → List Due
+arrivals_at me i time s j =
+    map (λ c. record { side = me; node = i; pending = Arrival c.0 c.1 })
+    (filter (λ c. (c.1.from == j) && (c.1.time == time)) (enumerate_from 0 s.coming))
+
+abbrev pub tick_at : Side → ℕ → ℕ → Option Timed → List Due
+tick_at me i time None = []
+tick_at me i time (Some a) =
+    elim (a.time == time) [ true ↦ record { side = me; node = i; pending = Tick a.tick } ∷ [] | false ↦ [] ]
+
+-- a tick waits for all that comes at its time
+abbrev pub unless_any : List Due → List Due → List Due
+unless_any [] later = later
+unless_any (d ∷ ds) later = d ∷ ds
+
+-- what may be taken at a node at this time: what comes then, by sender, else its tick
+unfoldable pub ready_at : Sizes → ℕ → Side → ℕ → Site → List Due
+ready_at sizes time me i s =
+    unless_any (flat_map (arrivals_at me i time s) (numbers (count_of (other me) sizes))) (tick_at me i time s.ahead)
+
+abbrev pub due_at : Scenario → World → Option ℕ → List Due
+due_at sc w None = []
+due_at sc w (Some time) = flat_map (λ due. due) (in_order (map_each (ready_at sc.sizes time) w.sites))
+
+-- no node is good in this slot of this frame
+abbrev pub nobody_good : Scenario → ℕ → ℕ → Bool
+nobody_good sc frame slot = (good_at sc Biu frame slot == 0) && (good_at sc Rmu frame slot == 0)
+
+-- it is settled without an event
+abbrev pub needs_no_event : Scenario → Milestone → Bool
+needs_no_event sc (Begin frame) = nobody_good sc frame 0
+needs_no_event sc (Stage place) = nobody_good sc place.frame place.slot
+needs_no_event sc End = true
+
+-- the events of the least time, node by node. None may be taken where the next record needs none, and after the last
+unfoldable pub due_of : Scenario → World → List Due
+due_of sc w =
+    elim (w.book.ended || needs_no_event sc w.book.upcoming) [
+      | true ↦ []
+      | false ↦ due_at sc w (least (flat_map times_of (in_order w.sites)))
+    ]
+
+-- A node goes on.
+
+-- the window that tick k begins, if it begins one
+abbrev pub span_from : Sizes → Plan → Side → NodeState → ℕ → Option Span
+span_from sizes plan me st k =
+    let now = state_at sizes plan me st k in
+    let span = span_of now (window_here sizes plan me now k) in
+    elim (span.first == k) [ true ↦ Some span | false ↦ None ]
+
+-- what nodes that are not good say to node i of kind me in a window
+unfoldable pub says_in : Scenario → Side → ℕ → Span → List Coming
+says_in sc me i span =
+    flat_map (λ j. elim (is_good sc (other me) j span.place.frame span.place.slot) [ true ↦ [] | false ↦ said_by sc me i span j ])
+    (numbers (count_of (other me) sc.sizes))
+
+-- the node's next tick that isn't quiet is pending, and this comes to it, too
+abbrev pub going_on : Scenario → Side → ℕ → List Coming → Site → Site
+going_on sc me i more s = record s {
+  ahead = option_map (λ k. record { tick = k; time = time_of (clock_of sc me i) k }) (next_tick sc.sizes sc.plan me i s.core);
+  coming = s.coming ++ more;
+}
+
+-- a node that is not good any more
+abbrev pub stopped : Site → Site
+stopped s = record s { runs = false; ahead = None; coming = [] }
+
+-- at a window's begin a node that is not good there stops, and to the others comes what they are told in it
+abbrev pub entering : Scenario → Side → ℕ → Option Span → Site → Site
+entering sc me i None s = going_on sc me i [] s
+entering sc me i (Some span) s =
+    elim (is_good sc me i span.place.frame span.place.slot) [ true ↦ going_on sc me i (says_in sc me i span) s | false ↦ stopped s ]
+
+-- the node before its next tick
+unfoldable pub proceed : Scenario → Side → ℕ → Site → Site
+proceed sc me i s = entering sc me i (span_from sc.sizes sc.plan me s.core.state s.core.had) s
+
+-- An event happens at a node.
+
+-- what was got of source j
+abbrev pub got_of : List Coming → ℕ → List Coming
+got_of got j = filter (λ c. c.from == j) got
+
+abbrev pub got_after : Option Closed → List Coming → List Coming
+got_after None got = got
+got_after (Some c) got = []
+
+-- what the node tells of a stage that it has closed; the tail is none
+abbrev pub row_after : Side → ℕ → NodeState → Site → Option Closed → Option Row
+row_after me i st s None = s.row
+row_after me i st s (Some c) = elim (c.place.stage == 4) [ true ↦ s.row | false ↦ Some (row_of me i st (got_of s.got) c) ]
+
+abbrev pub begun_after : Scenario → List PortState → Side → ℕ → Site → Option Epoch → Option Begun
+begun_after sc ports me i s None = s.begun
+begun_after sc ports me i s (Some e) = Some (begun_of sc ports me i e)
+
+-- the node after a tick that gave this
+unfoldable pub after_act : Scenario → List PortState → Side → ℕ → Act → Site → Site
+after_act sc ports me i x s = proceed sc me i (record {
+  runs = true;
+  core = x.core;
+  ahead = None;
+  coming = s.coming;
+  got = got_after x.closed s.got;
+  row = row_after me i x.core.state s x.closed;
+  begun = begun_after sc ports me i s x.epoch;
+})
+
+-- a node after an arrival, which stood at this place. Before it the ticks up to its stamp pass
+unfoldable pub after_arrival : Scenario → Side → ℕ → ℕ → Coming → Site → Site
+after_arrival sc me i place c s = record s {
+  core = arrive sc.sizes me (pass_to (stamp_of (clock_of sc me i) c.time) s.core) c.from c.bytes;
+  coming = remove s.coming place;
+  got = s.got ++ c ∷ [];
+}
+
+-- a message that node j of kind me sent at a tick is on its way to each node of the other kind that still runs
+abbrev pub sent_to : Scenario → Side → ℕ → ℕ → Sending → Side → ℕ → Site → Site
+sent_to sc me j frame message side i s =
+    elim (same_side side (other me) && s.runs) [
+      | true ↦ record s { coming = s.coming ++ coming_of sc side i j frame message ∷ [] }
+      | false ↦ s
+    ]
+
+abbrev pub with_message : Scenario → Side → ℕ → ℕ → ℕ → Option Message → Each Site → Each Site
+with_message sc me j frame tick None sites = sites
+with_message sc me j frame tick (Some m) sites = map_each (sent_to sc me j frame (record { tick = tick; message = m })) sites
+
+-- node i of kind me changes, and no other
+abbrev pub at_node : Side → ℕ → (Site → Site) → Each Site → Each Site
+at_node me i change sites = map_each (λ side n s. elim (same_side side me && (n == i)) [ true ↦ change s | false ↦ s ]) sites
+
+-- what a BIU delivers goes to its port
+abbrev pub with_delivery : Scenario → ℕ → Option Delivery → List PortState → List PortState
+with_delivery sc i None ports = ports
+with_delivery sc i (Some d) ports = slice_set ports i (delivered_to (port_at sc ports i) d.value)
+
+-- the world after a tick of node i of kind me that gave this
+unfoldable pub with_act : Scenario → World → Side → ℕ → ℕ → Act → World
+with_act sc w me i k x = record w {
+  sites = with_message sc me i x.core.state.frame k x.message (at_node me i (after_act sc w.ports me i x) w.sites);
+  ports = with_delivery sc i (option_and_then (λ c. c.delivered) x.closed) w.ports;
+}
+
+-- the word for a tick: the request or the word of the slot for which one is wanted, else 0
+abbrev pub word_of : Scenario → List PortState → ℕ → Option ℕ → ℕ
+word_of sc ports i None = 0
+word_of sc ports i (Some slot) = word_for sc ports i slot (role_of sc.sizes slot)
+
+-- the slot for which a word is wanted at the next tick of a core
+abbrev pub wanted : Scenario → Side → ℕ → Core → Option ℕ
+wanted sc me i c = wants sc.sizes sc.plan me i c
+
+-- tick k of a node's core. Before it the quiet ticks pass
+unfoldable pub ticked : Scenario → List PortState → Side → ℕ → ℕ → Core → Act
+ticked sc ports me i k c =
+    let ready = pass_to k c in
+    tick sc.sizes sc.plan me i ready (word_of sc ports i (wanted sc me i ready))
+
+abbrev pub with_pending : Scenario → World → Side → ℕ → Site → Pending → World
+with_pending sc w me i s (Tick k) = with_act sc w me i k (ticked sc w.ports me i k s.core)
+with_pending sc w me i s (Arrival place c) = record w { sites = at_node me i (after_arrival sc me i place c) w.sites }
+
+abbrev pub site_of : World → Due → Option Site
+site_of w d = slice_get (of_kind d.side w.sites) d.node
+
+-- the event happens, before anything is settled
+unfoldable pub happens : Scenario → World → Due → World
+happens sc w d = elim (site_of w d) [ None ↦ w | Some s ↦ with_pending sc w d.side d.node s d.pending ]
+
+-- What is settled.
+
+abbrev pub same_place : Place → Place → Bool
+same_place a b = (a.frame == b.frame) && (a.slot == b.slot) && (a.stage == b.stage)
+
+-- what a node has told of a stage, if that is the last that it closed
+abbrev pub row_for : Place → Option Row → Option Row
+row_for place None = None
+row_for place (Some row) = elim (same_place row.place place) [ true ↦ Some row | false ↦ None ]
+
+abbrev pub begun_for : ℕ → Option Begun → Option Begun
+begun_for frame None = None
+begun_for frame (Some b) = elim (b.frame == frame) [ true ↦ Some b | false ↦ None ]
+
+-- what the nodes that are good in a slot have told
+abbrev pub told_by_good : {X : Type 0} → Scenario → ℕ → ℕ → (Site → Option X) → Each Site → Each (Option X)
+told_by_good sc frame slot tells sites =
+    map_each (λ me i s. elim (is_good sc me i frame slot) [ true ↦ tells s | false ↦ None ]) sites
+
+-- each of them has told something
+abbrev pub all_have_told : {X : Type 0} → Scenario → ℕ → ℕ → (Site → Option X) → Each Site → Bool
+all_have_told sc frame slot tells sites =
+    list_all (λ told. told) (in_order (map_each (λ me i s. not (is_good sc me i frame slot) || is_some (tells s)) sites))
+
+-- all good nodes have told of it
+abbrev pub is_complete : Scenario → Each Site → Milestone → Bool
+is_complete sc sites (Begin frame) = all_have_told sc frame 0 (λ s. begun_for frame s.begun) sites
+is_complete sc sites (Stage place) = all_have_told sc place.frame place.slot (λ s. row_for place s.row) sites
+is_complete sc sites End = true
+
+abbrev pub book_with : Scenario → Each Site → Book → Milestone → Book
+book_with sc sites b (Begin frame) =
+    with_frame sc frame (present (in_order (told_by_good sc frame 0 (λ s. begun_for frame s.begun) sites))) b
+book_with sc sites b (Stage place) = with_stage sc place (told_by_good sc place.frame place.slot (λ s. row_for place s.row) sites) b
+book_with sc sites b End = with_end b
+
+-- the next milestone is settled, if it may be and is complete and there are still n records
+abbrev pub settle : Scenario → (Milestone → Bool) → ℕ → World → World
+settle sc may n w =
+    elim (may w.book.upcoming && is_complete sc w.sites w.book.upcoming && (length w.book.given == n)) [
+      | true ↦ record w { book = book_with sc w.sites w.book w.book.upcoming }
+      | false ↦ w
+    ]
+
+-- milestones are settled up to the first that gives a record. One that gives none is followed at once by at most one more
+abbrev pub settled : Scenario → (Milestone → Bool) → ℕ → World → World
+settled sc may n w =
+    let after : World = settle sc may n (settle sc may n w) in
+    record after { turn = slice_get after.book.given n }
+
+-- The step.
+
+abbrev pub take_due : Scenario → World → Option Due → World
+take_due sc w None = w
+take_due sc w (Some d) = settled sc (λ m. not (needs_no_event sc m)) (length w.book.given) (happens sc w d)
+
+-- the due event at place i is taken, and what it completes is settled
+unfoldable pub take : Scenario → World → ℕ → World
+take sc w i = take_due sc w (slice_get (due_of sc w) i)
+
+-- a record that needs no event is given
+unfoldable pub go_on : Scenario → World → World
+go_on sc w = elim w.book.ended [ true ↦ w | false ↦ settled sc (needs_no_event sc) (length w.book.given) w ]
+
+-- the frame whose record it is
+abbrev pub frame_in : Option Record → Option ℕ
+frame_in None = None
+frame_in (Some (Record.Frame frame nodes ports)) = Some frame
+frame_in (Some (Record.Slot frame slot lines)) = None
+frame_in (Some Record.Ended) = None
+frame_in (Some (Record.Breach place cause)) = None
+
+-- a state is handed to the port of a BIU that is good at the begin of a frame, as long as the frame's record is the last turn
+unfoldable pub hand : Scenario → World → ℕ → ℕ → World
+hand sc w biu state = elim (frame_in w.turn) [
+  | None ↦ w
+  | Some frame ↦ elim (is_good sc Biu biu frame 0) [
+    | true ↦ record w {
+      ports = with_state biu state w.ports;
+      hands = w.hands ++ record { frame = frame; biu = biu; state = state } ∷ [];
+    }
+    | false ↦ w
+  ]
+]
+
+-- At first.
+
+abbrev pub fresh_site : Sizes → Side → Site
+fresh_site sizes me =
+    record { runs = true; core = first_core sizes me; ahead = None; coming = []; got = []; row = None; begun = None }
+
+unfoldable pub first_world : Scenario → World
+first_world sc = record {
+  sites = each_of sc.sizes (λ me i. proceed sc me i (fresh_site sc.sizes me));
+  ports = map (port_at sc []) (numbers sc.sizes.bius);
+  book = fresh_book;
+  hands = [];
+  turn = None;
+}
+
+-- Choices.
+
+pub data Choice : Type 0 where
+  Take : (place : ℕ) → Choice
+  GoOn : Choice
+  Hand : (biu state : ℕ) → Choice
+
+abbrev pub choose : Scenario → World → Choice → World
+choose sc w (Take place) = take sc w place
+choose sc w GoOn = go_on sc w
+choose sc w (Hand biu state) = hand sc w biu state
+
+-- the world after these choices
+abbrev pub world_after : Scenario → List Choice → World
+world_after sc choices = fold (choose sc) (first_world sc) choices
+
+-- a due event as it is shown: the quiet ticks that the node has before it, and what then happens
+unfoldable pub event_of : Scenario → World → Side → ℕ → Core → Pending → Event
+event_of sc w me i c (Tick k) = record {
+  node = name_of me i;
+  quiet = k - c.had;
+  kind = kind.Tick (word_of sc w.ports i (wanted sc me i (pass_to k c))) (is_some (wanted sc me i (pass_to k c)));
+}
+event_of sc w me i c (Arrival place a) = record {
+  node = name_of me i;
+  quiet = stamp_of (clock_of sc me i) a.time - c.had;
+  kind = kind.Arrive a.from (record { items = a.bytes });
+}
+
+-- Events are rounds.
+
+-- a list is the begin of another
+abbrev pub IsPrefix : List Record → List Record → Type 0
+IsPrefix xs ys = (rest : List Record) × (ys ≡ xs ++ rest)
+
+-- whatever is chosen, the records given are the first of those that the rounds have, and all of them once the run is over
+pub record EventsAreRounds (sc : Scenario) : Type 0 where
+  pub first : (choices : List Choice) → IsPrefix (world_after sc choices).book.given (records_of sc (world_after sc choices).hands)
+  pub whole : (choices : List Choice) → (world_after sc choices).book.ended ≡ true
+      → (world_after sc choices).book.given ≡ records_of sc (world_after sc choices).hands
