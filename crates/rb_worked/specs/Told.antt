@@ -1,5 +1,5 @@
 -- Words in which the records of the worked cases are said.
-use Rattle.std.specs.Prelude.{ℕ, ◌+◌, ◌&&◌, not, Bool, List, [], ◌∷◌, ◌++◌, map, filter}
+use Rattle.std.specs.Prelude.{ℕ, ◌+◌, not, List, [], ◌∷◌, map, filter}
 use Rattle.std.specs.List.{list_any, range_with_len}
 use Rattle.rb_base.specs.declared.node.NodeName.{NodeName}
 use Rattle.rb_base.specs.declared.values.Heard.{Heard}
@@ -7,7 +7,6 @@ use Rattle.rb_base.specs.declared.values.Heard.TheVariants as heard
 use Rattle.rb_base.specs.declared.values.Place.{Place}
 use Rattle.rb_rules.specs.declared.record.NodeLine.{NodeLine}
 use Rattle.rb_rules.specs.declared.record.PortLine.{PortLine}
-use Rattle.rb_rules.specs.declared.record.SlotLine.{SlotLine}
 use Rattle.rb_rules.specs.Book.{Record}
 use Rattle.rb_rules.specs.Book.Record.{Frame, Slot}
 use Rattle.rb_rules.specs.Links.{same_node}

@@ -2,6 +2,8 @@
 //! by computing. No code is run, and nothing stands on this crate.
 #![tactic(auto)]
 
+pub mod cores;
+pub mod events;
 pub mod frames;
 pub mod lies;
 pub mod ordinary;
