@@ -1,23 +1,73 @@
--- The lines of a report, as bytes. Each line ends with its line feed.
-use Rattle.std.specs.Prelude.{ℕ, ◌≡◌, ◌-◌, ◌≤◌, Bool, true, false, List, [], ◌∷◌, ◌++◌, length, slice_index_or, Option, Some, None, is_some, codes, if◌then◌else◌}
-use Rattle.std.specs.Fmt.{decimal}
+-- The lines of a report, as bytes.
+use Rattle.std.specs.Prelude.{ℕ, ℤ, ◌≡◌, ◌-◌, ◌/◌, ◌%◌, ◌≤◌, Bool, true, false, List, [], ◌∷◌, ◌++◌, length, slice_index_or, Option, Some, None, is_some, codes, if◌then◌else◌}
+use Rattle.std.specs.Char.{digit_char}
+use Rattle.std.specs.Fmt.{decimal, signed_decimal}
+use Rattle.std.specs.List.{flat_map}
+use Rattle.rb_base.specs.declared.node.NodeName.{NodeName}
+use Rattle.rb_base.specs.declared.node.NodeName.TheVariants.{Biu, Rmu}
 use Rattle.rb_base.specs.declared.values.Heard.{Heard}
 use Rattle.rb_base.specs.declared.values.Heard.TheVariants.{Word, Fault}
+use Rattle.rb_base.specs.declared.values.Place.{Place}
+use Rattle.rb_rules.specs.declared.cause.Cause.{Cause}
+use Rattle.rb_rules.specs.declared.cause.Cause.TheVariants.{FewGoodBiu, FewGoodRmu, TwoSided}
+
+-- one field more, after a space
+abbrev pub with_field : List ℕ → List ℕ → List ℕ
+with_field text field = text ++ (codes " " ++ field)
+
+abbrev pub with_fields : List ℕ → List (List ℕ) → List ℕ
+with_fields text [] = text
+with_fields text (field ∷ fields) = with_fields (with_field text field) fields
+
+-- a line: its first word, its other fields, each after one space, and a line feed
+abbrev pub line_of : List ℕ → List (List ℕ) → List ℕ
+line_of word fields = with_fields word fields ++ codes "\n"
+
+-- B or R, and the number
+abbrev pub node_text : NodeName → List ℕ
+node_text (Biu i) = codes "B" ++ decimal i
+node_text (Rmu i) = codes "R" ++ decimal i
 
 -- a word, or none for Fault
 abbrev pub heard_text : Heard → List ℕ
 heard_text (Word word) = decimal word
 heard_text Fault = codes "none"
 
--- d FRAME SLOT Breceiver Bsender WORD
+-- a last field where there is one
+abbrev pub last_field : Option ℕ → List (List ℕ)
+last_field None = []
+last_field (Some number) = decimal number ∷ []
+
+-- e FRAME NODE TICK, and the time where it is known
+abbrev pub epoch_text : ℕ → NodeName → ℕ → Option ℕ → List ℕ
+epoch_text frame node tick time = line_of (codes "e") (decimal frame ∷ node_text node ∷ decimal tick ∷ last_field time)
+
+-- c FRAME NODE BIUS RMUS
+abbrev pub convicted_text : ℕ → NodeName → ℕ → ℕ → List ℕ
+convicted_text frame node biu rmu = line_of (codes "c") (decimal frame ∷ node_text node ∷ decimal biu ∷ decimal rmu ∷ [])
+
+-- p FRAME BIU STATE LOSSES
+abbrev pub port_text : ℕ → ℕ → ℕ → ℕ → List ℕ
+port_text frame biu state losses = line_of (codes "p") (decimal frame ∷ node_text (Biu biu) ∷ decimal state ∷ decimal losses ∷ [])
+
+-- d FRAME SLOT RECEIVER SENDER WORD
 abbrev pub delivery_text : ℕ → ℕ → ℕ → ℕ → Heard → List ℕ
 delivery_text frame slot receiver sender value =
-    codes "d " ++ decimal frame ++ codes " " ++ decimal slot ++ codes " B" ++ decimal receiver ++ codes " B" ++ decimal sender
-    ++ codes " " ++ heard_text value ++ codes "\n"
+    line_of (codes "d") (decimal frame ∷ decimal slot ∷ node_text (Biu receiver) ∷ node_text (Biu sender) ∷ heard_text value ∷ [])
 
 -- end FRAMES
 abbrev pub end_text : ℕ → List ℕ
-end_text frames = codes "end " ++ decimal frames ++ codes "\n"
+end_text frames = line_of (codes "end") (decimal frames ∷ [])
+
+abbrev pub cause_text : Cause → List ℕ
+cause_text FewGoodBiu = codes "FewGoodBiu"
+cause_text FewGoodRmu = codes "FewGoodRmu"
+cause_text TwoSided = codes "TwoSided"
+
+-- breach FRAME SLOT STAGE CAUSE
+abbrev pub breach_text : Place → Cause → List ℕ
+breach_text place cause =
+    line_of (codes "breach") (decimal place.frame ∷ decimal place.slot ∷ decimal place.stage ∷ cause_text cause ∷ [])
 
 -- a rule that an input can break: its name, and whether it is broken at a number
 pub record Refusal : Type 0 where
@@ -48,6 +98,7 @@ scenario_refusals =
     ∷ rule (codes "TooMany")
     ∷ rule (codes "NoSuchNode")
     ∷ rule (codes "NotBuilt")
+    ∷ rule (codes "NoSuchMember")
     ∷ []
 
 -- the refusals of a log, by code from 1
@@ -57,6 +108,7 @@ log_refusals =
     ∷ rule_with_number (codes "BadField")
     ∷ rule_with_number (codes "Truncated")
     ∷ rule_with_number (codes "AfterEnd")
+    ∷ rule (codes "NotBiu")
     ∷ []
 
 -- those of a log, or else of a scenario
@@ -73,11 +125,35 @@ pub record IsRefusal (code : ℕ) (detail : Option ℕ) (of_log : Bool) : Type 0
   pub most : code ≤ length (refusals of_log)
   pub number : is_some detail ≡ (refusal_of of_log code).has_number
 
--- a number after its space, where there is one
-abbrev pub detail_text : Option ℕ → List ℕ
-detail_text None = []
-detail_text (Some number) = codes " " ++ decimal number
-
 -- refused CODE NAME, and the number where there is one
 abbrev pub refused_text : ℕ → Option ℕ → Bool → List ℕ
-refused_text code detail of_log = codes "refused " ++ decimal code ++ codes " " ++ (refusal_of of_log code).name ++ detail_text detail ++ codes "\n"
+refused_text code detail of_log = line_of (codes "refused") (decimal code ∷ (refusal_of of_log code).name ∷ last_field detail)
+
+-- Cn LEFT RIGHT
+abbrev pub side_text : ℕ → ℤ → ℤ → List ℕ
+side_text n left right = line_of (codes "C" ++ decimal n) (signed_decimal left ∷ signed_decimal right ∷ [])
+
+-- the summaries of a run, by number from 0
+abbrev pub summaries : List (List ℕ)
+summaries = codes "frames" ∷ codes "deliveries" ∷ codes "convicted" ∷ codes "spread" ∷ []
+
+-- NAME VALUE
+abbrev pub summary_text : ℕ → ℕ → List ℕ
+summary_text which value = line_of (slice_index_or summaries which []) (decimal value ∷ [])
+
+-- the two hexadecimal digits of each byte
+abbrev pub hex_text : List ℕ → List ℕ
+hex_text bytes = flat_map (λ byte. digit_char (byte / 16) ∷ digit_char (byte % 16) ∷ []) bytes
+
+-- m FRAME SLOT RECEIVER SENDER BYTES
+abbrev pub letter_text : ℕ → ℕ → ℕ → ℕ → List ℕ → List ℕ
+letter_text frame slot receiver sender letter =
+    line_of (codes "m") (decimal frame ∷ decimal slot ∷ node_text (Biu receiver) ∷ node_text (Biu sender) ∷ hex_text letter ∷ [])
+
+-- w WORD
+abbrev pub word_text : ℕ → List ℕ
+word_text word = line_of (codes "w") (decimal word ∷ [])
+
+-- g FRAME RECEIVER WORD
+abbrev pub group_text : ℕ → ℕ → Heard → List ℕ
+group_text frame receiver value = line_of (codes "g") (decimal frame ∷ node_text (Biu receiver) ∷ heard_text value ∷ [])

@@ -1,24 +1,66 @@
 //! The lines of a report, one function a kind of line. Their form is this project's own: fields that one space separates,
-//! decimal numbers without leading zeros, and a line feed, which comes with the line.
+//! decimal numbers without leading zeros, and a line feed, which comes with the line. A node is `B` or `R` and its number.
 #![tactic(auto)]
 
-ghost use Rattle.std.specs.Prelude.{◌≡◌, ◌+◌, ◌≤◌, true, false, ◌++◌, length};
-ghost use Rattle.arrayvec.specs.ArrayString.{array_string_len};
-ghost use Rattle.rb_report.specs.Report.{
-  delivery_text,
-  detail_text,
-  end_text,
-  heard_text,
-  IsRefusal,
-  log_refusals,
-  refusal_of,
-  refused_text,
-  scenario_refusals,
-};
+ghost use Rattle.std.specs.Prelude.{◌≡◌, ◌≤◌, length};
+ghost use Rattle.rb_report.specs.Report.{IsRefusal, breach_text, convicted_text, delivery_text, end_text, epoch_text, group_text, letter_text, port_text, refused_text, side_text, summary_text, word_text};
 
 use arrayvec::ArrayString;
-use itoa::{Buffer, Integer};
-use rb_base::Heard;
+use fields::{push_heard, push_hex, push_last, push_node, push_number, push_text};
+use itoa::Buffer;
+use names::{cause_name, refusal_name, summary_name};
+use rb_base::{Heard, NodeName, Place};
+use rb_rules::Cause;
+
+mod fields;
+mod names;
+#[cfg(test)]
+mod tests;
+
+/// The begin of a frame at a node, as `e FRAME NODE TICK TIME`: the tick of its clock with which the frame begins, and the
+/// reference time of that tick where it is known.
+pub fn epoch_line(frame: u32, node: NodeName, tick: u64, time: Option<u64>) -> ArrayString<96>
+    ensures bytes { result.bytes ≡ epoch_text frame node tick time }
+{
+    let mut line = ArrayString::new();
+    line.push_str("e");
+    push_number(&mut line, frame);
+    push_node(&mut line, node);
+    push_number(&mut line, tick);
+    push_last(&mut line, time);
+    line.push_str("\n");
+    line
+}
+
+/// Whom a node has convicted when a frame begins, as `c FRAME NODE BIUS RMUS`: a mask of BIUs and one of RMUs, in which bit
+/// i is node i.
+pub fn convicted_line(frame: u32, node: NodeName, biu: u16, rmu: u16) -> ArrayString<96>
+    ensures bytes { result.bytes ≡ convicted_text frame node biu rmu }
+{
+    let mut line = ArrayString::new();
+    line.push_str("c");
+    push_number(&mut line, frame);
+    push_node(&mut line, node);
+    push_number(&mut line, biu);
+    push_number(&mut line, rmu);
+    line.push_str("\n");
+    line
+}
+
+/// The port of a BIU when a frame begins, as `p FRAME BIU STATE LOSSES`: the state of its application, and how many of its
+/// latest deliveries were Fault.
+pub fn port_line(frame: u32, biu: u8, state: u64, losses: u8) -> ArrayString<96>
+    ensures bytes { result.bytes ≡ port_text frame biu state losses }
+{
+    let mut line = ArrayString::new();
+    line.push_str("p");
+    push_number(&mut line, frame);
+    push_node(&mut line, NodeName::Biu(biu));
+    push_number(&mut line, state);
+    push_number(&mut line, losses);
+    line.push_str("\n");
+    line
+}
 
 /// A delivery, as `d FRAME SLOT RECEIVER SENDER WORD`: BIU `receiver` delivers the word of BIU `sender` in that slot of the
 /// frame. The word is `none` where `value` is Fault.
@@ -30,18 +72,13 @@ pub fn delivery_line(
     value: Heard,
 ) -> ArrayString<96>
     ensures bytes { result.bytes ≡ delivery_text frame slot receiver sender value }
-    ensures short { array_string_len result ≤ 40 }
 {
     let mut line = ArrayString::new();
-    line.push_str("d ");
+    line.push_str("d");
     push_number(&mut line, frame);
-    line.push_str(" ");
     push_number(&mut line, slot);
-    line.push_str(" B");
-    push_number(&mut line, receiver);
-    line.push_str(" B");
-    push_number(&mut line, sender);
-    line.push_str(" ");
+    push_node(&mut line, NodeName::Biu(receiver));
+    push_node(&mut line, NodeName::Biu(sender));
     push_heard(&mut line, value);
     line.push_str("\n");
     line
@@ -50,11 +87,25 @@ pub fn delivery_line(
 /// The end of a run without a breach, as `end FRAMES`: the number of its frames.
 pub fn end_line(frames: u32) -> ArrayString<96>
     ensures bytes { result.bytes ≡ end_text frames }
-    ensures short { array_string_len result ≤ 15 }
 {
     let mut line = ArrayString::new();
-    line.push_str("end ");
+    line.push_str("end");
     push_number(&mut line, frames);
+    line.push_str("\n");
+    line
+}
+
+/// The end of a run at a breach of the fault premise, as `breach FRAME SLOT STAGE CAUSE`: the place, and which part of the
+/// premise fails there.
+pub fn breach_line(place: Place, cause: Cause) -> ArrayString<96>
+    ensures bytes { result.bytes ≡ breach_text place cause }
+{
+    let mut line = ArrayString::new();
+    line.push_str("breach");
+    push_number(&mut line, place.frame);
+    push_number(&mut line, place.slot);
+    push_number(&mut line, place.stage);
+    push_text(&mut line, cause_name(cause));
     line.push_str("\n");
     line
 }
@@ -64,115 +115,89 @@ pub fn end_line(frames: u32) -> ArrayString<96>
 pub fn refused_line(code: u8, detail: Option<u64>, of_log: bool) -> ArrayString<96>
     requires { IsRefusal code detail of_log }
     ensures bytes { result.bytes ≡ refused_text code detail of_log }
-    ensures short { array_string_len result ≤ 45 }
 {
     let mut line = ArrayString::new();
-    line.push_str("refused ");
+    line.push_str("refused");
     push_number(&mut line, code);
-    line.push_str(" ");
-    line.push_str(if of_log {
-        log_name(code)
-    } else {
-        scenario_name(code)
-    });
-    push_detail(&mut line, detail);
+    push_text(&mut line, refusal_name(code, of_log));
+    push_last(&mut line, detail);
     line.push_str("\n");
     line
 }
 
-fn scenario_name(code: u8) -> &'static str
-    requires least { 1 ≤ code }
-    requires most { code ≤ length scenario_refusals }
-    ensures name { result.now ≡ (refusal_of false code).name }
-    ensures short { length result.now ≤ 11 }
+/// The two sides of inequality n of a plan, 1 to 7, as `Cn LEFT RIGHT`.
+pub fn side_line(n: u8, left: i128, right: i128) -> ArrayString<96>
+    requires least { 1 ≤ n }
+    requires most { n ≤ 7 }
+    ensures bytes { result.bytes ≡ side_text n left right }
 {
-    match code {
-        1 => "NotToml",
-        2 => "MissingKey",
-        3 => "UnknownKey",
-        4 => "WrongType",
-        5 => "OutOfRange",
-        6 => "PlanFails",
-        7 => "ClockBounds",
-        8 => "DelayBounds",
-        9 => "StartApart",
-        10 => "SayOfGood",
-        11 => "TooMany",
-        12 => "NoSuchNode",
-        _ => "NotBuilt",
-    }
+    let mut line = ArrayString::new();
+    line.push_str("C");
+    line.push_str(Buffer::new().format(n));
+    push_number(&mut line, left);
+    push_number(&mut line, right);
+    line.push_str("\n");
+    line
 }
 
-fn log_name(code: u8) -> &'static str
-    requires least { 1 ≤ code }
-    requires most { code ≤ length log_refusals }
-    ensures name { result.now ≡ (refusal_of true code).name }
-    ensures short { length result.now ≤ 11 }
+/// A line of the summary of a run, as `NAME VALUE`. The names are `frames`, `deliveries`, `convicted` and `spread`, with the
+/// numbers 0 to 3.
+pub fn summary_line(which: u8, value: u64) -> ArrayString<96>
+    requires { which ≤ 3 }
+    ensures bytes { result.bytes ≡ summary_text which value }
 {
-    match code {
-        1 => "BadMagic",
-        2 => "BadField",
-        3 => "Truncated",
-        _ => "AfterEnd",
-    }
+    let mut line = ArrayString::new();
+    line.push_str(summary_name(which));
+    push_number(&mut line, value);
+    line.push_str("\n");
+    line
 }
 
-fn push_number<I: Integer>(line: &mut ArrayString<96>, number: I)
-    requires { array_string_len line.old + I.MAX_STR_LEN ≤ 96 }
-    ensures bytes { line.new.bytes ≡ line.old.bytes ++ I.text number }
-    ensures len { array_string_len line.new ≤ array_string_len line.old + I.MAX_STR_LEN }
+/// A letter that a port has received whole, as `m FRAME SLOT RECEIVER SENDER BYTES`: the slot with its last word, and its 1
+/// to 255 bytes, each as two hexadecimal digits in lower case.
+pub fn letter_line(
+    frame: u32,
+    slot: u16,
+    receiver: u8,
+    sender: u8,
+    letter: &[u8],
+) -> ArrayString<560>
+    requires some_byte { 1 ≤ length letter.now }
+    requires most_bytes { length letter.now ≤ 255 }
+    ensures bytes { result.bytes ≡ letter_text frame slot receiver sender letter.now }
 {
-    line.push_str(Buffer::new().format(number));
+    let mut line = ArrayString::new();
+    line.push_str("m");
+    push_number(&mut line, frame);
+    push_number(&mut line, slot);
+    push_node(&mut line, NodeName::Biu(receiver));
+    push_node(&mut line, NodeName::Biu(sender));
+    push_hex(&mut line, letter);
+    line.push_str("\n");
+    line
 }
 
-fn push_heard(line: &mut ArrayString<96>, value: Heard)
-    requires { array_string_len line.old ≤ 86 }
-    ensures bytes { line.new.bytes ≡ line.old.bytes ++ heard_text value }
-    ensures len { array_string_len line.new ≤ array_string_len line.old + 10 }
+/// A word of the spelling of a letter, as `w WORD`.
+pub fn word_line(word: u64) -> ArrayString<96>
+    ensures bytes { result.bytes ≡ word_text word }
 {
-    match value {
-        Heard::Word(word) => push_number(line, word),
-        Heard::Fault => line.push_str("none"),
-    }
+    let mut line = ArrayString::new();
+    line.push_str("w");
+    push_number(&mut line, word);
+    line.push_str("\n");
+    line
 }
 
-fn push_detail(line: &mut ArrayString<96>, detail: Option<u64>)
-    requires { array_string_len line.old ≤ 75 }
-    ensures bytes { line.new.bytes ≡ line.old.bytes ++ detail_text detail }
-    ensures len { array_string_len line.new ≤ array_string_len line.old + 21 }
+/// The value that BIU `receiver` finds for a group of replicas in a frame, as `g FRAME RECEIVER WORD`. The word is `none`
+/// where `value` is Fault.
+pub fn group_line(frame: u32, receiver: u8, value: Heard) -> ArrayString<96>
+    ensures bytes { result.bytes ≡ group_text frame receiver value }
 {
-    if let Some(number) = detail {
-        line.push_str(" ");
-        push_number(line, number);
-    }
-}
-
-#[cfg(test)]
-mod tests {
-    use super::*;
-
-    #[test]
-    fn lines(rt: HostRuntime) {
-        let lines = [
-            (
-                delivery_line(0, 4, 0, 0, Heard::Word(10)),
-                "d 0 4 B0 B0 10\n",
-            ),
-            (
-                delivery_line(0, 5, 3, 1, Heard::Fault),
-                "d 0 5 B3 B1 none\n",
-            ),
-            (end_line(1), "end 1\n"),
-            (refused_line(13, None, false), "refused 13 NotBuilt\n"),
-            (refused_line(1, None, false), "refused 1 NotToml\n"),
-            (refused_line(6, Some(7), false), "refused 6 PlanFails 7\n"),
-            (
-                refused_line(3, Some(207), true),
-                "refused 3 Truncated 207\n",
-            ),
-        ];
-        for (line, text) in lines {
-            assert_eq!(rt; line.as_str(), text);
-        }
-    }
+    let mut line = ArrayString::new();
+    line.push_str("g");
+    push_number(&mut line, frame);
+    push_node(&mut line, NodeName::Biu(receiver));
+    push_heard(&mut line, value);
+    line.push_str("\n");
+    line
 }
