@@ -170,7 +170,7 @@ fn window(shape: &Shape, plan: &Plan, offset: u64) -> Option<Window>
 }
 
 /// A shape with a plan that is feasible for it.
-#[derive(Drop)]
+#[derive(Clone, Copy)]
 pub struct Feasible {
     shape: Shape,
     plan: Plan,
@@ -185,6 +185,8 @@ impl Model for Feasible {
     ghost view = { λ f. record { sizes = f.shape; plan = f.plan } };
 
     ghost invariant = { λ f. IsPlan f.plan × IsFeasible f.shape f.plan };
+
+    ghost inverse = { λ t. record { shape = t.sizes; plan = t.plan } };
 }
 
 impl Feasible {
