@@ -12,3 +12,4 @@ pub mod ExactStages
 pub mod Votes
 pub mod Convictions
 pub mod Feasibility
+pub mod Judgings
