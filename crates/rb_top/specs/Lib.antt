@@ -1,3 +1,4 @@
+pub mod CheckText
 pub mod Carrying
 pub mod RunText
 pub mod Answers

@@ -2,6 +2,7 @@
 #![tactic(auto)]
 
 mod carrying;
+mod check;
 mod report;
 pub mod status;
 pub mod top;
