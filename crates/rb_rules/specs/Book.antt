@@ -109,9 +109,9 @@ after_stage sizes place =
     else (if place.slot == sync_slot_of sizes then Begin (place.frame + 1)
     else Stage (record { frame = place.frame; slot = place.slot + 1; stage = 1 }))
 
--- what the rows tell of deliveries
-abbrev pub lines_in : Each (Option Row) → List SlotLine
-lines_in rows = filter_map (λ row. option_and_then (λ r. r.line) row) rows.bius
+-- what a node told of a delivery
+abbrev pub line_in : Option Row → Option SlotLine
+line_in row = option_and_then (λ r. r.line) row
 
 -- the record of a slot comes with its stage 3. The sync slot has none
 abbrev pub slot_records : Sizes → Place → List SlotLine → List Record
@@ -123,7 +123,7 @@ abbrev pub judged : Sizes → Place → Each (Option Row) → List JudgedStage �
 judged sizes place rows stages b None = record {
   upcoming = after_stage sizes place;
   stages = stages;
-  lines = if place.stage == 2 then lines_in rows else b.lines;
+  lines = if place.stage == 2 then filter_map line_in rows.bius else b.lines;
   given = b.given ++ slot_records sizes place b.lines;
   ended = false;
 }

@@ -1,6 +1,6 @@
 -- One node core. It takes the ticks of its clock and arrivals, one at a time.
-use Rattle.std.specs.Prelude.{ℕ, zero, suc, ◌+◌, ◌-◌, ◌^◌, max, nat_lt, nat_le, ◌==◌, ◌&&◌, ◌||◌, not, Bool, true, false, Option, Some, None, is_some, unwrap_or, List, [], ◌∷◌, ◌++◌, filter, map, fold}
-use Rattle.std.specs.List.{cons_option}
+use Rattle.std.specs.Prelude.{ℕ, zero, suc, ◌+◌, ◌-◌, ◌^◌, max, nat_lt, nat_le, ◌==◌, ◌&&◌, ◌||◌, not, Bool, true, false, Option, Some, None, is_some, unwrap_or, List, [], ◌∷◌, ◌++◌, filter, map}
+use Rattle.std.specs.Option.{option_or}
 use Rattle.rb_base.specs.Nodes.{Side, other}
 use Rattle.rb_base.specs.Nodes.Side.{Biu}
 use Rattle.rb_base.specs.Sizes.{Sizes}
@@ -9,7 +9,7 @@ use Rattle.rb_rules.specs.declared.message.Message.{Message}
 use Rattle.rb_rules.specs.declared.plan.Plan.{Plan}
 use Rattle.rb_rules.specs.declared.plan.Window.{Window}
 use Rattle.rb_rules.specs.declared.record.Epoch.{Epoch}
-use Rattle.rb_rules.specs.ExactStage.{Outcome, keeping}
+use Rattle.rb_rules.specs.ExactStage.{keeping}
 use Rattle.rb_rules.specs.Hearing.{Sending, sending, tail_at, close_window, epoch_of}
 use Rattle.rb_rules.specs.NodeState.{NodeState, first_state}
 use Rattle.rb_rules.specs.NodeSteps.{turned}
@@ -59,16 +59,11 @@ abbrev pub if_at : ℕ → Option Sending → Option Message
 if_at k None = None
 if_at k (Some s) = elim (s.tick == k) [ true ↦ Some s.message | false ↦ None ]
 
--- the first that there is
-abbrev pub first_of : Option Message → Option Message → Option Message
-first_of None later = later
-first_of (Some m) later = Some m
-
 -- the message that is sent at tick k in one of the stages of a slot
 abbrev pub said_in : Sizes → Plan → Side → ℕ → NodeState → ℕ → ℕ → ℕ → Option Message
 said_in sizes plan me index st word k slot =
-    first_of (if_at k (sending sizes plan me index st slot 1 word))
-    (first_of (if_at k (sending sizes plan me index st slot 2 word)) (if_at k (sending sizes plan me index st slot 3 word)))
+    option_or (if_at k (sending sizes plan me index st slot 1 word))
+    (option_or (if_at k (sending sizes plan me index st slot 2 word)) (if_at k (sending sizes plan me index st slot 3 word)))
 
 -- the message that node `index` of kind me sends at tick k. A call whose tick does not come before the next epoch is never
 -- sent: at that epoch the middles are forgotten, and with them the ticks of calls
@@ -100,21 +95,24 @@ state_kept sizes me index st word (Some m) = keeping sizes me index st m.slot m.
 abbrev pub of_source : List (ℕ × Arrival) → ℕ → List Arrival
 of_source inbox j = map (λ a. a.1) (filter (λ a. a.0 == j) inbox)
 
--- the core after its last tick of a window, which it closes, or after another tick
-abbrev pub closed_core : Core → Outcome → Core
-closed_core c x = record { state = x.state; had = c.had + 1; inbox = [] }
-
-abbrev pub open_core : Core → NodeState → Core
-open_core c st = record { state = st; had = c.had + 1; inbox = c.inbox }
-
--- the close, if this is the last tick of its window. A node that has turned stands in this state, and in `kept` after its message
+-- the node has turned, if this is the tick of its next epoch, and stands in the state `st`, and after its message in `kept`.
+-- It closes the window, if this is the last tick of it
 unfoldable pub act_on : Sizes → Plan → Side → ℕ → Core → NodeState → Option Message → NodeState → Act
 act_on sizes plan me index c st message kept =
-    let x = close_window sizes plan me index kept (window_here sizes plan me st c.had) (of_source c.inbox) in
-    let epoch = epoch_at sizes me st c.had in
+    let closing = close_window sizes plan me index kept (window_here sizes plan me st c.had) (of_source c.inbox) in
     elim (is_last sizes plan me st c.had) [
-      | true ↦ record { core = closed_core c x; epoch = epoch; message = message; closed = Some x.closed }
-      | false ↦ record { core = open_core c kept; epoch = epoch; message = message; closed = None }
+      | true ↦ record {
+        core = record { state = closing.state; had = c.had + 1; inbox = [] };
+        epoch = epoch_at sizes me st c.had;
+        message = message;
+        closed = Some closing.closed;
+      }
+      | false ↦ record {
+        core = record { state = kept; had = c.had + 1; inbox = c.inbox };
+        epoch = epoch_at sizes me st c.had;
+        message = message;
+        closed = None;
+      }
     ]
 
 -- at a tick a node first turns, then says its message, then closes the window
@@ -175,22 +173,9 @@ pub data CoreEvent : Type 0 where
   Tick : (word : ℕ) → CoreEvent
   Arrive : (from : ℕ) (bytes : List ℕ) → CoreEvent
 
--- the core after an event
-abbrev pub core_with : Sizes → Plan → Side → ℕ → Core → CoreEvent → Core
-core_with sizes plan me index c (Tick word) = (tick sizes plan me index c word).core
-core_with sizes plan me index c (Arrive from bytes) = arrive sizes me c from bytes
-
--- the core after all of the events
-abbrev pub core_after : Sizes → Plan → Side → ℕ → Core → List CoreEvent → Core
-core_after sizes plan me index c events = fold (core_with sizes plan me index) c events
-
--- what an event gives: a tick its act, an arrival nothing
-abbrev pub act_of : Sizes → Plan → Side → ℕ → Core → CoreEvent → Option Act
-act_of sizes plan me index c (Tick word) = Some (tick sizes plan me index c word)
-act_of sizes plan me index c (Arrive from bytes) = None
-
--- the acts of the events in order
+-- the acts of all ticks among the events, in order
 abbrev pub acts_of : Sizes → Plan → Side → ℕ → Core → List CoreEvent → List Act
 acts_of sizes plan me index c [] = []
-acts_of sizes plan me index c (e ∷ events) =
-    cons_option (act_of sizes plan me index c e) (acts_of sizes plan me index (core_with sizes plan me index c e) events)
+acts_of sizes plan me index c (Tick word ∷ events) =
+    tick sizes plan me index c word ∷ acts_of sizes plan me index (tick sizes plan me index c word).core events
+acts_of sizes plan me index c (Arrive from bytes ∷ events) = acts_of sizes plan me index (arrive sizes me c from bytes) events

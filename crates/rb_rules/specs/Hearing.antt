@@ -1,5 +1,5 @@
 -- What a node sends in a window, and what it hears in one.
-use Rattle.std.specs.Prelude.{ℕ, ◌+◌, ◌-◌, ◌%◌, ◌&&◌, nat_le, min, Bool, true, false, Option, Some, None, option_and_then, option_map, unwrap_or, List, [], ◌∷◌, filter, map, get_or, slice_get}
+use Rattle.std.specs.Prelude.{ℕ, ◌+◌, ◌-◌, ◌%◌, ◌&&◌, nat_le, min, Bool, true, false, Option, Some, None, option_and_then, option_map, option_to_list, unwrap_or, List, [], ◌∷◌, filter, map, get_or, slice_get}
 use Rattle.rb_base.specs.Nodes.{Side, other}
 use Rattle.rb_base.specs.Sizes.{Sizes}
 use Rattle.rb_base.specs.declared.values.Place.{Place}
@@ -130,15 +130,11 @@ abbrev pub said_by : Scenario → Side → ℕ → Span → ℕ → List Coming
 said_by sc me i span j =
     map (coming_said sc.plan.version (clock_of sc me i) j span) (filter (is_said me i j span) sc.says)
 
-abbrev pub sent_by : Scenario → Side → ℕ → Span → ℕ → Option Sending → List Coming
-sent_by sc me i span j None = []
-sent_by sc me i span j (Some s) = coming_of sc me i j span.place.frame s ∷ []
-
 -- what node i of kind me hears of source j in a window, in which this is what the nodes of the other kind send
 unfoldable pub heard_from : Scenario → Side → ℕ → Span → List (Option Sending) → ℕ → List Coming
 heard_from sc me i span sent j =
     elim (is_good sc (other me) j span.place.frame span.place.slot) [
-      | true ↦ sent_by sc me i span j (at_source sent j)
+      | true ↦ option_to_list (option_map (coming_of sc me i j span.place.frame) (at_source sent j))
       | false ↦ said_by sc me i span j
     ]
 

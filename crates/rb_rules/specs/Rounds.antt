@@ -5,7 +5,7 @@ use Rattle.rb_base.specs.Nodes.{Side, other}
 use Rattle.rb_base.specs.Sizes.{Sizes, sync_slot_of}
 use Rattle.rb_rules.specs.declared.plan.Window.{Window}
 use Rattle.rb_rules.specs.declared.record.SlotLine.{SlotLine}
-use Rattle.rb_rules.specs.Book.{Each, of_kind, in_order, each_of, map_from, map_each, Record, Begun, Row, Book, fresh_book, with_stage, with_frame, with_end}
+use Rattle.rb_rules.specs.Book.{Each, of_kind, in_order, each_of, map_from, map_each, Record, Begun, Row, Book, line_in, fresh_book, with_stage, with_frame, with_end}
 use Rattle.rb_rules.specs.Clock.{stamp_of}
 use Rattle.rb_rules.specs.ExactStage.{Outcome, keeping, present}
 use Rattle.rb_rules.specs.Goodness.{Scenario, is_good, clock_of}
@@ -80,12 +80,8 @@ abbrev pub port_after : Option SlotLine → PortState → PortState
 port_after None port = port
 port_after (Some line) port = delivered_to port line.value
 
-abbrev pub port_told : Option Row → PortState → PortState
-port_told None port = port
-port_told (Some row) port = port_after row.line port
-
 abbrev pub ports_after : List (Option Row) → List PortState → List PortState
-ports_after rows ports = map_from 0 (λ i port. port_told (get_or rows i None) port) ports
+ports_after rows ports = map_from 0 (λ i port. port_after (line_in (get_or rows i None)) port) ports
 
 -- the tail is no stage, and isn't judged
 abbrev pub book_after : Scenario → ℕ → Option Window → Each (Option Row) → Book → Book

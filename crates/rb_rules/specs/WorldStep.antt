@@ -154,30 +154,21 @@ proceed sc me i s = entering sc me i (span_from sc.sizes sc.plan me s.core.state
 abbrev pub got_of : List Coming → ℕ → List Coming
 got_of got j = filter (λ c. c.from == j) got
 
-abbrev pub got_after : Option Closed → List Coming → List Coming
-got_after None got = got
-got_after (Some c) got = []
+-- what the node has told after a tick at which it closed this. The tail is no stage, so it tells nothing of it
+abbrev pub with_close : Side → ℕ → NodeState → Option Closed → Site → Site
+with_close me i st None s = s
+with_close me i st (Some c) s =
+    record s { got = []; row = elim (c.place.stage == 4) [ true ↦ s.row | false ↦ Some (row_of me i st (got_of s.got) c) ] }
 
--- what the node tells of a stage that it has closed; the tail is none
-abbrev pub row_after : Side → ℕ → NodeState → Site → Option Closed → Option Row
-row_after me i st s None = s.row
-row_after me i st s (Some c) = elim (c.place.stage == 4) [ true ↦ s.row | false ↦ Some (row_of me i st (got_of s.got) c) ]
-
-abbrev pub begun_after : Scenario → List PortState → Side → ℕ → Site → Option Epoch → Option Begun
-begun_after sc ports me i s None = s.begun
-begun_after sc ports me i s (Some e) = Some (begun_of sc ports me i e)
+-- and after one with which this frame began
+abbrev pub with_epoch : Scenario → List PortState → Side → ℕ → Option Epoch → Site → Site
+with_epoch sc ports me i None s = s
+with_epoch sc ports me i (Some e) s = record s { begun = Some (begun_of sc ports me i e) }
 
 -- the node after a tick that gave this
 unfoldable pub after_act : Scenario → List PortState → Side → ℕ → Act → Site → Site
-after_act sc ports me i x s = proceed sc me i (record {
-  runs = true;
-  core = x.core;
-  ahead = None;
-  coming = s.coming;
-  got = got_after x.closed s.got;
-  row = row_after me i x.core.state s x.closed;
-  begun = begun_after sc ports me i s x.epoch;
-})
+after_act sc ports me i x s =
+    proceed sc me i (with_epoch sc ports me i x.epoch (with_close me i x.core.state x.closed (record s { core = x.core })))
 
 -- a node after an arrival, which stood at this place. Before it the ticks up to its stamp pass
 unfoldable pub after_arrival : Scenario → Side → ℕ → ℕ → Coming → Site → Site
@@ -234,12 +225,10 @@ abbrev pub with_pending : Scenario → World → Side → ℕ → Site → Pendi
 with_pending sc w me i s (Tick k) = with_act sc w me i k (ticked sc w.ports me i k s.core)
 with_pending sc w me i s (Arrival place c) = record w { sites = at_node me i (after_arrival sc me i place c) w.sites }
 
-abbrev pub site_of : World → Due → Option Site
-site_of w d = slice_get (of_kind d.side w.sites) d.node
-
 -- the event happens, before anything is settled
 unfoldable pub happens : Scenario → World → Due → World
-happens sc w d = elim (site_of w d) [ None ↦ w | Some s ↦ with_pending sc w d.side d.node s d.pending ]
+happens sc w d =
+    elim (slice_get (of_kind d.side w.sites) d.node) [ None ↦ w | Some s ↦ with_pending sc w d.side d.node s d.pending ]
 
 -- What is settled.
 
