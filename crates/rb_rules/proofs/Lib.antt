@@ -13,3 +13,5 @@ pub mod Votes
 pub mod Convictions
 pub mod Feasibility
 pub mod Judgings
+pub mod Books
+pub mod HandIns

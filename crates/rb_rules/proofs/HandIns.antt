@@ -1,0 +1,67 @@
+-- A hand-in changes no moment before its frame, and no record of its frame's begin.
+use Rattle.std.proofs.Common.{◌≡◌, ℕ, zero, suc, ◌+◌, ◌<◌, ◌≤◌, ◌==◌, nat_lt, Bool, true, false, List, [], ◌∷◌, ◌++◌, refl, ◌∙◌, ap, arith, if◌then◌else◌}
+use Rattle.std.proofs.lemmas.Bool.Decides.{nat_tests}
+use Rattle.rb_rules.specs.Book.{Each, Book}
+use Rattle.rb_rules.specs.Goodness.{Scenario}
+use Rattle.rb_rules.specs.NodeState.{NodeState}
+use Rattle.rb_rules.specs.Ports.{PortState, HandIn, with_state, handed}
+use Rattle.rb_rules.specs.Rounds.{Moment, after_window, begin_frame, next_frame, step, moment, windows_in}
+use Rattle.rb_rules.proofs.Books.{stepped}
+
+handed-more : (frame : ℕ) (hands : List HandIn) (h : HandIn) (ports : List PortState) → (h.frame == frame) ≡ false
+    → handed frame (hands ++ h ∷ []) ports ≡ handed frame hands ports
+handed-more frame [] h ports e = ap (λ b. if b then with_state h.biu h.state ports else ports) e
+handed-more frame (x ∷ xs) h ports e = handed-more frame xs h (if x.frame == frame then with_state x.biu x.state ports else ports) e
+
+begin-more : (sc : Scenario) (hands : List HandIn) (h : HandIn) (frame : ℕ) (nodes : Each NodeState) (ports : List PortState) (b : Book)
+    → (h.frame == frame) ≡ false → begin_frame sc (hands ++ h ∷ []) frame nodes ports b ≡ begin_frame sc hands frame nodes ports b
+unfolding begin_frame
+begin-more sc hands h frame nodes ports b e =
+    ap (λ ps. record (begin_frame sc hands frame nodes ports b) { ports = ps }) (handed-more frame hands h ports e)
+
+differs : (a b : ℕ) → b < a → (a == b) ≡ false
+differs a b h = grind (arith, nat_tests)
+
+stepped-rise : (sc : Scenario) (hands : List HandIn) (m : Moment) (over in_frame : Bool) → m.frame ≤ (stepped sc hands m over in_frame).frame
+unfolding after_window begin_frame
+stepped-rise sc hands m true in_frame = omega arith
+stepped-rise sc hands m false true = omega arith
+stepped-rise sc hands m false false = omega arith
+
+-- no step goes back to an earlier frame
+pub step-rise : (sc : Scenario) (hands : List HandIn) (m : Moment) → m.frame ≤ (step sc hands m).frame
+unfolding step
+step-rise sc hands m = stepped-rise sc hands m (m.frame == sc.frames) (nat_lt m.window (windows_in sc.sizes))
+
+stepped-more : (sc : Scenario) (hands : List HandIn) (h : HandIn) (m : Moment) (over in_frame : Bool) → (stepped sc hands m over in_frame).frame < h.frame
+    → stepped sc (hands ++ h ∷ []) m over in_frame ≡ stepped sc hands m over in_frame
+unfolding begin_frame
+stepped-more sc hands h m true in_frame lt = refl
+stepped-more sc hands h m false true lt = refl
+stepped-more sc hands h m false false lt =
+    let below : m.frame + 1 < h.frame = lt in
+    begin-more sc hands h (m.frame + 1) _ m.ports m.book (differs h.frame (m.frame + 1) below)
+
+step-more : (sc : Scenario) (hands : List HandIn) (h : HandIn) (m : Moment) → (step sc hands m).frame < h.frame
+    → step sc (hands ++ h ∷ []) m ≡ step sc hands m
+unfolding step
+step-more sc hands h m lt = stepped-more sc hands h m (m.frame == sc.frames) (nat_lt m.window (windows_in sc.sizes)) lt
+
+-- moments before the frame of a hand-in are what they were
+pub moments-more : (sc : Scenario) (hands : List HandIn) (h : HandIn) (n : ℕ) → (moment sc hands n).frame < h.frame
+    → moment sc (hands ++ h ∷ []) n ≡ moment sc hands n
+unfolding begin_frame
+moments-more sc hands h zero lt = begin-more sc hands h 0 _ _ _ (differs h.frame 0 lt)
+moments-more sc hands h (suc n) lt =
+    let rise : (moment sc hands n).frame ≤ (step sc hands (moment sc hands n)).frame = step-rise sc hands (moment sc hands n) in
+    let before : moment sc (hands ++ h ∷ []) n ≡ moment sc hands n = moments-more sc hands h n (omega arith) in
+    ap (step sc (hands ++ h ∷ [])) before ∙ step-more sc hands h (moment sc hands n) lt
+
+-- at the begin of its frame it changes the ports alone, so the frame's record is the same
+pub begin-book : (sc : Scenario) (hands : List HandIn) (h : HandIn) (m : Moment) → (next_frame sc (hands ++ h ∷ []) m).book ≡ (next_frame sc hands m).book
+unfolding begin_frame
+begin-book sc hands h m = refl
+
+pub begin-nodes : (sc : Scenario) (hands : List HandIn) (h : HandIn) (m : Moment) → (next_frame sc (hands ++ h ∷ []) m).nodes ≡ (next_frame sc hands m).nodes
+unfolding begin_frame
+begin-nodes sc hands h m = refl
