@@ -1,8 +1,9 @@
 # make run SCENARIO=examples/one_silent_rmu.toml   runs a scenario
 # make build                                       proves and builds the program
 # make test                                        the gate: every proof from nothing, every test, every program
+# make bench                                       builds the programs and measures them
 
-.PHONY: run build test
+.PHONY: run build test bench
 
 run:
 	@test -n "$(SCENARIO)" || { echo "usage: make run SCENARIO=examples/one_silent_rmu.toml" >&2; exit 2; }
@@ -13,3 +14,7 @@ build:
 
 test:
 	.ci/run
+
+bench: build
+	cd crates/rb_bench && rt run -- closes 1000 > /dev/null
+	tools/bench
