@@ -15,3 +15,4 @@ pub mod Feasibility
 pub mod Judgings
 pub mod Books
 pub mod HandIns
+pub mod QuietTicks
