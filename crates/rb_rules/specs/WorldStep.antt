@@ -346,18 +346,22 @@ choose sc w (Hand biu state) = hand sc w biu state
 abbrev pub world_after : Scenario → List Choice → World
 world_after sc choices = fold (choose sc) (first_world sc) choices
 
--- a due event as it is shown: the quiet ticks that the node has before it, and what then happens
-unfoldable pub event_of : Scenario → World → Side → ℕ → Core → Pending → Event
-event_of sc w me i c (Tick k) = record {
-  node = name_of me i;
-  quiet = k - c.had;
-  kind = kind.Tick (word_of sc w.ports i (wanted sc me i (pass_to k c))) (is_some (wanted sc me i (pass_to k c)));
-}
-event_of sc w me i c (Arrival place a) = record {
+-- what happens at node i of kind me, as it is shown: the quiet ticks that pass before it, and what then comes
+abbrev pub shown : Scenario → List PortState → Side → ℕ → Core → Pending → Event
+shown sc ports me i c (Tick k) =
+    let slot = wanted sc me i (pass_to k c) in
+    record { node = name_of me i; quiet = k - c.had; kind = kind.Tick (word_of sc ports i slot) (is_some slot) }
+shown sc ports me i c (Arrival place a) = record {
   node = name_of me i;
   quiet = stamp_of (clock_of sc me i) a.time - c.had;
   kind = kind.Arrive a.from (record { items = a.bytes });
 }
+
+-- the due event at place i, as it is shown
+unfoldable pub event_at : Scenario → World → ℕ → Option Event
+event_at sc w i =
+    option_and_then (λ d. option_map (λ s. shown sc w.ports d.side d.node s.core d.pending) (slice_get (of_kind d.side w.sites) d.node))
+    (slice_get (due_of sc w) i)
 
 -- Events are rounds.
 
