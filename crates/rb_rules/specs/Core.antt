@@ -59,16 +59,13 @@ abbrev pub if_at : ℕ → Option Sending → Option Message
 if_at k None = None
 if_at k (Some s) = elim (s.tick == k) [ true ↦ Some s.message | false ↦ None ]
 
--- the message that is sent at tick k in one of the stages of a slot
-abbrev pub said_in : Sizes → Plan → Side → ℕ → NodeState → ℕ → ℕ → ℕ → Option Message
-said_in sizes plan me index st word k slot =
+-- the message that node `index` of kind me sends at tick k, in one of the stages of the slot. A call whose tick does not come
+-- before the next epoch is never sent: at that epoch the node forgets the middles, and with them the ticks of its calls
+unfoldable pub said_at : Sizes → Plan → Side → ℕ → NodeState → ℕ → ℕ → Option Message
+said_at sizes plan me index st word k =
+    let slot = (window_here sizes plan me st k).slot in
     option_or (if_at k (sending sizes plan me index st slot 1 word))
     (option_or (if_at k (sending sizes plan me index st slot 2 word)) (if_at k (sending sizes plan me index st slot 3 word)))
-
--- the message that node `index` of kind me sends at tick k. A call whose tick does not come before the next epoch is never
--- sent: at that epoch the middles are forgotten, and with them the ticks of calls
-unfoldable pub said_at : Sizes → Plan → Side → ℕ → NodeState → ℕ → ℕ → Option Message
-said_at sizes plan me index st word k = said_in sizes plan me index st word k (window_here sizes plan me st k).slot
 
 -- tick k is the last of its window
 abbrev pub is_last : Sizes → Plan → Side → NodeState → ℕ → Bool

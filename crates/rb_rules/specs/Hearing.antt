@@ -5,7 +5,6 @@ use Rattle.rb_base.specs.Sizes.{Sizes}
 use Rattle.rb_base.specs.declared.values.Place.{Place}
 use Rattle.rb_base.specs.declared.values.See.{See}
 use Rattle.rb_base.specs.declared.values.See.TheVariants.{Nothing, Value, Time}
-use Rattle.rb_base.specs.declared.values.Delivery.{Delivery}
 use Rattle.rb_rules.specs.declared.closing.Closed.{Closed}
 use Rattle.rb_rules.specs.declared.message.Message.{Message}
 use Rattle.rb_rules.specs.declared.message.Tag.{Tag}
@@ -15,7 +14,6 @@ use Rattle.rb_rules.specs.declared.plan.Plan.{Plan}
 use Rattle.rb_rules.specs.declared.plan.Window.{Window}
 use Rattle.rb_rules.specs.declared.record.Epoch.{Epoch}
 use Rattle.rb_rules.specs.declared.record.PortLine.{PortLine}
-use Rattle.rb_rules.specs.declared.record.SlotLine.{SlotLine}
 use Rattle.rb_rules.specs.declared.role.Role.{Role}
 use Rattle.rb_rules.specs.declared.role.Role.TheVariants.{Schedule, Data, DiagBiu, DiagRmu, Sync}
 use Rattle.rb_rules.specs.declared.say.Content.{Content}
@@ -162,9 +160,6 @@ judged_see time Nothing = Nothing
 judged_see time (Value v) = Value v
 judged_see time (Time stamp) = Time time
 
-abbrev pub line_of : ℕ → Delivery → SlotLine
-line_of i d = record { receiver = i; sender = d.sender; value = d.value }
-
 -- what node i of kind me tells of a stage that it closed in this state, having heard this of each source
 unfoldable pub row_of : Side → ℕ → NodeState → (ℕ → List Coming) → Closed → Row
 row_of me i st heard c = record {
@@ -172,7 +167,7 @@ row_of me i st heard c = record {
   sees = each_node (λ j. judged_see (sole_time (heard j)) (get_or c.sees j Nothing));
   biu = trusted_of Side.Biu me st;
   rmu = trusted_of Side.Rmu me st;
-  line = option_map (line_of i) c.delivered;
+  line = option_map (λ d. record { receiver = i; sender = d.sender; value = d.value }) c.delivered;
 }
 
 -- what a node tells of the frame that it is in

@@ -7,7 +7,7 @@ use Rattle.rb_rules.specs.declared.plan.Window.{Window}
 use Rattle.rb_rules.specs.declared.record.SlotLine.{SlotLine}
 use Rattle.rb_rules.specs.Book.{Each, of_kind, in_order, each_of, map_from, map_each, Record, Begun, Row, Book, line_in, fresh_book, with_stage, with_frame, with_end}
 use Rattle.rb_rules.specs.Clock.{stamp_of}
-use Rattle.rb_rules.specs.ExactStage.{Outcome, keeping, present}
+use Rattle.rb_rules.specs.ExactStage.{keeping, present}
 use Rattle.rb_rules.specs.Goodness.{Scenario, is_good, clock_of}
 use Rattle.rb_rules.specs.Hearing.{Sending, Coming, Span, window_numbered, span_of, sending, port_at, word_for, heard_from, arrival_of, close_window, row_of, epoch_of, begun_of}
 use Rattle.rb_rules.specs.NodeState.{NodeState, first_state}
@@ -49,14 +49,11 @@ pub record Result : Type 0 where
   pub state : NodeState
   pub row : Option Row
 
--- what node i of kind me makes of a window that it closes, by the outcome of the close
-abbrev pub result_of : Side → ℕ → (ℕ → List Coming) → Outcome → Result
-result_of me i heard x = record { state = x.state; row = Some (row_of me i x.state heard x.closed) }
-
 -- node i of kind me closes a window on what it heard of each source
 unfoldable pub close_on : Scenario → Side → ℕ → NodeState → Window → (ℕ → List Coming) → Result
 close_on sc me i st w heard =
-    result_of me i heard (close_window sc.sizes sc.plan me i st w (λ j. map (arrival_of (clock_of sc me i)) (heard j)))
+    let x = close_window sc.sizes sc.plan me i st w (λ j. map (arrival_of (clock_of sc me i)) (heard j)) in
+    record { state = x.state; row = Some (row_of me i x.state heard x.closed) }
 
 -- what node i of kind me hears of each source in a window, in which this is sent
 abbrev pub heard_at : Scenario → Side → ℕ → NodeState → Window → Each (Option Sending) → ℕ → List Coming
