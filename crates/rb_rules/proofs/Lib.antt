@@ -16,3 +16,4 @@ pub mod Judgings
 pub mod Books
 pub mod HandIns
 pub mod QuietTicks
+pub mod WindowNumbers
