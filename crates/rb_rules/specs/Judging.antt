@@ -1,13 +1,15 @@
 -- How the fault premise is judged: what good receivers saw of each source in the stages of a frame.
-use Rattle.std.specs.Prelude.{ℕ, ◌+◌, nat_lt, nat_le, ◌&&◌, not, Bool, true, false, if◌then◌else◌, Option, Some, None, List, [], ◌∷◌}
+use Rattle.std.specs.Prelude.{ℕ, ◌+◌, nat_lt, nat_le, ◌==◌, ◌&&◌, not, Bool, true, false, if◌then◌else◌, Option, Some, None, List, [], ◌∷◌}
 use Rattle.std.specs.List.{list_any}
 use Rattle.rb_base.specs.Counting.{numbers}
 use Rattle.rb_base.specs.Nodes.{Side, other, has, set_of, size}
 use Rattle.rb_base.specs.Nodes.Side.{Biu, Rmu}
+use Rattle.rb_base.specs.declared.node.NodeName.{NodeName}
 use Rattle.rb_base.specs.declared.values.See.{See}
 use Rattle.rb_base.specs.declared.values.See.TheVariants.{Nothing, Value, Time}
 use Rattle.rb_rules.specs.declared.cause.Cause.{Cause}
 use Rattle.rb_rules.specs.declared.cause.Cause.TheVariants.{FewGoodBiu, FewGoodRmu, TwoSided}
+use Rattle.rb_rules.specs.Links.{name_of, same_node}
 use Rattle.rb_rules.specs.Majority.{same_heard}
 
 -- two sights of a source are alike: both nothing, equal values, or times that differ by at most eps
@@ -34,6 +36,21 @@ pub record JudgedStage : Type 0 where
   pub eps : ℕ  -- how far apart the times of one message may be
   pub sight : Side → ℕ → ℕ → See  -- of receiver i of this kind, what it saw of source j of the other kind
 
+-- one for each kind
+abbrev pub by_kind : {X : Type 0} → X → X → Side → X
+by_kind biu rmu Biu = biu
+by_kind biu rmu Rmu = rmu
+
+-- a stage of which nothing was seen yet
+abbrev pub stage_begun : (Side → ℕ) → (Side → ℕ) → ℕ → JudgedStage
+stage_begun good trusted eps = record { good = good; trusted = trusted; eps = eps; sight = λ kind i j. Nothing }
+
+-- the stage, in which this receiver saw this of source j
+abbrev pub with_sight : NodeName → ℕ → See → JudgedStage → JudgedStage
+with_sight receiver j see s = record s {
+  sight = λ kind i k. if same_node (name_of kind i) receiver && (k == j) then see else s.sight kind i k;
+}
+
 -- some good receiver of the sources of this kind passes
 abbrev pub some_receiver : Side → (ℕ → Bool) → JudgedStage → Bool
 some_receiver kind passes s = list_any (λ i. has (s.good (other kind)) i && passes i) (numbers 16)
@@ -48,6 +65,11 @@ was_unlike kind j s =
     some_receiver kind (λ a. some_receiver kind (λ b. not (are_alike s.eps (s.sight (other kind) a j) (s.sight (other kind) b j))) s) s
 
 -- The stages of a frame so far, the newest first.
+
+-- in the newest stage this receiver saw this of source j
+abbrev pub noted : NodeName → ℕ → See → List JudgedStage → List JudgedStage
+noted receiver j see [] = []
+noted receiver j see (s ∷ earlier) = with_sight receiver j see s ∷ earlier
 
 -- the sets of the newest stage; they are empty before the first
 abbrev pub good_now : Side → List JudgedStage → ℕ
