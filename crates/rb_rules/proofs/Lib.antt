@@ -17,3 +17,4 @@ pub mod Books
 pub mod HandIns
 pub mod QuietTicks
 pub mod WindowNumbers
+pub mod RoundStates
