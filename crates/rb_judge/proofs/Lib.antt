@@ -1,0 +1,3 @@
+pub mod SomeNode
+pub mod Sights
+pub mod Sides

@@ -1,0 +1,87 @@
+-- What is kept of the nodes of one kind as sources.
+use Rattle.std.specs.Prelude.{ℕ, ◌≡◌, ◌<◌, ◌&&◌, ◌||◌, not, Bool, List, [], ◌∷◌, slice_index, slice_index_or}
+use Rattle.std.specs.List.{list_any}
+use Rattle.rb_base.specs.Nodes.{Side, other, has, set_of}
+use Rattle.rb_base.specs.declared.values.See.{See}
+use Rattle.rb_base.specs.declared.values.See.TheVariants.{Nothing}
+use Rattle.rb_rules.specs.Judging.{ClassSets, JudgedStage, good_now, trusted_now, was_taken, was_unlike}
+use Rattle.rb_judge.specs.declared.classes.Classes.{Classes}
+use Rattle.rb_judge.specs.declared.seen.Kept.TheVariants.{Unlike}
+use Rattle.rb_judge.specs.declared.seen.Seen.{Seen}
+use Rattle.rb_judge.specs.declared.sources.Sources.{Sources}
+use Rattle.rb_judge.specs.Sights.{ShowsSource}
+
+-- what is kept of source j in the newest stage
+abbrev pub seen_of : ℕ → Sources → Seen
+seen_of j s = record {
+  by = slice_index s.by j;
+  heard = has s.heard_now j;
+  unlike = has s.unlike_now j;
+  kept = slice_index_or s.kept j Unlike;
+}
+
+-- the sets that do not change within a stage stay
+pub record KeepsSets (before after : Sources) : Type 0 where
+  pub good : after.good ≡ before.good
+  pub trusted : after.trusted ≡ before.trusted
+  pub unlike : after.unlike ≡ before.unlike
+  pub taken : after.taken ≡ before.taken
+
+abbrev pub union : ℕ → ℕ → ℕ
+union s t = set_of (λ i. has s i || has t i)
+
+-- what was seen unlike so far, and what was taken
+abbrev pub unlike_so_far : Sources → ℕ → Bool
+unlike_so_far s j = has s.unlike j || has s.unlike_now j
+
+abbrev pub taken_so_far : Sources → ℕ → Bool
+taken_so_far s j = has s.taken j || has s.heard_now j
+
+-- a new stage with these sets, in which nothing was seen
+pub record Begins (before after : Sources) (good trusted : ℕ) : Type 0 where
+  pub good_is : after.good ≡ good
+  pub trusted_is : after.trusted ≡ trusted
+  pub unlike : (j : ℕ) → j < 16 → has after.unlike j ≡ unlike_so_far before j
+  pub taken : (j : ℕ) → j < 16 → has after.taken j ≡ taken_so_far before j
+  pub none_heard : after.heard_now ≡ 0
+  pub none_unlike : after.unlike_now ≡ 0
+  pub by_none : (j : ℕ) → slice_index after.by j ≡ 0
+
+-- the sets of the four classes
+abbrev pub sets_of : {K : Type 0} → Classes K → ClassSets
+sets_of c = record { good = c.good; benign = c.benign; symmetric = c.symmetric; asymmetric = c.asymmetric }
+
+abbrev pub suspected : Sources → ℕ → Bool
+suspected s j = has s.trusted j && not (has s.good j)
+
+-- the classes by what is kept
+abbrev pub classes_kept : Sources → ClassSets
+classes_kept s = record {
+  good = set_of (λ j. has s.trusted j && has s.good j);
+  benign = set_of (λ j. suspected s j && not (taken_so_far s j));
+  symmetric = set_of (λ j. (suspected s j && taken_so_far s j) && not (unlike_so_far s j));
+  asymmetric = set_of (λ j. suspected s j && unlike_so_far s j);
+}
+
+-- how far apart the times of one message may be in the newest stage, and what receiver i saw of source j of this kind in it
+abbrev pub eps_now : List JudgedStage → ℕ
+eps_now [] = 0
+eps_now (s ∷ earlier) = s.eps
+
+abbrev pub sight_now : Side → ℕ → List JudgedStage → ℕ → See
+sight_now kind j [] i = Nothing
+sight_now kind j (s ∷ earlier) i = s.sight (other kind) i j
+
+-- the stages before the newest
+abbrev pub before_now : List JudgedStage → List JudgedStage
+before_now [] = []
+before_now (s ∷ earlier) = earlier
+
+-- what is kept of the nodes of this kind is what the stages show: the newest stage's sets and sights, and of each node whether
+-- it was seen unlike in an earlier stage, and whether anything was taken of it
+pub record ShowsKind (kind : Side) (stages : List JudgedStage) (s : Sources) : Type 0 where
+  pub good : s.good ≡ good_now kind stages
+  pub trusted : s.trusted ≡ trusted_now kind stages
+  pub sights : (j : ℕ) → j < 16 → ShowsSource (eps_now stages) (good_now (other kind) stages) (sight_now kind j stages) (seen_of j s)
+  pub unlike : (j : ℕ) → j < 16 → has s.unlike j ≡ list_any (was_unlike kind j) (before_now stages)
+  pub taken : (j : ℕ) → j < 16 → has s.taken j ≡ list_any (was_taken kind j) (before_now stages)

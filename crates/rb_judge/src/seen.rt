@@ -1,0 +1,140 @@
+//! What is kept of the sights of one source in a stage.
+ghost use Rattle.std.specs.Prelude.{◌≡◌, ℕ, ◌<◌, true, false, ◌==◌, ◌||◌, if◌then◌else◌};
+ghost use Rattle.rb_base.specs.Nodes.{has, set_of};
+ghost use Rattle.rb_base.specs.declared.values.See.{See};
+ghost use Rattle.rb_rules.specs.Majority.{same_heard};
+ghost use Rattle.rb_judge.specs.Sights.{ShowsSource, clashes, is_unlike, kept_of, kept_with, widened};
+
+use rb_base::{Biu, Heard, NodeId, NodeSet, See};
+
+/// What is kept of the sights that are something.
+#[derive(Clone, Copy)]
+pub enum Kept {
+    /// Two of them are unlike.
+    Unlike,
+    /// All are this value.
+    Value(Heard),
+    /// All are times, of which these are the least and the greatest.
+    Times { least: u64, greatest: u64 },
+}
+
+/// What is kept of the sights of one source.
+#[derive(Clone, Copy)]
+pub struct Seen {
+    /// The receivers that saw something.
+    pub by: u16,
+    /// Whether there is one.
+    pub heard: bool,
+    /// Whether two good receivers saw the source unlike.
+    pub unlike: bool,
+    pub kept: Kept,
+}
+
+// Whether node i is in the set.
+pub(crate) fn has(set: u16, i: u8) -> bool
+    requires { i < 16 }
+    ensures { result ≡ has set i }
+{
+    (set >> i) & 1 == 1
+}
+
+// The set with node i.
+pub(crate) fn with_node(set: u16, i: u8) -> u16
+    requires { i < 16 }
+    ensures { result ≡ set_of (λ k. has set k || (k == i)) }
+{
+    set | 1 << i
+}
+
+impl Seen {
+    /// One sight more. The receiver is good, and saw nothing of the source so far.
+    pub(crate) fn noted(self, good: u16, eps: u32, receiver: u8, see: See) -> Seen
+        requires number { receiver < 16 }
+        requires good { has good receiver ≡ true }
+        requires once { has self.by receiver ≡ false }
+        ensures { (sight : ℕ → See) → ShowsSource eps good sight self
+            → ShowsSource eps good (λ i. if i == receiver then see else sight i) result }
+    {
+        if let See::Nothing = see {
+            return self;
+        }
+        let kept = kept_with(eps, self.heard, self.kept, see);
+        let by = with_node(self.by, receiver);
+        Seen {
+            by,
+            heard: true,
+            unlike: by != good || is_unlike(kept),
+            kept,
+        }
+    }
+}
+
+fn is_unlike(kept: Kept) -> bool
+    ensures { result ≡ is_unlike kept }
+{
+    matches!(kept, Kept::Unlike)
+}
+
+// What is kept of sights and one more.
+fn kept_with(eps: u32, heard: bool, kept: Kept, see: See) -> Kept
+    ensures { result ≡ kept_with eps heard kept see }
+{
+    if !heard {
+        kept_of(see)
+    } else if clashes(eps, kept, see) {
+        Kept::Unlike
+    } else {
+        widened(kept, see)
+    }
+}
+
+// What is kept of a first sight.
+fn kept_of(see: See) -> Kept
+    ensures { result ≡ kept_of see }
+{
+    match see {
+        See::Nothing => Kept::Unlike,
+        See::Value(value) => Kept::Value(value),
+        See::Time(time) => Kept::Times {
+            least: time,
+            greatest: time,
+        },
+    }
+}
+
+// What is kept of sights and one more that is like all of them.
+fn widened(kept: Kept, see: See) -> Kept
+    ensures { result ≡ widened kept see }
+{
+    match (kept, see) {
+        (Kept::Times { least, greatest }, See::Time(time)) => Kept::Times {
+            least: least.min(time),
+            greatest: greatest.max(time),
+        },
+        _ => kept,
+    }
+}
+
+fn same_heard(v: Heard, w: Heard) -> bool
+    ensures { result ≡ same_heard v w }
+{
+    match (v, w) {
+        (Heard::Word(a), Heard::Word(b)) => a == b,
+        (Heard::Fault, Heard::Fault) => true,
+        _ => false,
+    }
+}
+
+// Whether a sight is unlike one of those of which this is kept.
+fn clashes(eps: u32, kept: Kept, see: See) -> bool
+    ensures { result ≡ clashes eps kept see }
+{
+    match (kept, see) {
+        (Kept::Value(v), See::Value(w)) => !same_heard(v, w),
+        (Kept::Times { least, greatest }, See::Time(time)) => {
+            let eps = u64::from(eps);
+            eps < time.saturating_sub(least) || eps < greatest.saturating_sub(time)
+        }
+        _ => true,
+    }
+}
