@@ -1,0 +1,3 @@
+pub mod RoundNodes
+pub mod WorldBooks
+pub mod EventsLaw

@@ -1,0 +1,226 @@
+-- The book of the world only grows, by at most one record a call, and that record is the turn.
+use Rattle.std.proofs.Common.{◌≡◌, ℕ, suc, ◌+◌, ◌==◌, ◌&&◌, not, ◌⊎◌, inl, inr, nat_lt, Bool, true, false, List, [], ◌∷◌, ◌++◌, length, refl, subst, sym, ◌∙◌, ap, arith, Option, Some, None, slice_get, if◌then◌else◌}
+use Rattle.std.proofs.lemmas.Bool.Decides.{nat_tests}
+use Rattle.std.proofs.lemmas.List.{append-nil}
+use Rattle.std.proofs.lemmas.Option.{slice_get_past}
+use Rattle.rb_base.specs.Nodes.{Side}
+use Rattle.rb_base.specs.Nodes.Side.{Biu}
+use Rattle.rb_base.specs.Sizes.{Sizes, sync_slot_of}
+use Rattle.rb_base.specs.declared.values.Place.{Place}
+use Rattle.rb_rules.specs.declared.cause.Cause.{Cause}
+use Rattle.rb_rules.specs.Book.{Each, Record, Row, Begun, Milestone, Book, judged_of, judged, with_stage, frame_records, with_frame, with_end}
+use Rattle.rb_rules.specs.Book.Milestone.{Begin, Stage, End}
+use Rattle.rb_rules.specs.Book.Record.{Slot, Ended, Breach}
+use Rattle.rb_rules.specs.Goodness.{Scenario, is_good}
+use Rattle.rb_rules.specs.Judging.{JudgedStage, verdict_of}
+use Rattle.rb_rules.specs.Ports.{with_state}
+use Rattle.rb_rules.specs.WorldStep.{Site, World, Pending, Due, needs_no_event, with_pending, with_act, happens, is_complete, book_with, settle, settled, take_due, take, go_on, hand, frame_in, Choice, choose}
+use Rattle.rb_rules.specs.WorldStep.Choice.{Take, GoOn, Hand}
+use Rattle.rb_rules.specs.WorldStep.Pending.{Tick, Arrival}
+use Rattle.rb_rules.proofs.Books.{GoesOn, on-refl, on-trans, stage-on, frame-on, end-on}
+use Rattle.rb_rules.proofs.WindowNumbers.{get-back}
+
+-- ys is xs, or xs and one record more
+abbrev pub AtMostOneMore : List Record → List Record → Type 0
+AtMostOneMore xs ys = (ys ≡ xs) ⊎ ((r : Record) × (ys ≡ xs ++ r ∷ []))
+
+none-more : (xs : List Record) → AtMostOneMore xs (xs ++ [])
+none-more xs = inl (append-nil xs)
+
+if-more : (xs : List Record) (r : Record) (b : Bool) → AtMostOneMore xs (xs ++ (if b then r ∷ [] else []))
+if-more xs r true = inr (r, refl)
+if-more xs r false = none-more xs
+
+-- a book that has ended stays, another becomes x
+guarded-more : (b x : Book) (e : Bool) → AtMostOneMore b.given x.given → AtMostOneMore b.given (elim e as (λ _. Book) [ true ↦ b | false ↦ x ]).given
+guarded-more b x true h = inl refl
+guarded-more b x false h = h
+
+judged-more : (sizes : Sizes) (place : Place) (rows : Each (Option Row)) (stages : List JudgedStage) (b : Book) (v : Option Cause)
+    → AtMostOneMore b.given (judged sizes place rows stages b v).given
+judged-more sizes place rows stages b None =
+    if-more b.given (Slot place.frame place.slot b.lines) ((place.stage == 3) && nat_lt place.slot (sync_slot_of sizes))
+judged-more sizes place rows stages b (Some cause) = inr (Breach place cause, refl)
+
+pub stage-more : (sc : Scenario) (place : Place) (rows : Each (Option Row)) (b : Book) → AtMostOneMore b.given (with_stage sc place rows b).given
+unfolding with_stage
+stage-more sc place rows b =
+    let stages : List JudgedStage = judged_of sc place rows ∷ b.stages in
+    guarded-more b (judged sc.sizes place rows stages b (verdict_of stages)) b.ended (judged-more sc.sizes place rows stages b (verdict_of stages))
+
+begun-more : (xs : List Record) (frame : ℕ) (begun : List Begun) → AtMostOneMore xs (xs ++ frame_records frame begun)
+begun-more xs frame [] = none-more xs
+begun-more xs frame (b ∷ bs) = inr (_, refl)
+
+pub frame-more : (sc : Scenario) (frame : ℕ) (begun : List Begun) (b : Book) → AtMostOneMore b.given (with_frame sc frame begun b).given
+unfolding with_frame
+frame-more sc frame begun b =
+    guarded-more b (record {
+      upcoming = if frame == sc.frames then End else Stage (record { frame = frame; slot = 0; stage = 1 });
+      stages = [];
+      lines = [];
+      given = b.given ++ frame_records frame begun;
+      ended = false;
+    }) b.ended (begun-more b.given frame begun)
+
+pub end-more : (b : Book) → AtMostOneMore b.given (with_end b).given
+end-more b = guarded-more b (record b { given = b.given ++ Ended ∷ []; ended = true }) b.ended (inr (Ended, refl))
+
+book-more : (sc : Scenario) (sites : Each Site) (b : Book) (m : Milestone) → AtMostOneMore b.given (book_with sc sites b m).given
+book-more sc sites b (Begin frame) = frame-more sc frame _ b
+book-more sc sites b (Stage place) = stage-more sc place _ b
+book-more sc sites b End = end-more b
+
+book-on : (sc : Scenario) (sites : Each Site) (b : Book) (m : Milestone) → GoesOn b (book_with sc sites b m)
+book-on sc sites b (Begin frame) = frame-on sc frame _ b
+book-on sc sites b (Stage place) = stage-on sc place _ b
+book-on sc sites b End = end-on b
+
+-- a milestone is settled, or not
+abbrev after_test : Scenario → World → Bool → World
+after_test sc w b = elim b [ true ↦ record w { book = book_with sc w.sites w.book w.book.upcoming } | false ↦ w ]
+
+test-on : (sc : Scenario) (w : World) (b : Bool) → GoesOn w.book (after_test sc w b).book
+test-on sc w true = book-on sc w.sites w.book w.book.upcoming
+test-on sc w false = on-refl w.book
+
+test-more : (sc : Scenario) (w : World) (b : Bool) → AtMostOneMore w.book.given (after_test sc w b).book.given
+test-more sc w true = book-more sc w.sites w.book w.book.upcoming
+test-more sc w false = inl refl
+
+settle-on : (sc : Scenario) (may : Milestone → Bool) (n : ℕ) (w : World) → GoesOn w.book (settle sc may n w).book
+settle-on sc may n w = test-on sc w (may w.book.upcoming && is_complete sc w.sites w.book.upcoming && (length w.book.given == n))
+
+settle-more : (sc : Scenario) (may : Milestone → Bool) (n : ℕ) (w : World) → AtMostOneMore w.book.given (settle sc may n w).book.given
+settle-more sc may n w = test-more sc w (may w.book.upcoming && is_complete sc w.sites w.book.upcoming && (length w.book.given == n))
+
+and-false : (a b : Bool) → b ≡ false → (a && b) ≡ false
+and-false true b h = h
+and-false false b h = refl
+
+-- nothing is settled once there is another number of records
+settle-stops : (sc : Scenario) (may : Milestone → Bool) (n : ℕ) (w : World) → (length w.book.given == n) ≡ false → settle sc may n w ≡ w
+settle-stops sc may n w h =
+    ap (after_test sc w) (and-false (may w.book.upcoming && is_complete sc w.sites w.book.upcoming) (length w.book.given == n) h)
+
+length-one : (xs : List Record) (r : Record) → length (xs ++ r ∷ []) ≡ length xs + 1
+length-one [] r = refl
+length-one (x ∷ xs) r = ap suc (length-one xs r) ∙ omega arith
+
+other-length : (a n : ℕ) → a ≡ n + 1 → (a == n) ≡ false
+other-length a n h = grind (arith, nat_tests)
+
+-- what two milestones in a row give
+pub settled-more : (sc : Scenario) (may : Milestone → Bool) (w : World)
+    → AtMostOneMore w.book.given (settled sc may (length w.book.given) w).book.given
+settled-more sc may w =
+    let n : ℕ = length w.book.given in
+    let one : World = settle sc may n w in
+    elim (settle-more sc may n w) [
+      | inl same ↦
+          let second : AtMostOneMore one.book.given (settle sc may n one).book.given = settle-more sc may n one in
+          subst (λ xs. AtMostOneMore xs (settle sc may n one).book.given) same second
+      | inr added ↦
+          let long : length one.book.given ≡ n + 1 = ap length added.1 ∙ length-one w.book.given added.0 in
+          let stops : settle sc may n one ≡ one = settle-stops sc may n one (other-length (length one.book.given) n long) in
+          inr (added.0, ap (λ w. w.book.given) stops ∙ added.1)
+    ]
+
+pub settled-on : (sc : Scenario) (may : Milestone → Bool) (n : ℕ) (w : World) → GoesOn w.book (settled sc may n w).book
+settled-on sc may n w =
+    on-trans w.book (settle sc may n w).book (settle sc may n (settle sc may n w)).book (settle-on sc may n w) (settle-on sc may n (settle sc may n w))
+
+-- an event by itself leaves the book alone
+pending-book : (sc : Scenario) (w : World) (me : Side) (i : ℕ) (s : Site) (p : Pending) → (with_pending sc w me i s p).book ≡ w.book
+unfolding with_act
+pending-book sc w me i s (Tick k) = refl
+pending-book sc w me i s (Arrival place c) = refl
+
+happens-by : (sc : Scenario) (w : World) (d : Due) (o : Option Site) → (elim o as (λ _. World) [ None ↦ w | Some s ↦ with_pending sc w d.side d.node s d.pending ]).book ≡ w.book
+happens-by sc w d None = refl
+happens-by sc w d (Some s) = pending-book sc w d.side d.node s d.pending
+
+pub happens-book : (sc : Scenario) (w : World) (d : Due) → (happens sc w d).book ≡ w.book
+unfolding happens
+happens-book sc w d = happens-by sc w d _
+
+-- the turn tells whether a record came after these: it is that record
+abbrev pub IsTurn : List Record → World → Type 0
+IsTurn before w =
+    ((w.book.given ≡ before) × (w.turn ≡ None)) ⊎ ((r : Record) × ((w.book.given ≡ before ++ r ∷ []) × (w.turn ≡ Some r)))
+
+none-past : (xs ys : List Record) → ys ≡ xs → slice_get ys (length xs) ≡ None
+none-past xs ys e = ap (λ l. slice_get l (length xs)) e ∙ slice_get_past xs (length xs) (omega arith)
+
+last-one : (xs ys : List Record) (r : Record) → ys ≡ xs ++ r ∷ [] → slice_get ys (length xs) ≡ Some r
+last-one xs ys r e =
+    let z : length xs + 0 ≡ length xs = omega arith in
+    ap (λ l. slice_get l (length xs)) e ∙ ap (slice_get (xs ++ r ∷ [])) (sym z) ∙ get-back xs (r ∷ []) 0
+
+turn-by : (before : List Record) (w : World) → AtMostOneMore before w.book.given → w.turn ≡ slice_get w.book.given (length before) → IsTurn before w
+turn-by before w (inl same) e = inl (same, e ∙ none-past before w.book.given same)
+turn-by before w (inr added) e = inr (added.0, (added.1, e ∙ last-one before w.book.given added.0 added.1))
+
+settled-turn : (sc : Scenario) (may : Milestone → Bool) (w : World) → IsTurn w.book.given (settled sc may (length w.book.given) w)
+settled-turn sc may w = turn-by w.book.given (settled sc may (length w.book.given) w) (settled-more sc may w) refl
+
+-- an event that is taken gives one record at most, which is the turn
+pub take-turn : (sc : Scenario) (w : World) (d : Due) → IsTurn w.book.given (take_due sc w (Some d))
+take-turn sc w d =
+    let may : Milestone → Bool = λ m. not (needs_no_event sc m) in
+    let same : (happens sc w d).book ≡ w.book = happens-book sc w d in
+    subst (λ b. IsTurn b.given (settled sc may (length b.given) (happens sc w d))) same (settled-turn sc may (happens sc w d))
+
+-- so does a record that needs no event
+pub go-on-turn : (sc : Scenario) (w : World) → w.book.ended ≡ false → IsTurn w.book.given (go_on sc w)
+unfolding go_on
+go-on-turn sc w h =
+    subst (λ b. IsTurn w.book.given (elim b as (λ _. World) [ true ↦ w | false ↦ settled sc (needs_no_event sc) (length w.book.given) w ])) (sym h)
+    (settled-turn sc (needs_no_event sc) w)
+
+take-on-due : (sc : Scenario) (w : World) (o : Option Due) → GoesOn w.book (take_due sc w o).book
+take-on-due sc w None = on-refl w.book
+take-on-due sc w (Some d) =
+    let may : Milestone → Bool = λ m. not (needs_no_event sc m) in
+    subst (λ b. GoesOn b (take_due sc w (Some d)).book) (happens-book sc w d) (settled-on sc may (length w.book.given) (happens sc w d))
+
+-- whatever is chosen, the book only grows
+pub take-on : (sc : Scenario) (w : World) (i : ℕ) → GoesOn w.book (take sc w i).book
+unfolding take
+take-on sc w i = take-on-due sc w _
+
+go-on-by : (sc : Scenario) (w : World) (b : Bool)
+    → GoesOn w.book (elim b as (λ _. World) [ true ↦ w | false ↦ settled sc (needs_no_event sc) (length w.book.given) w ]).book
+go-on-by sc w true = on-refl w.book
+go-on-by sc w false = settled-on sc (needs_no_event sc) (length w.book.given) w
+
+pub go-on-on : (sc : Scenario) (w : World) → GoesOn w.book (go_on sc w).book
+unfolding go_on
+go-on-on sc w = go-on-by sc w w.book.ended
+
+hand-by : (sc : Scenario) (w : World) (biu state : ℕ) (o : Option ℕ) → (elim o as (λ _. World) [
+  | None ↦ w
+  | Some frame ↦ elim (is_good sc Biu biu frame 0) [
+    | true ↦ record w { ports = with_state biu state w.ports; hands = w.hands ++ record { frame = frame; biu = biu; state = state } ∷ [] }
+    | false ↦ w
+  ]
+]).book ≡ w.book
+hand-by sc w biu state None = refl
+hand-by sc w biu state (Some frame) = inner (is_good sc Biu biu frame 0)
+  where
+    inner : (b : Bool) → (elim b as (λ _. World) [
+      | true ↦ record w { ports = with_state biu state w.ports; hands = w.hands ++ record { frame = frame; biu = biu; state = state } ∷ [] }
+      | false ↦ w
+    ]).book ≡ w.book
+    inner true = refl
+    inner false = refl
+
+-- a hand-in leaves it alone
+pub hand-book : (sc : Scenario) (w : World) (biu state : ℕ) → (hand sc w biu state).book ≡ w.book
+unfolding hand
+hand-book sc w biu state = hand-by sc w biu state (frame_in w.turn)
+
+pub choose-on : (sc : Scenario) (w : World) (c : Choice) → GoesOn w.book (choose sc w c).book
+choose-on sc w (Take place) = take-on sc w place
+choose-on sc w GoOn = go-on-on sc w
+choose-on sc w (Hand biu state) = subst (λ b. GoesOn b (hand sc w biu state).book) (hand-book sc w biu state) (on-refl (hand sc w biu state).book)
