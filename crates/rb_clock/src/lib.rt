@@ -125,6 +125,20 @@ impl Clock {
         Ok(Clock { start, segments })
     }
 
+    /// The time at which tick 0 begins.
+    pub fn start(&self) -> u64
+        ensures { result ≡ self.now.start }
+    {
+        self.start
+    }
+
+    /// The segments in order, each a first tick and the length of the ticks from there on.
+    pub fn segments(&self) -> &[(u64, u32)]
+        ensures { result.now ≡ self.now.segments }
+    {
+        &self.segments
+    }
+
     /// The time at which the tick begins.
     pub fn at(&self, tick: u64) -> u64
         requires { tick ≤ 2 ^ 31 }
