@@ -1,0 +1,14 @@
+//! One node between windows: what it says in a stage, what a close makes of it, and how it turns to the next frame.
+#![tactic(auto)]
+
+pub use engine::Engine;
+pub use rb_rules::{Closed, Role};
+pub use sender::expected;
+pub use slots::role_of;
+
+pub mod engine;
+pub mod outgoing;
+pub mod sender;
+pub mod slots;
+pub mod ticks;
+pub mod turn;
