@@ -1,8 +1,8 @@
 //! What came of each source in a window.
-ghost use Rattle.std.specs.Prelude.{◌≡◌, List, [], ◌∷◌, ◌++◌, ◌<◌};
+ghost use Rattle.std.specs.Prelude.{◌≡◌, List, [], ◌∷◌, ◌++◌, ◌<◌, ◌≤◌, ℕ};
 ghost use Rattle.rb_rules.specs.Sense.{Arrival, sense_of, sense_of_one, suits, tag_suits};
 ghost use Rattle.rb_rules.specs.Spelling.{message_in};
-ghost use Rattle.rb_eligible.specs.Inboxes.{IsKept, Received, Shows, arrivals_of, sense_in};
+ghost use Rattle.rb_eligible.specs.Inboxes.{IsKept, IsUpTo, Received, SenseUpTo, Shows, StampsUpTo, arrivals_of, sense_in};
 
 use rb_base::NodeId;
 use rb_frame::{Message, Tag, decode};
@@ -45,7 +45,8 @@ impl<K> Model for Inbox<K> {
 impl<K: Copy> Inbox<K> {
     /// An inbox in which nothing came.
     pub fn new() -> Inbox<K>
-        ensures { Shows result [] }
+        ensures shows { Shows result [] }
+        ensures stamps { (n : ℕ) → StampsUpTo n result }
     {
         Inbox {
             kept: [Kept::Nothing; 16],
@@ -55,9 +56,10 @@ impl<K: Copy> Inbox<K> {
 
     /// One arrival of the source, with its stamp in ticks. Any bytes may come.
     pub fn take(&mut self, from: NodeId<K>, at: u64, bytes: &[u8])
-        ensures { (received : List Received) → Shows self.old received
+        ensures shows { (received : List Received) → Shows self.old received
             → Shows self.new (received
             ++ record { source = from; arrival = record { stamp = at; bytes = bytes.now } } ∷ []) }
+        ensures stamps { (n : ℕ) → at ≤ n → StampsUpTo n self.old → StampsUpTo n self.new }
     {
         let i = usize::from(from.index());
         self.kept[i] = next(self.kept[i], at, bytes);
@@ -74,15 +76,17 @@ impl<K: Copy> Inbox<K> {
     /// The same for the source with this number, which is below 16.
     pub fn sense_at(&self, source: u8, expect: &Expect) -> Sense
         requires { source < 16 }
-        ensures { (received : List Received) → Shows self.now received
+        ensures sense { (received : List Received) → Shows self.now received
             → result ≡ sense_in expect.now received source }
+        ensures stamp { (n : ℕ) → StampsUpTo n self.now → SenseUpTo n result }
     {
         sense_of_kept(&self.kept[usize::from(source)], expect)
     }
 
     /// A new window begins, in which nothing came.
     pub fn clear(&mut self)
-        ensures { Shows self.new [] }
+        ensures shows { Shows self.new [] }
+        ensures stamps { (n : ℕ) → StampsUpTo n self.new }
     {
         self.kept = [Kept::Nothing; 16];
     }
@@ -90,8 +94,9 @@ impl<K: Copy> Inbox<K> {
 
 // What is kept once one arrival more has come.
 fn next(kept: Kept, at: u64, bytes: &[u8]) -> Kept
-    ensures { (arrivals : List Arrival) → IsKept kept arrivals
+    ensures kept { (arrivals : List Arrival) → IsKept kept arrivals
         → IsKept result (arrivals ++ record { stamp = at; bytes = bytes.now } ∷ []) }
+    ensures stamp { (n : ℕ) → at ≤ n → IsUpTo n result }
 {
     match kept {
         Kept::Nothing => first(at, bytes),
@@ -101,7 +106,8 @@ fn next(kept: Kept, at: u64, bytes: &[u8]) -> Kept
 
 // What is kept of the first arrival.
 fn first(at: u64, bytes: &[u8]) -> Kept
-    ensures { IsKept result (record { stamp = at; bytes = bytes.now } ∷ []) }
+    ensures kept { IsKept result (record { stamp = at; bytes = bytes.now } ∷ []) }
+    ensures stamp { (n : ℕ) → at ≤ n → IsUpTo n result }
 {
     let len = bytes.len();
     if len <= MOST_BYTES {
@@ -119,8 +125,9 @@ fn first(at: u64, bytes: &[u8]) -> Kept
 
 // The sense of what is kept of a source.
 fn sense_of_kept(kept: &Kept, expect: &Expect) -> Sense
-    ensures { (arrivals : List Arrival) → IsKept kept.now arrivals
+    ensures sense { (arrivals : List Arrival) → IsKept kept.now arrivals
         → result ≡ sense_of expect.now arrivals }
+    ensures stamp { (n : ℕ) → IsUpTo n kept.now → SenseUpTo n result }
 {
     match kept {
         Kept::Nothing => Sense::Silent,
@@ -139,7 +146,8 @@ fn sense_of_kept(kept: &Kept, expect: &Expect) -> Sense
 
 // The sense of a sole arrival.
 fn sense_of_one(expect: &Expect, at: u64, bytes: &[u8]) -> Sense
-    ensures { result ≡ sense_of_one expect.now at (message_in expect.now.version bytes.now) }
+    ensures stamp { (n : ℕ) → at ≤ n → SenseUpTo n result }
+    ensures sense { result ≡ sense_of_one expect.now at (message_in expect.now.version bytes.now) }
 {
     match decode(expect.version, bytes) {
         Some(message) => {
