@@ -4,7 +4,7 @@
 ghost use Rattle.std.specs.Prelude.{◌≡◌, ℕ, ◌+◌, ◌<◌, ◌≤◌, ◌^◌, ◌++◌, ◌∷◌, [], List, if◌then◌else◌, Some, None, length};
 ghost use Rattle.rb_base.specs.Nodes.{has};
 ghost use Rattle.rb_base.specs.Nodes.Side.{Biu, Rmu};
-ghost use Rattle.rb_eligible.specs.Inboxes.{Received, Shows, sense_in};
+ghost use Rattle.rb_eligible.specs.Inboxes.{Received, Shows, StampsUpTo, sense_in};
 ghost use Rattle.rb_eligible.specs.Standings.{standing_of};
 ghost use Rattle.rb_rules.specs.ExactStage.{present};
 ghost use Rattle.rb_rules.specs.NodeState.{NodeState};
@@ -56,7 +56,7 @@ fn add(stamps: &mut ArrayVec<u64, 16>, taken: Option<u64>)
 /// Closes a stage of the sync slot, or the tail. Of each source that is expected and eligible the stamp is taken with which
 /// its call came, if exactly one message came and it is meant for the window. Then each trusted source is accused that was
 /// expected and of which not exactly that came, or that wasn't expected and of which something came. The middle is that of the
-/// stamps, the lower of two, and `first`, the window's first tick, where none was taken. Stamps, the middle and `first` are
+/// stamps, the lower of two, and `first`, the window's first tick, where none was taken. So it is not above `first` and all stamps. Stamps, the middle and `first` are
 /// ticks of the node's own clock.
 ///
 /// This is the receiving end of a stage of clock synchronisation by the unified protocol of Miner, Geser, Pike and Maddalon
@@ -74,6 +74,7 @@ pub fn close_sync<K: Copy>(
         → standing_of standing.new
         ≡ with_evidence (has_evidence (standing_of standing.old) (has expected) (sense_in expect.now received))
         (standing_of standing.old) }
+    ensures soon { (n : ℕ) → StampsUpTo n inbox.now → first ≤ n → result.middle ≤ n }
 {
     let takable = standing.eligible_of(expected).bits();
     let mut evidence = NodeSet::empty();

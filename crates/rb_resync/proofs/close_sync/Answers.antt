@@ -1,4 +1,5 @@
-use Rattle.std.proofs.Common.{◌≡◌, ◌∙◌, length, refl, arith, ap}
+use Rattle.std.proofs.Common.{◌≡◌, ◌∙◌, ◌≤◌, All, length, refl, sym, arith, ap, subst}
+use Rattle.std.proofs.lemmas.List.Elements.{All-nil}
 use Rattle.std.proofs.Math.ListN.{length-set}
 use Rattle.std.proofs.lemmas.List.Edits.{fill_by_more}
 use Rattle.rb_base.specs.Nodes.{has}
@@ -8,7 +9,7 @@ use Rattle.rb_eligible.specs.Standings.{standing_of}
 use Rattle.rb_eligible.proofs.Taking.{evidence_all, evidence_next, few_more, present_all, present_more, taken_all, taken_next}
 use Rattle.rb_rules.specs.Sense.{stamp_in}
 use Rattle.rb_rules.specs.Standing.{taken_of}
-use Rattle.rb_resync.proofs.Closings.{closing_is}
+use Rattle.rb_resync.proofs.Closings.{all_up_to, closing_is, stage_up_to, taken_up_to}
 use Rattle.rb_resync.proofs.close_sync.Goals as goal
 
 pub loop-source-init : goal.loop-source-init
@@ -17,6 +18,7 @@ loop-source-init g c = record {
   few = omega (arith, ap length c.new-stamps.ensures);
   held = c.new-stamps.ensures;
   so_far = λ received shown k none. absurd (omega arith);
+  soon = λ n up_to. subst (All (λ s. s ≤ n)) (sym c.new-stamps.ensures) (All-nil (λ s. s ≤ n));
   accused = λ received shown. c.empty-evidence.ensures.value ∙ passing_none _;
 }
 
@@ -32,11 +34,15 @@ loop-source-preserved g c =
           let sense = sense_in c.args.expect.now received in
           let is : c.taken-stamp.result ≡ taken_of stamp_in s (has c.args.expected) sense at =
           taken_next stamp_in s c.args.expected c.bits-takable.result at sense c.sense_at-sense.result c.taken-stamp.result (omega arith)
-          (c.bits-takable.ensures ∙ c.eligible_of.ensures) (c.sense_at-sense.ensures received shown) c.taken-stamp.ensures in
+          (c.bits-takable.ensures ∙ c.eligible_of.ensures) (c.sense_at-sense.ensures.sense received shown) c.taken-stamp.ensures in
           rw (c.from.ensures, is) (fill_by_more (taken_of stamp_in s (has c.args.expected) sense) c.loop-source.taken_of at _ (omega arith) (c.loop-source.invariant.so_far received shown));
+      soon = λ n up_to.
+        all_up_to n c.taken-stamp.result c.loop-source.stamps.items c.add.new.stamps.items (c.loop-source.invariant.soon n up_to)
+        (taken_up_to n (has c.bits-takable.result at) c.sense_at-sense.result c.taken-stamp.result (c.sense_at-sense.ensures.stamp n up_to) c.taken-stamp.ensures)
+        c.add.ensures;
       accused = λ received shown.
           evidence_next s c.args.expected at (sense_in c.args.expect.now received) c.sense_at-sense.result c.loop-source.evidence c.with_evidence-evidence.result
-          (c.loop-source.invariant.accused received shown) (c.sense_at-sense.ensures received shown) c.with_evidence-evidence.ensures;
+          (c.loop-source.invariant.accused received shown) (c.sense_at-sense.ensures.sense received shown) c.with_evidence-evidence.ensures;
     }
 
 pub returns-clause-closing : goal.returns-clause-closing
@@ -54,3 +60,7 @@ returns-clause-accused g c = λ received shown.
     c.accuse_each.ensures
     ∙ evidence_all (standing_of c.args.standing.now) c.args.expected (sense_in c.args.expect.now received) c.loop-source.evidence c.loop-source.source (omega arith)
     (c.loop-source.invariant.accused received shown)
+
+pub returns-clause-soon : goal.returns-clause-soon
+returns-clause-soon g c = λ n up_to low.
+    stage_up_to n c.args.first c.unwrap_or.result c.middle.result c.loop-source.stamps.items (c.loop-source.invariant.soon n up_to) c.middle.ensures.counted low c.unwrap_or.ensures

@@ -32,11 +32,11 @@ loop-source-preserved g c =
           let sense = sense_in c.args.expect.now received in
           let is : c.taken-value.result ≡ taken_of value_in s (has c.args.expected) sense at =
           taken_next value_in s c.args.expected c.bits-takable.result at sense c.sense_at-sense.result c.taken-value.result (omega arith)
-          (c.bits-takable.ensures ∙ c.eligible_of.ensures) (c.sense_at-sense.ensures received shown) c.taken-value.ensures in
+          (c.bits-takable.ensures ∙ c.eligible_of.ensures) (c.sense_at-sense.ensures.sense received shown) c.taken-value.ensures in
           rw (c.from.ensures, is) (fill_by_more (taken_of value_in s (has c.args.expected) sense) c.loop-source.taken_of at _ (omega arith) (c.loop-source.invariant.so_far received shown));
       accused = λ received shown.
           evidence_next s c.args.expected at (sense_in c.args.expect.now received) c.sense_at-sense.result c.loop-source.evidence c.with_evidence-evidence.result
-          (c.loop-source.invariant.accused received shown) (c.sense_at-sense.ensures received shown) c.with_evidence-evidence.ensures;
+          (c.loop-source.invariant.accused received shown) (c.sense_at-sense.ensures.sense received shown) c.with_evidence-evidence.ensures;
     }
 
 pub returns-clause-closing : goal.returns-clause-closing
