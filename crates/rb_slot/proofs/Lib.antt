@@ -1,3 +1,5 @@
 pub mod Masks
 pub mod Votes
 pub mod Convicting
+pub mod Owning
+pub mod Stages

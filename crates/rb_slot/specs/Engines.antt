@@ -1,6 +1,5 @@
 -- What an engine is seen as.
 use Rattle.std.specs.Prelude.{ℕ, ◌≤◌, ◌<◌, ◌^◌, nat_lt, Option, Some, None, List, replicate, if◌then◌else◌}
-use Rattle.std.specs.List.{All}
 use Rattle.rb_base.specs.Nodes.{Side}
 use Rattle.rb_base.specs.Sizes.{Sizes}
 use Rattle.rb_rules.specs.declared.message.Message.{Message}
@@ -26,11 +25,10 @@ IsSoon None = Unit {0}
 IsSoon (Some tick) = tick ≤ 2 ^ 32
 
 -- numbers are within bounds
-pub record IsBounded (index frame epoch : ℕ) (owners : List ℕ) (k1 k2 k3 : Option ℕ) : Type 0 where
+pub record IsBounded (index frame epoch : ℕ) (k1 k2 k3 : Option ℕ) : Type 0 where
   pub index_fits : index ≤ 16
   pub frame_fits : frame ≤ 2 ^ 31
   pub epoch_fits : epoch < 2 ^ 31
-  pub owners_fit : All (λ i. i < 16) owners
   pub first_soon : IsSoon k1
   pub second_soon : IsSoon k2
   pub third_soon : IsSoon k3

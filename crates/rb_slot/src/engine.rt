@@ -61,7 +61,7 @@ impl<K: Kind> Model for Engine<K> {
         }
     } };
 
-    ghost invariant = { λ e. IsBounded e.index e.frame e.epoch e.owners e.k1 e.k2 e.k3 };
+    ghost invariant = { λ e. IsBounded e.index e.frame e.epoch e.k1 e.k2 e.k3 };
 }
 
 // How many nodes of the kind with this code there are.

@@ -7,8 +7,10 @@ pub use sender::expected;
 pub use slots::role_of;
 
 pub mod engine;
+pub mod exact;
 pub mod outgoing;
 pub mod sender;
+pub mod shown;
 pub mod slots;
 pub mod ticks;
 pub mod turn;
