@@ -3,3 +3,5 @@ pub mod Votes
 pub mod Convicting
 pub mod Owning
 pub mod Stages
+pub mod Fitting
+pub mod Calls

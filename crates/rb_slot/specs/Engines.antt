@@ -1,5 +1,5 @@
 -- What an engine is seen as.
-use Rattle.std.specs.Prelude.{ℕ, ◌≤◌, ◌<◌, ◌^◌, nat_lt, Option, Some, None, List, replicate, if◌then◌else◌}
+use Rattle.std.specs.Prelude.{ℕ, ◌≤◌, ◌<◌, ◌^◌, nat_lt, Option, Some, None, replicate, if◌then◌else◌}
 use Rattle.rb_base.specs.Nodes.{Side}
 use Rattle.rb_base.specs.Sizes.{Sizes}
 use Rattle.rb_rules.specs.declared.message.Message.{Message}

@@ -1,10 +1,11 @@
 //! One node's state between windows.
-ghost use Rattle.std.specs.Prelude.{◌≡◌, ◌<◌, ◌≤◌};
+ghost use Rattle.std.specs.Prelude.{◌≡◌, ◌<◌, ◌≤◌, ◌^◌};
 ghost use Rattle.rb_base.specs.Nodes.{Side, other, side_of};
 ghost use Rattle.rb_base.specs.Sizes.{IsShape, sync_slot_of};
-ghost use Rattle.rb_rules.specs.NodeState.{first_state, trusted_of};
+ghost use Rattle.rb_rules.specs.NodeState.{begun, first_state, trusted_of};
 ghost use Rattle.rb_rules.specs.NodeSteps.{owner_at};
 ghost use Rattle.rb_rules.specs.Slots.{count_of};
+ghost use Rattle.rb_slot.specs.Engines.{trusting};
 
 use crate::slots::role_of;
 use rb_base::{Biu, Heard, Kind, NodeSet, Rmu, Shape};
@@ -165,6 +166,50 @@ impl<K: Kind> Engine<K> {
         match role_of(self.plan.shape(), slot) {
             Role::Data(number) => self.owners.owner(number),
             _ => None,
+        }
+    }
+}
+
+impl Engine<Biu> {
+    /// An engine in this frame, with the tick that it began with, both below 2^31, and with these trusted nodes and no
+    /// accusations. It is passive: it says nothing, and no slot is its own.
+    pub fn passive(
+        plan: &Feasible,
+        frame: u32,
+        epoch: u64,
+        biu: NodeSet<Biu>,
+        rmu: NodeSet<Rmu>,
+    ) -> Engine<Biu>
+        requires frame { frame < 2 ^ 31 }
+        requires epoch { epoch < 2 ^ 31 }
+        ensures { result ≡ record {
+            sizes = plan.now.sizes;
+            plan = plan.now.plan;
+            index = 16;
+            state = begun plan.now.sizes frame epoch (trusting rmu) biu
+        } }
+    {
+        let _slots = count_of(0, plan.shape());
+        Engine {
+            plan: *plan,
+            index: 16,
+            frame,
+            epoch,
+            far: Standing {
+                trusted: rmu,
+                direct: NodeSet::empty(),
+                mismatch: NodeSet::empty(),
+                fresh: NodeSet::empty(),
+                calm: [0; 16],
+            },
+            near: biu,
+            sent: None,
+            got: None,
+            votes: [Heard::Fault; 112],
+            owners: Owners::none(),
+            k1: None,
+            k2: None,
+            k3: None,
         }
     }
 }

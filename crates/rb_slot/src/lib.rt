@@ -6,11 +6,13 @@ pub use rb_rules::{Closed, Role};
 pub use sender::expected;
 pub use slots::role_of;
 
+pub mod close;
 pub mod engine;
 pub mod exact;
 pub mod outgoing;
 pub mod sender;
 pub mod shown;
 pub mod slots;
+pub mod sync;
 pub mod ticks;
 pub mod turn;

@@ -37,9 +37,9 @@ loop-source-preserved g c =
           (c.bits-takable.ensures ∙ c.eligible_of.ensures) (c.sense_at-sense.ensures.sense received shown) c.taken-stamp.ensures in
           rw (c.from.ensures, is) (fill_by_more (taken_of stamp_in s (has c.args.expected) sense) c.loop-source.taken_of at _ (omega arith) (c.loop-source.invariant.so_far received shown));
       soon = λ n up_to.
-        all_up_to n c.taken-stamp.result c.loop-source.stamps.items c.add.new.stamps.items (c.loop-source.invariant.soon n up_to)
-        (taken_up_to n (has c.bits-takable.result at) c.sense_at-sense.result c.taken-stamp.result (c.sense_at-sense.ensures.stamp n up_to) c.taken-stamp.ensures)
-        c.add.ensures;
+          all_up_to n c.taken-stamp.result c.loop-source.stamps.items c.add.new.stamps.items (c.loop-source.invariant.soon n up_to)
+          (taken_up_to n (has c.bits-takable.result at) c.sense_at-sense.result c.taken-stamp.result (c.sense_at-sense.ensures.stamp n up_to) c.taken-stamp.ensures)
+          c.add.ensures;
       accused = λ received shown.
           evidence_next s c.args.expected at (sense_in c.args.expect.now received) c.sense_at-sense.result c.loop-source.evidence c.with_evidence-evidence.result
           (c.loop-source.invariant.accused received shown) (c.sense_at-sense.ensures.sense received shown) c.with_evidence-evidence.ensures;

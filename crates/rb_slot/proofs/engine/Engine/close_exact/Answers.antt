@@ -1,4 +1,4 @@
-use Rattle.std.proofs.Common.{◌≡◌, List, refl, sym, ◌∙◌, ap}
+use Rattle.std.proofs.Common.{◌≡◌, List, ◌∙◌, ap}
 use Rattle.rb_base.specs.Nodes.{Side, side_of}
 use Rattle.rb_eligible.specs.Inboxes.{Received, Shows, sense_in}
 use Rattle.rb_rules.specs.NodeState.{trusted_of}

@@ -1,7 +1,5 @@
-use Rattle.std.proofs.Common.{◌≡◌, ◌+◌, ◌==◌, ◌&&◌, if◌then◌else◌, take, refl, ◌∙◌, ap, arith}
-use Rattle.rb_base.specs.Nodes.{Side, side_of}
+use Rattle.std.proofs.Common.{take, refl, ◌∙◌, ap}
 use Rattle.rb_base.specs.Sizes.{IsShape, sync_slot_of}
-use Rattle.rb_rules.specs.NodeState.{trusted_of}
 use Rattle.rb_rules.specs.Owners.{owners_of}
 use Rattle.rb_slot.proofs.Owning.{is_last, requests_are}
 use Rattle.rb_slot.proofs.engine.Engine.keep_owners.Goals as goal

@@ -1,5 +1,5 @@
 use Rattle.std.proofs.Common.{◌≡◌, ℕ, Bool, refl, ◌∙◌, ap}
-use Rattle.rb_base.specs.Nodes.{has, set_of, side_of}
+use Rattle.rb_base.specs.Nodes.{set_of, side_of}
 use Rattle.rb_eligible.specs.Inboxes.{sense_in}
 use Rattle.rb_eligible.specs.Standings.{standing_of}
 use Rattle.rb_rules.specs.ExactStage.{closing_of}
