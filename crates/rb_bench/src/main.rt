@@ -1,8 +1,10 @@
-//! Work to measure: `closes N` closes a stage of 16 sources N times, `middles N` takes the middle of 16 stamps N times. What is
+//! Work to measure: `closes N` closes a stage of 16 sources N times, `middles N` takes the middle of 16 stamps N times,
+//! `frames N` passes N frames of one node. What is
 //! printed is a sum over all results, so that the work is done.
 #![tactic(auto)]
 
 mod closes;
+mod frames;
 mod middles;
 
 use anyhow::{Context, Result, bail};
@@ -13,6 +15,7 @@ fn sum_of(work: &str, times: u32) -> Result<u64> {
     match work {
         "closes" => Ok(closes::sum(times)),
         "middles" => Ok(middles::sum(times)),
+        "frames" => Ok(frames::sum(times)),
         _ => bail!("no work has the name {work}"),
     }
 }
