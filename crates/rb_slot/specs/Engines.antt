@@ -1,9 +1,10 @@
 -- What an engine is seen as.
-use Rattle.std.specs.Prelude.{ℕ, ◌≤◌, ◌<◌, ◌^◌, nat_lt, Option, Some, None, replicate, if◌then◌else◌}
+use Rattle.std.specs.Prelude.{ℕ, ◌≤◌, ◌<◌, ◌^◌, Bool, nat_lt, Option, Some, None, replicate, if◌then◌else◌}
 use Rattle.rb_base.specs.Nodes.{Side}
 use Rattle.rb_base.specs.Sizes.{Sizes}
 use Rattle.rb_rules.specs.declared.message.Message.{Message}
 use Rattle.rb_rules.specs.declared.plan.Plan.{Plan}
+use Rattle.rb_rules.specs.ExactStage.{keeping}
 use Rattle.rb_rules.specs.NodeState.{NodeState}
 use Rattle.rb_rules.specs.NodeSteps.{message_said}
 use Rattle.rb_rules.specs.Standing.{Standing}
@@ -15,9 +16,17 @@ pub record Seated : Type 0 where
   pub index : ℕ
   pub state : NodeState
 
+-- a passive engine is nobody's
+abbrev pub is_active : Seated → Bool
+is_active v = nat_lt v.index 16
+
 -- the message that it sends in a stage. A passive engine sends none
 abbrev pub said_by : Side → Seated → ℕ → ℕ → ℕ → Option Message
-said_by me v slot stage word = if nat_lt v.index 16 then message_said v.sizes me v.index v.state slot stage word else None
+said_by me v slot stage word = if is_active v then message_said v.sizes me v.index v.state slot stage word else None
+
+-- its state then, with the value that a sender keeps
+abbrev pub kept_by : Side → Seated → ℕ → ℕ → ℕ → NodeState
+kept_by me v slot stage word = if is_active v then keeping v.sizes me v.index v.state slot stage word else v.state
 
 -- the tick, if there is one, is at most 2^32
 abbrev pub IsSoon : Option ℕ → Type 0

@@ -38,9 +38,10 @@ impl<K: Kind> Engine<K> {
         requires window { IsOfFrame self.old.sizes self.old.plan window.now }
         requires stamps { StampsUpTo (2 ^ 32) inbox.now }
         ensures state { (received : List Received) → Shows inbox.now received
-            → self.new ≡ record self.old { state =
-                (close_window self.old.sizes self.old.plan (side_of K.CODE) self.old.index self.old.state window.now
-                (λ j. arrivals_of j received)).state
+            → self.new ≡ record self.old {
+              state =
+                  (close_window self.old.sizes self.old.plan (side_of K.CODE) self.old.index self.old.state window.now
+                  (λ j. arrivals_of j received)).state;
             } }
         ensures closed { (received : List Received) → Shows inbox.now received
             → result ≡ (close_window self.old.sizes self.old.plan (side_of K.CODE) self.old.index self.old.state window.now

@@ -15,6 +15,9 @@ use rb_rules::Role;
 use rb_schedule::Owners;
 use std::marker::Model;
 
+// The number of a passive engine, which no node has.
+pub(crate) const PASSIVE: u8 = 16;
+
 /// One node's state between windows, for both kinds by one code: the frame with the tick that it began with, whom the node
 /// trusts and accuses, what it sent and took in the open slot, its votes of the frame by slot, the owners of the data slots
 /// once they stand, and the middles of the sync slot. Ticks are those of the node's own clock.
@@ -44,22 +47,22 @@ impl<K: Kind> Model for Engine<K> {
     ghost Value = { Seated };
 
     ghost view = { λ e. record {
-        sizes = e.plan.sizes;
-        plan = e.plan.plan;
-        index = e.index;
-        state = record {
-            frame = e.frame;
-            epoch = e.epoch;
-            far = standing_of e.far;
-            near = e.near;
-            sent = e.sent;
-            got = e.got;
-            votes = take (sync_slot_of e.plan.sizes) e.votes;
-            owners = e.owners;
-            k1 = e.k1;
-            k2 = e.k2;
-            k3 = e.k3
-        }
+      sizes = e.plan.sizes;
+      plan = e.plan.plan;
+      index = e.index;
+      state = record {
+        frame = e.frame;
+        epoch = e.epoch;
+        far = standing_of e.far;
+        near = e.near;
+        sent = e.sent;
+        got = e.got;
+        votes = take (sync_slot_of e.plan.sizes) e.votes;
+        owners = e.owners;
+        k1 = e.k1;
+        k2 = e.k2;
+        k3 = e.k3;
+      };
     } };
 
     ghost invariant = { λ e. IsBounded e.index e.frame e.epoch e.k1 e.k2 e.k3 };
@@ -88,10 +91,10 @@ impl<K: Kind> Engine<K> {
     pub fn new(plan: &Feasible, index: u8) -> Engine<K>
         requires { index < count_of (side_of K.CODE) plan.now.sizes }
         ensures { result ≡ record {
-            sizes = plan.now.sizes;
-            plan = plan.now.plan;
-            index = index;
-            state = first_state plan.now.sizes (side_of K.CODE)
+          sizes = plan.now.sizes;
+          plan = plan.now.plan;
+          index = index;
+          state = first_state plan.now.sizes (side_of K.CODE);
         } }
     {
         let shape = plan.shape();
@@ -183,16 +186,16 @@ impl Engine<Biu> {
         requires frame { frame < 2 ^ 31 }
         requires epoch { epoch < 2 ^ 31 }
         ensures { result ≡ record {
-            sizes = plan.now.sizes;
-            plan = plan.now.plan;
-            index = 16;
-            state = begun plan.now.sizes frame epoch (trusting rmu) biu
+          sizes = plan.now.sizes;
+          plan = plan.now.plan;
+          index = 16;
+          state = begun plan.now.sizes frame epoch (trusting rmu) biu;
         } }
     {
         let _slots = count_of(0, plan.shape());
         Engine {
             plan: *plan,
-            index: 16,
+            index: PASSIVE,
             frame,
             epoch,
             far: Standing {

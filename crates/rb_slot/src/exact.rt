@@ -89,31 +89,30 @@ impl<K: Kind> Engine<K> {
             (expects (side_of K.CODE) role (sender_of sender) self.old.state.far.trusted stage)
             (sense_in (expect_of self.old.sizes self.old.plan.version self.old.state slot stage) received) }
         ensures accused { (received : List Received) → Shows inbox.now received
-            → self.new ≡ record self.old { state = record self.old.state {
+            → self.new ≡ record self.old {
+              state = record self.old.state {
                 far = with_evidence (has_evidence self.old.state.far
                     (expects (side_of K.CODE) role (sender_of sender) self.old.state.far.trusted stage)
                     (sense_in (expect_of self.old.sizes self.old.plan.version self.old.state slot stage) received))
-                    self.old.state.far
-            } } }
+                    self.old.state.far;
+              };
+            } }
         ensures sizes { self.new.sizes ≡ self.old.sizes }
     {
         let expect = self.expect(slot, stage);
         let trusted = self.far.trusted.bits();
         let expected = expects(K::CODE, role, sender, trusted, stage);
-        close_stage(
-            inbox,
-            &mut self.far,
-            &expect,
-            NodeSet::from_bits(expected),
-        )
+        close_stage(inbox, &mut self.far, &expect, NodeSet::from_bits(expected))
     }
 
     // Keeps the vote, if the node votes in the stage.
     fn keep_vote(&mut self, slot: u16, role: Role, stage: u8, closing: &Closing)
         requires { slot < sync_slot_of self.old.sizes }
-        ensures { self.new ≡ record self.old { state = record self.old.state {
-            votes = votes_after (side_of K.CODE) self.old.state slot role stage closing.now
-        } } }
+        ensures { self.new ≡ record self.old {
+          state = record self.old.state {
+            votes = votes_after (side_of K.CODE) self.old.state slot role stage closing.now;
+          };
+        } }
     {
         let _slots = self.sync_slot();
         if votes_in(K::CODE, role, stage) {
@@ -124,9 +123,11 @@ impl<K: Kind> Engine<K> {
     // From the close of the last stage of the last schedule slot on the data slots have their owners.
     fn keep_owners(&mut self, slot: u16, stage: u8)
         requires { slot < sync_slot_of self.old.sizes }
-        ensures { self.new ≡ record self.old { state = record self.old.state {
-            owners = owners_after self.old.sizes (side_of K.CODE) self.old.state slot stage self.old.state.votes
-        } } }
+        ensures { self.new ≡ record self.old {
+          state = record self.old.state {
+            owners = owners_after self.old.sizes (side_of K.CODE) self.old.state slot stage self.old.state.votes;
+          };
+        } }
     {
         let _slots = self.sync_slot();
         let bius = u16::from(self.plan.shape().biu());
@@ -151,10 +152,12 @@ impl<K: Kind> Engine<K> {
 
     // Accuses by mismatch, where there is a value to compare with.
     fn compare(&mut self, role: Role, sender: Sender, stage: u8, closing: &Closing)
-        ensures { self.new ≡ record self.old { state = record self.old.state {
+        ensures { self.new ≡ record self.old {
+          state = record self.old.state {
             far = compared (reference_value (side_of K.CODE) self.old.index self.old.state role (sender_of sender) stage closing.now)
-                closing.now self.old.state.far
-        } } }
+                closing.now self.old.state.far;
+          };
+        } }
     {
         if let Some(value) = self.reference(role, sender, stage, closing) {
             accuse_unlike(closing, value, &mut self.far);
@@ -163,17 +166,26 @@ impl<K: Kind> Engine<K> {
 
     // Keeps what a relay will say, and forgets what the sender said once it was compared.
     fn leave_stage(&mut self, sender: Sender, stage: u8, closing: &Closing)
-        ensures { self.new ≡ record self.old { state = record self.old.state {
+        ensures { self.new ≡ record self.old {
+          state = record self.old.state {
             sent = if stage == 2 then None else self.old.state.sent;
-            got = if stage == 1 then got_of (sender_of sender) closing.now else self.old.state.got
-        } } }
+            got = if stage == 1 then got_of (sender_of sender) closing.now else self.old.state.got;
+          };
+        } }
     {
         self.got = got_after(self.got, sender, stage, closing);
         self.sent = sent_after(self.sent, stage);
     }
 
     // In a data slot each BIU delivers its vote at the close of stage 2.
-    fn delivery(&self, slot: u16, role: Role, sender: Sender, stage: u8, voted: Heard) -> Option<Delivery>
+    fn delivery(
+        &self,
+        slot: u16,
+        role: Role,
+        sender: Sender,
+        stage: u8,
+        voted: Heard,
+    ) -> Option<Delivery>
         ensures { result ≡ delivery_of (side_of K.CODE) self.now.state slot role (sender_of sender) stage voted }
     {
         match (role, sender) {
@@ -191,9 +203,10 @@ impl<K: Kind> Engine<K> {
     pub(crate) fn close_exact(&mut self, inbox: &Inbox<K::Other>, slot: u16, stage: u8) -> Closed
         requires { slot < sync_slot_of self.old.sizes }
         ensures state { (received : List Received) → Shows inbox.now received
-            → self.new ≡ record self.old { state =
-                (close_exact self.old.sizes (side_of K.CODE) self.old.index self.old.state slot stage
-                (sense_in (expect_of self.old.sizes self.old.plan.version self.old.state slot stage) received)).state
+            → self.new ≡ record self.old {
+              state =
+                  (close_exact self.old.sizes (side_of K.CODE) self.old.index self.old.state slot stage
+                  (sense_in (expect_of self.old.sizes self.old.plan.version self.old.state slot stage) received)).state;
             } }
         ensures closed { (received : List Received) → Shows inbox.now received
             → result ≡ (close_exact self.old.sizes (side_of K.CODE) self.old.index self.old.state slot stage

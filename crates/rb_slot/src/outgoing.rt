@@ -2,14 +2,15 @@
 ghost use Rattle.std.specs.Prelude.{◌≡◌, ℕ, ◌%◌, ◌≤◌, ◌==◌, ◌&&◌, is_some, if◌then◌else◌, get_or, take};
 ghost use Rattle.rb_base.specs.Nodes.{Side, other, side_of};
 ghost use Rattle.rb_base.specs.Sizes.{sync_slot_of};
-ghost use Rattle.rb_rules.specs.ExactStage.{is_sender, keeping, message_of, own_value, says, value_said};
+ghost use Rattle.rb_rules.specs.ExactStage.{is_sender, message_of, own_value, says, value_said};
 ghost use Rattle.rb_rules.specs.NodeState.{trusted_of};
+ghost use Rattle.rb_rules.specs.NodeSteps.{message_said};
 ghost use Rattle.rb_rules.specs.Slots.{listens, sender_in};
 ghost use Rattle.rb_rules.specs.SyncStage.{calls};
-ghost use Rattle.rb_slot.specs.Engines.{said_by};
+ghost use Rattle.rb_slot.specs.Engines.{kept_by, said_by};
 ghost use Rattle.rb_slot.specs.Senders.{sender_of};
 
-use crate::engine::Engine;
+use crate::engine::{Engine, PASSIVE};
 use crate::sender::{Sender, sender_in};
 use crate::slots::{listens, role_of, sends_first};
 use rb_base::{Heard, Kind};
@@ -91,7 +92,14 @@ impl<K: Kind> Engine<K> {
     }
 
     // What the node says in a stage in which its kind may send.
-    fn value_said(&self, slot: u16, role: Role, sender: Sender, stage: u8, word: u32) -> Option<Heard>
+    fn value_said(
+        &self,
+        slot: u16,
+        role: Role,
+        sender: Sender,
+        stage: u8,
+        word: u32,
+    ) -> Option<Heard>
         ensures { result ≡ value_said (side_of K.CODE) self.now.index self.now.state slot role (sender_of sender) stage word }
     {
         if stage == 1 {
@@ -167,14 +175,12 @@ impl<K: Kind> Engine<K> {
         }
     }
 
-    // The message of a stage, `said` being what the node says below the sync slot. A passive engine sends none.
+    // The message of a stage, `said` being what the node says below the sync slot.
     fn message(&self, slot: u16, stage: u8, said: Option<Heard>) -> Option<Message>
         ensures { (word : ℕ) → said ≡ says self.now.sizes (side_of K.CODE) self.now.index self.now.state slot stage word
-            → result ≡ said_by (side_of K.CODE) self.now slot stage word }
+            → result ≡ message_said self.now.sizes (side_of K.CODE) self.now.index self.now.state slot stage word }
     {
-        if self.index >= 16 {
-            None
-        } else if slot == self.sync_slot() {
+        if slot == self.sync_slot() {
             self.call(stage)
         } else {
             match said {
@@ -193,10 +199,11 @@ impl<K: Kind> Engine<K> {
         requires first { 1 ≤ stage }
         requires last { stage ≤ 3 }
         ensures message { result ≡ said_by (side_of K.CODE) self.old slot stage word }
-        ensures keeps { self.new ≡ record self.old {
-            state = keeping self.old.sizes (side_of K.CODE) self.old.index self.old.state slot stage word
-        } }
+        ensures keeps { self.new ≡ record self.old { state = kept_by (side_of K.CODE) self.old slot stage word } }
     {
+        if self.index >= PASSIVE {
+            return None;
+        }
         let said = self.says(slot, stage, word);
         let message = self.message(slot, stage, said);
         self.sent = kept(self.sent, said, stage);

@@ -32,18 +32,26 @@ fn middle_after(code: u8, of_stage: u8, before: Option<u64>, stage: u8, middle: 
 
 impl<K: Kind> Engine<K> {
     // Takes the stamps of the calls that came in a stage, and accuses by direct evidence.
-    fn take_calls(&mut self, inbox: &Inbox<K::Other>, slot: u16, stage: u8, first: u64) -> SyncClosing
+    fn take_calls(
+        &mut self,
+        inbox: &Inbox<K::Other>,
+        slot: u16,
+        stage: u8,
+        first: u64,
+    ) -> SyncClosing
         requires first { first ≤ 2 ^ 32 }
         requires stamps { StampsUpTo (2 ^ 32) inbox.now }
         ensures closing { (received : List Received) → Shows inbox.now received
             → result ≡ sync_closing_of self.old.state.far (expects_call (side_of K.CODE) self.old.state stage)
             (sense_in (expect_of self.old.sizes self.old.plan.version self.old.state slot stage) received) first }
         ensures accused { (received : List Received) → Shows inbox.now received
-            → self.new ≡ record self.old { state = record self.old.state {
+            → self.new ≡ record self.old {
+              state = record self.old.state {
                 far = with_evidence (has_evidence self.old.state.far (expects_call (side_of K.CODE) self.old.state stage)
                     (sense_in (expect_of self.old.sizes self.old.plan.version self.old.state slot stage) received))
-                    self.old.state.far
-            } } }
+                    self.old.state.far;
+              };
+            } }
         ensures soon { result.middle ≤ 2 ^ 32 }
     {
         let expect = self.expect(slot, stage);
@@ -61,11 +69,13 @@ impl<K: Kind> Engine<K> {
     // Keeps the middle of a stage in which the node listens.
     fn keep_middle(&mut self, stage: u8, middle: u64)
         requires { middle ≤ 2 ^ 32 }
-        ensures { self.new ≡ record self.old { state = record self.old.state {
+        ensures { self.new ≡ record self.old {
+          state = record self.old.state {
             k1 = middle_after (side_of K.CODE) 1 self.old.state.k1 stage middle;
             k2 = middle_after (side_of K.CODE) 2 self.old.state.k2 stage middle;
-            k3 = middle_after (side_of K.CODE) 3 self.old.state.k3 stage middle
-        } } }
+            k3 = middle_after (side_of K.CODE) 3 self.old.state.k3 stage middle;
+          };
+        } }
     {
         self.k1 = middle_after(K::CODE, 1, self.k1, stage, middle);
         self.k2 = middle_after(K::CODE, 2, self.k2, stage, middle);
@@ -77,8 +87,10 @@ impl<K: Kind> Engine<K> {
         requires first { first ≤ 2 ^ 32 }
         requires stamps { StampsUpTo (2 ^ 32) inbox.now }
         ensures state { (received : List Received) → Shows inbox.now received
-            → self.new ≡ record self.old { state = (close_sync self.old.sizes (side_of K.CODE) self.old.state stage first
-                (sense_in (expect_of self.old.sizes self.old.plan.version self.old.state (sync_slot_of self.old.sizes) stage) received)).state } }
+            → self.new ≡ record self.old {
+              state = (close_sync self.old.sizes (side_of K.CODE) self.old.state stage first
+                  (sense_in (expect_of self.old.sizes self.old.plan.version self.old.state (sync_slot_of self.old.sizes) stage) received)).state;
+            } }
         ensures closed { (received : List Received) → Shows inbox.now received
             → result ≡ (close_sync self.old.sizes (side_of K.CODE) self.old.state stage first
             (sense_in (expect_of self.old.sizes self.old.plan.version self.old.state (sync_slot_of self.old.sizes) stage) received)).closed }

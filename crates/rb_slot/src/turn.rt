@@ -37,7 +37,11 @@ fn ballot_of<S: Kind>(votes: &[Heard; 112], sync_slot: u16, first: u16, others: 
 {
     let mut ballot = Ballot::new(others);
     for i in 0..16u8 {
-        enter(&mut ballot, i, vote_in(votes, sync_slot, first + u16::from(i)));
+        enter(
+            &mut ballot,
+            i,
+            vote_in(votes, sync_slot, first + u16::from(i)),
+        );
     }
     ballot
 }
@@ -119,13 +123,15 @@ impl<K: Kind> Engine<K> {
 
     // Convicts nodes of both kinds by the votes of the frame.
     fn convict(&mut self)
-        ensures { let me = side_of K.CODE in self.new ≡ record self.old { state = record self.old.state {
+        ensures { let me = side_of K.CODE in self.new ≡ record self.old {
+          state = record self.old.state {
             far = record self.old.state.far {
-                trusted = without self.old.state.far.trusted
-                (convicted_at self.old.sizes me self.old.state (other me))
+              trusted = without self.old.state.far.trusted
+                  (convicted_at self.old.sizes me self.old.state (other me));
             };
-            near = without self.old.state.near (convicted_at self.old.sizes me self.old.state me)
-        } } }
+            near = without self.old.state.near (convicted_at self.old.sizes me self.old.state me);
+          };
+        } }
     {
         let bius = self.convicted_bius().bits();
         let rmus = self.convicted_rmus().bits();
@@ -136,9 +142,11 @@ impl<K: Kind> Engine<K> {
 
     // Lets accusations lapse.
     fn lapse(&mut self)
-        ensures { self.new ≡ record self.old { state = record self.old.state {
-            far = lapsed self.old.plan.probation self.old.state.far
-        } } }
+        ensures { self.new ≡ record self.old {
+          state = record self.old.state {
+            far = lapsed self.old.plan.probation self.old.state.far;
+          };
+        } }
     {
         let probation = self.plan.plan().probation;
         self.far.lapse(probation);
@@ -149,7 +157,7 @@ impl<K: Kind> Engine<K> {
         requires frame { self.old.state.frame < 2 ^ 31 }
         requires epoch { epoch < 2 ^ 31 }
         ensures { self.new ≡ record self.old {
-            state = begun self.old.sizes (self.old.state.frame + 1) epoch self.old.state.far self.old.state.near
+          state = begun self.old.sizes (self.old.state.frame + 1) epoch self.old.state.far self.old.state.near;
         } }
     {
         let _slots = self.sync_slot();
@@ -173,7 +181,7 @@ impl<K: Kind> Engine<K> {
         requires soon { IfSome (new_epoch_of self.old.plan (side_of K.CODE) self.old.state) (λ tick. tick < 2 ^ 31) }
         requires frame { self.old.state.frame < 2 ^ 31 }
         ensures { self.new ≡ record self.old {
-            state = turned self.old.sizes self.old.plan (side_of K.CODE) self.old.state
+          state = turned self.old.sizes self.old.plan (side_of K.CODE) self.old.state;
         } }
     {
         if let Some(epoch) = self.new_epoch() {
