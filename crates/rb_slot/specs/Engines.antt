@@ -1,5 +1,5 @@
 -- What an engine is seen as.
-use Rattle.std.specs.Prelude.{ℕ, ◌≤◌, ◌<◌, ◌^◌, Bool, nat_lt, Option, Some, None, replicate, if◌then◌else◌}
+use Rattle.std.specs.Prelude.{ℕ, ◌≡◌, ◌≤◌, ◌<◌, ◌^◌, Bool, nat_lt, Option, Some, None, replicate, if◌then◌else◌}
 use Rattle.rb_base.specs.Nodes.{Side}
 use Rattle.rb_base.specs.Sizes.{Sizes}
 use Rattle.rb_rules.specs.declared.message.Message.{Message}
@@ -27,6 +27,14 @@ said_by me v slot stage word = if is_active v then message_said v.sizes me v.ind
 -- its state then, with the value that a sender keeps
 abbrev pub kept_by : Side → Seated → ℕ → ℕ → ℕ → NodeState
 kept_by me v slot stage word = if is_active v then keeping v.sizes me v.index v.state slot stage word else v.state
+
+-- the same node, in the same frame
+pub record IsSameFrame (before after : Seated) : Type 0 where
+  pub sizes : after.sizes ≡ before.sizes
+  pub plan : after.plan ≡ before.plan
+  pub index : after.index ≡ before.index
+  pub frame : after.state.frame ≡ before.state.frame
+  pub epoch : after.state.epoch ≡ before.state.epoch
 
 -- the tick, if there is one, is at most 2^32
 abbrev pub IsSoon : Option ℕ → Type 0

@@ -5,6 +5,7 @@ ghost use Rattle.rb_base.specs.Sizes.{sync_slot_of};
 ghost use Rattle.rb_eligible.specs.Inboxes.{Received, Shows, StampsUpTo, arrivals_of};
 ghost use Rattle.rb_rules.specs.Hearing.{close_window};
 ghost use Rattle.rb_slot.specs.Closable.{IsOfFrame};
+ghost use Rattle.rb_slot.specs.Engines.{IsSameFrame};
 
 use crate::engine::Engine;
 use rb_base::Kind;
@@ -46,6 +47,7 @@ impl<K: Kind> Engine<K> {
         ensures closed { (received : List Received) → Shows inbox.now received
             → result ≡ (close_window self.old.sizes self.old.plan (side_of K.CODE) self.old.index self.old.state window.now
             (λ j. arrivals_of j received)).closed }
+        ensures same { IsSameFrame self.old self.new }
     {
         let first = self.first_tick(window);
         if window.slot == self.sync_slot() {

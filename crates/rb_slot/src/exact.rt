@@ -7,6 +7,7 @@ ghost use Rattle.rb_rules.specs.ExactStage.{close_exact, closing_of, compared, d
 ghost use Rattle.rb_rules.specs.NodeSteps.{expect_of};
 ghost use Rattle.rb_rules.specs.Slots.{expects};
 ghost use Rattle.rb_rules.specs.Standing.{has_evidence, with_evidence};
+ghost use Rattle.rb_slot.specs.Engines.{IsSameFrame};
 ghost use Rattle.rb_slot.specs.Senders.{sender_of};
 
 use crate::engine::Engine;
@@ -97,7 +98,7 @@ impl<K: Kind> Engine<K> {
                     self.old.state.far;
               };
             } }
-        ensures sizes { self.new.sizes ≡ self.old.sizes }
+        ensures same { IsSameFrame self.old self.new }
     {
         let expect = self.expect(slot, stage);
         let trusted = self.far.trusted.bits();
@@ -211,6 +212,7 @@ impl<K: Kind> Engine<K> {
         ensures closed { (received : List Received) → Shows inbox.now received
             → result ≡ (close_exact self.old.sizes (side_of K.CODE) self.old.index self.old.state slot stage
             (sense_in (expect_of self.old.sizes self.old.plan.version self.old.state slot stage) received)).closed }
+        ensures same { IsSameFrame self.old self.new }
     {
         let role = role_of(self.plan.shape(), slot);
         let sender = self.sender(role);

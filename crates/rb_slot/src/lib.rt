@@ -14,5 +14,7 @@ pub mod sender;
 pub mod shown;
 pub mod slots;
 pub mod sync;
+#[cfg(test)]
+mod tests;
 pub mod ticks;
 pub mod turn;

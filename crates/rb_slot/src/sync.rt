@@ -6,7 +6,7 @@ ghost use Rattle.rb_eligible.specs.Inboxes.{Received, Shows, StampsUpTo, sense_i
 ghost use Rattle.rb_rules.specs.NodeSteps.{expect_of};
 ghost use Rattle.rb_rules.specs.Standing.{has_evidence, with_evidence};
 ghost use Rattle.rb_rules.specs.SyncStage.{close_sync, expects_call, middle_after, sync_closing_of};
-ghost use Rattle.rb_slot.specs.Engines.{IsSoon};
+ghost use Rattle.rb_slot.specs.Engines.{IsSameFrame, IsSoon};
 
 use crate::engine::Engine;
 use crate::sender::{Sender, expects};
@@ -53,6 +53,7 @@ impl<K: Kind> Engine<K> {
               };
             } }
         ensures soon { result.middle ≤ 2 ^ 32 }
+        ensures same { IsSameFrame self.old self.new }
     {
         let expect = self.expect(slot, stage);
         let trusted = self.far.trusted.bits();
@@ -94,6 +95,7 @@ impl<K: Kind> Engine<K> {
         ensures closed { (received : List Received) → Shows inbox.now received
             → result ≡ (close_sync self.old.sizes (side_of K.CODE) self.old.state stage first
             (sense_in (expect_of self.old.sizes self.old.plan.version self.old.state (sync_slot_of self.old.sizes) stage) received)).closed }
+        ensures same { IsSameFrame self.old self.new }
     {
         let slot = self.sync_slot();
         let closing = self.take_calls(inbox, slot, stage, first);

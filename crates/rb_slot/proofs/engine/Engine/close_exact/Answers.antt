@@ -10,10 +10,10 @@ use Rattle.rb_slot.proofs.Stages.{Steps, closes_so, shows_so}
 use Rattle.rb_slot.proofs.engine.Engine.close_exact.Goals as goal
 
 pub keep_vote-requires : goal.keep_vote-requires
-keep_vote-requires g c = rw c.take_stage-closing.ensures.sizes c.requires
+keep_vote-requires g c = rw c.take_stage-closing.ensures.same.sizes c.requires
 
 pub keep_owners-requires : goal.keep_owners-requires
-keep_owners-requires g c = rw (c.keep_vote.ensures, c.take_stage-closing.ensures.sizes) c.requires
+keep_owners-requires g c = rw (c.keep_vote.ensures, c.take_stage-closing.ensures.same.sizes) c.requires
 
 steps : (g : _) (c : goal.After-delivery g) (received : List Received) → Shows c.args.inbox.now received
     → Steps (side_of g.K.Kind.CODE) c.args.slot c.args.stage c.role_of-role.result (sender_of c.sender-sender.result) c.take_stage-closing.result
