@@ -1,3 +1,7 @@
 pub mod RoundNodes
 pub mod WorldBooks
 pub mod EventsLaw
+pub mod SameHeard
+pub mod PendingLists
+pub mod SendingLists
+pub mod ClosingTicks
