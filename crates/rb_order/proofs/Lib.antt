@@ -5,3 +5,4 @@ pub mod SameHeard
 pub mod PendingLists
 pub mod SendingLists
 pub mod ClosingTicks
+pub mod DueEvents
