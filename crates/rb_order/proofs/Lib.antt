@@ -6,3 +6,4 @@ pub mod PendingLists
 pub mod SendingLists
 pub mod ClosingTicks
 pub mod DueEvents
+pub mod WorldNodes
