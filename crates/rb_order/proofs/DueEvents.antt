@@ -272,3 +272,98 @@ all-due sc w known = due-by sc w known (w.book.ended || needs_no_event sc w.book
 
 pub due-is : (sc : Scenario) (w : World) (i : ℕ) (d : Due) → ComesFromNodes sc w → slice_get (due_of sc w) i ≡ Some d → IsDue w d
 due-is sc w i d known e = every-at (IsDue w) (due_of sc w) i d e (all-due sc w known)
+
+-- Something is due where something is pending.
+
+-- the least of times above t is above t
+least-above : (t u : ℕ) (xs : List ℕ) → Every (λ v. t < v) xs → least xs ≡ Some u → t < u
+least-above t u [] a e = cc
+least-above t u (x ∷ xs) a e = by (λ v h. least-above t v xs a.1 h) (least xs) refl e
+  where
+    by : ((v : ℕ) → least xs ≡ Some v → t < v) → (o : Option ℕ) → least xs ≡ o
+        → ◌≡◌ {A = Option ℕ} (Some (elim o as (λ _. ℕ) [ None ↦ x | Some v ↦ min x v ])) (Some u) → t < u
+    by rest None none s = let same : x ≡ u = some-same x u s in let above : t < x = a.0 in omega arith
+    by rest (Some v) some s =
+        let same : min x v ≡ u = some-same (min x v) u s in
+        let above : t < x = a.0 in
+        let others : t < v = rest v some in
+        omega arith
+
+unless-none : (xs ys : List Due) → unless_any xs ys ≡ [] → (xs ≡ []) × (ys ≡ [])
+unless-none [] ys e = (refl, e)
+unless-none (x ∷ xs) ys e = cc
+
+tick-later : (me : Side) (i t : ℕ) (o : Option Timed) → tick_at me i t o ≡ [] → Every (λ u. t ≤ u) (option_to_list (option_map (λ (a : Timed). a.time) o))
+    → Every (λ u. t < u) (option_to_list (option_map (λ (a : Timed). a.time) o))
+tick-later me i t None e le = tt
+tick-later me i t (Some a) e le = (by (a.time == t) refl e, tt)
+  where
+    by : (b : Bool) → (a.time == t) ≡ b
+        → (elim b as (λ _. List Due) [ true ↦ record { side = me; node = i; pending = Tick a.tick } ∷ [] | false ↦ [] ]) ≡ [] → t < a.time
+    by true h e = cc
+    by false h e = let low : t ≤ a.time = le.0 in grind (arith, nat_tests)
+
+every-mapped : {X Y : Type 0} (P : Y → Type 0) (f : X → Y) (xs : List X) → Every (λ x. P (f x)) xs → Every P (map f xs)
+every-mapped P f [] a = tt
+every-mapped P f (x ∷ xs) a = (a.0, every-mapped P f xs a.1)
+
+-- where nothing is ready at a node, all that is pending there comes later
+ready-none : (sizes : Sizes) (t : ℕ) (me : Side) (i : ℕ) (s : Site) → Every (λ c. c.from < count_of (other me) sizes) s.coming
+    → Every (λ u. t ≤ u) (times_of s) → ready_at sizes t me i s ≡ [] → Every (λ u. t < u) (times_of s)
+unfolding ready_at
+ready-none sizes t me i s known le e =
+    let n : ℕ = count_of (other me) sizes in
+    let first : List ℕ = option_to_list (option_map (λ (a : Timed). a.time) s.ahead) in
+    let coming : Every (λ c. t ≤ c.time) s.coming =
+    every-unmap (λ u. t ≤ u) (λ (c : Coming). c.time) s.coming (every-back (λ u. t ≤ u) first (map (λ (c : Coming). c.time) s.coming) le) in
+    let none = unless-none (flat_map (arrivals_at me i t s) (numbers n)) (tick_at me i t s.ahead) e in
+    every-append (λ u. t < u) first (map (λ (c : Coming). c.time) s.coming)
+    (tick-later me i t s.ahead none.1 (every-front (λ u. t ≤ u) first (map (λ (c : Coming). c.time) s.coming) le))
+    (every-mapped (λ u. t < u) (λ (c : Coming). c.time) s.coming (nothing-comes me i t n s none.0 known coming))
+
+-- the lists that are joined to nothing are all empty
+joined-none : {X : Type 0} (xss : List (List X)) → flat_map (λ xs. xs) xss ≡ [] → Every (λ xs. xs ≡ []) xss
+joined-none [] e = tt
+joined-none (xs ∷ xss) e = let parts = append-none xs (flat_map (λ xs. xs) xss) e in (parts.0, joined-none xss parts.1)
+
+-- what holds of what is made of each item holds of it
+from-every : {X Y : Type 0} (Q : Y → Type 0) (i : ℕ) (make : ℕ → X → Y) (xs : List X) → Every Q (map_from i make xs)
+    → (R : X → Type 0) → ((n : ℕ) (x : X) → slice_get xs n ≡ Some x → Q (make (i + n) x) → R x) → Every R xs
+from-every Q i make [] a R go = tt
+from-every Q i make (x ∷ xs) a R go =
+    let z : i + 0 ≡ i = omega arith in (
+      go 0 x refl (subst (λ k. Q (make k x)) (sym z) a.0),
+      from-every Q (i + 1) make xs a.1 R (λ n y e q. let s : i + 1 + n ≡ i + suc n = omega arith in go (suc n) y e (subst (λ k. Q (make k y)) s q)),
+    )
+
+none-absurd : (sc : Scenario) (w : World) → ComesFromNodes sc w → (t : ℕ) → least (flat_map times_of (in_order w.sites)) ≡ Some t → due_at sc w (Some t) ≡ [] → ⊥
+none-absurd sc w known t e none =
+    let first : Every (λ u. t ≤ u) (flat_map times_of (in_order w.sites)) = least-of (flat_map times_of (in_order w.sites)) t e in
+    let le : Every (λ s. Every (λ u. t ≤ u) (times_of s)) (w.sites.bius ++ w.sites.rmus) = every-unflat (λ u. t ≤ u) times_of (in_order w.sites) first in
+    let empty : Every (λ (ds : List Due). ds ≡ []) (map_from 0 (ready_at sc.sizes t Biu) w.sites.bius ++ map_from 0 (ready_at sc.sizes t Rmu) w.sites.rmus) =
+    joined-none (in_order (map_each (ready_at sc.sizes t) w.sites)) none in
+    let later : (me : Side) (i : ℕ) (s : Site) → slice_get (of_kind me w.sites) i ≡ Some s → Every (λ u. t ≤ u) (times_of s)
+    → ready_at sc.sizes t me (0 + i) s ≡ [] → Every (λ u. t < u) (times_of s) =
+    λ me i s there low h. ready-none sc.sizes t me (0 + i) s (known.known me i s there) low h in
+    let bius : Every (λ s. Every (λ u. t < u) (times_of s)) w.sites.bius =
+    from-every (λ ds. ds ≡ []) 0 (ready_at sc.sizes t Biu) w.sites.bius
+    (every-front (λ ds. ds ≡ []) (map_from 0 (ready_at sc.sizes t Biu) w.sites.bius) (map_from 0 (ready_at sc.sizes t Rmu) w.sites.rmus) empty)
+    (λ s. Every (λ u. t < u) (times_of s))
+    (λ n s there h. later Biu n s there (every-at (λ s. Every (λ u. t ≤ u) (times_of s)) w.sites.bius n s there (every-front (λ s. Every (λ u. t ≤ u) (times_of s)) w.sites.bius w.sites.rmus le)) h) in
+    let rmus : Every (λ s. Every (λ u. t < u) (times_of s)) w.sites.rmus =
+    from-every (λ ds. ds ≡ []) 0 (ready_at sc.sizes t Rmu) w.sites.rmus
+    (every-back (λ ds. ds ≡ []) (map_from 0 (ready_at sc.sizes t Biu) w.sites.bius) (map_from 0 (ready_at sc.sizes t Rmu) w.sites.rmus) empty)
+    (λ s. Every (λ u. t < u) (times_of s))
+    (λ n s there h. later Rmu n s there (every-at (λ s. Every (λ u. t ≤ u) (times_of s)) w.sites.rmus n s there (every-back (λ s. Every (λ u. t ≤ u) (times_of s)) w.sites.bius w.sites.rmus le)) h) in
+    let above : t < t = least-above t t (flat_map times_of (in_order w.sites))
+    (every-flat (λ u. t < u) times_of (in_order w.sites) (every-append (λ s. Every (λ u. t < u) (times_of s)) w.sites.bius w.sites.rmus bius rmus)) e in
+    absurd (omega arith)
+
+-- before the last record, and where the next one needs an event, some event is due as long as anything is pending
+pub some-due : (sc : Scenario) (w : World) (t : ℕ) → ComesFromNodes sc w → (w.book.ended || needs_no_event sc w.book.upcoming) ≡ false
+    → least (flat_map times_of (in_order w.sites)) ≡ Some t → due_of sc w ≡ [] → ⊥
+unfolding due_of
+some-due sc w t known goes e none =
+    none-absurd sc w known t e
+    (ap (due_at sc w) (sym e)
+    ∙ ap (λ b. elim b as (λ _. List Due) [ true ↦ [] | false ↦ due_at sc w (least (flat_map times_of (in_order w.sites))) ]) (sym goes) ∙ none)
