@@ -7,3 +7,4 @@ pub mod SendingLists
 pub mod ClosingTicks
 pub mod DueEvents
 pub mod WorldNodes
+pub mod Receiving
