@@ -7,7 +7,7 @@ use Rattle.rb_base.specs.Nodes.{Side}
 use Rattle.rb_base.specs.Nodes.Side.{Biu, Rmu}
 use Rattle.rb_base.specs.Sizes.{Sizes, sync_slot_of}
 use Rattle.rb_rules.specs.declared.plan.Plan.{Plan}
-use Rattle.rb_rules.specs.Book.{of_kind, each_of}
+use Rattle.rb_rules.specs.Book.{Book, of_kind, each_of}
 use Rattle.rb_rules.specs.Conviction.{turn}
 use Rattle.rb_rules.specs.Goodness.{Scenario, onsets_of, is_before, is_good}
 use Rattle.rb_rules.specs.Hearing.{window_numbered}
@@ -215,16 +215,19 @@ frame-stand sc hands m over h =
           turned-stand sc hands m me i old.0 st full old.1 there (h.stands me i old.0 old.1 before);
     }
 
-stepped-stand : (sc : Scenario) (hands : List HandIn) (m : Moment) (over in_frame : Bool) → HasTicks sc.plan → nat_lt m.window (windows_in sc.sizes) ≡ in_frame
-    → AllStand sc m → AllStand sc (stepped sc hands m over in_frame)
-stepped-stand sc hands m true in_frame ticks e h = record {
+-- the book plays no part in it
+other-book : (sc : Scenario) (m : Moment) (b : Book) → AllStand sc m → AllStand sc (record m { book = b })
+other-book sc m b h = record {
   window = h.window;
   counts = h.counts;
-  stands = λ me i st there good.
-      let s : Stands sc m me st = h.stands me i st there good in record { frame = s.frame; knows = s.knows };
+  stands = λ me i st there good. let s : Stands sc m me st = h.stands me i st there good in record { frame = s.frame; knows = s.knows };
 }
-stepped-stand sc hands m false true ticks e h = window-stand sc m ticks (grind (arith, nat_tests)) h
-stepped-stand sc hands m false false ticks e h = frame-stand sc hands m (grind (arith, nat_tests)) h
+
+stepped-stand : (sc : Scenario) (hands : List HandIn) (m : Moment) (over in_frame : Bool) → HasTicks sc.plan → nat_lt m.window (windows_in sc.sizes) ≡ in_frame
+    → AllStand sc m → AllStand sc (stepped sc hands m over in_frame)
+stepped-stand sc hands m over true ticks e h =
+    other-book sc (after_window sc m (results_of sc m)) _ (window-stand sc m ticks (grind (arith, nat_tests)) h)
+stepped-stand sc hands m over false ticks e h = other-book sc (next_frame sc hands m) _ (frame-stand sc hands m (grind (arith, nat_tests)) h)
 
 step-stand : (sc : Scenario) (hands : List HandIn) (m : Moment) → HasTicks sc.plan → AllStand sc m → AllStand sc (step sc hands m)
 unfolding step

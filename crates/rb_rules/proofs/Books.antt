@@ -81,13 +81,11 @@ next-on : (sc : Scenario) (hands : List HandIn) (m : Moment) → GoesOn m.book (
 unfolding begin_frame
 next-on sc hands m = frame-on sc (m.frame + 1) _ m.book
 
--- a moment after one step, by what the step is
+-- a moment after one step, by whether the run is over and whether the window is one of the frame
 abbrev pub stepped : Scenario → List HandIn → Moment → Bool → Bool → Moment
 stepped sc hands m over in_frame =
-    elim over [
-      | true ↦ record m { book = with_end m.book }
-      | false ↦ elim in_frame [ true ↦ after_window sc m (results_of sc m) | false ↦ next_frame sc hands m ]
-    ]
+    let next : Moment = elim in_frame [ true ↦ after_window sc m (results_of sc m) | false ↦ next_frame sc hands m ] in
+    record next { book = elim over [ true ↦ with_end m.book | false ↦ next.book ] }
 
 stepped-on : (sc : Scenario) (hands : List HandIn) (m : Moment) (over in_frame : Bool) → GoesOn m.book (stepped sc hands m over in_frame).book
 stepped-on sc hands m true in_frame = end-on m.book

@@ -1,7 +1,7 @@
 -- A hand-in changes no moment before its frame, and no record of its frame's begin.
 use Rattle.std.proofs.Common.{◌≡◌, ℕ, zero, suc, ◌+◌, ◌<◌, ◌≤◌, ◌==◌, nat_lt, Bool, true, false, List, [], ◌∷◌, ◌++◌, refl, ◌∙◌, ap, arith, if◌then◌else◌}
 use Rattle.std.proofs.lemmas.Bool.Decides.{nat_tests}
-use Rattle.rb_rules.specs.Book.{Each, Book}
+use Rattle.rb_rules.specs.Book.{Each, Book, with_end}
 use Rattle.rb_rules.specs.Goodness.{Scenario}
 use Rattle.rb_rules.specs.NodeState.{NodeState}
 use Rattle.rb_rules.specs.Ports.{PortState, HandIn, with_state, handed}
@@ -24,9 +24,8 @@ differs a b h = grind (arith, nat_tests)
 
 stepped-rise : (sc : Scenario) (hands : List HandIn) (m : Moment) (over in_frame : Bool) → m.frame ≤ (stepped sc hands m over in_frame).frame
 unfolding after_window begin_frame
-stepped-rise sc hands m true in_frame = omega arith
-stepped-rise sc hands m false true = omega arith
-stepped-rise sc hands m false false = omega arith
+stepped-rise sc hands m over true = omega arith
+stepped-rise sc hands m over false = omega arith
 
 -- no step goes back to an earlier frame
 pub step-rise : (sc : Scenario) (hands : List HandIn) (m : Moment) → m.frame ≤ (step sc hands m).frame
@@ -36,8 +35,12 @@ step-rise sc hands m = stepped-rise sc hands m (m.frame == sc.frames) (nat_lt m.
 stepped-more : (sc : Scenario) (hands : List HandIn) (h : HandIn) (m : Moment) (over in_frame : Bool) → (stepped sc hands m over in_frame).frame < h.frame
     → stepped sc (hands ++ h ∷ []) m over in_frame ≡ stepped sc hands m over in_frame
 unfolding begin_frame
-stepped-more sc hands h m true in_frame lt = refl
+stepped-more sc hands h m true true lt = refl
 stepped-more sc hands h m false true lt = refl
+stepped-more sc hands h m true false lt =
+    let below : m.frame + 1 < h.frame = lt in
+    ap (λ (next : Moment). let x : Moment = record next { book = with_end m.book } in x)
+    (begin-more sc hands h (m.frame + 1) _ m.ports m.book (differs h.frame (m.frame + 1) below))
 stepped-more sc hands h m false false lt =
     let below : m.frame + 1 < h.frame = lt in
     begin-more sc hands h (m.frame + 1) _ m.ports m.book (differs h.frame (m.frame + 1) below)

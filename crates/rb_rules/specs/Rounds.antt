@@ -140,15 +140,18 @@ abbrev pub next_frame : Scenario → List HandIn → Moment → Moment
 next_frame sc hands m =
     begin_frame sc hands (m.frame + 1) (map_each (λ me i st. turned sc.sizes sc.plan me st) m.nodes) m.ports m.book
 
--- one window, and after the tail the next frame. The run is over when the frame after its last has begun
+-- one window, and after the tail the next frame
+abbrev pub moved : Scenario → List HandIn → Moment → Moment
+moved sc hands m =
+    elim (nat_lt m.window (windows_in sc.sizes)) [ true ↦ after_window sc m (results_of sc m) | false ↦ next_frame sc hands m ]
+
+-- a step. Once the frame after the last has begun the end is given, and the states alone go on
 unfoldable pub step : Scenario → List HandIn → Moment → Moment
 step sc hands m =
-    elim (m.frame == sc.frames) [
-      | true ↦ record m { book = with_end m.book }
-      | false ↦ elim (nat_lt m.window (windows_in sc.sizes)) [ true ↦ after_window sc m (results_of sc m) | false ↦ next_frame sc hands m ]
-    ]
+    let next : Moment = moved sc hands m in
+    record next { book = elim (m.frame == sc.frames) [ true ↦ with_end m.book | false ↦ next.book ] }
 
--- the moment after so many steps. The states go on after a breach, the book does not
+-- the moment after so many steps. After a breach, too, the states go on and the book does not
 abbrev pub moment : Scenario → List HandIn → ℕ → Moment
 moment sc hands zero = first_moment sc hands
 moment sc hands (suc n) = step sc hands (moment sc hands n)
