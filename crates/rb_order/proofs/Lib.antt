@@ -8,3 +8,4 @@ pub mod ClosingTicks
 pub mod DueEvents
 pub mod WorldNodes
 pub mod Receiving
+pub mod Invariant
