@@ -1,0 +1,10 @@
+//! What stands behind a BIU: its application, and the port that hands words over. Both are this project's own.
+#![tactic(auto)]
+
+pub mod apps;
+pub mod port;
+#[cfg(test)]
+mod tests;
+
+pub use apps::{App, Apps, Learn, Offer};
+pub use port::Port;
