@@ -1,3 +1,4 @@
 pub mod SomeNode
 pub mod Sights
 pub mod Sides
+pub mod SameStages
