@@ -114,3 +114,64 @@ pub fn epoch_rmu(plan: &Feasible, k3: u64) -> u64
 {
     k3 + u64::from(plan.plan().z)
 }
+
+#[cfg(test)]
+mod tests {
+    use super::*;
+    use rb_base::{Biu, NodeId, Shape};
+    use rb_plan::Plan;
+    use rb_rules::Version;
+    use std::test::Fail;
+
+    // Stage 1 of sync slot 19 in frame 0, in which RMUs expect four BIUs: without a stamp the middle is the first tick.
+    #[test]
+    fn a_stage(rt: HostRuntime) -> Result<(), Fail> {
+        let expect = Expect {
+            frame: 0,
+            slot: 19,
+            stage: 1,
+            sync: true,
+            version: Version::One,
+        };
+        let call: &[u8] = &[3, 0, 0, 0, 19, 1, 0, 0, 0, 0, 17];
+        let mut inbox = Inbox::<Biu>::new();
+        let mut standing = Standing::new(4);
+        let silent = close_sync(&inbox, &mut standing, &expect, NodeSet::empty(), 855);
+        assert_eq!(rt; silent.middle, 855);
+        for (from, at) in [(0, 862), (1, 862), (2, 861)] {
+            if let Some(id) = NodeId::new(from) {
+                inbox.take(id, at, call);
+            }
+        }
+        let closing = close_sync(&inbox, &mut standing, &expect, NodeSet::first(4), 855);
+        let taken = [Some(862), Some(862), Some(861), None];
+        assert_eq!(rt; &closing.taken[..4], taken.as_slice());
+        assert_eq!(rt; closing.middle, 862);
+        assert_eq!(rt; standing.direct.bits(), 0b1000);
+        Ok(())
+    }
+
+    // By a plan with v 18, z 20 and c 1 both kinds begin the next frame at tick 917.
+    #[test]
+    fn epochs(rt: HostRuntime) -> Result<(), Fail> {
+        let plan = Plan {
+            u: 10000,
+            r: 1,
+            dmin: 5000,
+            dmax: 15000,
+            l: 15,
+            h: 6,
+            v: 18,
+            z: 20,
+            c: 1,
+            p: 60200,
+            version: Version::One,
+            probation: 0,
+        };
+        let bus = Shape::new(4, 3, 8).ok_or("no such shape")?;
+        let plan = Feasible::new(&bus, &plan).map_err(|_| "not feasible")?;
+        assert_eq!(rt; epoch_biu(&plan, 878), 917);
+        assert_eq!(rt; epoch_rmu(&plan, 897), 917);
+        Ok(())
+    }
+}

@@ -140,3 +140,44 @@ pub fn relay(closing: &Closing, sender: u8) -> Heard
 {
     closing.taken[usize::from(sender)].unwrap_or(Heard::Fault)
 }
+
+#[cfg(test)]
+mod tests {
+    use super::*;
+    use Heard::{Fault, Word};
+    use rb_base::{NodeId, Rmu};
+    use rb_rules::Version;
+    use std::test::Fail;
+
+    // Stage 2 of slot 4 in frame 0: RMUs 0 to 3 of five are expected. RMU 0 relays 10, the next two relay Fault, RMU 3 is
+    // silent, and RMU 4 isn't expected and relays 10.
+    #[test]
+    fn a_stage(rt: HostRuntime) -> Result<(), Fail> {
+        let expect = Expect {
+            frame: 0,
+            slot: 4,
+            stage: 2,
+            sync: false,
+            version: Version::One,
+        };
+        let word: &[u8] = &[1, 0, 0, 0, 4, 2, 0, 0, 0, 10, 13];
+        let fault: &[u8] = &[2, 0, 0, 0, 4, 2, 0, 0, 0, 0, 4];
+        let mut inbox = Inbox::<Rmu>::new();
+        for (from, bytes) in [(0, word), (1, fault), (2, fault), (4, word)] {
+            if let Some(id) = NodeId::new(from) {
+                inbox.take(id, 70, bytes);
+            }
+        }
+        let mut standing = Standing::new(5);
+        let closing = close_stage(&inbox, &mut standing, &expect, NodeSet::first(4));
+        let taken = [Some(Word(10)), Some(Fault), Some(Fault), None, None];
+        assert_eq!(rt; &closing.taken[..5], taken.as_slice());
+        assert_eq!(rt; closing.voted, Fault);
+        assert_eq!(rt; standing.direct.bits(), 0b11000);
+        accuse_unlike(&closing, Word(10), &mut standing);
+        assert_eq!(rt; standing.mismatch.bits(), 0b00110);
+        assert_eq!(rt; relay(&closing, 0), Word(10));
+        assert_eq!(rt; relay(&closing, 3), Fault);
+        Ok(())
+    }
+}

@@ -2,10 +2,9 @@
 ghost use Rattle.std.specs.Prelude.{◌≡◌, ◌+◌, ◌≤◌, ◌^◌, List};
 ghost use Rattle.rb_base.specs.Nodes.{side_of};
 ghost use Rattle.rb_base.specs.Sizes.{sync_slot_of};
-ghost use Rattle.rb_eligible.specs.Inboxes.{Received, Shows, StampsUpTo, arrivals_of};
-ghost use Rattle.rb_rules.specs.Hearing.{close_window};
+ghost use Rattle.rb_eligible.specs.Inboxes.{Received, Shows, StampsUpTo};
 ghost use Rattle.rb_slot.specs.Closable.{IsOfFrame};
-ghost use Rattle.rb_slot.specs.Engines.{IsSameFrame};
+ghost use Rattle.rb_slot.specs.Engines.{IsSameFrame, outcome_on};
 
 use crate::engine::Engine;
 use rb_base::Kind;
@@ -21,8 +20,7 @@ impl<K: Kind> Engine<K> {
         ensures soon { result ≤ 2 ^ 32 }
         ensures slot { window.now.slot ≤ sync_slot_of self.now.sizes }
     {
-        let _plan = self.plan.plan();
-        let _slots = self.sync_slot();
+        self.bounds();
         self.epoch + window.first
     }
 
@@ -39,14 +37,10 @@ impl<K: Kind> Engine<K> {
         requires window { IsOfFrame self.old.sizes self.old.plan window.now }
         requires stamps { StampsUpTo (2 ^ 32) inbox.now }
         ensures state { (received : List Received) → Shows inbox.now received
-            → self.new ≡ record self.old {
-              state =
-                  (close_window self.old.sizes self.old.plan (side_of K.CODE) self.old.index self.old.state window.now
-                  (λ j. arrivals_of j received)).state;
-            } }
+            → self.new
+            ≡ record self.old { state = (outcome_on (side_of K.CODE) self.old window.now received).state } }
         ensures closed { (received : List Received) → Shows inbox.now received
-            → result ≡ (close_window self.old.sizes self.old.plan (side_of K.CODE) self.old.index self.old.state window.now
-            (λ j. arrivals_of j received)).closed }
+            → result ≡ (outcome_on (side_of K.CODE) self.old window.now received).closed }
         ensures same { IsSameFrame self.old self.new }
     {
         let first = self.first_tick(window);

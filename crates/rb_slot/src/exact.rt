@@ -2,12 +2,12 @@
 ghost use Rattle.std.specs.Prelude.{◌≡◌, ◌+◌, ◌<◌, ◌==◌, List, None, if◌then◌else◌, slice_set, take};
 ghost use Rattle.rb_base.specs.Nodes.{side_of};
 ghost use Rattle.rb_base.specs.Sizes.{sync_slot_of};
-ghost use Rattle.rb_eligible.specs.Inboxes.{Received, Shows, sense_in};
+ghost use Rattle.rb_eligible.specs.Inboxes.{Received, Shows};
 ghost use Rattle.rb_rules.specs.ExactStage.{close_exact, closing_of, compared, delivery_of, got_of, owners_after, reference_value, votes_after, votes_in};
 ghost use Rattle.rb_rules.specs.NodeSteps.{expect_of};
 ghost use Rattle.rb_rules.specs.Slots.{expects};
 ghost use Rattle.rb_rules.specs.Standing.{has_evidence, with_evidence};
-ghost use Rattle.rb_slot.specs.Engines.{IsSameFrame};
+ghost use Rattle.rb_slot.specs.Engines.{IsSameFrame, senses_in};
 ghost use Rattle.rb_slot.specs.Senders.{sender_of};
 
 use crate::engine::Engine;
@@ -88,13 +88,13 @@ impl<K: Kind> Engine<K> {
         ensures closing { (received : List Received) → Shows inbox.now received
             → result ≡ closing_of self.old.state.far
             (expects (side_of K.CODE) role (sender_of sender) self.old.state.far.trusted stage)
-            (sense_in (expect_of self.old.sizes self.old.plan.version self.old.state slot stage) received) }
+            (senses_in self.old slot stage received) }
         ensures accused { (received : List Received) → Shows inbox.now received
             → self.new ≡ record self.old {
               state = record self.old.state {
                 far = with_evidence (has_evidence self.old.state.far
                     (expects (side_of K.CODE) role (sender_of sender) self.old.state.far.trusted stage)
-                    (sense_in (expect_of self.old.sizes self.old.plan.version self.old.state slot stage) received))
+                    (senses_in self.old slot stage received))
                     self.old.state.far;
               };
             } }
@@ -115,7 +115,7 @@ impl<K: Kind> Engine<K> {
           };
         } }
     {
-        let _slots = self.sync_slot();
+        self.bounds();
         if votes_in(K::CODE, role, stage) {
             put(&mut self.votes, slot, closing.voted);
         }
@@ -130,7 +130,7 @@ impl<K: Kind> Engine<K> {
           };
         } }
     {
-        let _slots = self.sync_slot();
+        self.bounds();
         let bius = u16::from(self.plan.shape().biu());
         if stage == 3 && slot + 1 == bius {
             let trusted = self.trusted_biu();
@@ -140,7 +140,8 @@ impl<K: Kind> Engine<K> {
 
     // The value with which what was taken is compared.
     fn reference(&self, role: Role, sender: Sender, stage: u8, closing: &Closing) -> Option<Heard>
-        ensures { result ≡ reference_value (side_of K.CODE) self.now.index self.now.state role (sender_of sender) stage closing.now }
+        ensures { result
+            ≡ reference_value (side_of K.CODE) self.now.index self.now.state role (sender_of sender) stage closing.now }
     {
         if stage == 2 && self.is_sender(role, sender) {
             self.sent
@@ -155,7 +156,8 @@ impl<K: Kind> Engine<K> {
     fn compare(&mut self, role: Role, sender: Sender, stage: u8, closing: &Closing)
         ensures { self.new ≡ record self.old {
           state = record self.old.state {
-            far = compared (reference_value (side_of K.CODE) self.old.index self.old.state role (sender_of sender) stage closing.now)
+            far = compared
+                (reference_value (side_of K.CODE) self.old.index self.old.state role (sender_of sender) stage closing.now)
                 closing.now self.old.state.far;
           };
         } }
@@ -207,11 +209,11 @@ impl<K: Kind> Engine<K> {
             → self.new ≡ record self.old {
               state =
                   (close_exact self.old.sizes (side_of K.CODE) self.old.index self.old.state slot stage
-                  (sense_in (expect_of self.old.sizes self.old.plan.version self.old.state slot stage) received)).state;
+                  (senses_in self.old slot stage received)).state;
             } }
         ensures closed { (received : List Received) → Shows inbox.now received
             → result ≡ (close_exact self.old.sizes (side_of K.CODE) self.old.index self.old.state slot stage
-            (sense_in (expect_of self.old.sizes self.old.plan.version self.old.state slot stage) received)).closed }
+            (senses_in self.old slot stage received)).closed }
         ensures same { IsSameFrame self.old self.new }
     {
         let role = role_of(self.plan.shape(), slot);

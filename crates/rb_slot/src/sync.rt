@@ -2,11 +2,10 @@
 ghost use Rattle.std.specs.Prelude.{◌≡◌, ◌≤◌, ◌^◌, List};
 ghost use Rattle.rb_base.specs.Nodes.{side_of};
 ghost use Rattle.rb_base.specs.Sizes.{sync_slot_of};
-ghost use Rattle.rb_eligible.specs.Inboxes.{Received, Shows, StampsUpTo, sense_in};
-ghost use Rattle.rb_rules.specs.NodeSteps.{expect_of};
+ghost use Rattle.rb_eligible.specs.Inboxes.{Received, Shows, StampsUpTo};
 ghost use Rattle.rb_rules.specs.Standing.{has_evidence, with_evidence};
 ghost use Rattle.rb_rules.specs.SyncStage.{close_sync, expects_call, middle_after, sync_closing_of};
-ghost use Rattle.rb_slot.specs.Engines.{IsSameFrame, IsSoon};
+ghost use Rattle.rb_slot.specs.Engines.{IsSameFrame, IsSoon, senses_in};
 
 use crate::engine::Engine;
 use crate::sender::{Sender, expects};
@@ -43,12 +42,12 @@ impl<K: Kind> Engine<K> {
         requires stamps { StampsUpTo (2 ^ 32) inbox.now }
         ensures closing { (received : List Received) → Shows inbox.now received
             → result ≡ sync_closing_of self.old.state.far (expects_call (side_of K.CODE) self.old.state stage)
-            (sense_in (expect_of self.old.sizes self.old.plan.version self.old.state slot stage) received) first }
+            (senses_in self.old slot stage received) first }
         ensures accused { (received : List Received) → Shows inbox.now received
             → self.new ≡ record self.old {
               state = record self.old.state {
                 far = with_evidence (has_evidence self.old.state.far (expects_call (side_of K.CODE) self.old.state stage)
-                    (sense_in (expect_of self.old.sizes self.old.plan.version self.old.state slot stage) received))
+                    (senses_in self.old slot stage received))
                     self.old.state.far;
               };
             } }
@@ -90,11 +89,11 @@ impl<K: Kind> Engine<K> {
         ensures state { (received : List Received) → Shows inbox.now received
             → self.new ≡ record self.old {
               state = (close_sync self.old.sizes (side_of K.CODE) self.old.state stage first
-                  (sense_in (expect_of self.old.sizes self.old.plan.version self.old.state (sync_slot_of self.old.sizes) stage) received)).state;
+                  (senses_in self.old (sync_slot_of self.old.sizes) stage received)).state;
             } }
         ensures closed { (received : List Received) → Shows inbox.now received
             → result ≡ (close_sync self.old.sizes (side_of K.CODE) self.old.state stage first
-            (sense_in (expect_of self.old.sizes self.old.plan.version self.old.state (sync_slot_of self.old.sizes) stage) received)).closed }
+            (senses_in self.old (sync_slot_of self.old.sizes) stage received)).closed }
         ensures same { IsSameFrame self.old self.new }
     {
         let slot = self.sync_slot();
