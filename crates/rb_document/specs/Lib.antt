@@ -1,0 +1,4 @@
+pub mod Walk
+pub mod Fields
+pub mod Forms
+pub mod Shown

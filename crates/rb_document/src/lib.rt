@@ -1,0 +1,9 @@
+//! TOML documents of scenarios: which keys a table may have and in which form, and what stands at them.
+#![tactic(auto)]
+
+pub mod fields;
+pub mod forms;
+pub mod walk;
+
+pub use fields::{Field, Form};
+pub use forms::{has_unknown_key, has_wrong_form, lacks_key};
