@@ -3,6 +3,8 @@
 
 pub mod fields;
 pub mod forms;
+pub mod names;
+pub mod values;
 pub mod walk;
 
 pub use fields::{Field, Form};

@@ -3,7 +3,7 @@ ghost use Rattle.std.specs.Prelude.{◌≡◌, Bool, option_map};
 ghost use Rattle.std.specs.List.{list_all, list_any};
 ghost use Rattle.toml.specs.Data.{Data, Members, as_table, get_member};
 ghost use Rattle.toml.specs.View.{view, table_view, array_view};
-ghost use Rattle.rb_document.specs.Walk.{entries_in, every_item, has_key, length_of, on_table, tables_in};
+ghost use Rattle.rb_document.specs.Walk.{absent_or, entries_in, every_item, has_key, length_of, on_table, passes, tables_in};
 
 use toml::value::Array;
 use toml::{Table, Value};
@@ -48,6 +48,26 @@ pub fn every_item<T: Test>(test: &T, values: &Array) -> bool
         }
     }
     true
+}
+
+/// Whether a value is there and passes the test.
+pub fn passes<T: Test>(test: &T, value: Option<&Value>) -> bool
+    ensures { result ≡ passes (T.holds test.now) (option_map (λ x. view x.now) value.entry) }
+{
+    match value {
+        Some(value) => test.test(value),
+        None => false,
+    }
+}
+
+/// Whether a value is not there, or passes the test.
+pub fn absent_or<T: Test>(test: &T, value: Option<&Value>) -> bool
+    ensures { result ≡ absent_or (T.holds test.now) (option_map (λ x. view x.now) value.entry) }
+{
+    match value {
+        Some(value) => test.test(value),
+        None => true,
+    }
 }
 
 /// How many items an array has.
