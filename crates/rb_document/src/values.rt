@@ -1,6 +1,7 @@
 //! Numbers, pairs and lists of numbers in a document.
 ghost use Rattle.std.specs.Prelude.{◌≡◌, ◌≤◌, true, option_map};
 ghost use Rattle.toml.specs.View.{view, table_view};
+ghost use Rattle.rb_document.specs.Walk.{absent_or};
 ghost use Rattle.rb_document.specs.Values.{has_number, has_range, is_list, is_range, is_within, item_at, may_have_list, may_have_number, may_have_range, number_at, number_or, pair_of, range_at};
 
 use crate::forms::{has_length, is_array_of};
@@ -55,8 +56,20 @@ pub fn number_or(value: Option<&Value>, default: u64) -> u64
     }
 }
 
-/// The number at a key.
-pub fn number(table: &Table, key: &str, low: u64, high: u64) -> u64
+/// The number that a value is, or else the default. Both lie within the bounds.
+pub fn number_within(value: Option<&Value>, default: u64, low: u64, high: u64) -> u64
+    requires stands { absent_or (is_within low high) (option_map (λ x. view x.now) value) ≡ true }
+    requires low { low ≤ default }
+    requires high { default ≤ high }
+    ensures value { result ≡ number_or default (option_map (λ x. view x.now) value.entry) }
+    ensures low { low ≤ result }
+    ensures high { result ≤ high }
+{
+    number_or(value, default)
+}
+
+/// The number at a key, which stands there.
+pub fn number_at(table: &Table, key: &str, low: u64, high: u64) -> u64
     requires { has_number key.now low high (table_view table.now) ≡ true }
     ensures value { result ≡ number_at key.now 0 (table_view table.now) }
     ensures low { low ≤ result }
