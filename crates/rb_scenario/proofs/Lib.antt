@@ -1,4 +1,0 @@
-pub mod Walks
-pub mod Lawful
-pub mod NameLemmas
-pub mod Documents

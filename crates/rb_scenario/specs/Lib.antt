@@ -1,5 +1,10 @@
-pub mod Walk
-pub mod Values
-pub mod Names
-pub mod Accepted
-pub mod Document
+pub mod Bus
+pub mod Hosts
+pub mod Entries
+pub mod Clocks
+pub mod Faults
+pub mod Links
+pub mod Says
+pub mod Reading
+pub mod Rules
+pub mod Acceptance

@@ -1,15 +1,7 @@
-//! Scenarios: what a bus is to be run on, read from a TOML document.
+//! Scenarios: a bus and what happens to it, read from a TOML document.
 #![tactic(auto)]
 
-mod accepted;
-pub mod document;
-mod names;
-pub mod scenario;
-mod values;
-mod walk;
+pub mod bus;
+pub mod refusal;
 
-pub use document::read;
-pub use scenario::{Refusal, Scenario};
-
-#[cfg(test)]
-mod tests;
+pub use refusal::Refusal;
