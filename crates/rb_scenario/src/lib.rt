@@ -2,6 +2,7 @@
 #![tactic(auto)]
 
 pub mod bus;
+mod hosts;
 pub mod refusal;
 
 pub use refusal::Refusal;
