@@ -1,5 +1,5 @@
 //! Steps through a TOML document.
-ghost use Rattle.std.specs.Prelude.{◌≡◌, Bool, option_map};
+ghost use Rattle.std.specs.Prelude.{◌≡◌, Bool, option_map, option_to_list};
 ghost use Rattle.std.specs.List.{list_all, list_any};
 ghost use Rattle.toml.specs.Data.{Data, Members, as_table, get_member};
 ghost use Rattle.toml.specs.View.{view, table_view, array_view};
@@ -109,5 +109,40 @@ pub fn any_entry<T: EntryTest>(test: &T, value: Option<&Value>) -> bool
             None => false,
         },
         None => false,
+    }
+}
+
+// Whether a value is no table, or passes the test.
+fn unless_table<T: EntryTest>(test: &T, value: &Value) -> bool
+    ensures { result ≡ list_all (T.holds test.now) (option_to_list (as_table (view value.now))) }
+{
+    match value.as_table() {
+        Some(entry) => test.test(entry),
+        None => true,
+    }
+}
+
+// Whether each table of an array passes the test.
+fn every_table<T: EntryTest>(test: &T, values: &Array) -> bool
+    ensures { result ≡ list_all (T.holds test.now) (tables_in (array_view values.now)) }
+{
+    for value in values {
+        if !unless_table(test, value) {
+            return false;
+        }
+    }
+    true
+}
+
+/// Whether each entry passes the test: each table of the array that the value is.
+pub fn every_entry<T: EntryTest>(test: &T, value: Option<&Value>) -> bool
+    ensures { result ≡ list_all (T.holds test.now) (entries_in (option_map (λ x. view x.now) value.entry)) }
+{
+    match value {
+        Some(value) => match value.as_array() {
+            Some(values) => every_table(test, values),
+            None => true,
+        },
+        None => true,
     }
 }

@@ -1,1 +1,2 @@
 pub mod BusParts
+pub mod EntryParts

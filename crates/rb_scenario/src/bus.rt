@@ -1,5 +1,6 @@
 //! What the root of a document says of the bus: its size, its number of frames and its plan.
-ghost use Rattle.std.specs.Prelude.{◌≡◌, ◌≤◌, true, option_map};
+ghost use Rattle.std.specs.Prelude.{◌≡◌, ◌≤◌, ◌<◌, ◌-◌, ◌^◌, true, option_map};
+ghost use Rattle.rb_base.specs.Sizes.{sync_slot_of};
 ghost use Rattle.toml.specs.View.{view, table_view};
 ghost use Rattle.rb_scenario.specs.Bus.{bus_in, bus_of, has_bus, has_plan, has_sizes, has_units, has_version, has_windows, in_plan, may_plan, plan_of, planned, sizes_of, version_of};
 
@@ -17,6 +18,22 @@ pub struct Bus {
     pub shape: Shape,
     pub frames: u32,
     pub plan: Plan,
+}
+
+/// The number of the last frame.
+pub(crate) fn last_frame(bus: &Bus) -> u64
+    ensures value { result ≡ bus.now.frames - 1 }
+    ensures small { result < 2 ^ 32 }
+{
+    u64::from(bus.frames.saturating_sub(1))
+}
+
+/// The number of the sync slot.
+pub(crate) fn sync_slot(bus: &Bus) -> u64
+    ensures value { result ≡ sync_slot_of bus.now.shape }
+    ensures small { result < 2 ^ 16 }
+{
+    u64::from(bus.shape.sync_slot())
 }
 
 /// What stands at a key of the plan.

@@ -3,6 +3,7 @@
 
 pub mod bus;
 mod hosts;
+mod links;
 pub mod refusal;
 
 pub use refusal::Refusal;
