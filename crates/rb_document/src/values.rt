@@ -145,6 +145,26 @@ pub fn range_at(table: &Table, key: &str, low: u64, high: u64) -> (u64, u64)
     }
 }
 
+/// The pair at a key; zeros where none stands there.
+pub fn pair_at(table: &Table, key: &str) -> (u64, u64)
+    ensures { result ≡ range_at key.now (0, 0) (table_view table.now) }
+{
+    match member(table, key) {
+        Some(value) => pair(value),
+        None => (0, 0),
+    }
+}
+
+/// The pair at a key, which stands there within the bounds.
+pub fn range_there(table: &Table, key: &str, low: u64, high: u64) -> (u64, u64)
+    requires { has_range key.now low high (table_view table.now) ≡ true }
+    ensures value { result ≡ range_at key.now (0, 0) (table_view table.now) }
+    ensures first { (low ≤ result.0) × (result.0 ≤ result.1) }
+    ensures last { result.1 ≤ high }
+{
+    pair_at(table, key)
+}
+
 /// Whether an array of so many items that pass stands at a key, or nothing.
 pub fn may_have_list<T: Test>(table: &Table, key: &str, count: u8, test: &T) -> bool
     ensures { result ≡ may_have_list key.now count (T.holds test.now) (table_view table.now) }

@@ -1,11 +1,13 @@
 -- The parts of what is tested at an entry.
-use Rattle.std.proofs.Common.{◌≡◌, ◌-◌, true, codes}
+use Rattle.std.proofs.Common.{◌≡◌, ◌-◌, Bool, true, ◌&&◌, codes, Option, Some, None}
 use Rattle.std.proofs.lemmas.Bool.{and_parts}
-use Rattle.toml.specs.Data.{Members}
+use Rattle.toml.specs.Data.{Data, Members, get_member}
 use Rattle.rb_base.specs.Sizes.{sync_slot_of}
-use Rattle.rb_document.specs.Values.{has_number, may_have_range}
+use Rattle.rb_document.specs.Values.{has_number, has_range, is_within, may_have_number, may_have_range}
+use Rattle.rb_document.specs.Walk.{absent_or}
 use Rattle.rb_scenario.specs.declared.bus.Bus.{Bus}
 use Rattle.rb_scenario.specs.Links.{is_link}
+use Rattle.rb_scenario.specs.Says.{has_ranges, has_times, is_say}
 
 pub record LinkParts (bus : Bus) (e : Members) : Type 0 where
   pub delay : has_number (codes "delay") 1 1000000000 e ≡ true
@@ -20,3 +22,33 @@ link_parts bus e h =
     let h2 = and_parts _ _ h3.0 in
     let h1 = and_parts _ _ h2.0 in
     record { delay = h1.1; frames = h2.1; slots = h3.1; stages = h4.1 }
+
+pub record SayParts (bus : Bus) (e : Members) : Type 0 where
+  pub frames : has_range (codes "frames") 0 (bus.frames - 1) e ≡ true
+  pub slots : has_range (codes "slots") 0 (sync_slot_of bus.shape) e ≡ true
+  pub stages : has_range (codes "stages") 1 4 e ≡ true
+  pub offset : may_have_number (codes "offset") 0 4294967295 e ≡ true
+  pub early : may_have_number (codes "early") 0 (bus.plan.u - bus.plan.r - 1) e ≡ true
+
+-- a value that is not there, or passes two tests, passes the first
+absent_or_first : (p q : Data → Bool) (o : Option Data) → absent_or (λ d. p d && q d) o ≡ true → absent_or p o ≡ true
+absent_or_first p q None h = h
+absent_or_first p q (Some d) h = (and_parts _ _ h).0
+
+pub say_parts : (bus : Bus) (e : Members) → is_say bus e ≡ true → SayParts bus e
+unfolding is_say
+say_parts bus e h =
+    let h3 = and_parts _ _ h in
+    let h2 = and_parts _ _ h3.0 in
+    let ranges2 = and_parts _ _ (and_parts _ _ h2.0).1 in
+    let ranges1 = and_parts _ _ ranges2.0 in
+    let times3 = and_parts _ _ h2.1 in
+    let times2 = and_parts _ _ times3.0 in
+    let times1 = and_parts _ _ times2.0 in
+    record {
+      frames = ranges1.0;
+      slots = ranges1.1;
+      stages = ranges2.1;
+      offset = absent_or_first (is_within 0 4294967295) _ (get_member (codes "offset") e) times1.1;
+      early = times2.1;
+    }

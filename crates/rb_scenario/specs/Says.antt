@@ -1,13 +1,12 @@
 -- Say entries: what nodes that are not good say.
-use Rattle.std.specs.Prelude.{ℕ, pos, ◌+◌, ◌-◌, Bool, true, false, ◌&&◌, ◌||◌, ◌==◌, nat_le, nat_lt, List, [], ◌∷◌, map, length, Option, Some, None, option_map, option_and_then, is_some, unwrap_or, Result, Ok, Err, codes, if◌then◌else◌}
-use Rattle.std.specs.List.{list_all, range_with_len}
-use Rattle.std.specs.Option.{option_or}
+use Rattle.std.specs.Prelude.{ℕ, pos, ◌+◌, ◌-◌, Bool, true, false, not, ◌&&◌, ◌||◌, ◌==◌, nat_le, nat_lt, List, [], ◌∷◌, map, length, Option, Some, None, option_map, option_and_then, is_some, unwrap_or, Result, Ok, Err, codes, if◌then◌else◌}
 use Rattle.hex.specs.Hex.{decode_of}
 use Rattle.toml.specs.Data.{Data, string, integer, boolean, Members, get_member}
 use Rattle.rb_base.specs.Counting.{count_if}
 use Rattle.rb_base.specs.Sizes.{sync_slot_of}
 use Rattle.rb_base.specs.declared.node.NodeName.{NodeName}
 use Rattle.rb_base.specs.declared.node.NodeName.TheVariants.{Biu}
+use Rattle.rb_rules.specs.Links.{is_within as is_between}
 use Rattle.rb_rules.specs.declared.link.Pattern.TheVariants.{One}
 use Rattle.rb_rules.specs.declared.plan.Plan.{Plan}
 use Rattle.rb_rules.specs.declared.say.Content.{Content}
@@ -45,24 +44,28 @@ ticks_in_sync plan stage =
     if stage == 1 then plan.l
     else (if stage == 2 then plan.v else (if stage == 3 then plan.z else plan.v + plan.z + plan.c))
 
+-- the offset lies in the window of this stage of the sync slot, where the range has the stage
+abbrev pub lies_in_stage : Plan → ℕ × ℕ → ℕ → ℕ → Bool
+lies_in_stage plan stages offset stage = not (is_between stages stage) || nat_lt offset (ticks_in_sync plan stage)
+
 -- the offset lies in every window of the ranges: in those below the sync slot, and in the sync slot's
 abbrev pub lies_in_all : Plan → ℕ → ℕ × ℕ → ℕ × ℕ → ℕ → Bool
 lies_in_all plan sync slots stages offset =
     (nat_le sync slots.0 || nat_lt offset plan.l)
     && (nat_lt slots.1 sync
-    || list_all (λ stage. nat_lt offset (ticks_in_sync plan stage)) (range_with_len stages.0 (stages.1 + 1 - stages.0)))
+    || lies_in_stage plan stages offset 1 && lies_in_stage plan stages offset 2
+    && lies_in_stage plan stages offset 3 && lies_in_stage plan stages offset 4)
 
 -- the value is such an offset
-abbrev pub is_offset : Bus → Members → Data → Bool
-is_offset bus e d =
-    is_within 0 4294967295 d
-    && lies_in_all bus.plan (sync_slot_of bus.shape) (slots_of e) (stages_of e) (number_or 0 (Some d))
+abbrev pub is_offset : Plan → ℕ → ℕ × ℕ → ℕ × ℕ → Data → Bool
+is_offset plan sync slots stages d =
+    is_within 0 4294967295 d && lies_in_all plan sync slots stages (number_or 0 (Some d))
 
 -- when it comes: in the tail or early only in the sync slot
 abbrev pub has_times : Bus → Members → Bool
 has_times bus e =
     (nat_le (stages_of e).1 3 || is_sync_alone (sync_slot_of bus.shape) (slots_of e))
-    && absent_or (is_offset bus e) (get_member (codes "offset") e)
+    && absent_or (is_offset bus.plan (sync_slot_of bus.shape) (slots_of e) (stages_of e)) (get_member (codes "offset") e)
     && may_have_number (codes "early") 0 (bus.plan.u - bus.plan.r - 1) e
     && ((number_at (codes "early") 0 e == 0) || is_sync_alone (sync_slot_of bus.shape) (slots_of e))
 
@@ -89,13 +92,18 @@ raw_in _ = None
 abbrev pub content_keys : List (List ℕ)
 content_keys = codes "word" ∷ codes "fault" ∷ codes "sync" ∷ codes "raw" ∷ []
 
--- what stands at the first of the four keys that is there
+-- what a value means, where one is there, and else what comes next
+abbrev pub meant : (Data → Option Content) → Option Data → Option Content → Option Content
+meant meaning None next = next
+meant meaning (Some d) next = meaning d
+
+-- what the first of the four that is there means
 abbrev pub content_there : Members → Option Content
 content_there e =
-    option_or (option_and_then word_in (get_member (codes "word") e))
-    (option_or (option_and_then (marked Fault) (get_member (codes "fault") e))
-    (option_or (option_and_then (marked Sync) (get_member (codes "sync") e))
-    (option_and_then raw_in (get_member (codes "raw") e))))
+    meant word_in (get_member (codes "word") e)
+    (meant (marked Fault) (get_member (codes "fault") e)
+    (meant (marked Sync) (get_member (codes "sync") e)
+    (meant raw_in (get_member (codes "raw") e) None)))
 
 -- what an entry says: exactly one of the four
 unfoldable pub content_in : Members → Option Content

@@ -5,5 +5,6 @@ pub mod bus;
 mod hosts;
 mod links;
 pub mod refusal;
+mod says;
 
 pub use refusal::Refusal;
