@@ -1,12 +1,18 @@
 -- Names of nodes: what an index below 16 looks like in decimal, and that each name has one index.
-use Rattle.std.proofs.Common.{◌≡◌, ℕ, ◌+◌, ◌-◌, ◌/◌, ◌%◌, ◌<◌, ◌≤◌, ◌≢◌, ◌⊎◌, inl, inr, zero, suc, List, [], ◌∷◌, length, get_or, take, drop, decimal, IfSome, IfNone, refl, sym, ap, subst, ◌∙◌, arith, Option, Some, None, Bool, true, false}
+use Rattle.std.proofs.Common.{◌≡◌, ℕ, ◌+◌, ◌-◌, ◌/◌, ◌%◌, ◌<◌, ◌≤◌, ◌≢◌, ◌⊎◌, inl, inr, zero, suc, List, [], ◌∷◌, length, get_or, take, drop, decimal, IfSome, IfNone, refl, sym, ap, subst, ◌∙◌, arith, Option, Some, None, Bool, true, false, cond}
 use Rattle.std.proofs.lemmas.Bool.{cases_lt}
 use Rattle.std.proofs.lemmas.Fmt.{decimal_digit, decimal_step, decimal_injective}
 use Rattle.std.proofs.lemmas.List.{take_rest}
 use Rattle.std.proofs.lemmas.Slice.Eq.{bytes_eq-Decides}
 use Rattle.std.specs.List.{find, range_with_len}
 use Rattle.std.specs.Str.{bytes_eq}
-use Rattle.rb_document.specs.Names.{indexed, named}
+use Rattle.std.specs.Prelude.{option_map}
+use Rattle.std.specs.Option.{option_or}
+use Rattle.toml.specs.Data.{Data, Members, string, integer, float, boolean, datetime, array, table, get_member}
+use Rattle.rb_base.specs.Sizes.{Sizes}
+use Rattle.rb_base.specs.declared.node.NodeName.{NodeName}
+use Rattle.rb_base.specs.declared.node.NodeName.TheVariants.{Biu, Rmu}
+use Rattle.rb_document.specs.Names.{IsNumbered, biu_letter, indexed, named, node_at, node_named, rmu_letter, text_or_none}
 
 -- two digits from 10 on
 pub decimal_two_digits : (i : ℕ) → 10 ≤ i → i < 16 → decimal i ≡ 49 ∷ (38 + i) ∷ []
@@ -103,3 +109,42 @@ named-spelled letter count text None few long first some none =
 pub named-other : (letter count : ℕ) (text : List ℕ) → (1 ≤ length text → get_or text 0 0 ≢ letter) → None ≡ named letter count text
 named-other letter count [] h = sym (named-none letter count [] (λ i small e. cc))
 named-other letter count (x ∷ xs) h = sym (named-none letter count (x ∷ xs) (λ i small e. h (omega arith) cc))
+
+-- a number that a text names is below the count
+find-range_lt : (p : ℕ → Bool) (a n i : ℕ) → find p (range_with_len a n) ≡ Some i → i < a + n
+find-range_lt p a zero i h = cc
+find-range_lt p a (suc n) i h =
+    let go : (b : Bool) → p a ≡ b → i < a + suc n = λ b. elim b as (λ b. p a ≡ b → i < a + suc n) [
+      | true ↦ λ e. let same : Some a ≡ Some i = sym (ap (λ b. cond b (Some a) (find p (range_with_len (a + 1) n))) e) ∙ h in let is : a ≡ i = cc in omega arith
+      | false ↦ λ e. let later : find p (range_with_len (a + 1) n) ≡ Some i = sym (ap (λ b. cond b (Some a) (find p (range_with_len (a + 1) n))) e) ∙ h in let below = find-range_lt p (a + 1) n i later in omega arith
+    ] in go (p a) refl
+
+pub named-lt : (letter count i : ℕ) (text : List ℕ) → named letter count text ≡ Some i → i < count
+unfolding named
+named-lt letter count i text h = let below = find-range_lt (λ j. bytes_eq text (indexed letter j)) 0 count i h in omega arith
+
+-- the node that is named has a number that a node may have
+one_of : (b r : Option ℕ) → ((i : ℕ) → b ≡ Some i → i < 16) → ((i : ℕ) → r ≡ Some i → i < 16)
+    → (n : NodeName) → option_or (option_map Biu b) (option_map Rmu r) ≡ Some n → IsNumbered n
+one_of (Some i) r hb hr n e = let is : Biu i ≡ n = cc in subst IsNumbered is (hb i refl)
+one_of None (Some i) hb hr n e = let is : Rmu i ≡ n = cc in subst IsNumbered is (hr i refl)
+one_of None None hb hr n e = cc
+
+node_named-IsNumbered : (sizes : Sizes) → sizes.bius ≤ 16 → sizes.rmus ≤ 16 → (text : List ℕ) (n : NodeName) → node_named sizes text ≡ Some n → IsNumbered n
+node_named-IsNumbered sizes bius rmus text n e =
+    one_of (named biu_letter sizes.bius text) (named rmu_letter sizes.rmus text)
+    (λ i h. let below = named-lt biu_letter sizes.bius i text h in omega arith)
+    (λ i h. let below = named-lt rmu_letter sizes.rmus i text h in omega arith) n e
+
+in_text : (sizes : Sizes) → sizes.bius ≤ 16 → sizes.rmus ≤ 16 → (o : Option Data) (n : NodeName) → text_or_none (node_named sizes) o ≡ Some n → IsNumbered n
+in_text sizes bius rmus (Some (string text)) n e = node_named-IsNumbered sizes bius rmus text n e
+in_text sizes bius rmus (Some (integer d)) n e = cc
+in_text sizes bius rmus (Some (float d)) n e = cc
+in_text sizes bius rmus (Some (boolean d)) n e = cc
+in_text sizes bius rmus (Some (datetime d)) n e = cc
+in_text sizes bius rmus (Some (array d)) n e = cc
+in_text sizes bius rmus (Some (table d)) n e = cc
+in_text sizes bius rmus None n e = cc
+
+pub node_at-IsNumbered : (sizes : Sizes) → sizes.bius ≤ 16 → sizes.rmus ≤ 16 → (key : List ℕ) (t : Members) (n : NodeName) → node_at sizes key t ≡ Some n → IsNumbered n
+node_at-IsNumbered sizes bius rmus key t n e = in_text sizes bius rmus (get_member key t) n e

@@ -1,5 +1,5 @@
 -- Names of nodes: B for a BIU or R for an RMU, and the node's number in decimal without leading zero.
-use Rattle.std.specs.Prelude.{ℕ, List, ◌∷◌, Bool, true, false, not, ◌&&◌, Option, Some, None, option_map, decimal, codes, if◌then◌else◌}
+use Rattle.std.specs.Prelude.{ℕ, ◌<◌, List, ◌∷◌, Bool, true, false, not, ◌&&◌, Option, Some, None, option_map, decimal, codes, if◌then◌else◌}
 use Rattle.std.specs.List.{find}
 use Rattle.std.specs.Option.{option_or}
 use Rattle.std.specs.Str.{bytes_eq}
@@ -32,6 +32,11 @@ abbrev pub node_named : Sizes → List ℕ → Option NodeName
 node_named sizes text =
     option_or (option_map Biu (named biu_letter sizes.bius text)) (option_map Rmu (named rmu_letter sizes.rmus text))
 
+-- the node's number is one that a node may have
+abbrev pub IsNumbered : NodeName → Type 0
+IsNumbered (Biu i) = i < 16
+IsNumbered (Rmu i) = i < 16
+
 -- the nodes that the text names: one, all BIUs or all RMUs
 abbrev pub pattern_named : Sizes → List ℕ → Option Pattern
 pattern_named sizes text =
@@ -39,7 +44,7 @@ pattern_named sizes text =
     else (if bytes_eq text (codes "R") then Some AllRmu else option_map One (node_named sizes text))
 
 -- what the name at a key stands for
-abbrev text_or_none : {X : Type 0} → (List ℕ → Option X) → Option Data → Option X
+abbrev pub text_or_none : {X : Type 0} → (List ℕ → Option X) → Option Data → Option X
 text_or_none meaning (Some (string text)) = meaning text
 text_or_none meaning _ = None
 

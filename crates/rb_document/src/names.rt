@@ -1,7 +1,7 @@
 //! Names of nodes: B for a BIU or R for an RMU, and the node's number in decimal without leading zero.
 ghost use Rattle.std.specs.Prelude.{ℕ, ◌≡◌, ◌≢◌, ◌<◌, ◌≤◌, IfNone, IfSome, decimal};
 ghost use Rattle.toml.specs.View.{table_view};
-ghost use Rattle.rb_document.specs.Names.{is_of_bius, named, node_at, node_named, pattern_at, pattern_named};
+ghost use Rattle.rb_document.specs.Names.{IsNumbered, is_of_bius, named, node_at, node_named, pattern_at, pattern_named};
 
 use crate::walk::member;
 use rb_base::{NodeName, Shape};
@@ -35,7 +35,8 @@ fn spelled_below(count: u8, digits: &[u8]) -> Option<u8>
 /// The number below the count that stands behind the letter in the text.
 fn named(letter: u8, count: u8, text: &str) -> Option<u8>
     requires { count ≤ 16 }
-    ensures { result ≡ named letter count text.now }
+    ensures value { result ≡ named letter count text.now }
+    ensures below { IfSome result (λ i. i < count) }
 {
     match text.as_bytes() {
         [first, digits @ ..] if *first == letter => spelled_below(count, digits),
@@ -45,7 +46,8 @@ fn named(letter: u8, count: u8, text: &str) -> Option<u8>
 
 /// The node of the bus that the text names.
 pub fn node_named(shape: &Shape, text: &str) -> Option<NodeName>
-    ensures { result ≡ node_named shape.now text.now }
+    ensures value { result ≡ node_named shape.now text.now }
+    ensures numbered { IfSome result IsNumbered }
 {
     match named(b'B', shape.biu(), text) {
         Some(index) => Some(NodeName::Biu(index)),
@@ -68,7 +70,8 @@ pub fn pattern_named(shape: &Shape, text: &str) -> Option<Pattern>
 
 /// The node that the text at a key names.
 pub fn node_at(shape: &Shape, table: &Table, key: &str) -> Option<NodeName>
-    ensures { result ≡ node_at shape.now key.now (table_view table.now) }
+    ensures value { result ≡ node_at shape.now key.now (table_view table.now) }
+    ensures numbered { IfSome result IsNumbered }
 {
     match member(table, key) {
         Some(value) => match value.as_str() {

@@ -1,2 +1,4 @@
 pub mod BusParts
 pub mod EntryParts
+pub mod Distinct
+pub mod Finding

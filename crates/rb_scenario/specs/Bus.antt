@@ -1,7 +1,8 @@
 -- What the root of a document says of the bus: its size, its number of frames and its plan.
-use Rattle.std.specs.Prelude.{ℕ, ◌-◌, Bool, true, false, ◌&&◌, ◌||◌, ◌==◌, nat_le, List, Option, Some, None, option_and_then, codes, if◌then◌else◌}
+use Rattle.std.specs.Prelude.{ℕ, ◌-◌, ◌≤◌, Bool, true, false, ◌&&◌, ◌||◌, ◌==◌, nat_le, List, Option, Some, None, option_and_then, codes, if◌then◌else◌}
 use Rattle.toml.specs.Data.{Data, Members, get, get_member}
-use Rattle.rb_base.specs.Sizes.{Sizes}
+use Rattle.rb_base.specs.Sizes.{IsShape, Sizes}
+use Rattle.rb_rules.specs.Plan.{IsPlan}
 use Rattle.rb_rules.specs.declared.message.Version.{Version}
 use Rattle.rb_rules.specs.declared.message.Version.TheVariants.{One, Two}
 use Rattle.rb_rules.specs.declared.plan.Plan.{Plan}
@@ -80,3 +81,9 @@ bus_of t = record { shape = sizes_of t; frames = number_at (codes "frames") 0 t;
 
 abbrev pub bus_in : Members → Option Bus
 bus_in t = if has_bus t then Some (bus_of t) else None
+
+-- what holds of the bus of every document in range
+pub record IsBus (bus : Bus) : Type 0 where
+  pub shape : IsShape bus.shape
+  pub frames : (1 ≤ bus.frames) × (bus.frames ≤ 4096)
+  pub plan : IsPlan bus.plan

@@ -5,8 +5,10 @@ use Rattle.toml.specs.Data.{Data, array, Items, no_items, item, Members, no_memb
 use Rattle.rb_base.specs.Counting.{numbers}
 use Rattle.rb_base.specs.Sizes.{Sizes}
 use Rattle.rb_base.specs.declared.node.NodeName.{NodeName}
-use Rattle.rb_base.specs.declared.node.NodeName.TheVariants.{Biu, Rmu}
+use Rattle.rb_base.specs.Nodes.{Side}
+use Rattle.rb_base.specs.Nodes.Side.{Biu, Rmu}
 use Rattle.rb_rules.specs.Clock.{Timeline}
+use Rattle.rb_rules.specs.Links.{name_of}
 use Rattle.rb_document.specs.Forms.{is_array_of}
 use Rattle.rb_document.specs.Names.{node_at}
 use Rattle.rb_document.specs.Values.{is_within, may_have_number, number_at, pair_of}
@@ -47,9 +49,10 @@ timeline_of u e =
 abbrev pub clock_for : Bus → Members → NodeName → Timeline
 clock_for bus t name = timeline_of bus.plan.u (unwrap_or (entry_for bus.shape (entries_at (codes "clock") t) name) no_members)
 
--- the nodes of a bus, BIUs first
-abbrev pub nodes_of : Sizes → List NodeName
-nodes_of sizes = map Biu (numbers sizes.bius) ++ map Rmu (numbers sizes.rmus)
+-- the clocks of the first nodes of a kind
+abbrev pub kind_clocks : Side → ℕ → Bus → Members → List Timeline
+kind_clocks side count bus t = map (λ i. clock_for bus t (name_of side i)) (numbers count)
 
+-- the clocks of all nodes, BIUs first
 unfoldable pub clocks_of : Bus → Members → List Timeline
-clocks_of bus t = map (clock_for bus t) (nodes_of bus.shape)
+clocks_of bus t = kind_clocks Biu bus.shape.bius bus t ++ kind_clocks Rmu bus.shape.rmus bus t

@@ -3,8 +3,10 @@ use Rattle.std.specs.Prelude.{ℕ, ◌-◌, Bool, true, false, ◌&&◌, List, m
 use Rattle.std.specs.List.{list_all}
 use Rattle.toml.specs.Data.{Members}
 use Rattle.rb_base.specs.Counting.{numbers}
+use Rattle.rb_base.specs.Nodes.{Side}
 use Rattle.rb_base.specs.Sizes.{sync_slot_of}
 use Rattle.rb_base.specs.declared.node.NodeName.{NodeName}
+use Rattle.rb_rules.specs.Links.{name_of}
 use Rattle.rb_document.specs.Names.{node_at}
 use Rattle.rb_document.specs.Values.{has_number, number_at}
 use Rattle.rb_document.specs.Walk.{entries_at}
@@ -31,5 +33,5 @@ abbrev pub onset_for : Bus → Members → NodeName → Option (ℕ × ℕ)
 onset_for bus t name = option_map onset_of (entry_for bus.shape (entries_at (codes "fault") t) name)
 
 -- of 16 nodes of a kind
-unfoldable pub onsets_of : (ℕ → NodeName) → Bus → Members → List (Option (ℕ × ℕ))
-onsets_of node bus t = map (λ i. onset_for bus t (node i)) (numbers 16)
+unfoldable pub onsets_of : Side → Bus → Members → List (Option (ℕ × ℕ))
+onsets_of side bus t = map (λ i. onset_for bus t (name_of side i)) (numbers 16)

@@ -1,10 +1,12 @@
 pub mod Bus
 pub mod Hosts
 pub mod Entries
+pub mod Seen
 pub mod Clocks
 pub mod Faults
 pub mod Links
 pub mod Says
+pub mod Outcome
 pub mod Reading
 pub mod Rules
 pub mod Acceptance

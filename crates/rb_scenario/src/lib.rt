@@ -2,6 +2,9 @@
 #![tactic(auto)]
 
 pub mod bus;
+mod clocks;
+mod entries;
+mod faults;
 mod hosts;
 mod links;
 pub mod refusal;
