@@ -1,6 +1,7 @@
 //! Clock entries: the clocks of some nodes.
-ghost use Rattle.std.specs.Prelude.{◌≡◌, [], ◌∷◌, ◌++◌, ◌⊎◌, true, false, codes, map, IfErr, IfOk, OnOk, option_map};
+ghost use Rattle.std.specs.Prelude.{◌≡◌, [], ◌∷◌, ◌++◌, ◌⊎◌, ◌≤◌, true, false, codes, map, IfErr, IfOk, OnOk, option_map};
 ghost use Rattle.std.specs.List.{list_all};
+ghost use Rattle.toml.specs.Data.{no_members};
 ghost use Rattle.toml.specs.View.{view, table_view, array_view};
 ghost use Rattle.rb_base.specs.Nodes.{side_of};
 ghost use Rattle.rb_base.specs.Sizes.{IsShape};
@@ -134,4 +135,116 @@ fn whole_run(alloc: Global, unit: u32) -> Result<Vec<(u64, u32)>, AllocError>
     let mut segments = Vec::new(alloc);
     segments.push((0, unit))?;
     Ok(segments)
+}
+
+/// The clock with these segments. `ClockBounds` comes exactly where it does not keep the plan's time.
+fn make_clock(
+    alloc: Global,
+    bus: &Bus,
+    start: u64,
+    segments: &[(u64, u32)],
+) -> Result<Clock, Refusal>
+    requires start { start ≤ 1000000000000 }
+    requires plan { IsPlan bus.now.plan }
+    ensures clock { IfOk result (λ c. c ≡ record { start = start; segments = segments.now }) }
+    ensures kept { IfOk result (λ c. keeps_time bus.now.plan c ≡ true) }
+    ensures refused { IfErr result (IsRefusalBy Refusal.ClockBounds
+        (keeps_time bus.now.plan (record { start = start; segments = segments.now }))) }
+{
+    match Clock::new(alloc, start, segments, bus.plan.u, bus.plan.r) {
+        Ok(clock) => Ok(clock),
+        Err(ClockRefusal::NotRising) => Err(Refusal::ClockBounds),
+        Err(ClockRefusal::TickOutOfBounds) => Err(Refusal::ClockBounds),
+        Err(ClockRefusal::OutOfMemory) => Err(Refusal::OutOfMemory),
+    }
+}
+
+/// The clock of an entry.
+fn clock_of(alloc: Global, bus: &Bus, entry: &Table) -> Result<Clock, Refusal>
+    requires plan { IsPlan bus.now.plan }
+    requires entry { is_clock bus.now.shape (table_view entry.now) ≡ true }
+    ensures clock { IfOk result (λ c. c ≡ timeline_of bus.now.plan.u (table_view entry.now)) }
+    ensures kept { IfOk result (λ c. keeps_time bus.now.plan c ≡ true) }
+    ensures refused { IfErr result (IsRefusalBy Refusal.ClockBounds
+        (keeps_time bus.now.plan (timeline_of bus.now.plan.u (table_view entry.now)))) }
+{
+    let start = number_else(entry, "start", 0, 0, 1000000000000);
+    let segments = segments_in(alloc, bus.plan.u, member(entry, "ticks"))?;
+    make_clock(alloc, bus, start, &segments)
+}
+
+/// The clock of a node that has no entry.
+fn plain_clock(alloc: Global, bus: &Bus) -> Result<Clock, Refusal>
+    requires { IsPlan bus.now.plan }
+    ensures clock { IfOk result (λ c. c ≡ timeline_of bus.now.plan.u no_members) }
+    ensures kept { IfOk result (λ c. keeps_time bus.now.plan c ≡ true) }
+    ensures refused { IfErr result (IsRefusalBy Refusal.ClockBounds
+        (keeps_time bus.now.plan (timeline_of bus.now.plan.u no_members))) }
+{
+    let segments = whole_run(alloc, bus.plan.u)?;
+    make_clock(alloc, bus, 0, &segments)
+}
+
+/// The clock of a node.
+fn clock_for(alloc: Global, bus: &Bus, table: &Table, name: NodeName) -> Result<Clock, Refusal>
+    requires plan { IsPlan bus.now.plan }
+    requires entries { list_all (is_clock bus.now.shape) (entries_at (codes "clock") (table_view table.now)) ≡ true }
+    ensures clock { IfOk result (λ c. c ≡ clock_for bus.now (table_view table.now) name) }
+    ensures kept { IfOk result (λ c. keeps_time bus.now.plan c ≡ true) }
+    ensures refused { IfErr result (IsRefusalBy Refusal.ClockBounds
+        (keeps_time bus.now.plan (clock_for bus.now (table_view table.now) name))) }
+{
+    match entry_for(&bus.shape, member(table, "clock"), name) {
+        Some(entry) => clock_of(alloc, bus, entry),
+        None => plain_clock(alloc, bus),
+    }
+}
+
+fn push_clock(clocks: &mut Vec<Clock>, clock: Clock) -> Result<(), AllocError>
+    ensures { OnOk result (clocks.new.items ≡ clocks.old.items ++ clock ∷ []) }
+{
+    clocks.push(clock)?;
+    Ok(())
+}
+
+/// Adds the clocks of the first nodes of a kind.
+fn add_clocks<K: Kind>(
+    alloc: Global,
+    bus: &Bus,
+    table: &Table,
+    count: u8,
+    clocks: &mut Vec<Clock>,
+) -> Result<(), Refusal>
+    requires plan { IsPlan bus.now.plan }
+    requires entries { list_all (is_clock bus.now.shape) (entries_at (codes "clock") (table_view table.now)) ≡ true }
+    ensures clocks { OnOk result (clocks.new.items
+        ≡ clocks.old.items ++ kind_clocks (side_of K.CODE) count bus.now (table_view table.now)) }
+    ensures kept { OnOk result (list_all (keeps_time bus.now.plan)
+        (kind_clocks (side_of K.CODE) count bus.now (table_view table.now)) ≡ true) }
+    ensures refused { IfErr result (IsRefusalBy Refusal.ClockBounds (list_all (keeps_time bus.now.plan)
+        (kind_clocks (side_of K.CODE) count bus.now (table_view table.now)))) }
+{
+    for index in 0..count {
+        match clock_for(alloc, bus, table, name_of::<K>(index)) {
+            Ok(clock) => push_clock(clocks, clock)?,
+            Err(refusal) => return Err(refusal),
+        }
+    }
+    Ok(())
+}
+
+/// The clocks of all nodes, BIUs first. `ClockBounds` comes exactly where one does not keep the plan's time.
+#[tactic(auto, unfolding(crate::specs::Clocks::clocks_of))]
+pub(crate) fn clocks_of(alloc: Global, bus: &Bus, table: &Table) -> Result<Vec<Clock>, Refusal>
+    requires plan { IsPlan bus.now.plan }
+    requires entries { list_all (is_clock bus.now.shape) (entries_at (codes "clock") (table_view table.now)) ≡ true }
+    ensures clocks { IfOk result (λ v. v.items ≡ clocks_of bus.now (table_view table.now)) }
+    ensures kept { IfOk result (λ _. list_all (keeps_time bus.now.plan) (clocks_of bus.now (table_view table.now)) ≡ true) }
+    ensures refused { IfErr result (IsRefusalBy Refusal.ClockBounds
+        (list_all (keeps_time bus.now.plan) (clocks_of bus.now (table_view table.now)))) }
+{
+    let mut clocks = Vec::new(alloc);
+    add_clocks::<Biu>(alloc, bus, table, bus.shape.biu(), &mut clocks)?;
+    add_clocks::<Rmu>(alloc, bus, table, bus.shape.rmu(), &mut clocks)?;
+    Ok(clocks)
 }
