@@ -1,8 +1,9 @@
 //! What the root of a document says of the bus: its size, its number of frames and its plan.
-ghost use Rattle.std.specs.Prelude.{◌≡◌, ◌≤◌, ◌<◌, ◌-◌, ◌^◌, true, option_map};
-ghost use Rattle.rb_base.specs.Sizes.{sync_slot_of};
+ghost use Rattle.std.specs.Prelude.{◌≡◌, ◌≤◌, ◌<◌, ◌-◌, ◌^◌, true, option_map, IfSome};
+ghost use Rattle.rb_base.specs.Sizes.{IsShape, sync_slot_of};
+ghost use Rattle.rb_rules.specs.Plan.{IsPlan};
 ghost use Rattle.toml.specs.View.{view, table_view};
-ghost use Rattle.rb_scenario.specs.Bus.{bus_in, bus_of, has_bus, has_plan, has_sizes, has_units, has_version, has_windows, in_plan, may_plan, plan_of, planned, sizes_of, version_of};
+ghost use Rattle.rb_scenario.specs.Bus.{IsBus, bus_in, bus_of, has_bus, has_plan, has_sizes, has_units, has_version, has_windows, in_plan, may_plan, plan_of, planned, sizes_of, version_of};
 
 use rb_base::Shape;
 use rb_document::values::{
@@ -131,7 +132,8 @@ fn version_of(table: &Table) -> Version
 #[tactic(auto, unfolding(crate::specs::Bus::sizes_of))]
 fn shape_of(table: &Table) -> Shape
     requires { has_sizes (table_view table.now) ≡ true }
-    ensures { result ≡ sizes_of (table_view table.now) }
+    ensures value { result ≡ sizes_of (table_view table.now) }
+    ensures shape { IsShape result }
 {
     let biu = number_at(table, "biu", 1, 16) as u8;
     let rmu = number_at(table, "rmu", 1, 16) as u8;
@@ -146,7 +148,8 @@ fn shape_of(table: &Table) -> Shape
 #[tactic(auto, unfolding(crate::specs::Bus::plan_of))]
 fn plan_of(table: &Table) -> Plan
     requires { has_plan (table_view table.now) ≡ true }
-    ensures { result ≡ plan_of (table_view table.now) }
+    ensures value { result ≡ plan_of (table_view table.now) }
+    ensures plan { IsPlan result }
 {
     let u = planned(table, "u", 10000, 2, 1000000);
     Plan {
@@ -174,7 +177,8 @@ fn has_bus(table: &Table) -> bool
 
 /// The bus that a document is for. None exactly where a number is out of range.
 pub(crate) fn bus_in(table: &Table) -> Option<Bus>
-    ensures { result ≡ bus_in (table_view table.now) }
+    ensures value { result ≡ bus_in (table_view table.now) }
+    ensures bus { IfSome result IsBus }
 {
     if has_bus(table) {
         Some(Bus {

@@ -1,6 +1,7 @@
-use Rattle.std.proofs.Common.{◌≡◌, ◌-◌, ℕ, true, codes, sym, subst}
+use Rattle.std.proofs.Common.{◌≡◌, ◌≤◌, ◌-◌, ℕ, true, arith, codes, sym, subst}
+use Rattle.std.proofs.lemmas.Bool.{leb-true}
 use Rattle.toml.specs.View.{table_view}
-use Rattle.rb_scenario.specs.Bus.{may_plan}
+use Rattle.rb_scenario.specs.Bus.{may_plan, planned}
 use Rattle.rb_scenario.proofs.BusParts.{plan_parts, unit_parts, window_parts}
 use Rattle.rb_scenario.proofs.bus.plan_of.Goals as goal
 
@@ -39,3 +40,23 @@ version_of-requires c = (plan_parts (table_view c.args.table.now) c.requires).ve
 
 pub number_else-requires-clause-stands : goal.number_else-requires-clause-stands
 number_else-requires-clause-stands c = (plan_parts (table_view c.args.table.now) c.requires).probation
+
+pub returns-clause-plan : goal.returns-clause-plan
+returns-clause-plan c =
+    let t = table_view c.args.table.now in
+    let order = leb-true (planned (codes "dmin") 5000 t) (planned (codes "dmax") 15000 t) (unit_parts t (plan_parts t c.requires).units).order in
+    let dmin = c.planned-2.ensures.value in
+    let dmax = c.planned-3.ensures.value in
+    record {
+      u = (c.planned-u.ensures.low, c.planned-u.ensures.high);
+      r = let low = c.planned-u.ensures.low in let high = c.planned.ensures.high in omega arith;
+      dmin = (c.planned-2.ensures.low, omega arith);
+      dmax = c.planned-3.ensures.high;
+      l = (c.planned-4.ensures.low, c.planned-4.ensures.high);
+      h = (c.planned-5.ensures.low, c.planned-5.ensures.high);
+      v = (c.planned-6.ensures.low, c.planned-6.ensures.high);
+      z = (c.planned-7.ensures.low, c.planned-7.ensures.high);
+      c = c.planned-8.ensures.high;
+      p = c.planned-9.ensures.high;
+      probation = c.number_else.ensures.high;
+    }
