@@ -1,5 +1,5 @@
 -- Which documents are accepted, and why one is refused: by the first rule that is broken anywhere.
-use Rattle.std.specs.Prelude.{ℕ, ◌≡◌, Bool, true, false, not, ◌&&◌, ◌==◌, List, [], ◌∷◌, Option, Some, None, is_none, length, IsUtf8, ⊤, codes}
+use Rattle.std.specs.Prelude.{ℕ, ◌≡◌, Bool, true, false, not, ◌&&◌, ◌==◌, List, take, Option, Some, None, is_none, length, IsUtf8, ⊤, codes}
 use Rattle.std.specs.List.{list_all, list_any}
 use Rattle.toml.specs.Data.{Members}
 use Rattle.toml.specs.Parse.{parse_document}
@@ -9,8 +9,9 @@ use Rattle.rb_document.specs.Forms.{has_unknown_key, has_wrong_form, lacks_key}
 use Rattle.rb_document.specs.Walk.{has_key}
 use Rattle.rb_scenario.specs.declared.refusal.Refusal.{Refusal}
 use Rattle.rb_scenario.specs.declared.refusal.Refusal.TheVariants.{NotToml, MissingKey, UnknownKey, WrongType, OutOfRange, PlanFails, ClockBounds, DelayBounds, StartApart, SayOfGood, TooMany, NoSuchNode, OutOfMemory}
+use Rattle.rb_scenario.specs.declared.scenario.Scenario.{Scenario as Accepted}
 use Rattle.rb_scenario.specs.Reading.{is_in_range, scenario_of}
-use Rattle.rb_scenario.specs.Rules.{has_clocks_in_bounds, has_delays_in_bounds, has_faulty_sayers, has_few_entries, has_starts_together}
+use Rattle.rb_scenario.specs.Rules.{are_delays, are_few, are_sayers_faulty, keep_time, start_together}
 
 -- a rule that is kept leaves it to the next ones
 abbrev pub or_else : Bool → Refusal → Option Refusal → Option Refusal
@@ -25,11 +26,11 @@ plan_rule (Some n) next = Some (PlanFails n)
 abbrev pub broken_by : Scenario → Option Refusal
 broken_by sc =
     plan_rule (first_failing sc.sizes sc.plan)
-    (or_else (has_clocks_in_bounds sc) ClockBounds
-    (or_else (has_delays_in_bounds sc) DelayBounds
-    (or_else (has_starts_together sc) StartApart
-    (or_else (has_faulty_sayers sc) SayOfGood
-    (or_else (has_few_entries sc) TooMany
+    (or_else (keep_time sc.plan sc.clocks) ClockBounds
+    (or_else (are_delays sc.plan sc.delays) DelayBounds
+    (or_else (start_together sc.plan.p sc.clocks) StartApart
+    (or_else (are_sayers_faulty sc) SayOfGood
+    (or_else (are_few (length sc.says) (length sc.delays.rules) sc.clocks) TooMany
     None)))))
 
 -- the first rule that a document breaks
@@ -41,16 +42,54 @@ first_broken t =
     (or_else (is_in_range t) OutOfRange
     (broken_by (scenario_of t)))))
 
+-- the document is one that `run` serves: no requests, no application but the first, nothing said, one frame, faults of RMUs
+-- alone and from the start on, and an RMU without one
+abbrev pub is_from_start : Option (ℕ × ℕ) → Bool
+is_from_start None = true
+is_from_start (Some onset) = (onset.0 == 0) && (onset.1 == 0)
+
+abbrev pub is_served : Bool → Scenario → Bool
+is_served has_requests sc =
+    not has_requests && list_all (λ app. app == 0) sc.apps && (length sc.says == 0) && (sc.frames == 1)
+    && list_all is_none sc.biu_onsets && list_all is_from_start sc.rmu_onsets
+    && list_any is_none (take sc.sizes.rmus sc.rmu_onsets)
+
 -- the bytes are the text of the document
 abbrev pub IsDocument : List ℕ → Members → Type 0
 IsDocument bytes t = IsUtf8 bytes × (parse_document bytes ≡ Some t)
 
--- the bytes are the text of a document that breaks no rule, and it says the scenario
-abbrev pub IsAccepted : List ℕ → Scenario → Type 0
-IsAccepted bytes sc = (t : Members) × IsDocument bytes t × (first_broken t ≡ None) × (sc ≡ scenario_of t)
+-- the scenario that an accepted one shows
+abbrev pub shown : Accepted → Scenario
+shown a = record {
+  sizes = a.plan.sizes;
+  plan = a.plan.plan;
+  frames = a.frames;
+  requests = a.requests;
+  words = a.words;
+  apps = a.apps;
+  clocks = a.clocks;
+  delays = a.delays;
+  biu_onsets = a.biu_onset;
+  rmu_onsets = a.rmu_onset;
+  says = a.says;
+}
 
--- why the bytes are refused
+-- the bytes are the text of a document that breaks no rule, and it says the scenario
+pub record IsAccepted (bytes : List ℕ) (a : Accepted) : Type 0 where
+  pub document : Members
+  pub text : IsDocument bytes document
+  pub unbroken : first_broken document ≡ None
+  pub says : shown a ≡ scenario_of document
+  pub served : a.built ≡ is_served (has_key (codes "requests") document) (scenario_of document)
+
+-- the bytes are the text of a document of which this is the first rule that it breaks
+pub record IsBroken (bytes : List ℕ) (why : Refusal) : Type 0 where
+  pub document : Members
+  pub text : IsDocument bytes document
+  pub broken : first_broken document ≡ Some why
+
+-- why the bytes are refused; want of memory may come at any time
 abbrev pub IsRefused : List ℕ → Refusal → Type 0
 IsRefused bytes NotToml = (t : Members) → ¬ IsDocument bytes t
 IsRefused bytes OutOfMemory = ⊤
-IsRefused bytes why = (t : Members) × IsDocument bytes t × (first_broken t ≡ Some why)
+IsRefused bytes why = IsBroken bytes why

@@ -9,4 +9,5 @@ pub mod Says
 pub mod Outcome
 pub mod Reading
 pub mod Rules
+pub mod Onsets
 pub mod Acceptance

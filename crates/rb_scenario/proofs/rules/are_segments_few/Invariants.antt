@@ -1,0 +1,7 @@
+use Rattle.std.proofs.Common.{◌≡◌, ◌-◌, ◌+◌, not, nat_le, drop}
+use Rattle.std.specs.List.{list_all}
+use Rattle.rb_scenario.specs.Rules.{segments_of_all}
+use Rattle.rb_scenario.proofs.rules.are_segments_few.Given as goal
+
+abbrev pub invariant-loop-clock : goal.invariant-loop-clock
+invariant-loop-clock l = l.left + segments_of_all l.clocks ≡ 4096 + segments_of_all (drop l.clock-index l.clocks)
