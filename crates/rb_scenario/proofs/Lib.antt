@@ -2,3 +2,4 @@ pub mod BusParts
 pub mod EntryParts
 pub mod Distinct
 pub mod Finding
+pub mod Chain

@@ -1,5 +1,5 @@
 -- Which documents are accepted, and why one is refused: by the first rule that is broken anywhere.
-use Rattle.std.specs.Prelude.{ℕ, ◌≡◌, Bool, true, false, not, ◌&&◌, ◌==◌, List, take, Option, Some, None, is_none, length, IsUtf8, ⊤, codes}
+use Rattle.std.specs.Prelude.{ℕ, ◌≡◌, ◌⊎◌, Bool, true, false, not, ◌&&◌, ◌==◌, List, take, Option, Some, None, is_none, length, IsUtf8, ⊤, codes}
 use Rattle.std.specs.List.{list_all, list_any}
 use Rattle.toml.specs.Data.{Members}
 use Rattle.toml.specs.Parse.{parse_document}
@@ -42,17 +42,24 @@ first_broken t =
     (or_else (is_in_range t) OutOfRange
     (broken_by (scenario_of t)))))
 
--- the document is one that `run` serves: no requests, no application but the first, nothing said, one frame, faults of RMUs
--- alone and from the start on, and an RMU without one
+-- the onset, if there is one, is at the start
 abbrev pub is_from_start : Option (ℕ × ℕ) → Bool
 is_from_start None = true
 is_from_start (Some onset) = (onset.0 == 0) && (onset.1 == 0)
 
+-- only RMUs are faulty, from the start on, and one of them is not
+abbrev pub are_faults_served : ℕ → List (Option (ℕ × ℕ)) → List (Option (ℕ × ℕ)) → Bool
+are_faults_served rmus biu rmu = list_all is_none biu && list_all is_from_start rmu && list_any is_none (take rmus rmu)
+
+-- `run` serves the scenario: nobody's request was asked for, every application is the first, nothing is said, and there is one frame
 abbrev pub is_served : Bool → Scenario → Bool
 is_served has_requests sc =
-    not has_requests && list_all (λ app. app == 0) sc.apps && (length sc.says == 0) && (sc.frames == 1)
-    && list_all is_none sc.biu_onsets && list_all is_from_start sc.rmu_onsets
-    && list_any is_none (take sc.sizes.rmus sc.rmu_onsets)
+    not has_requests && (sc.frames == 1) && (length sc.says == 0) && list_all (λ app. app == 0) sc.apps
+    && are_faults_served sc.sizes.rmus sc.biu_onsets sc.rmu_onsets
+
+-- the scenario is refused: for want of memory, or by the first rule that it breaks
+abbrev pub IsBrokenBy : Scenario → Refusal → Type 0
+IsBrokenBy sc why = (why ≡ OutOfMemory) ⊎ (broken_by sc ≡ Some why)
 
 -- the bytes are the text of the document
 abbrev pub IsDocument : List ℕ → Members → Type 0

@@ -4,6 +4,7 @@ use Rattle.std.specs.List.{list_all}
 use Rattle.toml.specs.Data.{Members}
 use Rattle.rb_base.specs.Nodes.Side.{Biu, Rmu}
 use Rattle.rb_rules.specs.Goodness.{Scenario}
+use Rattle.rb_rules.specs.Links.{DelayRules}
 use Rattle.rb_rules.specs.declared.plan.Plan.{Plan}
 use Rattle.rb_document.specs.Values.{may_have_number, number_at}
 use Rattle.rb_document.specs.Walk.{entries_at}
@@ -30,6 +31,10 @@ is_in_range t = has_bus t && fits_bus (bus_of t) t
 abbrev pub base_delay_of : Plan → Members → ℕ
 base_delay_of plan t = number_at (codes "delay") ((plan.dmin + plan.dmax) / 2) t
 
+-- how long messages are on their way
+abbrev pub delays_on : Bus → Members → DelayRules
+delays_on bus t = record { base = base_delay_of bus.plan t; rules = rules_of bus t }
+
 -- what a document says of a bus
 abbrev pub scenario_on : Bus → Members → Scenario
 scenario_on bus t = record {
@@ -40,7 +45,7 @@ scenario_on bus t = record {
   words = words_of t;
   apps = apps_of t;
   clocks = clocks_of bus t;
-  delays = record { base = base_delay_of bus.plan t; rules = rules_of bus t };
+  delays = delays_on bus t;
   biu_onsets = onsets_of Biu bus t;
   rmu_onsets = onsets_of Rmu bus t;
   says = says_of bus t;

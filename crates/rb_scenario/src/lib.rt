@@ -7,10 +7,12 @@ mod entries;
 mod faults;
 mod hosts;
 mod links;
+mod reading;
 pub mod refusal;
 mod rules;
 mod says;
 pub mod scenario;
+mod served;
 
 pub use refusal::Refusal;
 pub use scenario::{ClockList, SayList, Scenario};
