@@ -3,6 +3,7 @@
 
 mod bus;
 mod clocks;
+pub mod document;
 mod entries;
 mod faults;
 mod hosts;

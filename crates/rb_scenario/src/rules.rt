@@ -1,5 +1,5 @@
 //! The rules on what a document says.
-ghost use Rattle.std.specs.Prelude.{◌≡◌, ◌-◌, ◌≤◌, ◌&&◌, not, nat_le, nat_lt, None, get_or};
+ghost use Rattle.std.specs.Prelude.{◌≡◌, ◌-◌, ◌≤◌, ◌&&◌, not, nat_le, nat_lt, None, get_or, length};
 ghost use Rattle.std.specs.List.{list_all};
 ghost use Rattle.rb_base.specs.Sizes.{IsShape};
 ghost use Rattle.rb_rules.specs.Goodness.{is_before};
@@ -128,8 +128,8 @@ fn are_segments_few(clocks: &[Clock]) -> bool
 }
 
 /// Whether there are not too many say entries, link entries, and segments of all clocks.
-pub(crate) fn are_few(says: usize, rules: usize, clocks: &[Clock]) -> bool
-    ensures { result ≡ are_few says rules clocks.now }
+pub(crate) fn are_few(says: &[Say], rules: &[Rule], clocks: &[Clock]) -> bool
+    ensures { result ≡ are_few (length says.now) (length rules.now) clocks.now }
 {
-    says <= 1024 && rules <= 4096 && are_segments_few(clocks)
+    says.len() <= 1024 && rules.len() <= 4096 && are_segments_few(clocks)
 }
