@@ -76,38 +76,55 @@ at_end o a b c d e h0 h1 h2 h3 h4 h5 = rw (h0, h1, h2, h3, h4, h5) refl
 
 -- a rule that is broken where those before it are kept
 pub plan_breaks : (sc : Scenario) (n : ℕ) → first_failing sc.sizes sc.plan ≡ Some n → IsBrokenBy sc (PlanFails n)
-unfolding chain
+unfolding chain broken_by
 plan_breaks sc n h = inr (at_plan _ (keep_time sc.plan sc.clocks) (are_delays sc.plan sc.delays) (start_together sc.plan.p sc.clocks) (are_sayers_faulty sc) (are_few (length sc.says) (length sc.delays.rules) sc.clocks) n h)
 
 pub clocks_break : (sc : Scenario) (why : Refusal) → PlanKept sc → IsRefusalBy ClockBounds (keep_time sc.plan sc.clocks) why → IsBrokenBy sc why
-unfolding chain
+unfolding chain broken_by
 clocks_break sc why k r = elim r [
   | inl memory ↦ inl memory
   | inr broken ↦ rw broken.0 (inr (at_clocks _ _ (are_delays sc.plan sc.delays) (start_together sc.plan.p sc.clocks) (are_sayers_faulty sc) (are_few (length sc.says) (length sc.delays.rules) sc.clocks) k.plan broken.1))
 ]
 
 pub delays_break : (sc : Scenario) (why : Refusal) → ClocksKept sc → IsRefusalBy DelayBounds (are_delays sc.plan sc.delays) why → IsBrokenBy sc why
-unfolding chain
+unfolding chain broken_by
 delays_break sc why k r = elim r [
   | inl memory ↦ inl memory
   | inr broken ↦ rw broken.0 (inr (at_delays _ _ _ (start_together sc.plan.p sc.clocks) (are_sayers_faulty sc) (are_few (length sc.says) (length sc.delays.rules) sc.clocks) k.plan k.clocks broken.1))
 ]
 
 pub starts_break : (sc : Scenario) → DelaysKept sc → start_together sc.plan.p sc.clocks ≡ false → IsBrokenBy sc StartApart
-unfolding chain
+unfolding chain broken_by
 starts_break sc k h = inr (at_starts _ _ _ _ (are_sayers_faulty sc) (are_few (length sc.says) (length sc.delays.rules) sc.clocks) k.plan k.clocks k.delays h)
 
 pub says_break : (sc : Scenario) (why : Refusal) → StartsKept sc → IsRefusalBy SayOfGood (are_sayers_faulty sc) why → IsBrokenBy sc why
-unfolding chain
+unfolding chain broken_by
 says_break sc why k r = elim r [
   | inl memory ↦ inl memory
   | inr broken ↦ rw broken.0 (inr (at_says _ _ _ _ _ (are_few (length sc.says) (length sc.delays.rules) sc.clocks) k.plan k.clocks k.delays k.starts broken.1))
 ]
 
 pub few_break : (sc : Scenario) → SaysKept sc → are_few (length sc.says) (length sc.delays.rules) sc.clocks ≡ false → IsBrokenBy sc TooMany
-unfolding chain
+unfolding chain broken_by
 few_break sc k h = inr (at_few _ _ _ _ _ _ k.plan k.clocks k.delays k.starts k.says h)
 
 pub none_breaks : (sc : Scenario) → AllKept sc → broken_by sc ≡ None
-unfolding chain
+unfolding chain broken_by
 none_breaks sc k = at_end _ _ _ _ _ _ k.plan k.clocks k.delays k.starts k.says k.few
+
+-- where no rule is broken, all are kept
+all_from_end : (o : Option ℕ) (a b c d e : Bool) → chain o a b c d e ≡ None
+    → (o ≡ None) × (a ≡ true) × (b ≡ true) × (c ≡ true) × (d ≡ true) × (e ≡ true)
+unfolding chain
+all_from_end (Some n) a b c d e h = cc
+all_from_end None false b c d e h = cc
+all_from_end None true false c d e h = cc
+all_from_end None true true false d e h = cc
+all_from_end None true true true false e h = cc
+all_from_end None true true true true false h = cc
+all_from_end None true true true true true h = (refl, refl, refl, refl, refl, refl)
+
+pub kept_from_none : (sc : Scenario) → broken_by sc ≡ None → AllKept sc
+unfolding chain broken_by
+kept_from_none sc h =
+    let k = all_from_end _ _ _ _ _ _ h in record { plan = k.0; clocks = k.1; delays = k.2; starts = k.3; says = k.4; few = k.5 }

@@ -68,6 +68,7 @@ pub record FitParts (bus : Bus) (t : Members) : Type 0 where
   pub says : list_all (is_say bus) (entries_at (codes "say") t) ≡ true
 
 pub fit_parts : (bus : Bus) (t : Members) → fits_bus bus t ≡ true → FitParts bus t
+unfolding fits_bus
 fit_parts bus t h =
     let h5 = and_parts _ _ h in
     let h4 = and_parts _ _ h5.0 in

@@ -3,3 +3,4 @@ pub mod EntryParts
 pub mod Distinct
 pub mod Finding
 pub mod Chain
+pub mod First

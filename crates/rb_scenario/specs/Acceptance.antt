@@ -23,7 +23,7 @@ plan_rule None next = next
 plan_rule (Some n) next = Some (PlanFails n)
 
 -- the first rule on a scenario that is broken
-abbrev pub broken_by : Scenario → Option Refusal
+unfoldable pub broken_by : Scenario → Option Refusal
 broken_by sc =
     plan_rule (first_failing sc.sizes sc.plan)
     (or_else (keep_time sc.plan sc.clocks) ClockBounds
@@ -34,7 +34,7 @@ broken_by sc =
     None)))))
 
 -- the first rule that a document breaks
-abbrev pub first_broken : Members → Option Refusal
+unfoldable pub first_broken : Members → Option Refusal
 first_broken t =
     or_else (not (lacks_key t)) MissingKey
     (or_else (not (has_unknown_key t)) UnknownKey
@@ -81,13 +81,17 @@ shown a = record {
   says = a.says;
 }
 
--- the bytes are the text of a document that breaks no rule, and it says the scenario
+-- the document breaks no rule, and it says the scenario
+pub record Says (document : Members) (a : Accepted) : Type 0 where
+  pub unbroken : first_broken document ≡ None
+  pub scenario : shown a ≡ scenario_of document
+  pub served : a.built ≡ is_served (has_key (codes "requests") document) (scenario_of document)
+
+-- the bytes are the text of a document that says the scenario
 pub record IsAccepted (bytes : List ℕ) (a : Accepted) : Type 0 where
   pub document : Members
   pub text : IsDocument bytes document
-  pub unbroken : first_broken document ≡ None
-  pub says : shown a ≡ scenario_of document
-  pub served : a.built ≡ is_served (has_key (codes "requests") document) (scenario_of document)
+  pub says : Says document a
 
 -- the bytes are the text of a document of which this is the first rule that it breaks
 pub record IsBroken (bytes : List ℕ) (why : Refusal) : Type 0 where
@@ -95,8 +99,9 @@ pub record IsBroken (bytes : List ℕ) (why : Refusal) : Type 0 where
   pub text : IsDocument bytes document
   pub broken : first_broken document ≡ Some why
 
--- why the bytes are refused; want of memory may come at any time
+-- why the bytes are refused. Want of memory may come at any time, and no document is refused for a node that is not there
 abbrev pub IsRefused : List ℕ → Refusal → Type 0
 IsRefused bytes NotToml = (t : Members) → ¬ IsDocument bytes t
 IsRefused bytes OutOfMemory = ⊤
+IsRefused bytes NoSuchNode = ⊥
 IsRefused bytes why = IsBroken bytes why

@@ -11,3 +11,4 @@ pub mod Reading
 pub mod Rules
 pub mod Onsets
 pub mod Acceptance
+pub mod Lawful

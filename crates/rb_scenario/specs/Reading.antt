@@ -17,7 +17,7 @@ use Rattle.rb_scenario.specs.Links.{is_link, rules_of}
 use Rattle.rb_scenario.specs.Says.{is_say, says_of}
 
 -- the values of the entries, and those at the root that go by the bus, are in range
-abbrev pub fits_bus : Bus → Members → Bool
+unfoldable pub fits_bus : Bus → Members → Bool
 fits_bus bus t =
     has_lists bus.shape.bius t && may_have_number (codes "delay") 1 1000000000 t && has_clocks bus t
     && list_all (is_link bus) (entries_at (codes "link") t) && has_faults bus t

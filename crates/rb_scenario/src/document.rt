@@ -2,21 +2,22 @@
 ghost use Rattle.std.specs.Prelude.{◌≡◌, ◌⊎◌, Some, None, true, codes, IfErr, IfOk};
 ghost use Rattle.toml.specs.View.{table_view};
 ghost use Rattle.rb_document.specs.Walk.{has_key};
-ghost use Rattle.rb_scenario.specs.Acceptance.{IsBrokenBy, broken_by, is_served, shown};
-ghost use Rattle.rb_scenario.specs.Bus.{IsBus};
-ghost use Rattle.rb_scenario.specs.Reading.{fits_bus, scenario_on};
+ghost use Rattle.rb_scenario.specs.Acceptance.{IsAccepted, IsBrokenBy, IsRefused, Says, broken_by, first_broken, is_served, shown};
+ghost use Rattle.rb_scenario.specs.Bus.{IsBus, bus_of};
+ghost use Rattle.rb_scenario.specs.Reading.{fits_bus, scenario_of, scenario_on};
 
-use crate::bus::Bus;
+use crate::bus::{Bus, bus_in};
 use crate::clocks::clocks_of;
 use crate::faults::onsets_of;
 use crate::hosts::{apps_of, requests_of, words_of};
-use crate::reading::{delays_of, sayings_of};
+use crate::reading::{delays_of, fits_bus, sayings_of};
 use crate::refusal::Refusal;
 use crate::rules::{are_few, start_together};
 use crate::scenario::{ClockList, SayList, Scenario};
 use crate::served::is_served;
 use rb_base::{Biu, OutOfMemory, Rmu};
 use rb_document::walk::has_key;
+use rb_document::{has_unknown_key, has_wrong_form, lacks_key};
 use rb_link::Delays;
 use rb_plan::Feasible;
 use std::alloc::Global;
@@ -83,4 +84,62 @@ pub(crate) fn scenario_on(alloc: Global, bus: &Bus, table: &Table) -> Result<Sce
         says: SayList::new(says),
         built,
     })
+}
+
+/// The bus of a document that keeps the rules on keys, forms and ranges, or the first of them that it breaks.
+fn bus_for(table: &Table) -> Result<Bus, Refusal>
+    ensures bus { IfOk result IsBus }
+    ensures value { IfOk result (λ b. b ≡ bus_of (table_view table.now)) }
+    ensures fits { IfOk result (λ b. fits_bus b (table_view table.now) ≡ true) }
+    ensures first { IfOk result (λ _. first_broken (table_view table.now) ≡ broken_by (scenario_of (table_view table.now))) }
+    ensures refused { IfErr result (λ e. first_broken (table_view table.now) ≡ Some e) }
+{
+    if lacks_key(table) {
+        return Err(Refusal::MissingKey);
+    }
+    if has_unknown_key(table) {
+        return Err(Refusal::UnknownKey);
+    }
+    if has_wrong_form(table) {
+        return Err(Refusal::WrongType);
+    }
+    let bus = match bus_in(table) {
+        Some(bus) => bus,
+        None => return Err(Refusal::OutOfRange),
+    };
+    if fits_bus(&bus, table) {
+        Ok(bus)
+    } else {
+        Err(Refusal::OutOfRange)
+    }
+}
+
+/// The scenario that a document says, or the first rule that it breaks.
+fn read_table(alloc: Global, table: &Table) -> Result<Scenario, Refusal>
+    ensures says { IfOk result (Says (table_view table.now)) }
+    ensures refused { IfErr result (λ e. (e ≡ Refusal.OutOfMemory) ⊎ (first_broken (table_view table.now) ≡ Some e)) }
+{
+    match bus_for(table) {
+        Ok(bus) => scenario_on(alloc, &bus, table),
+        Err(refusal) => Err(refusal),
+    }
+}
+
+/// The scenario that the bytes of a TOML document say, or why there is none: the first rule of `Refusal` that is broken
+/// anywhere in the document. Want of memory may come at any time. The rules and the form are this project's own.
+pub fn read(alloc: Global, bytes: &[u8]) -> Result<Scenario, Refusal>
+    ensures accepted { IfOk result (IsAccepted bytes.now) }
+    ensures refused { IfErr result (IsRefused bytes.now) }
+{
+    let table = match toml::table_from_slice(alloc, bytes) {
+        Ok(table) => table,
+        Err(error) => {
+            return Err(if error.is_memory() {
+                Refusal::OutOfMemory
+            } else {
+                Refusal::NotToml
+            });
+        }
+    };
+    read_table(alloc, &table)
 }

@@ -15,5 +15,6 @@ mod says;
 pub mod scenario;
 mod served;
 
+pub use document::read;
 pub use refusal::Refusal;
 pub use scenario::{ClockList, SayList, Scenario};

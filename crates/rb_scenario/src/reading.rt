@@ -30,6 +30,7 @@ use std::alloc::{AllocError, Global};
 use toml::Table;
 
 /// Whether the values of the entries, and those at the root that go by the bus, are in range.
+#[tactic(auto, unfolding(crate::specs::Reading::fits_bus))]
 pub(crate) fn fits_bus(bus: &Bus, table: &Table) -> bool
     requires { IsBus bus.now }
     ensures { result ≡ fits_bus bus.now (table_view table.now) }

@@ -6,7 +6,7 @@ use Rattle.rb_scenario.specs.Outcome.{IsRefusalBy}
 use Rattle.rb_scenario.specs.Reading.{scenario_on}
 use Rattle.rb_scenario.specs.Rules.{are_few, are_sayers_faulty, start_together}
 use Rattle.rb_scenario.specs.declared.refusal.Refusal.TheVariants.{SayOfGood}
-use Rattle.rb_scenario.proofs.Chain.{few_break, none_breaks, says_break}
+use Rattle.rb_scenario.proofs.Chain.{clocks_break, delays_break, few_break, none_breaks, plan_breaks, says_break, starts_break}
 use Rattle.rb_scenario.proofs.EntryParts.{fit_parts}
 use Rattle.rb_scenario.proofs.document.scenario_on.Goals as goal
 
@@ -74,3 +74,32 @@ returns-clause-unbroken c =
     ∙ sym c.are_few.ensures ∙ c.if-not-are_few.false in
     none_breaks sc
     (record { plan = c.in-Ok.ensures.feasible; clocks = c.in-Ok-clocks_of.ensures.kept; delays = c.in-Ok-delays_of.ensures.kept; starts = starts; says = says; few = few })
+
+pub returns-in-Err-clause-refused : goal.returns-in-Err-clause-refused
+returns-in-Err-clause-refused c = plan_breaks (scenario_on c.args.bus.now (table_view c.args.table.now)) c.in-Err.n c.in-Err.ensures.first
+
+pub returns-in-Err-clocks_of-clause-refused : goal.returns-in-Err-clocks_of-clause-refused
+returns-in-Err-clocks_of-clause-refused c =
+    clocks_break (scenario_on c.args.bus.now (table_view c.args.table.now)) c.in-Err-clocks_of.refusal
+    (record { plan = c.in-Ok.ensures.feasible }) c.in-Err-clocks_of.ensures.refused
+
+pub returns-in-Err-delays_of-clause-refused : goal.returns-in-Err-delays_of-clause-refused
+returns-in-Err-delays_of-clause-refused c =
+    delays_break (scenario_on c.args.bus.now (table_view c.args.table.now)) c.in-Err-delays_of.refusal
+    (record { plan = c.in-Ok.ensures.feasible; clocks = c.in-Ok-clocks_of.ensures.kept }) c.in-Err-delays_of.ensures.refused
+
+pub returns-then-not-start_together-clause-refused : goal.returns-then-not-start_together-clause-refused
+returns-then-not-start_together-clause-refused c =
+    let sc = scenario_on c.args.bus.now (table_view c.args.table.now) in
+    starts_break sc
+    (record { plan = c.in-Ok.ensures.feasible; clocks = c.in-Ok-clocks_of.ensures.kept; delays = c.in-Ok-delays_of.ensures.kept })
+    (ap (start_together sc.plan.p) (sym (c.deref.ensures.value ∙ c.in-Ok-clocks_of.ensures.clocks)) ∙ sym c.start_together.ensures ∙ c.if-not-start_together.true)
+
+pub sayings_of-requires-clause-says : goal.sayings_of-requires-clause-says
+sayings_of-requires-clause-says c = (fit_parts c.args.bus.now (table_view c.args.table.now) c.requires.fits).says
+
+pub requests_of-requires : goal.requests_of-requires
+requests_of-requires c = rw c.biu.ensures.value (fit_parts c.args.bus.now (table_view c.args.table.now) c.requires.fits).lists
+
+pub words_of-requires : goal.words_of-requires
+words_of-requires c = rw c.biu-2.ensures.value (fit_parts c.args.bus.now (table_view c.args.table.now) c.requires.fits).lists
