@@ -4,3 +4,4 @@ pub mod Distinct
 pub mod Finding
 pub mod Chain
 pub mod First
+pub mod Documents

@@ -1,4 +1,4 @@
 pub mod Carried
-pub mod Completeness
 pub mod Writing
-pub mod WordsLemmas
+pub mod Served
+pub mod Completeness

@@ -1,3 +1,4 @@
+pub mod Words
 pub mod CheckText
 pub mod Carrying
 pub mod RunText
