@@ -5,3 +5,4 @@ pub mod Finding
 pub mod Chain
 pub mod First
 pub mod Documents
+pub mod LawfulParts

@@ -10,5 +10,6 @@ pub mod Outcome
 pub mod Reading
 pub mod Rules
 pub mod Onsets
+pub mod Codes
 pub mod Acceptance
 pub mod Lawful

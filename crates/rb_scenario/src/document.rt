@@ -4,6 +4,7 @@ ghost use Rattle.toml.specs.View.{table_view};
 ghost use Rattle.rb_document.specs.Walk.{has_key};
 ghost use Rattle.rb_scenario.specs.Acceptance.{IsAccepted, IsBrokenBy, IsRefused, Says, broken_by, first_broken, is_served, shown};
 ghost use Rattle.rb_scenario.specs.Bus.{IsBus, bus_of};
+ghost use Rattle.rb_scenario.specs.Lawful.{IsLawful};
 ghost use Rattle.rb_scenario.specs.Reading.{fits_bus, scenario_of, scenario_on};
 
 use crate::bus::{Bus, bus_in};
@@ -117,6 +118,7 @@ fn bus_for(table: &Table) -> Result<Bus, Refusal>
 /// The scenario that a document says, or the first rule that it breaks.
 fn read_table(alloc: Global, table: &Table) -> Result<Scenario, Refusal>
     ensures says { IfOk result (Says (table_view table.now)) }
+    ensures lawful { IfOk result (λ s. IsLawful (shown s)) }
     ensures refused { IfErr result (λ e. (e ≡ Refusal.OutOfMemory) ⊎ (first_broken (table_view table.now) ≡ Some e)) }
 {
     match bus_for(table) {
@@ -129,6 +131,7 @@ fn read_table(alloc: Global, table: &Table) -> Result<Scenario, Refusal>
 /// anywhere in the document. Want of memory may come at any time. The rules and the form are this project's own.
 pub fn read(alloc: Global, bytes: &[u8]) -> Result<Scenario, Refusal>
     ensures accepted { IfOk result (IsAccepted bytes.now) }
+    ensures lawful { IfOk result (λ s. IsLawful (shown s)) }
     ensures refused { IfErr result (IsRefused bytes.now) }
 {
     let table = match toml::table_from_slice(alloc, bytes) {

@@ -46,6 +46,42 @@ pub enum Refusal {
     OutOfMemory,
 }
 
+impl Refusal {
+    ghost use Rattle.std.specs.Prelude.{◌≡◌};
+    ghost use Rattle.rb_scenario.specs.Codes.{code_of, detail_of};
+
+    /// The code by which the refusal is printed. None exactly for want of memory.
+    pub fn code(&self) -> Option<u8>
+        ensures { result ≡ code_of self.now }
+    {
+        match self {
+            Refusal::NotToml => Some(1),
+            Refusal::MissingKey => Some(2),
+            Refusal::UnknownKey => Some(3),
+            Refusal::WrongType => Some(4),
+            Refusal::OutOfRange => Some(5),
+            Refusal::PlanFails(_) => Some(6),
+            Refusal::ClockBounds => Some(7),
+            Refusal::DelayBounds => Some(8),
+            Refusal::StartApart => Some(9),
+            Refusal::SayOfGood => Some(10),
+            Refusal::TooMany => Some(11),
+            Refusal::NoSuchNode => Some(12),
+            Refusal::OutOfMemory => None,
+        }
+    }
+
+    /// The number that is printed after the name: that of the inequality that fails, and none for every other refusal.
+    pub fn detail(&self) -> Option<u64>
+        ensures { result ≡ detail_of self.now }
+    {
+        match self {
+            Refusal::PlanFails(n) => Some(u64::from(*n)),
+            _ => None,
+        }
+    }
+}
+
 impl From<AllocError> for Refusal {
     ghost use Rattle.std.specs.Prelude.{◌≡◌};
     ghost use Rattle.rb_scenario.specs.declared.refusal.Refusal.TheVariants.{OutOfMemory};

@@ -1,0 +1,286 @@
+-- Every scenario that is accepted is lawful.
+use Rattle.std.proofs.Common.{◌≡◌, ◌+◌, ◌-◌, ◌^◌, ◌<◌, ◌≤◌, ℕ, List, [], ◌∷◌, ◌++◌, Bool, true, false, not, ◌&&◌, nat_le, nat_lt, cond, All, length, get_or, map, codes, Option, Some, None, Result, Ok, Err, IfOk, refl, sym, ap, ◌∙◌, subst, arith, length-append}
+use Rattle.std.proofs.lemmas.Bool.{and_parts, cases_Bool, false≢true, leb-true, not-true}
+use Rattle.std.proofs.lemmas.List.Elements.{All-append, All-map}
+use Rattle.std.proofs.lemmas.List.FromFn.{length-map-range_with_len}
+use Rattle.std.proofs.lemmas.List.Sums.{AllPass-from_list_all}
+use Rattle.std.specs.Prelude.{option_map, unwrap_or}
+use Rattle.std.specs.List.{find, list_all}
+use Rattle.std.specs.Str.{bytes_eq}
+use Rattle.toml.specs.Data.{Data, Members, string, integer, float, boolean, datetime, array, table, no_members, get_member}
+use Rattle.rb_base.specs.Counting.{numbers}
+use Rattle.rb_base.specs.Nodes.{Side}
+use Rattle.rb_base.specs.Nodes.Side.{Biu, Rmu}
+use Rattle.rb_base.specs.Sizes.{Sizes, sync_slot_of}
+use Rattle.rb_base.specs.declared.node.NodeName.{NodeName}
+use Rattle.rb_base.specs.declared.node.NodeName.TheVariants as node
+use Rattle.rb_rules.specs.Clock.{IsClock, Timeline}
+use Rattle.rb_rules.specs.Goodness.{Scenario}
+use Rattle.rb_rules.specs.Links.{name_of}
+use Rattle.rb_rules.specs.Plan.{longest_of, shortest_of}
+use Rattle.rb_rules.specs.declared.link.Pattern.{Pattern}
+use Rattle.rb_rules.specs.declared.link.Pattern.TheVariants.{One}
+use Rattle.rb_rules.specs.declared.link.Rule.{Rule}
+use Rattle.rb_rules.specs.declared.plan.Plan.{Plan}
+use Rattle.rb_rules.specs.declared.say.Say.{Say}
+use Rattle.rb_rules.proofs.Feasibility.{feasible_exactly}
+use Rattle.rb_document.specs.Names.{node_at, pattern_at}
+use Rattle.rb_document.specs.Values.{has_number, is_range, item_at, may_have_number, number_at, number_or, range_or}
+use Rattle.rb_document.specs.Walk.{absent_or, entries_at, has_key, passes}
+use Rattle.rb_document.proofs.Bounds.{IsBelow, absent_or-bounds, node_at-IsBelow, pair-bounds, passes-bounds}
+use Rattle.rb_document.proofs.Walks.{listed-within}
+use Rattle.rb_scenario.specs.declared.bus.Bus.{Bus}
+use Rattle.rb_scenario.specs.Acceptance.{broken_by}
+use Rattle.rb_scenario.specs.Bus.{IsBus}
+use Rattle.rb_scenario.specs.Clocks.{clock_for, clocks_of, is_clock, kind_clocks, timeline_of}
+use Rattle.rb_scenario.specs.Entries.{entry_for, is_node}
+use Rattle.rb_scenario.specs.Faults.{is_fault, onset_for, onset_of, onsets_of}
+use Rattle.rb_scenario.specs.Hosts.{app_at, app_in, app_named, apps_of, has_lists, request_at, requests_of, word_at, words_of}
+use Rattle.rb_scenario.specs.Lawful.{IsLawful, IsNodeOf, IsOnsetOf, IsRangeIn, IsRuleOf, IsSayOf}
+use Rattle.rb_scenario.specs.Links.{are_apart, is_link, rule_of}
+use Rattle.rb_scenario.specs.Reading.{fits_bus, scenario_on}
+use Rattle.rb_scenario.specs.Rules.{are_sayers_faulty, is_delay, is_node_good, keep_time, keeps_time, segments_of_all, start_together}
+use Rattle.rb_scenario.specs.Says.{is_say, say_of}
+use Rattle.rb_scenario.proofs.Chain.{AllKept, kept_from_none}
+use Rattle.rb_scenario.proofs.EntryParts.{fit_parts, link_parts, say_parts}
+use Rattle.rb_scenario.proofs.Finding.{found_passes}
+
+-- what holds of what each number gives holds of all that is made by number
+all_made : {X : Type 0} (P : X → Type 0) (f : ℕ → X) (n : ℕ) → ((i : ℕ) → P (f i)) → All P (map f (numbers n))
+all_made P f n h = All-map P f (numbers n) (λ k d lt. h (get_or (numbers n) k d))
+
+-- what holds of what each entry that passes gives holds of all
+all_read : {X : Type 0} (P : X → Type 0) (p : Members → Bool) (f : Members → X) (es : List Members) → ((e : Members) → p e ≡ true → P (f e))
+    → list_all p es ≡ true → All P (map f es)
+all_read P p f es h passes = All-map P f es (λ k d lt. h (get_or es k d) (AllPass-from_list_all p es passes k d lt))
+
+-- The requests, words and applications.
+record ListParts (bius : ℕ) (t : Members) : Type 0 where
+  requests : (i : ℕ) → number_or 0 (item_at (codes "requests") i t) ≤ 64
+  words : (i : ℕ) → number_or 0 (item_at (codes "words") i t) ≤ 4294967295
+
+list_parts : (bius : ℕ) (t : Members) → has_lists bius t ≡ true → ListParts bius t
+list_parts bius t h =
+    let h1 = and_parts _ _ (and_parts _ _ h).0 in
+    record {
+      requests = λ i. listed-within 64 bius i (get_member (codes "requests") t) h1.0;
+      words = λ i. listed-within 4294967295 bius i (get_member (codes "words") t) h1.1;
+    }
+
+at_most_cond : (b : Bool) (x y n : ℕ) → x ≤ n → y ≤ n → cond b x y ≤ n
+at_most_cond true x y n hx hy = hx
+at_most_cond false x y n hx hy = hy
+
+requests_small : (bius : ℕ) (t : Members) → has_lists bius t ≡ true → (length (requests_of bius t) ≡ 16) × All (λ n. n ≤ 64) (requests_of bius t)
+unfolding requests_of
+requests_small bius t h = (
+  length-map-range_with_len (request_at bius t) 0 16,
+  all_made (λ n. n ≤ 64) (request_at bius t) 16 (λ i.
+      at_most_cond (has_key (codes "requests") t) _ (cond (nat_lt i bius) 1 0) 64 ((list_parts bius t h).requests i)
+      (at_most_cond (nat_lt i bius) 1 0 64 (omega arith) (omega arith))),
+)
+
+words_small : (bius : ℕ) (t : Members) → has_lists bius t ≡ true → (length (words_of t) ≡ 16) × All (λ w. w < 2 ^ 32) (words_of t)
+unfolding words_of
+words_small bius t h = (
+  length-map-range_with_len (word_at t) 0 16,
+  all_made (λ w. w < 2 ^ 32) (word_at t) 16 (λ i. let small = (list_parts bius t h).words i in omega arith),
+)
+
+below_3 : (o : Option ℕ) → ((a : ℕ) → o ≡ Some a → a < 3) → unwrap_or o 0 < 3
+below_3 None h = omega arith
+below_3 (Some a) h = h a refl
+
+named_below_3 : (x y z : Bool) (a : ℕ) → cond x (Some 0) (cond y (Some 1) (cond z (Some 2) None)) ≡ Some a → a < 3
+named_below_3 true y z a e = let is : 0 ≡ a = cc in omega arith
+named_below_3 false true z a e = let is : 1 ≡ a = cc in omega arith
+named_below_3 false false true a e = let is : 2 ≡ a = cc in omega arith
+named_below_3 false false false a e = cc
+
+app_in-lt : (o : Option Data) (a : ℕ) → app_in o ≡ Some a → a < 3
+app_in-lt (Some (string text)) a e = named_below_3 (bytes_eq text (codes "table")) (bytes_eq text (codes "counter")) (bytes_eq text (codes "follow")) a e
+app_in-lt (Some (integer d)) a e = cc
+app_in-lt (Some (float d)) a e = cc
+app_in-lt (Some (boolean d)) a e = cc
+app_in-lt (Some (datetime d)) a e = cc
+app_in-lt (Some (array d)) a e = cc
+app_in-lt (Some (table d)) a e = cc
+app_in-lt None a e = cc
+
+apps_small : (t : Members) → (length (apps_of t) ≡ 16) × All (λ app. app < 3) (apps_of t)
+unfolding apps_of
+apps_small t = (
+  length-map-range_with_len (app_at t) 0 16,
+  all_made (λ app. app < 3) (app_at t) 16 (λ i. below_3 (app_in (item_at (codes "apps") i t)) (λ a e. app_in-lt (item_at (codes "apps") i t) a e)),
+)
+
+-- The clocks.
+starts_early : (bus : Bus) (t : Members) → list_all (is_clock bus.shape) (entries_at (codes "clock") t) ≡ true
+    → (name : NodeName) → (clock_for bus t name).start ≤ 1000000000000
+starts_early bus t h name =
+    let es = entries_at (codes "clock") t in
+    let p : Members → Bool = λ e. is_node name (node_at bus.shape (codes "node") e) in
+    let go : (o : Option Members) → o ≡ find p es → (timeline_of bus.plan.u (unwrap_or o no_members)).start ≤ 1000000000000 = λ o. elim o as (λ o. o ≡ find p es → (timeline_of bus.plan.u (unwrap_or o no_members)).start ≤ 1000000000000) [
+      | None ↦ λ is. omega arith
+      | Some e ↦ λ is.
+          let passes = found_passes p (is_clock bus.shape) es e is h in
+          let start : may_have_number (codes "start") 0 1000000000000 e ≡ true = (and_parts _ _ (and_parts _ _ passes).0).1 in
+          (absent_or-bounds 0 1000000000000 0 (get_member (codes "start") e) (omega arith) (omega arith) start).1
+    ] in go (find p es) refl
+
+all_early : (side : Side) (count : ℕ) (bus : Bus) (t : Members) → list_all (is_clock bus.shape) (entries_at (codes "clock") t) ≡ true
+    → All (λ c. c.start ≤ 1000000000000) (kind_clocks side count bus t)
+all_early side count bus t h = all_made (λ c. c.start ≤ 1000000000000) (λ i. clock_for bus t (name_of side i)) count (λ i. starts_early bus t h (name_of side i))
+
+clocks_are : (bus : Bus) (t : Members) → list_all (is_clock bus.shape) (entries_at (codes "clock") t) ≡ true
+    → (length (clocks_of bus t) ≡ bus.shape.bius + bus.shape.rmus) × All (λ c. c.start ≤ 1000000000000) (clocks_of bus t)
+unfolding clocks_of
+clocks_are bus t h = (
+  length-append (kind_clocks Biu bus.shape.bius bus t) (kind_clocks Rmu bus.shape.rmus bus t)
+      ∙ ap (λ n. n + length (kind_clocks Rmu bus.shape.rmus bus t)) (length-map-range_with_len (λ i. clock_for bus t (name_of Biu i)) 0 bus.shape.bius)
+      ∙ ap (λ n. bus.shape.bius + n) (length-map-range_with_len (λ i. clock_for bus t (name_of Rmu i)) 0 bus.shape.rmus),
+  All-append (λ c. c.start ≤ 1000000000000) (kind_clocks Biu bus.shape.bius bus t) (kind_clocks Rmu bus.shape.rmus bus t)
+      (all_early Biu bus.shape.bius bus t h) (all_early Rmu bus.shape.rmus bus t h),
+)
+
+clocks_keep : (plan : Plan) (clocks : List Timeline) → All (λ c. c.start ≤ 1000000000000) clocks → keep_time plan clocks ≡ true
+    → All (IsClock (shortest_of plan) (longest_of plan)) clocks
+clocks_keep plan clocks early h k d lt =
+    let parts = and_parts _ _ (AllPass-from_list_all (keeps_time plan) clocks h k d lt) in
+    record { start = early k d lt; rising = parts.0; within = parts.1 }
+
+starts_are : (bound : ℕ) (clocks : List Timeline) → start_together bound clocks ≡ true → All (λ a. All (λ b. a.start ≤ b.start + bound) clocks) clocks
+unfolding start_together
+starts_are bound clocks h k d lt j e lt' =
+    let outer = AllPass-from_list_all (λ a. list_all (λ b. nat_le (a.start - b.start) bound) clocks) clocks h k d lt in
+    let inner = AllPass-from_list_all (λ b. nat_le ((get_or clocks k d).start - b.start) bound) clocks outer j e lt' in
+    let close = leb-true ((get_or clocks k d).start - (get_or clocks j e).start) bound inner in
+    omega arith
+
+-- Ranges.
+range_or-in : (low high : ℕ) (o : Option Data) → low ≤ high → absent_or (is_range low high) o ≡ true → IsRangeIn low high (range_or (low, high) o)
+range_or-in low high None order h = record { least = omega arith; order = order; greatest = omega arith }
+range_or-in low high (Some d) order h = let b = pair-bounds low high d h in record { least = b.0; order = b.1; greatest = b.2 }
+
+range_there-in : (low high : ℕ) (o : Option Data) → passes (is_range low high) o ≡ true → IsRangeIn low high (range_or (0, 0) o)
+range_there-in low high None h = absurd (false≢true h)
+range_there-in low high (Some d) h = let b = pair-bounds low high d h in record { least = b.0; order = b.1; greatest = b.2 }
+
+-- The rules on delays.
+record RuleRanges (bus : Bus) (r : Rule) : Type 0 where
+  frames : IsRangeIn 0 (bus.frames - 1) r.frames
+  slots : IsRangeIn 0 (sync_slot_of bus.shape) r.slots
+  stages : IsRangeIn 1 3 r.stages
+
+rule_in : (bus : Bus) (e : Members) → is_link bus e ≡ true → RuleRanges bus (rule_of bus e)
+unfolding rule_of
+rule_in bus e h =
+    let parts = link_parts bus e h in
+    record {
+      frames = range_or-in 0 (bus.frames - 1) (get_member (codes "frames") e) (omega arith) parts.frames;
+      slots = range_or-in 0 (sync_slot_of bus.shape) (get_member (codes "slots") e) (omega arith) parts.slots;
+      stages = range_or-in 1 3 (get_member (codes "stages") e) (omega arith) parts.stages;
+    }
+
+-- What is said.
+as_node_of : (sizes : Sizes) (n : NodeName) → IsBelow sizes n → IsNodeOf sizes n
+as_node_of sizes (node.Biu i) h = h
+as_node_of sizes (node.Rmu i) h = h
+
+sayer_in : (sizes : Sizes) (o : Option NodeName) (to : Option Pattern) → ((n : NodeName) → o ≡ Some n → IsBelow sizes n)
+    → are_apart (option_map One o) to ≡ true → IsNodeOf sizes (unwrap_or o (node.Biu 0))
+sayer_in sizes None to h apart = absurd (false≢true apart)
+sayer_in sizes (Some n) to h apart = as_node_of sizes n (h n refl)
+
+record SayRanges (bus : Bus) (s : Say) : Type 0 where
+  frames : IsRangeIn 0 (bus.frames - 1) s.frames
+  slots : IsRangeIn 0 (sync_slot_of bus.shape) s.slots
+  stages : IsRangeIn 1 4 s.stages
+  sayer : IsNodeOf bus.shape s.from
+
+apart_part : (bus : Bus) (e : Members) → is_say bus e ≡ true → are_apart (option_map One (node_at bus.shape (codes "from") e)) (pattern_at bus.shape (codes "to") e) ≡ true
+unfolding is_say
+apart_part bus e h = (and_parts _ _ (and_parts _ _ (and_parts _ _ h).0).0).0
+
+say_in : (bus : Bus) (e : Members) → is_say bus e ≡ true → SayRanges bus (say_of bus e)
+unfolding say_of
+say_in bus e h =
+    let parts = say_parts bus e h in
+    record {
+      frames = range_there-in 0 (bus.frames - 1) (get_member (codes "frames") e) parts.frames;
+      slots = range_there-in 0 (sync_slot_of bus.shape) (get_member (codes "slots") e) parts.slots;
+      stages = range_there-in 1 4 (get_member (codes "stages") e) parts.stages;
+      sayer = sayer_in bus.shape (node_at bus.shape (codes "from") e) (pattern_at bus.shape (codes "to") e)
+          (λ n is. node_at-IsBelow bus.shape (codes "from") e n is) (apart_part bus e h);
+    }
+
+-- The onsets.
+onset_in : (bus : Bus) (t : Members) (sc : Scenario) → sc.frames ≡ bus.frames → sc.sizes ≡ bus.shape → 1 ≤ bus.frames
+    → list_all (is_fault bus) (entries_at (codes "fault") t) ≡ true → (name : NodeName) → IsOnsetOf sc (onset_for bus t name)
+onset_in bus t sc frames sizes some h name =
+    let es = entries_at (codes "fault") t in
+    let p : Members → Bool = λ e. is_node name (node_at bus.shape (codes "node") e) in
+    let go : (o : Option Members) → o ≡ find p es → IsOnsetOf sc (option_map onset_of o) = λ o. elim o as (λ o. o ≡ find p es → IsOnsetOf sc (option_map onset_of o)) [
+      | None ↦ λ is. tt
+      | Some e ↦ λ is.
+          let passes = found_passes p (is_fault bus) es e is h in
+          let has_frame : has_number (codes "frame") 0 (bus.frames - 1) e ≡ true = (and_parts _ _ (and_parts _ _ passes).0).1 in
+          let has_slot : has_number (codes "slot") 0 (sync_slot_of bus.shape) e ≡ true = (and_parts _ _ passes).1 in
+          let frame : number_at (codes "frame") 0 e ≤ bus.frames - 1 = (passes-bounds 0 (bus.frames - 1) 0 (get_member (codes "frame") e) has_frame).1 in
+          let slot : number_at (codes "slot") 0 e ≤ sync_slot_of bus.shape = (passes-bounds 0 (sync_slot_of bus.shape) 0 (get_member (codes "slot") e) has_slot).1 in
+          let same : sync_slot_of sc.sizes ≡ sync_slot_of bus.shape = ap sync_slot_of sizes in
+          (omega arith, omega arith)
+    ] in go (find p es) refl
+
+onsets_in : (side : Side) (bus : Bus) (t : Members) (sc : Scenario) → sc.frames ≡ bus.frames → sc.sizes ≡ bus.shape → 1 ≤ bus.frames
+    → list_all (is_fault bus) (entries_at (codes "fault") t) ≡ true → (length (onsets_of side bus t) ≡ 16) × All (IsOnsetOf sc) (onsets_of side bus t)
+unfolding onsets_of
+onsets_in side bus t sc frames sizes some h = (
+  length-map-range_with_len (λ i. onset_for bus t (name_of side i)) 0 16,
+  all_made (IsOnsetOf sc) (λ i. onset_for bus t (name_of side i)) 16 (λ i. onset_in bus t sc frames sizes some h (name_of side i)),
+)
+
+-- all together
+pub lawful : (bus : Bus) (t : Members) → IsBus bus → fits_bus bus t ≡ true → AllKept (scenario_on bus t) → IsLawful (scenario_on bus t)
+lawful bus t is fits kept =
+    let sc = scenario_on bus t in
+    let parts = fit_parts bus t fits in
+    let clocks = clocks_are bus t parts.clocks in
+    let delays = and_parts _ _ kept.delays in
+    let base = and_parts _ _ delays.0 in
+    let few2 = and_parts _ _ kept.few in
+    let few1 = and_parts _ _ few2.0 in
+    let ruled : All (RuleRanges bus) sc.delays.rules = all_read (RuleRanges bus) (is_link bus) (rule_of bus) (entries_at (codes "link") t) (rule_in bus) parts.links in
+    let said : All (SayRanges bus) sc.says = all_read (SayRanges bus) (is_say bus) (say_of bus) (entries_at (codes "say") t) (say_in bus) parts.says in
+    record {
+      sizes = is.shape;
+      plan = is.plan;
+      feasible = (feasible_exactly sc.sizes sc.plan).0 kept.plan;
+      frames = is.frames;
+      requests = requests_small bus.shape.bius t parts.lists;
+      words = words_small bus.shape.bius t parts.lists;
+      apps = apps_small t;
+      one_clock_each = clocks.0;
+      clocks = clocks_keep sc.plan sc.clocks clocks.1 kept.clocks;
+      starts = starts_are sc.plan.p sc.clocks kept.starts;
+      base_delay = (leb-true sc.plan.dmin sc.delays.base base.0, leb-true sc.delays.base sc.plan.dmax base.1);
+      rules = λ k d lt.
+          let ranges = ruled k d lt in
+          let delay = and_parts _ _ (AllPass-from_list_all (λ r. is_delay sc.plan r.delay) sc.delays.rules delays.1 k d lt) in
+          record { frames = ranges.frames; slots = ranges.slots; stages = ranges.stages; least = leb-true _ _ delay.0; greatest = leb-true _ _ delay.1 };
+      biu_onsets = onsets_in Biu bus t sc refl refl is.frames.0 parts.faults;
+      rmu_onsets = onsets_in Rmu bus t sc refl refl is.frames.0 parts.faults;
+      says = λ k d lt.
+          let ranges = said k d lt in
+          let faulty = AllPass-from_list_all (λ say. not (is_node_good sc say.from say.frames.0 say.slots.0)) sc.says kept.says k d lt in
+          record { frames = ranges.frames; slots = ranges.slots; stages = ranges.stages; sayer = ranges.sayer; faulty = not-true _ faulty };
+      few_says = leb-true (length sc.says) 1024 few1.0;
+      few_rules = leb-true (length sc.delays.rules) 4096 few1.1;
+      few_segments = leb-true (segments_of_all sc.clocks) 4096 few2.1;
+    }
+
+pub lawful_result : {X E : Type 0} (shown : X → Scenario) (bus : Bus) (t : Members) (r : Result X E) → IsBus bus → fits_bus bus t ≡ true
+    → IfOk r (λ s. shown s ≡ scenario_on bus t) → IfOk r (λ _. broken_by (scenario_on bus t) ≡ None) → IfOk r (λ s. IsLawful (shown s))
+lawful_result shown bus t (Err e) is fits same unbroken = unbroken
+lawful_result shown bus t (Ok s) is fits same unbroken =
+    subst IsLawful (sym same) (lawful bus t is fits (kept_from_none (scenario_on bus t) unbroken))
