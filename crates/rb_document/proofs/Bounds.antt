@@ -1,5 +1,5 @@
 -- What numbers and pairs that stand within bounds are, and what nodes are named.
-use Rattle.std.proofs.Common.{◌≡◌, ◌≤◌, ◌<◌, ℕ, List, Bool, true, nat_le, pos, negsuc, Option, Some, None, subst, arith}
+use Rattle.std.proofs.Common.{◌≡◌, ◌≤◌, ◌<◌, ℕ, List, true, pos, negsuc, Option, Some, None, subst}
 use Rattle.std.proofs.lemmas.Bool.{and_parts, false≢true, leb-true}
 use Rattle.std.specs.Prelude.{option_map}
 use Rattle.std.specs.Option.{option_or}
@@ -8,7 +8,7 @@ use Rattle.rb_base.specs.Sizes.{Sizes}
 use Rattle.rb_base.specs.declared.node.NodeName.{NodeName}
 use Rattle.rb_base.specs.declared.node.NodeName.TheVariants.{Biu, Rmu}
 use Rattle.rb_document.specs.Names.{biu_letter, named, node_at, node_named, rmu_letter, text_or_none}
-use Rattle.rb_document.specs.Values.{has_number, has_range, is_range, is_within, may_have_number, may_have_range, number_at, number_or, pair_of, range_at, range_or}
+use Rattle.rb_document.specs.Values.{is_range, is_within, number_or, pair_of}
 use Rattle.rb_document.specs.Walk.{absent_or, passes}
 use Rattle.rb_document.proofs.NameLemmas.{named-lt}
 

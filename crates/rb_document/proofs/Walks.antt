@@ -1,5 +1,5 @@
 -- A document's keys and items, in the map and the list and in what they stand for.
-use Rattle.std.proofs.Common.{◌≡◌, ◌+◌, ◌≤◌, ℕ, zero, suc, pos, negsuc, nat_le, le-leb, List, [], ◌∷◌, length, Bool, true, not, ◌||◌, Option, Some, None, String, Global, string_bytes, refl, ap, arith}
+use Rattle.std.proofs.Common.{◌≡◌, ◌≤◌, ℕ, zero, suc, pos, negsuc, nat_le, le-leb, List, [], ◌∷◌, length, true, not, ◌||◌, Option, Some, None, String, Global, string_bytes, refl, ap, arith}
 use Rattle.std.proofs.lemmas.Bool.{and_parts, leb-true}
 use Rattle.std.specs.Prelude.{option_and_then}
 use Rattle.std.specs.List.{list_any}

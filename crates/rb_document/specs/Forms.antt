@@ -1,8 +1,8 @@
 -- The rules on keys and forms: each is looked at over the whole document.
-use Rattle.std.specs.Prelude.{ℕ, List, [], ◌∷◌, Bool, true, false, not, ◌&&◌, ◌||◌, ◌==◌, codes, Option, Some, None}
+use Rattle.std.specs.Prelude.{ℕ, List, Bool, true, false, not, ◌&&◌, ◌||◌, ◌==◌, codes}
 use Rattle.std.specs.List.{list_any}
 use Rattle.std.specs.Str.{bytes_eq}
-use Rattle.toml.specs.Data.{Data, string, integer, boolean, array, table, Items, Members, no_members, member, get_member}
+use Rattle.toml.specs.Data.{Data, string, integer, boolean, array, table, Members, no_members, member, get_member}
 use Rattle.rb_document.specs.declared.fields.Form.{Form}
 use Rattle.rb_document.specs.declared.fields.Form.TheVariants.{Integer, Text, Flag, Pair, Table, Integers, Texts, Pairs, Tables}
 use Rattle.rb_document.specs.Fields.{Entry, root_fields, plan_fields, clock_fields, link_fields, fault_fields, say_fields}

@@ -1,6 +1,6 @@
 -- Numbers, pairs and lists of numbers in a document.
-use Rattle.std.specs.Prelude.{ℕ, pos, List, [], ◌∷◌, Bool, true, false, ◌&&◌, nat_le, Option, Some, None, option_and_then}
-use Rattle.toml.specs.Data.{Data, integer, array, Items, no_items, item, Members, get_member, at}
+use Rattle.std.specs.Prelude.{ℕ, pos, List, Bool, false, ◌&&◌, nat_le, Option, Some, None, option_and_then}
+use Rattle.toml.specs.Data.{Data, integer, Members, get_member, at}
 use Rattle.rb_document.specs.Forms.{has_length, is_array_of}
 use Rattle.rb_document.specs.Walk.{absent_or, passes}
 

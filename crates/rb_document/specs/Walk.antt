@@ -1,5 +1,5 @@
 -- Steps through a TOML document.
-use Rattle.std.specs.Prelude.{ℕ, ◌+◌, List, [], ◌∷◌, ◌++◌, Bool, true, false, ◌&&◌, Option, Some, None, is_some, option_to_list}
+use Rattle.std.specs.Prelude.{ℕ, ◌+◌, List, [], ◌++◌, Bool, true, false, ◌&&◌, Option, Some, None, is_some, option_to_list}
 use Rattle.toml.specs.Data.{Data, array, table, Items, no_items, item, Members, get_member, as_table}
 
 -- there is a value at the key

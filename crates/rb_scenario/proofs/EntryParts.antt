@@ -12,7 +12,7 @@ use Rattle.rb_scenario.specs.Faults.{is_fault}
 use Rattle.rb_scenario.specs.Hosts.{has_lists}
 use Rattle.rb_scenario.specs.Links.{is_link}
 use Rattle.rb_scenario.specs.Reading.{fits_bus}
-use Rattle.rb_scenario.specs.Says.{has_ranges, has_times, is_say}
+use Rattle.rb_scenario.specs.Says.{is_say}
 
 pub record LinkParts (bus : Bus) (e : Members) : Type 0 where
   pub delay : has_number (codes "delay") 1 1000000000 e ≡ true

@@ -1,9 +1,7 @@
 -- The first rule of all that a document breaks.
-use Rattle.std.proofs.Common.{◌≡◌, ◌⊎◌, ℕ, List, Bool, true, false, not, ◌&&◌, cond, Option, Some, None, Result, Ok, Err, IfErr, inl, inr, refl, sym, ap, ◌∙◌, subst}
+use Rattle.std.proofs.Common.{◌≡◌, ◌⊎◌, ℕ, List, Bool, true, false, not, cond, Option, Some, None, Result, Ok, Err, IfErr, inl, inr, refl, ap, ◌∙◌, subst}
 use Rattle.std.proofs.lemmas.Bool.{and_from, and_left, and_right}
 use Rattle.toml.specs.Data.{Members}
-use Rattle.rb_rules.specs.Goodness.{Scenario}
-use Rattle.rb_rules.specs.Plan.{first_failing}
 use Rattle.rb_document.specs.Forms.{has_unknown_key, has_wrong_form, lacks_key}
 use Rattle.rb_scenario.specs.declared.bus.Bus.{Bus}
 use Rattle.rb_scenario.specs.declared.refusal.Refusal.{Refusal}

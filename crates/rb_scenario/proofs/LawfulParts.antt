@@ -1,6 +1,6 @@
 -- Every scenario that is accepted is lawful.
-use Rattle.std.proofs.Common.{◌≡◌, ◌+◌, ◌-◌, ◌^◌, ◌<◌, ◌≤◌, ℕ, List, [], ◌∷◌, ◌++◌, Bool, true, false, not, ◌&&◌, nat_le, nat_lt, cond, All, length, get_or, map, codes, Option, Some, None, Result, Ok, Err, IfOk, refl, sym, ap, ◌∙◌, subst, arith, length-append}
-use Rattle.std.proofs.lemmas.Bool.{and_parts, cases_Bool, false≢true, leb-true, not-true}
+use Rattle.std.proofs.Common.{◌≡◌, ◌+◌, ◌-◌, ◌^◌, ◌<◌, ◌≤◌, ℕ, List, Bool, true, false, not, nat_le, nat_lt, cond, All, length, get_or, map, codes, Option, Some, None, Result, Ok, Err, IfOk, refl, sym, ap, ◌∙◌, subst, arith, length-append}
+use Rattle.std.proofs.lemmas.Bool.{and_parts, false≢true, leb-true, not-true}
 use Rattle.std.proofs.lemmas.List.Elements.{All-append, All-map}
 use Rattle.std.proofs.lemmas.List.FromFn.{length-map-range_with_len}
 use Rattle.std.proofs.lemmas.List.Sums.{AllPass-from_list_all}
@@ -33,13 +33,13 @@ use Rattle.rb_scenario.specs.declared.bus.Bus.{Bus}
 use Rattle.rb_scenario.specs.Acceptance.{broken_by}
 use Rattle.rb_scenario.specs.Bus.{IsBus}
 use Rattle.rb_scenario.specs.Clocks.{clock_for, clocks_of, is_clock, kind_clocks, timeline_of}
-use Rattle.rb_scenario.specs.Entries.{entry_for, is_node}
+use Rattle.rb_scenario.specs.Entries.{is_node}
 use Rattle.rb_scenario.specs.Faults.{is_fault, onset_for, onset_of, onsets_of}
-use Rattle.rb_scenario.specs.Hosts.{app_at, app_in, app_named, apps_of, has_lists, request_at, requests_of, word_at, words_of}
-use Rattle.rb_scenario.specs.Lawful.{IsLawful, IsNodeOf, IsOnsetOf, IsRangeIn, IsRuleOf, IsSayOf}
+use Rattle.rb_scenario.specs.Hosts.{app_at, app_in, apps_of, has_lists, request_at, requests_of, word_at, words_of}
+use Rattle.rb_scenario.specs.Lawful.{IsLawful, IsNodeOf, IsOnsetOf, IsRangeIn}
 use Rattle.rb_scenario.specs.Links.{are_apart, is_link, rule_of}
 use Rattle.rb_scenario.specs.Reading.{fits_bus, scenario_on}
-use Rattle.rb_scenario.specs.Rules.{are_sayers_faulty, is_delay, is_node_good, keep_time, keeps_time, segments_of_all, start_together}
+use Rattle.rb_scenario.specs.Rules.{is_delay, is_node_good, keep_time, keeps_time, segments_of_all, start_together}
 use Rattle.rb_scenario.specs.Says.{is_say, say_of}
 use Rattle.rb_scenario.proofs.Chain.{AllKept, kept_from_none}
 use Rattle.rb_scenario.proofs.EntryParts.{fit_parts, link_parts, say_parts}

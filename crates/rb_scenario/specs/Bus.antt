@@ -1,5 +1,5 @@
 -- What the root of a document says of the bus: its size, its number of frames and its plan.
-use Rattle.std.specs.Prelude.{ℕ, ◌-◌, ◌≤◌, Bool, true, false, ◌&&◌, ◌||◌, ◌==◌, nat_le, List, Option, Some, None, option_and_then, codes, if◌then◌else◌}
+use Rattle.std.specs.Prelude.{ℕ, ◌-◌, ◌≤◌, Bool, ◌&&◌, ◌||◌, ◌==◌, nat_le, List, Option, Some, None, option_and_then, codes, if◌then◌else◌}
 use Rattle.toml.specs.Data.{Data, Members, get, get_member}
 use Rattle.rb_base.specs.Sizes.{IsShape, Sizes}
 use Rattle.rb_rules.specs.Plan.{IsPlan}

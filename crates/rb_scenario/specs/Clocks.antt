@@ -1,5 +1,5 @@
 -- Clock entries: the clocks of some nodes.
-use Rattle.std.specs.Prelude.{ℕ, Bool, true, false, ◌&&◌, List, [], ◌∷◌, ◌++◌, map, Option, Some, None, is_some, unwrap_or, codes}
+use Rattle.std.specs.Prelude.{ℕ, Bool, ◌&&◌, List, [], ◌∷◌, ◌++◌, map, Option, Some, is_some, unwrap_or, codes}
 use Rattle.std.specs.List.{list_all}
 use Rattle.toml.specs.Data.{Data, array, Items, no_items, item, Members, no_members, get_member, at}
 use Rattle.rb_base.specs.Counting.{numbers}

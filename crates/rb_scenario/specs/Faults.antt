@@ -1,5 +1,5 @@
 -- Fault entries: from where on some nodes are not good.
-use Rattle.std.specs.Prelude.{ℕ, ◌-◌, Bool, true, false, ◌&&◌, List, map, Option, Some, None, option_map, is_some, codes}
+use Rattle.std.specs.Prelude.{ℕ, ◌-◌, Bool, ◌&&◌, List, map, Option, option_map, is_some, codes}
 use Rattle.std.specs.List.{list_all}
 use Rattle.toml.specs.Data.{Members}
 use Rattle.rb_base.specs.Counting.{numbers}

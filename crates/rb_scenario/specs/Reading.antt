@@ -1,5 +1,5 @@
 -- Whether all values of a document are in range, and the scenario that it says.
-use Rattle.std.specs.Prelude.{ℕ, ◌+◌, ◌/◌, Bool, true, false, ◌&&◌, List, codes}
+use Rattle.std.specs.Prelude.{ℕ, ◌+◌, ◌/◌, Bool, ◌&&◌, codes}
 use Rattle.std.specs.List.{list_all}
 use Rattle.toml.specs.Data.{Members}
 use Rattle.rb_base.specs.Nodes.Side.{Biu, Rmu}

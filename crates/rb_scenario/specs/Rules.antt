@@ -1,5 +1,5 @@
 -- The rules on what a document says.
-use Rattle.std.specs.Prelude.{ℕ, ◌+◌, ◌-◌, Bool, not, ◌&&◌, nat_le, nat_lt, List, [], ◌∷◌, length, get_or, Option, None}
+use Rattle.std.specs.Prelude.{ℕ, ◌+◌, ◌-◌, Bool, not, ◌&&◌, nat_le, List, [], ◌∷◌, length}
 use Rattle.std.specs.List.{list_all}
 use Rattle.rb_base.specs.Nodes.Side.{Biu, Rmu}
 use Rattle.rb_base.specs.declared.node.NodeName.{NodeName}
@@ -9,7 +9,6 @@ use Rattle.rb_rules.specs.Goodness.{Scenario, is_good}
 use Rattle.rb_rules.specs.Links.{DelayRules}
 use Rattle.rb_rules.specs.Plan.{longest_of, shortest_of}
 use Rattle.rb_rules.specs.declared.plan.Plan.{Plan}
-use Rattle.rb_rules.specs.declared.say.Say.{Say}
 
 -- a clock's segments begin at tick 0 and rise, and their lengths are within the plan's bounds
 abbrev pub keeps_time : Plan → Timeline → Bool

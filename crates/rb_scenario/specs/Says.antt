@@ -1,10 +1,9 @@
 -- Say entries: what nodes that are not good say.
-use Rattle.std.specs.Prelude.{ℕ, pos, ◌+◌, ◌-◌, Bool, true, false, not, ◌&&◌, ◌||◌, ◌==◌, nat_le, nat_lt, List, [], ◌∷◌, map, length, Option, Some, None, option_map, option_and_then, is_some, unwrap_or, Result, Ok, Err, codes, if◌then◌else◌}
+use Rattle.std.specs.Prelude.{ℕ, pos, ◌+◌, ◌-◌, Bool, true, not, ◌&&◌, ◌||◌, ◌==◌, nat_le, nat_lt, List, [], ◌∷◌, map, length, Option, Some, None, option_map, is_some, unwrap_or, Result, Ok, Err, codes, if◌then◌else◌}
 use Rattle.hex.specs.Hex.{decode_of}
 use Rattle.toml.specs.Data.{Data, string, integer, boolean, Members, get_member}
 use Rattle.rb_base.specs.Counting.{count_if}
 use Rattle.rb_base.specs.Sizes.{sync_slot_of}
-use Rattle.rb_base.specs.declared.node.NodeName.{NodeName}
 use Rattle.rb_base.specs.declared.node.NodeName.TheVariants.{Biu}
 use Rattle.rb_rules.specs.Links.{is_within as is_between}
 use Rattle.rb_rules.specs.declared.link.Pattern.TheVariants.{One}
@@ -14,7 +13,7 @@ use Rattle.rb_rules.specs.declared.say.Content.TheVariants.{Word, Fault, Sync, R
 use Rattle.rb_rules.specs.declared.say.Say.{Say}
 use Rattle.rb_document.specs.Names.{node_at, pattern_at}
 use Rattle.rb_document.specs.Values.{has_range, is_within, may_have_number, number_at, number_or, range_at}
-use Rattle.rb_document.specs.Walk.{absent_or, entries_at, has_key, passes}
+use Rattle.rb_document.specs.Walk.{absent_or, entries_at, has_key}
 use Rattle.rb_scenario.specs.declared.bus.Bus.{Bus}
 use Rattle.rb_scenario.specs.Links.{are_apart, pattern_of}
 

@@ -1,5 +1,5 @@
 -- Sets of nodes of both kinds.
-use Rattle.std.specs.Prelude.{Bool, true, false, not, ◌&&◌, List}
+use Rattle.std.specs.Prelude.{Bool, not, ◌&&◌, List}
 use Rattle.std.specs.List.{list_all}
 use Rattle.rb_base.specs.Nodes.{has}
 use Rattle.rb_base.specs.declared.node.NodeName.{NodeName}

@@ -1,5 +1,4 @@
 use Rattle.std.proofs.Common.{◌≡◌, drop}
-use Rattle.toml.specs.View.{table_view}
 use Rattle.rb_document.specs.Forms.{is_known}
 use Rattle.rb_document.specs.Shown.{fields_shown}
 use Rattle.rb_document.proofs.forms.is_known.Given as goal

@@ -1,4 +1,4 @@
-use Rattle.std.proofs.Common.{◌≡◌, ◌≤◌, ◌-◌, ℕ, true, arith, codes, sym, subst}
+use Rattle.std.proofs.Common.{◌≡◌, ◌-◌, ℕ, true, arith, codes, sym, subst}
 use Rattle.std.proofs.lemmas.Bool.{leb-true}
 use Rattle.toml.specs.View.{table_view}
 use Rattle.rb_scenario.specs.Bus.{may_plan, planned}

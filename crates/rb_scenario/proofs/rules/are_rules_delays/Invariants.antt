@@ -1,4 +1,4 @@
-use Rattle.std.proofs.Common.{◌≡◌, ◌-◌, ◌+◌, not, nat_le, drop}
+use Rattle.std.proofs.Common.{◌≡◌, drop}
 use Rattle.std.specs.List.{list_all}
 use Rattle.rb_scenario.specs.Rules.{is_delay}
 use Rattle.rb_scenario.proofs.rules.are_rules_delays.Given as goal

@@ -1,4 +1,4 @@
-use Rattle.std.proofs.Common.{◌≡◌, ◌-◌, ◌+◌, not, nat_le, drop}
+use Rattle.std.proofs.Common.{◌≡◌, not, drop}
 use Rattle.std.specs.List.{list_all}
 use Rattle.rb_scenario.specs.Onsets.{is_good_by}
 use Rattle.rb_scenario.proofs.rules.are_sayers_faulty.Given as goal

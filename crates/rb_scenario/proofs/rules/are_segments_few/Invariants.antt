@@ -1,5 +1,4 @@
-use Rattle.std.proofs.Common.{◌≡◌, ◌-◌, ◌+◌, not, nat_le, drop}
-use Rattle.std.specs.List.{list_all}
+use Rattle.std.proofs.Common.{◌≡◌, ◌+◌, drop}
 use Rattle.rb_scenario.specs.Rules.{segments_of_all}
 use Rattle.rb_scenario.proofs.rules.are_segments_few.Given as goal
 

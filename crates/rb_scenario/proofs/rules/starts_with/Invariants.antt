@@ -1,4 +1,4 @@
-use Rattle.std.proofs.Common.{◌≡◌, ◌-◌, ◌+◌, not, nat_le, drop}
+use Rattle.std.proofs.Common.{◌≡◌, ◌-◌, nat_le, drop}
 use Rattle.std.specs.List.{list_all}
 use Rattle.rb_scenario.proofs.rules.starts_with.Given as goal
 

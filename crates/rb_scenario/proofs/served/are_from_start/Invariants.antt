@@ -1,5 +1,5 @@
-use Rattle.std.proofs.Common.{◌≡◌, ◌==◌, is_none, drop}
-use Rattle.std.specs.List.{list_all, list_any}
+use Rattle.std.proofs.Common.{◌≡◌, drop}
+use Rattle.std.specs.List.{list_all}
 use Rattle.rb_scenario.specs.Acceptance.{is_from_start}
 use Rattle.rb_scenario.proofs.served.are_from_start.Given as goal
 

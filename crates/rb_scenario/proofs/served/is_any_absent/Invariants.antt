@@ -1,5 +1,5 @@
-use Rattle.std.proofs.Common.{◌≡◌, ◌==◌, is_none, drop}
-use Rattle.std.specs.List.{list_all, list_any}
+use Rattle.std.proofs.Common.{◌≡◌, is_none, drop}
+use Rattle.std.specs.List.{list_any}
 use Rattle.rb_scenario.proofs.served.is_any_absent.Given as goal
 
 abbrev pub invariant-loop-onset : goal.invariant-loop-onset
