@@ -18,3 +18,6 @@ mod served;
 pub use document::read;
 pub use refusal::Refusal;
 pub use scenario::{ClockList, SayList, Scenario};
+
+#[cfg(test)]
+mod tests;
