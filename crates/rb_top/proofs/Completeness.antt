@@ -38,7 +38,9 @@ not_refused input scenario rule.StartApart accepted coded refused = accepted_is_
 not_refused input scenario rule.SayOfGood accepted coded refused = accepted_is_unbroken input scenario rule.SayOfGood accepted refused
 not_refused input scenario rule.TooMany accepted coded refused = accepted_is_unbroken input scenario rule.TooMany accepted refused
 not_refused input scenario rule.NoSuchNode accepted coded refused = refused
-not_refused input scenario rule.OutOfMemory accepted coded refused = coded
+not_refused input scenario rule.OutOfMemory accepted coded refused =
+    let e : false ≡ true = coded in
+    cc
 
 -- an input that is served isn't refused
 not_both : (form : Form) (input : List ℕ) (scenario : Scenario) (why : Why) → IsAccepted input scenario → IsServed form scenario → ¬ IsRefusedFor form input why
@@ -116,9 +118,9 @@ completes form status left left' held held' reads reads' writes writes' c =
     let P : Option (List ℕ) → Type 0 = λ known. Causes form status known left' held held' reads reads' writes writes' in
     record {
       served = λ input scenario told accepted s short no_read no_write.
-        served_ends form status input left' held held' reads reads' writes writes' scenario (subst P told c) accepted s short no_read no_write;
+          served_ends form status input left' held held' reads reads' writes writes' scenario (subst P told c) accepted s short no_read no_write;
       refused = λ input why told refused. refused_ends form status input left' held held' reads reads' writes writes' why (subst P told c) refused;
       refused_at_once = λ input why told refused short no_read no_write.
-        refused_at_once form status input left' held held' reads reads' writes writes' why (subst P told c) refused short no_read no_write;
+          refused_at_once form status input left' held held' reads reads' writes writes' why (subst P told c) refused short no_read no_write;
       no_breach = c.never.1;
     }

@@ -1,14 +1,14 @@
 -- When each answer of the top call comes, and what it leaves written.
-use Rattle.std.specs.Prelude.{ℕ, ◌≡◌, ◌≤◌, ◌<◌, ◌⊎◌, List, [], ◌∷◌, length, String, Option, Some, None, IsSome, true, false}
+use Rattle.std.specs.Prelude.{ℕ, ◌≡◌, ◌≤◌, ◌<◌, ◌⊎◌, List, [], ◌∷◌, length, String, Option, Some, None, IsSome, unwrap_or, true, false}
 use Rattle.std.specs.declared.alloc.Global.{Global}
 use Rattle.std.specs.Io.KnownBytes.{Appends}
 use Rattle.rb_outside.specs.Bytes.{AppendsPart, Gave, ReadsToEnd}
 use Rattle.rb_outside.specs.Causes.{Rose}
 use Rattle.rb_report.specs.Report.{refused_text}
 use Rattle.rb_scenario.specs.Acceptance.{IsAccepted, IsRefused}
+use Rattle.rb_scenario.specs.Codes.{code_of, detail_of}
 use Rattle.rb_scenario.specs.declared.scenario.Scenario.{Scenario}
 use Rattle.rb_scenario.specs.declared.refusal.Refusal.{Refusal}
-use Rattle.rb_scenario.specs.declared.refusal.Refusal.TheVariants.{NotToml, MissingKey, UnknownKey, WrongType, OutOfRange, PlanFails, ClockBounds, DelayBounds, StartApart, SayOfGood, TooMany, NoSuchNode, OutOfMemory}
 use Rattle.rb_top.specs.declared.form.Form.{Form}
 use Rattle.rb_top.specs.declared.form.Form.TheVariants.{Run, Check}
 use Rattle.rb_top.specs.declared.status.Status.{Status}
@@ -46,33 +46,11 @@ pub data Why : Type 0 where
 
 -- the rule has a code; want of memory has none
 abbrev pub HasCode : Refusal → Type 0
-HasCode OutOfMemory = ⊥
-HasCode rule = Unit {0}
-
--- the rules' codes
-abbrev pub code_of : Refusal → ℕ
-code_of NotToml = 1
-code_of MissingKey = 2
-code_of UnknownKey = 3
-code_of WrongType = 4
-code_of OutOfRange = 5
-code_of (PlanFails n) = 6
-code_of ClockBounds = 7
-code_of DelayBounds = 8
-code_of StartApart = 9
-code_of SayOfGood = 10
-code_of TooMany = 11
-code_of NoSuchNode = 12
-code_of OutOfMemory = 0
-
--- the number that is told with a rule
-abbrev pub detail_of : Refusal → Option ℕ
-detail_of (PlanFails n) = Some n
-detail_of rule = None
+HasCode rule = IsSome (code_of rule)
 
 -- the line that says why
 abbrev pub refusal_text : Why → List ℕ
-refusal_text (Breaks rule) = refused_text (code_of rule) (detail_of rule) false
+refusal_text (Breaks rule) = refused_text (unwrap_or (code_of rule) 0) (detail_of rule) false
 refusal_text NotBuilt = refused_text 13 None false
 
 -- the input is refused for this

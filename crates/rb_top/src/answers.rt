@@ -4,7 +4,7 @@ ghost use Rattle.std.specs.Io.KnownBytes.{Appends};
 ghost use Rattle.rb_outside.specs.Bytes.{AppendsPart};
 ghost use Rattle.rb_outside.specs.Causes.{HasCause, Rose};
 ghost use Rattle.rb_scenario.specs.Acceptance.{IsAccepted};
-ghost use Rattle.rb_top.specs.Answers.{AnswerPart, HasCode, IsServed, code_of, detail_of, refusal_text, text_of};
+ghost use Rattle.rb_top.specs.Answers.{AnswerPart, HasCode, IsServed, refusal_text, text_of};
 ghost use Rattle.rb_top.specs.Answers.Why.{Breaks, NotBuilt};
 ghost use Rattle.rb_top.specs.RunText.{IsRunnable};
 ghost use Rattle.rb_top.specs.declared.form.Form.TheVariants.{Run, Check};
@@ -41,29 +41,6 @@ fn write_served<K: Sink>(form: Form, scenario: &Scenario, output: &mut K) -> Res
     }
 }
 
-// The code of a rule, and the number that is told with it.
-fn code_of(rule: Refusal) -> (u8, Option<u64>)
-    requires { HasCode rule }
-    ensures code { result.0 ≡ code_of rule }
-    ensures detail { result.1 ≡ detail_of rule }
-{
-    match rule {
-        Refusal::NotToml => (1, None),
-        Refusal::MissingKey => (2, None),
-        Refusal::UnknownKey => (3, None),
-        Refusal::WrongType => (4, None),
-        Refusal::OutOfRange => (5, None),
-        Refusal::PlanFails(n) => (6, Some(u64::from(n))),
-        Refusal::ClockBounds => (7, None),
-        Refusal::DelayBounds => (8, None),
-        Refusal::StartApart => (9, None),
-        Refusal::SayOfGood => (10, None),
-        Refusal::TooMany => (11, None),
-        Refusal::NoSuchNode => (12, None),
-        Refusal::OutOfMemory => unreachable!(),
-    }
-}
-
 // Writes the line of a rule that is broken.
 fn write_rule<K: Sink>(rule: Refusal, output: &mut K) -> Result<(), Failed>
     requires { HasCode rule }
@@ -71,8 +48,10 @@ fn write_rule<K: Sink>(rule: Refusal, output: &mut K) -> Result<(), Failed>
     ensures part { OnErr result (AppendsPart (K.held output.old) (K.held output.new) (refusal_text (Breaks rule))) }
     ensures cause { HasCause (K.faults output.old) (K.faults output.new) result }
 {
-    let (code, detail) = code_of(rule);
-    write_line(output, &refused_line(code, detail, false))
+    write_line(
+        output,
+        &refused_line(rule.code().unwrap_or(0), rule.detail(), false),
+    )
 }
 
 /// Refuses the input for a rule that it breaks.

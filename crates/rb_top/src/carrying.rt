@@ -61,7 +61,12 @@ fn take(version: Version, bytes: &[u8], slot: u16, stage: u8) -> Option<Heard>
 fn relay(version: Version, bytes: &[u8], slot: u16) -> Bytes
     ensures { result.items ≡ spelling_of version (message_of slot 2 (relayed version slot bytes.now)) }
 {
-    send(version, slot, 2, take(version, bytes, slot, 1).unwrap_or(Heard::Fault))
+    send(
+        version,
+        slot,
+        2,
+        take(version, bytes, slot, 1).unwrap_or(Heard::Fault),
+    )
 }
 
 /// What the RMUs without a fault send on of the owner's bytes.

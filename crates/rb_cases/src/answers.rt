@@ -1,4 +1,4 @@
-//! `run` with a silent RMU, other inputs, and an outside that fails or gives and takes a byte at a time.
+//! Answers of the top call, also where the outside fails or gives and takes a byte at a time.
 use rb_outside::{MemSink, MemSource, ShortSink, ShortSource};
 use rb_top::{Status, run_robus};
 use std::alloc::{AllocError, Global};
@@ -12,7 +12,7 @@ const REPORT: &str =
 
 const NOT_TOML: &str = "refused 1 NotToml\n";
 
-const NOT_BUILT: &str = "refused 13 NotBuilt\n";
+const MISSING_KEY: &str = "refused 2 MissingKey\n";
 
 fn words_of(alloc: Global, text: &str) -> Result<Vec<String>, AllocError> {
     let mut words = Vec::new(alloc);
@@ -28,7 +28,7 @@ fn answers_and_what_they_write(rt: HostRuntime) -> Result<(), Fail> {
     // Words, input, the read and the write that fail (0: none), and what is wanted: status, bytes held, calls of the sink.
     for (words, input, read, write, status, held, calls) in [
         ("run", SILENT_RMU, 0, 0, Status::Done, REPORT, 17),
-        ("run", "", 0, 0, Status::Refused, NOT_BUILT, 1),
+        ("run", "", 0, 0, Status::Refused, MISSING_KEY, 1),
         ("run", "biu = ", 0, 0, Status::Refused, NOT_TOML, 1),
         ("run x", SILENT_RMU, 0, 0, Status::Usage, "", 0),
         ("", SILENT_RMU, 0, 0, Status::Usage, "", 0),
@@ -67,7 +67,7 @@ fn a_byte_past_the_limit(rt: HostRuntime) -> Result<(), Fail> {
     let words = words_of(alloc, "run")?;
     for (length, status, held) in [
         (4_194_305, Status::TooLong, ""),
-        (4_194_304, Status::Refused, NOT_BUILT),
+        (4_194_304, Status::Refused, MISSING_KEY),
     ] {
         let mut source = MemSource::new(vec![in alloc; 32; length]?, vec![in alloc]?);
         let mut sink = MemSink::new(alloc, 1000, vec![in alloc]?)
