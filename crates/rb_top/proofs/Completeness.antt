@@ -1,5 +1,5 @@
 -- The answers that must come, from the causes of each answer.
-use Rattle.std.proofs.Common.{◌≡◌, ℕ, ◌<◌, ◌≤◌, ◌⊎◌, Bool, true, false, List, length, Option, Some, None, arith, inl, inr, refl, ap, subst, sym, ◌∙◌}
+use Rattle.std.proofs.Common.{◌≡◌, ℕ, ◌<◌, ◌≤◌, ◌⊎◌, true, false, List, length, Option, Some, arith, inl, inr, refl, subst, sym, ◌∙◌}
 use Rattle.rb_outside.specs.Causes.{Rose}
 use Rattle.rb_outside.specs.Bytes.{ReadsToEnd}
 use Rattle.rb_outside.proofs.Known.{gave_within, read_bytes}
@@ -12,7 +12,7 @@ use Rattle.rb_top.specs.declared.form.Form.{Form}
 use Rattle.rb_top.specs.declared.form.Form.TheVariants.{Run, Check}
 use Rattle.rb_top.specs.declared.status.Status.{Status}
 use Rattle.rb_top.specs.declared.status.Status.TheVariants.{Done, Breach, Usage, Refused, TooLong, ReadFault, WriteFault, OutOfMemory}
-use Rattle.rb_top.specs.Answers.{AnswerPart, Completes, ExceedsExactly, HasCode, IsAnswer, IsDue, IsRefusedFor, IsServed, MayRefuse, RefusalIsWritten, ServedIsWritten, Why, WriteFails, scenario_limit, text_of}
+use Rattle.rb_top.specs.Answers.{Completes, ExceedsExactly, HasCode, IsAnswer, IsDue, IsRefusedFor, IsServed, MayRefuse, RefusalIsWritten, ServedIsWritten, Why, WriteFails, scenario_limit}
 use Rattle.rb_top.specs.Answers.IsAnswer.{served, unbuilt}
 use Rattle.rb_top.specs.Answers.IsDue.{of_scenario, of_refusal}
 use Rattle.rb_top.specs.Answers.Why.{Breaks, NotBuilt}

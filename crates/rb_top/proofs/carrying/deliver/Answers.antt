@@ -1,6 +1,6 @@
-use Rattle.std.proofs.Common.{◌≤◌, ◌+◌, length, arith, ap, ◌∙◌, ◌++◌, length-append}
+use Rattle.std.proofs.Common.{length, arith, ap, ◌∙◌, length-append}
 use Rattle.std.specs.Option.{option_to_list}
-use Rattle.rb_top.specs.Carrying.{value_in, values_taken}
+use Rattle.rb_top.specs.Carrying.{value_in}
 use Rattle.rb_top.proofs.Carried.{taken_more, one_at_most}
 use Rattle.rb_top.proofs.carrying.deliver.Goals as goal
 

@@ -1,7 +1,7 @@
-use Rattle.std.proofs.Common.{rules, arith, ◌≤◌, ◌<◌}
+use Rattle.std.proofs.Common.{rules, arith}
 use Rattle.rb_report.specs.Report.{end_text}
 use Rattle.rb_top.specs.RunText.{owned_slots, slot_text}
-use Rattle.rb_top.proofs.Writing.{on_err, owes_pieces, part_of_pieces, owes_tail, part_of_tail, owes_last}
+use Rattle.rb_top.proofs.Writing.{on_err, owes_pieces, part_of_pieces, owes_tail, part_of_tail}
 use Rattle.rb_top.proofs.report.write_run.Goals as goal
 
 pub returns-in_err-write_slot-clause-part : goal.returns-in_err-write_slot-clause-part
