@@ -1,6 +1,6 @@
 # make run SCENARIO=examples/one_silent_rmu.toml   runs a scenario
 # make build                                       proves and builds the program
-# make test                                        the gate: every proof from nothing, every test, every program
+# make test                                        the gate: every proof, must-fail edit, test and program
 # make bench                                       builds the programs and measures them
 
 .PHONY: run build test bench
