@@ -5,7 +5,7 @@ use Rattle.rb_base.specs.declared.values.Heard.TheVariants.{Word, Fault}
 use Rattle.rb_rules.specs.declared.sense.Sense.{Sense}
 use Rattle.rb_rules.specs.declared.sense.Sense.TheVariants.{Silent, Bad}
 use Rattle.rb_rules.specs.Conviction.{turn}
-use Rattle.rb_rules.specs.ExactStage.{keeping, close_exact}
+use Rattle.rb_rules.specs.ExactStage.{keep_sent, close_exact}
 use Rattle.rb_rules.specs.NodeState.{NodeState}
 use Rattle.rb_rules.specs.Standing.{Standing}
 use Rattle.rb_rules.specs.SyncStage.{close_sync}
@@ -21,7 +21,7 @@ calm_for frames = record accused { direct = 1; fresh = 0; calm = frames ∷ repl
 
 -- BIU 0 sends the request 2, closes stage 1, and closes stage 2, in which the RMUs relay 7, 8 and 2
 abbrev pub after_stage_1 : NodeState
-after_stage_1 = (close_exact sizes Biu 0 (keeping sizes Biu 0 biu 0 1 2) 0 1 (comes 0 1 [])).state
+after_stage_1 = (close_exact sizes Biu 0 (keep_sent sizes Biu 0 biu 0 1 2) 0 1 (comes 0 1 [])).state
 
 abbrev pub unlike_relays : ℕ → Sense
 unlike_relays = comes 0 2 (Some (Word 7) ∷ Some (Word 8) ∷ Some (Word 2) ∷ [])

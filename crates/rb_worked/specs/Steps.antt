@@ -14,7 +14,7 @@ use Rattle.rb_rules.specs.Core.{Core, first_core, arrive, tick, pass_to}
 use Rattle.rb_rules.specs.ExactStage.{message_of}
 use Rattle.rb_rules.specs.Goodness.{Scenario}
 use Rattle.rb_rules.specs.Hearing.{Coming, Span}
-use Rattle.rb_rules.specs.WorldStep.{Site, World, fresh_site, first_world, stopped}
+use Rattle.rb_rules.specs.WorldStep.{Site, World, fresh_site, first_world, stop}
 use Rattle.rb_worked.specs.Buses.{b, plan, says}
 use Rattle.rb_worked.specs.Cores.{usual_sizes}
 use Rattle.rb_worked.specs.Ordinary.{ordinary_use, smallest_bus}
@@ -92,7 +92,7 @@ at_slot = record small_world { turn = Some (Slot 0 0 []) }
 abbrev pub all_but_one_run : Each Site
 all_but_one_run = record {
   bius = fresh_site usual_sizes Biu ∷ [];
-  rmus = fresh_site usual_sizes Rmu ∷ stopped (fresh_site usual_sizes Rmu) ∷ fresh_site usual_sizes Rmu ∷ [];
+  rmus = fresh_site usual_sizes Rmu ∷ stop (fresh_site usual_sizes Rmu) ∷ fresh_site usual_sizes Rmu ∷ [];
 }
 
 -- what comes at a time from a BIU

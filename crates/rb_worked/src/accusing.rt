@@ -3,7 +3,7 @@
 
 ghost use Rattle.std.specs.Prelude.{◌≡◌, ◌∷◌, [], Some, None, slice_index, take};
 ghost use Rattle.rb_base.specs.declared.values.Heard.TheVariants.{Word, Fault};
-ghost use Rattle.rb_rules.specs.Standing.{lapsed, vector_of};
+ghost use Rattle.rb_rules.specs.Standing.{standing_at_end, vector_of};
 ghost use Rattle.rb_worked.specs.Accusing.{after_noise_in_the_tail, after_stage_1, calm_for, next_but_one_frame, next_frame, sender_of_unlike, with_a_convict};
 ghost use Rattle.rb_worked.specs.Parts.{convicted};
 
@@ -14,9 +14,9 @@ pub fn vector_without_convicts()
 
 /// Frames without evidence are counted up to 4096, which is the longest probation.
 pub fn longest_probation()
-    ensures last_but_one { (lapsed 4096 (calm_for 4094)).direct ≡ 1 }
-    ensures last { (lapsed 4096 (calm_for 4095)).direct ≡ 0 }
-    ensures counted_no_further { slice_index (lapsed 0 (calm_for 4096)).calm 0 ≡ 4096 }
+    ensures last_but_one { (standing_at_end 4096 (calm_for 4094)).direct ≡ 1 }
+    ensures last { (standing_at_end 4096 (calm_for 4095)).direct ≡ 0 }
+    ensures counted_no_further { slice_index (standing_at_end 0 (calm_for 4096)).calm 0 ≡ 4096 }
 {}
 
 /// A sender compares the relays with what it sent, and not with its vote, which is Fault here: two RMUs differ.

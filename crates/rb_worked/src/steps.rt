@@ -9,7 +9,7 @@ ghost use Rattle.rb_base.specs.declared.values.Heard.TheVariants.{Word};
 ghost use Rattle.rb_base.specs.declared.values.See.TheVariants.{Nothing, Value, Time};
 ghost use Rattle.rb_rules.specs.Core.{arrive, is_spent, slot_wanted, tick};
 ghost use Rattle.rb_rules.specs.Hearing.{is_said, judged_see, sole_time};
-ghost use Rattle.rb_rules.specs.WorldStep.{event_at, hand, ready_at, shown, with_message};
+ghost use Rattle.rb_rules.specs.WorldStep.{event_at, hand, ready_at, event_of, with_message};
 ghost use Rattle.rb_rules.specs.WorldStep.Pending.{Arrival, Tick};
 ghost use Rattle.rb_worked.specs.Buses.{plan};
 ghost use Rattle.rb_worked.specs.Cores.{usual_sizes};
@@ -78,12 +78,12 @@ pub fn events_as_shown()
     ensures first_tick { event_at smallest_bus small_world 0 ≡ Some (record { node = node.Biu 0; quiet = 0; kind = kind.Tick 0 false }) }
     ensures last_of_them { event_at smallest_bus small_world 1 ≡ Some (record { node = node.Rmu 0; quiet = 0; kind = kind.Tick 0 false }) }
     ensures no_more { event_at smallest_bus small_world 2 ≡ None }
-    ensures request { shown smallest_bus small_world.ports Biu 0 (core_after 1) (Tick 6) ≡ record { node = node.Biu 0; quiet = 5; kind = kind.Tick 1 true } }
-    ensures arrival { shown smallest_bus small_world.ports Biu 0 (core_after 1) (Arrival 0 (empty_at 30000 0)) ≡ record { node = node.Biu 0; quiet = 2; kind = kind.Arrive 0 (record { items = [] }) } }
+    ensures request { event_of smallest_bus small_world.ports Biu 0 (core_after 1) (Tick 6) ≡ record { node = node.Biu 0; quiet = 5; kind = kind.Tick 1 true } }
+    ensures arrival { event_of smallest_bus small_world.ports Biu 0 (core_after 1) (Arrival 0 (empty_at 30000 0)) ≡ record { node = node.Biu 0; quiet = 2; kind = kind.Arrive 0 (record { items = [] }) } }
 {}
 
 /// What a node shows of a source: nothing, a value, or for a stamp the reference time of its sole message.
 pub fn sights_as_shown()
-    ensures shown { map (judged_see 95000) (Nothing ∷ Value (Word 2) ∷ Time 10 ∷ []) ≡ (Nothing ∷ Value (Word 2) ∷ Time 95000 ∷ []) }
+    ensures sights { map (judged_see 95000) (Nothing ∷ Value (Word 2) ∷ Time 10 ∷ []) ≡ (Nothing ∷ Value (Word 2) ∷ Time 95000 ∷ []) }
     ensures times { map sole_time ([] ∷ (empty_at 95000 0 ∷ []) ∷ (empty_at 95000 0 ∷ empty_at 95001 0 ∷ []) ∷ []) ≡ (0 ∷ 95000 ∷ 0 ∷ []) }
 {}

@@ -8,7 +8,7 @@ ghost use Rattle.rb_rules.specs.Book.Milestone.{Begin, Stage};
 ghost use Rattle.rb_rules.specs.Book.Record.{Slot};
 ghost use Rattle.rb_rules.specs.Majority.{majority_of};
 ghost use Rattle.rb_rules.specs.NodeSteps.{owner_at};
-ghost use Rattle.rb_rules.specs.Ports.{delivered_to, handed, learned_by, losses_of, offered_at, offered_by};
+ghost use Rattle.rb_rules.specs.Ports.{delivered_to, hand_over, learned_by, losses_of, offered_at, offered_by};
 ghost use Rattle.rb_worked.specs.Parts.{biu, sizes};
 ghost use Rattle.rb_worked.specs.Told.{at};
 
@@ -38,9 +38,9 @@ pub fn losses_of_a_port()
 
 /// A state is handed to its own port, in its own frame, and the later one stands.
 pub fn hand_ins_of_a_frame()
-    ensures states { map (λ p. p.state) (handed 1 (record { frame = 1; biu = 1; state = 6 } ∷ record { frame = 2; biu = 0; state = 7 } ∷ record { frame = 1; biu = 1; state = 8 } ∷ [])
+    ensures states { map (λ p. p.state) (hand_over 1 (record { frame = 1; biu = 1; state = 6 } ∷ record { frame = 2; biu = 0; state = 7 } ∷ record { frame = 1; biu = 1; state = 8 } ∷ [])
         (record { app = 0; state = 1; faults = [] } ∷ record { app = 0; state = 2; faults = [] } ∷ [])) ≡ (1 ∷ 8 ∷ []) }
-    ensures losses { map losses_of (handed 1 (record { frame = 1; biu = 0; state = 6 } ∷ []) (record { app = 0; state = 1; faults = true ∷ [] } ∷ [])) ≡ (1 ∷ []) }
+    ensures losses { map losses_of (hand_over 1 (record { frame = 1; biu = 0; state = 6 } ∷ []) (record { app = 0; state = 1; faults = true ∷ [] } ∷ [])) ≡ (1 ∷ []) }
 {}
 
 /// Three stages a slot; the frame's record comes after stage 3 of the sync slot, and that slot has none of its own.
