@@ -18,6 +18,8 @@ mod classes;
 mod seen;
 mod sources;
 mod stage_sets;
+#[cfg(test)]
+mod tests;
 
 /// What was seen in the stages of a frame so far, as much of it as the classes of nodes depend on. Its size does not depend
 /// on how much was seen.
@@ -103,9 +105,9 @@ impl Judge {
 
     /// A stage begins and is told whole, by the sets of its nodes of both kinds. It stands beside `stage` and a `note` for each
     /// sight, for who keeps these sets: of such a stage no single sights can be noted.
-    pub fn whole_stage(&mut self, biu: StageSets<Biu>, rmu: StageSets<Rmu>)
+    pub fn whole_stage(&mut self, biu: &StageSets<Biu>, rmu: &StageSets<Rmu>)
         ensures known { (stages : List JudgedStage) (s : JudgedStage) → Knows self.old stages
-            → AreSetsOf biu_side biu s → AreSetsOf rmu_side rmu s → Knows self.new (s ∷ stages) }
+            → AreSetsOf biu_side biu.now s → AreSetsOf rmu_side rmu.now s → Knows self.new (s ∷ stages) }
         ensures shape { self.new.sizes ≡ self.old.sizes }
     {
         self.bius.pass(biu);
@@ -155,39 +157,5 @@ fn cause_of(biu: &Classes<Biu>, rmu: &Classes<Rmu>) -> Option<Cause>
         Some(Cause::TwoSided)
     } else {
         None
-    }
-}
-
-#[cfg(test)]
-mod tests {
-    use super::*;
-
-    // Stages of which nothing was seen, on a bus of four BIUs and three RMUs that are all trusted but for the last of each kind.
-    #[test]
-    fn verdicts_on_silence(rt: HostRuntime) {
-        let shape = Shape::new(4, 3, 8).unwrap();
-        let mut judge = Judge::new(&shape);
-        assert_eq!(rt; judge.verdict(), Some(Cause::FewGoodBiu));
-        let rows = [
-            (15, 7, None),
-            (1, 1, None),
-            (8, 7, Some(Cause::FewGoodBiu)),
-            (15, 4, Some(Cause::FewGoodRmu)),
-            (0, 0, Some(Cause::FewGoodBiu)),
-        ];
-        for (good_biu, good_rmu, verdict) in rows {
-            judge.stage(
-                NodeSet::from_bits(good_biu),
-                NodeSet::from_bits(good_rmu),
-                NodeSet::from_bits(7),
-                NodeSet::from_bits(3),
-                10000,
-            );
-            assert_eq!(rt; judge.verdict(), verdict);
-            assert_eq!(rt; judge.biu().good.bits(), good_biu & 7);
-            assert_eq!(rt; judge.rmu().benign.bits(), 3 & !good_rmu);
-        }
-        judge.frame();
-        assert_eq!(rt; judge.verdict(), Some(Cause::FewGoodBiu));
     }
 }

@@ -65,8 +65,8 @@ impl<K: Copy> Sources<K> {
     }
 
     /// A new stage with these sets, told at once.
-    pub(crate) fn pass(&mut self, stage: StageSets<K>)
-        ensures { Begins (kept_kind self.old) (kept_kind self.new) stage.good stage.trusted stage.taken stage.unlike }
+    pub(crate) fn pass(&mut self, stage: &StageSets<K>)
+        ensures { Begins (kept_kind self.old) (kept_kind self.new) stage.now.good stage.now.trusted stage.now.taken stage.now.unlike }
     {
         self.good = stage.good;
         self.trusted = stage.trusted;
@@ -81,7 +81,7 @@ impl<K: Copy> Sources<K> {
         ensures sets { Begins (kept_kind self.old) (kept_kind self.new) good trusted 0 0 }
         ensures by_none { (j : ℕ) → slice_index self.new.by j ≡ 0 }
     {
-        self.pass(StageSets {
+        self.pass(&StageSets {
             good,
             trusted,
             taken: NodeSet::empty(),

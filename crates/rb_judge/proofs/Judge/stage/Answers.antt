@@ -1,7 +1,6 @@
 use Rattle.std.proofs.Common.{refl, sym, subst}
 use Rattle.rb_base.specs.Nodes.Side.{Biu, Rmu}
 use Rattle.rb_rules.specs.Judging.{by_kind}
-use Rattle.rb_judge.specs.Kinds.{kept_kind}
 use Rattle.rb_judge.specs.Stages.{KeptJudge, Knows}
 use Rattle.rb_judge.proofs.Sides.{kind_begun}
 use Rattle.rb_judge.proofs.Judge.stage.Goals as goal

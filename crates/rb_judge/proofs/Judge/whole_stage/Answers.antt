@@ -8,6 +8,6 @@ pub returns-clause-known : goal.returns-clause-known
 returns-clause-known c = λ stages s is biu rmu.
     let known = subst (λ (k : KeptJudge). Knows k stages) (sym c.self.view_is) is in
     record {
-      bius = kind_passed Biu stages _ _ c.args.biu s c.pass.ensures biu known.bius;
-      rmus = kind_passed Rmu stages _ _ c.args.rmu s c.pass-2.ensures rmu known.rmus;
+      bius = kind_passed Biu stages _ _ c.args.biu.now s c.pass.ensures biu known.bius;
+      rmus = kind_passed Rmu stages _ _ c.args.rmu.now s c.pass-2.ensures rmu known.rmus;
     }

@@ -1,4 +1,4 @@
-use Rattle.std.proofs.Common.{◌∙◌, rules}
+use Rattle.std.proofs.Common.{◌∙◌}
 use Rattle.rb_judge.proofs.sources.Sources.begin.Goals as goal
 
 pub returns-clause-sets : goal.returns-clause-sets

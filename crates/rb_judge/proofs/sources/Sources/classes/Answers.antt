@@ -1,4 +1,4 @@
-use Rattle.std.proofs.Common.{◌≡◌, ◌&&◌, not, refl, ◌∙◌}
+use Rattle.std.proofs.Common.{◌≡◌, ◌&&◌, not, refl}
 use Rattle.rb_base.specs.Nodes.{set_of}
 use Rattle.rb_judge.specs.Kinds.{is_suspected, kept_kind, taken_so_far, unlike_so_far}
 use Rattle.rb_judge.proofs.Sides.{set_by}
