@@ -2,6 +2,7 @@
 //! by computing. No code is run, and nothing stands on this crate.
 #![tactic(auto)]
 
+pub mod abstract_bus;
 pub mod accusing;
 pub mod cores;
 pub mod events;
@@ -13,5 +14,6 @@ pub mod ordinary;
 pub mod parts;
 pub mod resynchronisation;
 pub mod steps;
+pub mod timely;
 pub mod timing;
 pub mod values;
