@@ -8,20 +8,20 @@ use Rattle.rb_base.specs.Sizes.{Sizes, sync_slot_of}
 use Rattle.rb_base.specs.declared.values.Place.{Place}
 use Rattle.rb_rules.specs.declared.plan.Plan.{Plan}
 use Rattle.rb_rules.specs.Lawful.{IsRangeIn, ticks_at, ticks_in_sync}
-use Rattle.rb_rules.specs.Links.{covers, is_within}
+use Rattle.rb_rules.specs.Links.{covers, is_in_range}
 use Rattle.rb_rules.specs.Plan.{IsFeasible, IsPlan, Sides, drift_in, longest_of, shortest_of, skew_of}
 
 -- a number of a range lies between its ends
-within_bounds : (range : ℕ × ℕ) (n : ℕ) → is_within range n ≡ true → (range.0 ≤ n) × (n ≤ range.1)
+within_bounds : (range : ℕ × ℕ) (n : ℕ) → is_in_range range n ≡ true → (range.0 ≤ n) × (n ≤ range.1)
 within_bounds range n h =
     let parts = and_parts (nat_le range.0 n) (nat_le n range.1) h in
     (leb-true range.0 n parts.0, leb-true n range.1 parts.1)
 
 -- what holds at each of the stages 1 to 4 that a range has holds at each stage of the range
 pub at_each_stage : (P : ℕ → Type 0) (stages : ℕ × ℕ) → IsRangeIn 1 4 stages
-    → (is_within stages 1 ≡ true → P 1) → (is_within stages 2 ≡ true → P 2)
-    → (is_within stages 3 ≡ true → P 3) → (is_within stages 4 ≡ true → P 4)
-    → (stage : ℕ) → is_within stages stage ≡ true → P stage
+    → (is_in_range stages 1 ≡ true → P 1) → (is_in_range stages 2 ≡ true → P 2)
+    → (is_in_range stages 3 ≡ true → P 3) → (is_in_range stages 4 ≡ true → P 4)
+    → (stage : ℕ) → is_in_range stages stage ≡ true → P stage
 at_each_stage P stages is one two three four zero h =
     let at = within_bounds stages zero h in absurd (omega (arith, at.0, is.least))
 at_each_stage P stages is one two three four (suc zero) h = one h
@@ -40,11 +40,11 @@ ticks_by false l in_sync offset h k = k refl
 -- the offset lies in all windows below the sync slot, or there are none, and in all stages of the sync slot, or there are none
 pub lies_in_each : (sizes : Sizes) (plan : Plan) (frames slots stages : ℕ × ℕ) (offset : ℕ)
     → (sync_slot_of sizes ≤ slots.0) ⊎ (offset < plan.l)
-    → (slots.1 < sync_slot_of sizes) ⊎ ((stage : ℕ) → is_within stages stage ≡ true → offset < ticks_in_sync plan stage)
+    → (slots.1 < sync_slot_of sizes) ⊎ ((stage : ℕ) → is_in_range stages stage ≡ true → offset < ticks_in_sync plan stage)
     → (place : Place) → covers frames slots stages place ≡ true → offset < ticks_at sizes plan place
 lies_in_each sizes plan frames slots stages offset below in_sync place h =
-    let first = and_parts (is_within frames place.frame && is_within slots place.slot) (is_within stages place.stage) h in
-    let second = and_parts (is_within frames place.frame) (is_within slots place.slot) first.0 in
+    let first = and_parts (is_in_range frames place.frame && is_in_range slots place.slot) (is_in_range stages place.stage) h in
+    let second = and_parts (is_in_range frames place.frame) (is_in_range slots place.slot) first.0 in
     let slot = within_bounds slots place.slot second.1 in
     ticks_by (nat_lt place.slot (sync_slot_of sizes)) plan.l (ticks_in_sync plan place.stage) offset
     (λ e. elim below [

@@ -21,7 +21,7 @@ use Rattle.rb_rules.specs.declared.say.Say.{Say}
 use Rattle.rb_rules.specs.Clock.{IsClock, Timeline, are_rising, are_within}
 use Rattle.rb_rules.specs.Goodness.{Scenario}
 use Rattle.rb_rules.specs.Lawful.{HasEach, IsContent, IsDelay, IsLawful, IsNodeOf, IsOnsetOf, IsPatternOf, IsRangeIn, IsRuleOf, IsSayOf, IsSyncAlone, IsVersion, is_node_good, kind_named, kind_of, segments_of_all, ticks_in_sync}
-use Rattle.rb_rules.specs.Links.{is_within}
+use Rattle.rb_rules.specs.Links.{is_in_range}
 use Rattle.rb_rules.specs.Plan.{IsPlan, first_failing, longest_of, shortest_of}
 use Rattle.rb_rules.specs.Slots.{same_side}
 use Rattle.rb_rules.proofs.Feasibility.{feasible_exactly}
@@ -234,11 +234,11 @@ either_by : (P Q : Type 0) (p q : Bool) → (p ≡ true → P) → (q ≡ true �
 either_by P Q p q shows_p shows_q h = elim (or_cases p q h) [ inl e ↦ inl (shows_p e) | inr e ↦ inr (shows_q e) ]
 
 abbrev lies_in : Plan → Say → ℕ → Bool
-lies_in plan s stage = not (is_within s.stages stage) || nat_lt s.offset (ticks_in_sync plan stage)
+lies_in plan s stage = not (is_in_range s.stages stage) || nat_lt s.offset (ticks_in_sync plan stage)
 
-lies_by : (plan : Plan) (s : Say) (stage : ℕ) → lies_in plan s stage ≡ true → is_within s.stages stage ≡ true → s.offset < ticks_in_sync plan stage
-lies_by plan s stage h has = elim (or_cases (not (is_within s.stages stage)) (nat_lt s.offset (ticks_in_sync plan stage)) h) [
-  | inl e ↦ absurd (both_ways (is_within s.stages stage) (not-true _ e) has)
+lies_by : (plan : Plan) (s : Say) (stage : ℕ) → lies_in plan s stage ≡ true → is_in_range s.stages stage ≡ true → s.offset < ticks_in_sync plan stage
+lies_by plan s stage h has = elim (or_cases (not (is_in_range s.stages stage)) (nat_lt s.offset (ticks_in_sync plan stage)) h) [
+  | inl e ↦ absurd (both_ways (is_in_range s.stages stage) (not-true _ e) has)
   | inr e ↦ ltb-true s.offset (ticks_in_sync plan stage) e
 ]
 
@@ -246,7 +246,7 @@ abbrev lie_tests : Plan → Say → List Bool
 lie_tests plan s = lies_in plan s 1 ∷ lies_in plan s 2 ∷ lies_in plan s 3 ∷ lies_in plan s 4 ∷ []
 
 lie_by : (plan : Plan) (s : Say) → IsRangeIn 1 4 s.stages → passes (lie_tests plan s) ≡ true
-    → (stage : ℕ) → is_within s.stages stage ≡ true → s.offset < ticks_in_sync plan stage
+    → (stage : ℕ) → is_in_range s.stages stage ≡ true → s.offset < ticks_in_sync plan stage
 lie_by plan s stages h =
     let is = passed (lie_tests plan s) h in
     at_each_stage (λ stage. s.offset < ticks_in_sync plan stage) s.stages stages
