@@ -26,3 +26,4 @@ pub mod Moments
 pub mod Headline
 pub mod AbstractBus
 pub mod StandsFor
+pub mod Lawful
