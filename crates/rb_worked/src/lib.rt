@@ -2,11 +2,17 @@
 //! by computing. No code is run, and nothing stands on this crate.
 #![tactic(auto)]
 
+pub mod accusing;
 pub mod cores;
 pub mod events;
 pub mod frames;
 pub mod lawful;
+pub mod judged;
 pub mod lies;
+pub mod messages;
 pub mod ordinary;
 pub mod parts;
 pub mod resynchronisation;
+pub mod steps;
+pub mod timing;
+pub mod values;
