@@ -7,6 +7,7 @@ pub mod accusing;
 pub mod cores;
 pub mod events;
 pub mod frames;
+pub mod lawful;
 pub mod judged;
 pub mod lies;
 pub mod messages;
