@@ -4,7 +4,7 @@ use Rattle.rb_base.specs.declared.values.Heard.{Heard}
 use Rattle.rb_base.specs.declared.values.Heard.TheVariants.{Word, Fault}
 use Rattle.rb_rules.specs.AbstractBus.{AbstractBus, first_bus, bus_after_slot, bus_after_frame}
 use Rattle.rb_rules.specs.NodeState.{NodeState}
-use Rattle.rb_worked.specs.Parts.{sizes, biu, rmu}
+use Rattle.rb_worked.specs.Parts.{sizes, biu}
 
 -- at first, the first good node having begun at time 0
 abbrev pub at_first : AbstractBus
@@ -39,9 +39,6 @@ first_slots (suc n) = bus_after_slot sizes (Word 2) (first_slots n)
 abbrev pub offered : ℕ → ℕ → ℕ → ℕ
 offered frame slot i = 10 + 10 * i
 
--- nodes that hold the schedule
+-- a node that holds the schedule
 abbrev pub biu_with_owners : NodeState
 biu_with_owners = record biu { owners = 0 ∷ 1 ∷ 2 ∷ 3 ∷ 0 ∷ 1 ∷ 2 ∷ 3 ∷ [] }
-
-abbrev pub rmu_with_owners : NodeState
-rmu_with_owners = record rmu { owners = 0 ∷ 1 ∷ 2 ∷ 3 ∷ 0 ∷ 1 ∷ 2 ∷ 3 ∷ [] }

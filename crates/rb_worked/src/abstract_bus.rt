@@ -1,15 +1,16 @@
 //! The abstract bus, its steps, and what good nodes have in common with it.
-#![tactic(auto, unfolding(rb_base::specs::Nodes::set_of, rb_base::specs::Nodes::set_below, rb_rules::specs::Conviction::convicted_by, rb_rules::specs::Rounds::begin_frame, rb_rules::specs::Book::with_frame))]
+#![tactic(auto, unfolding(rb_base::specs::Nodes::set_of, rb_base::specs::Nodes::set_below, rb_base::specs::Nodes::size, rb_rules::specs::Spelling::message_in, rb_rules::specs::ExactStage::close_exact, rb_rules::specs::ExactStage::outcome_of, rb_rules::specs::SyncStage::close_sync, rb_rules::specs::SyncStage::sync_outcome_of, rb_rules::specs::Conviction::convicted_by, rb_rules::specs::Conviction::turn, rb_rules::specs::Links::delay_of, rb_rules::specs::Judging::classes_of, rb_rules::specs::Judging::verdict_of, rb_rules::specs::Hearing::sending, rb_rules::specs::Hearing::heard_from, rb_rules::specs::Hearing::row_of, rb_rules::specs::Book::with_stage, rb_rules::specs::Book::with_frame, rb_rules::specs::Rounds::sent_in, rb_rules::specs::Rounds::close_on, rb_rules::specs::Rounds::go_through, rb_rules::specs::Rounds::results_of, rb_rules::specs::Rounds::after_window, rb_rules::specs::Rounds::begin_frame, rb_rules::specs::Rounds::step))]
 
-ghost use Rattle.std.specs.Prelude.{◌≡◌, ◌∷◌, [], map, Some};
+ghost use Rattle.std.specs.Prelude.{◌≡◌, ◌∷◌, [], true, map, Some};
 ghost use Rattle.rb_base.specs.Nodes.Side.{Biu, Rmu};
 ghost use Rattle.rb_base.specs.declared.values.Heard.TheVariants.{Word, Fault};
 ghost use Rattle.rb_rules.specs.AbstractBus.{FrameStep, IsRun, IsStep, bus_after_frame, bus_after_slot, sender_on};
+ghost use Rattle.rb_rules.specs.Moments.{IsComplete, IsReached, after_slot};
 ghost use Rattle.rb_rules.specs.Slots.Sender.{Nobody, Node, EachTrusted};
-ghost use Rattle.rb_rules.specs.StandsFor.{FrameTakes, HoldsSets, HoldsVote, IsInBand, IsLow, lines_on, steps_to};
-ghost use Rattle.rb_worked.specs.Abstract.{at_a_quiet_end, at_first, at_the_end, biu_with_owners, first_slots, half_scheduled, offered, rmu_with_owners, scheduled};
-ghost use Rattle.rb_worked.specs.Lies.{asymmetric_sender};
-ghost use Rattle.rb_worked.specs.Ordinary.{greatest_drift, ordinary_use};
+ghost use Rattle.rb_rules.specs.StandsFor.{FrameTakes, HoldsOwners, HoldsTrusted, HoldsVote, IsInBand, IsLow, lines_on, steps_to};
+ghost use Rattle.rb_worked.specs.Abstract.{at_a_quiet_end, at_first, at_the_end, biu_with_owners, first_slots, half_scheduled, offered, scheduled};
+ghost use Rattle.rb_worked.specs.Lies.{asymmetric_sender, two_sided};
+ghost use Rattle.rb_worked.specs.Ordinary.{greatest_drift, ordinary_use, smallest_bus};
 ghost use Rattle.rb_worked.specs.Parts.{biu, plan, rmu, sizes};
 
 /// The schedule stands with the last schedule slot, and stays. Where each BIU asks for one slot, the last four are idle.
@@ -49,9 +50,10 @@ pub fn bands_of_the_bus()
 
 /// Nodes that hold the bus's sets, votes and next epochs.
 pub fn nodes_of_the_bus()
-    ensures sets_at_a_biu { HoldsSets ordinary_use scheduled Biu biu_with_owners }
-    ensures sets_at_an_rmu { HoldsSets ordinary_use scheduled Rmu rmu_with_owners }
-    ensures before_the_schedule { HoldsSets ordinary_use at_first Biu biu }
+    ensures trusted_by_a_biu { HoldsTrusted scheduled Biu biu }
+    ensures trusted_by_an_rmu { HoldsTrusted scheduled Rmu rmu }
+    ensures owners { HoldsOwners ordinary_use scheduled biu_with_owners }
+    ensures before_the_schedule { HoldsOwners ordinary_use at_first biu }
     ensures vote { HoldsVote ordinary_use 0 scheduled Biu (record biu { votes = Word 2 ∷ [] }) }
     ensures no_vote { HoldsVote ordinary_use 4 scheduled Rmu rmu }
     ensures next_epoch_of_a_biu { FrameTakes sizes plan Biu (record biu { k2 = Some 878 }) }
@@ -64,4 +66,12 @@ pub fn lines_of_the_bus()
     ensures all { map (λ line. line.receiver) (lines_on ordinary_use 0 4 (Node 0) (Word 10)) ≡ (0 ∷ 1 ∷ 2 ∷ 3 ∷ []) }
     ensures good { map (λ line. line.receiver) (lines_on asymmetric_sender 0 5 (Node 1) Fault) ≡ (0 ∷ 2 ∷ 3 ∷ []) }
     ensures idle { lines_on ordinary_use 0 4 Nobody Fault ≡ [] }
+{}
+
+/// Which slots are complete: all of a frame without a breach, so that the next one is reached, and those before a breach.
+pub fn complete_slots()
+    ensures last_of_a_frame { IsComplete smallest_bus [] 0 4 }
+    ensures next_frame { IsReached smallest_bus [] 1 }
+    ensures before_the_breach { IsComplete two_sided [] 0 5 }
+    ensures at_the_breach { (after_slot two_sided [] 0 6).book.ended ≡ true }
 {}

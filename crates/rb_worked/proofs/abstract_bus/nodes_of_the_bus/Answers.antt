@@ -13,4 +13,4 @@ returns-clause-next_epoch_of_an_rmu c = record { epoch = 917; known = refl; leas
 
 pub returns-clause-low : goal.returns-clause-low
 unfolding begin_frame with_frame
-returns-clause-low c = record { me = Biu; i = 0; st = biu; good = refl; state = refl; time = refl }
+returns-clause-low c = record { me = Biu; i = 0; st = biu; begins = record { good = refl; state = refl }; time = refl }
