@@ -3,7 +3,10 @@ use Rattle.std.specs.Prelude.{ℕ, zero, suc, ◌+◌, ◌*◌, ◌∷◌, ◌++
 use Rattle.rb_base.specs.declared.values.Heard.{Heard}
 use Rattle.rb_base.specs.declared.values.Heard.TheVariants.{Word, Fault}
 use Rattle.rb_rules.specs.AbstractBus.{AbstractBus, first_bus, bus_after_slot, bus_after_frame}
+use Rattle.rb_rules.specs.Goodness.{Scenario}
 use Rattle.rb_rules.specs.NodeState.{NodeState}
+use Rattle.rb_worked.specs.Buses.{ticking}
+use Rattle.rb_worked.specs.Ordinary.{greatest_drift}
 use Rattle.rb_worked.specs.Parts.{sizes, biu}
 
 -- at first, the first good node having begun at time 0
@@ -42,3 +45,7 @@ offered frame slot i = 10 + 10 * i
 -- a node that holds the schedule
 abbrev pub biu_with_owners : NodeState
 biu_with_owners = record biu { owners = 0 ∷ 1 ∷ 2 ∷ 3 ∷ 0 ∷ 1 ∷ 2 ∷ 3 ∷ [] }
+
+-- clocks of which the first starts a unit too late, and the second has ticks a unit too short
+abbrev pub out_of_bands : Scenario
+out_of_bands = record greatest_drift { clocks = ticking 60201 10001 ∷ replicate 6 (ticking 0 9998) }

@@ -4,11 +4,12 @@
 ghost use Rattle.std.specs.Prelude.{◌≡◌, ◌∷◌, [], true, map, Some};
 ghost use Rattle.rb_base.specs.Nodes.Side.{Biu, Rmu};
 ghost use Rattle.rb_base.specs.declared.values.Heard.TheVariants.{Word, Fault};
-ghost use Rattle.rb_rules.specs.AbstractBus.{FrameStep, IsRun, IsStep, bus_after_frame, bus_after_slot, sender_on};
+ghost use Rattle.rb_rules.specs.declared.role.Role.TheVariants.{Schedule, Data};
+ghost use Rattle.rb_rules.specs.AbstractBus.{IsRun, IsStep, MayHave, bus_after_frame, bus_after_slot, sender_on};
 ghost use Rattle.rb_rules.specs.Moments.{IsComplete, IsReached, after_slot};
 ghost use Rattle.rb_rules.specs.Slots.Sender.{Nobody, Node, EachTrusted};
 ghost use Rattle.rb_rules.specs.StandsFor.{FrameTakes, HoldsOwners, HoldsTrusted, HoldsVote, IsInBand, IsLow, lines_on, steps_to};
-ghost use Rattle.rb_worked.specs.Abstract.{at_a_quiet_end, at_first, at_the_end, biu_with_owners, first_slots, half_scheduled, offered, scheduled};
+ghost use Rattle.rb_worked.specs.Abstract.{at_a_quiet_end, at_first, at_the_end, biu_with_owners, first_slots, half_scheduled, offered, out_of_bands, scheduled};
 ghost use Rattle.rb_worked.specs.Lies.{asymmetric_sender, two_sided};
 ghost use Rattle.rb_worked.specs.Ordinary.{greatest_drift, ordinary_use, smallest_bus};
 ghost use Rattle.rb_worked.specs.Parts.{biu, plan, rmu, sizes};
@@ -41,11 +42,22 @@ pub fn steps_of_the_bus()
     ensures counted { map (steps_to sizes 1) (0 ∷ 19 ∷ []) ≡ (20 ∷ 39 ∷ []) }
 {}
 
-/// The bands of the bus at their edges: BIU 0, which starts as late and ticks as slowly as the plan allows, and all others.
+/// Values that a slot cannot have: Fault, or another word than it is offered, where its sender is good, and a word where it is idle.
+pub fn values_that_cannot_be()
+    ensures fault_of_a_good_sender { ¬ MayHave ordinary_use scheduled (offered 0 4) (Data 0) (Node 0) Fault }
+    ensures another_word { ¬ MayHave ordinary_use scheduled (offered 0 4) (Data 0) (Node 0) (Word 11) }
+    ensures another_request { ¬ MayHave ordinary_use at_first (offered 0 0) (Schedule 0) (Node 0) (Word 3) }
+    ensures word_of_nobody { ¬ MayHave ordinary_use half_scheduled (offered 0 8) (Data 4) Nobody (Word 10) }
+{}
+
+/// The bands of the bus at their edges: BIU 0, which starts as late and ticks as slowly as the plan allows, and all others. One unit
+/// later at the start, or one unit less a tick, is out of them.
 pub fn bands_of_the_bus()
     ensures latest { IsInBand greatest_drift at_first Biu 0 biu 855 }
     ensures earliest { IsInBand greatest_drift at_first Biu 1 biu 855 }
     ensures at_the_begin { IsInBand greatest_drift at_first Rmu 0 rmu 0 }
+    ensures too_late { ¬ IsInBand out_of_bands at_first Biu 0 biu 855 }
+    ensures too_early { ¬ IsInBand out_of_bands at_first Biu 1 biu 855 }
 {}
 
 /// Nodes that hold the bus's sets, votes and next epochs.

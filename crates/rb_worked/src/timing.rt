@@ -37,6 +37,14 @@ pub fn plans_in_range()
     ensures longest_windows { IsPlan (record plan { l = 1000; h = 1000; v = 1000; z = 1000; c = 1000 }) }
 {}
 
+/// Numbers that no plan has: a tick of one unit, a drift as long as a tick, a least delay past the greatest, a window of no tick.
+pub fn plans_out_of_range()
+    ensures tick { ¬ IsPlan (record plan { u = 1; r = 0 }) }
+    ensures drift { ¬ IsPlan (record plan { r = 10000 }) }
+    ensures delays { ¬ IsPlan (record plan { dmin = 15001 }) }
+    ensures window { ¬ IsPlan (record plan { z = 0 }) }
+{}
+
 /// The windows of a frame: each stage of the sync slot has its own length, and the tail ends before the next epoch.
 pub fn last_ticks_of_windows()
     ensures first_slots { map (λ n. (exact_window plan n).last) (0 ∷ 1 ∷ 3 ∷ 56 ∷ []) ≡ (14 ∷ 29 ∷ 59 ∷ 854 ∷ []) }
@@ -52,6 +60,7 @@ pub fn ticks_of_a_clock()
     ensures stamps { map (stamp_of quick_then_slow) (0 ∷ 3 ∷ 4 ∷ 13 ∷ 14 ∷ 23 ∷ 24 ∷ 35 ∷ []) ≡ (0 ∷ 0 ∷ 1 ∷ 1 ∷ 2 ∷ 2 ∷ 3 ∷ 3 ∷ []) }
     ensures comes_at_its_tick { ComesBy 3 quick_then_slow 35 }
     ensures comes_before { ComesBy 2147483648 quick_then_slow 24 }
+    ensures comes_later { ¬ ComesBy 2 quick_then_slow 24 }
 {}
 
 /// Of two rules for a link the later one counts, and only for the way that it names.
