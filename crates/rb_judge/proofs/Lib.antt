@@ -3,3 +3,4 @@ pub mod Sights
 pub mod Sides
 pub mod SameStages
 pub mod Noting
+pub mod SameVerdicts

@@ -109,6 +109,7 @@ impl Judge {
         ensures known { (stages : List JudgedStage) (s : JudgedStage) → Knows self.old stages
             → AreSetsOf biu_side biu.now s → AreSetsOf rmu_side rmu.now s → Knows self.new (s ∷ stages) }
         ensures shape { self.new.sizes ≡ self.old.sizes }
+        ensures bound { self.new.eps ≡ self.old.eps }
     {
         self.bius.pass(biu);
         self.rmus.pass(rmu);
