@@ -24,3 +24,4 @@ pub mod Core
 pub mod WorldStep
 pub mod AbstractBus
 pub mod StandsFor
+pub mod Lawful
