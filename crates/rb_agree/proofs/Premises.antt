@@ -40,14 +40,15 @@ pub record NoCause (biu rmu : ClassSets) : Type 0 where
   pub rmus : are_few_good rmu ≡ false
   pub one_side : (some_asymmetric biu ≡ false) ⊎ (some_asymmetric rmu ≡ false)
 
+caused : Bool → Bool → Bool → Bool → Option Cause
+caused a b c d = if a then Some FewGoodBiu else (if b then Some FewGoodRmu else (if c && d then Some TwoSided else None))
+
 no_cause : (biu rmu : ClassSets) → cause_of biu rmu ≡ None → NoCause biu rmu
+unfolding caused
 no_cause biu rmu h = go (are_few_good biu) refl (are_few_good rmu) refl (some_asymmetric biu) refl (some_asymmetric rmu) refl h
   where
-    caused : (a b c d : Bool) → Option Cause
-    caused a b c d = if a then Some FewGoodBiu else (if b then Some FewGoodRmu else (if c && d then Some TwoSided else None))
     go : (a : Bool) → are_few_good biu ≡ a → (b : Bool) → are_few_good rmu ≡ b → (c : Bool) → some_asymmetric biu ≡ c → (d : Bool) → some_asymmetric rmu ≡ d
         → caused a b c d ≡ None → NoCause biu rmu
-    unfolding caused
     go true p b q c r d s h = cc
     go false p true q c r d s h = cc
     go false p false q true r true s h = cc
