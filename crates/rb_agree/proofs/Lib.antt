@@ -5,3 +5,6 @@ pub mod NodeWindows
 pub mod Invariant
 pub mod ExactWindows
 pub mod JudgedWindows
+pub mod Goodnesses
+pub mod Exchanges
+pub mod StageVotes
