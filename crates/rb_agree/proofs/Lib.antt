@@ -8,3 +8,5 @@ pub mod JudgedWindows
 pub mod Goodnesses
 pub mod Exchanges
 pub mod StageVotes
+pub mod Speaking
+pub mod Settings
