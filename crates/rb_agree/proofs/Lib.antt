@@ -10,3 +10,4 @@ pub mod Exchanges
 pub mod StageVotes
 pub mod Speaking
 pub mod Settings
+pub mod Carrying

@@ -153,7 +153,7 @@ vote_is_said sizes me i p st slot word sender speaks =
 
 -- Words are in range.
 
-get-all : (P : ℕ → Type 0) (xs : List ℕ) (i : ℕ) → P 0 → All P xs → P (get_or xs i 0)
+pub get-all : (P : ℕ → Type 0) (xs : List ℕ) (i : ℕ) → P 0 → All P xs → P (get_or xs i 0)
 get-all P [] i zero_it all = zero_it
 get-all P (x ∷ xs) zero zero_it all = All-head P x xs all
 get-all P (x ∷ xs) (suc i) zero_it all = get-all P xs i zero_it (All-tail P x xs all)
