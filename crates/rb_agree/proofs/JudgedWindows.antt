@@ -89,7 +89,7 @@ unfolding close_on row_of
 trusts_told sc me i st w heard r Biu told = sym (ap (trusted_in Biu) (same_some _ r told))
 trusts_told sc me i st w heard r Rmu told = sym (ap (trusted_in Rmu) (same_some _ r told))
 
-stays-trusted : (kind me : Side) (a b : NodeState) → Stays a b → trusted_of kind me b ≡ trusted_of kind me a
+pub stays-trusted : (kind me : Side) (a b : NodeState) → Stays a b → trusted_of kind me b ≡ trusted_of kind me a
 stays-trusted Biu Biu a b s = s.near
 stays-trusted Biu Rmu a b s = s.trusted
 stays-trusted Rmu Biu a b s = s.trusted

@@ -11,3 +11,5 @@ pub mod StageVotes
 pub mod Speaking
 pub mod Settings
 pub mod Carrying
+pub mod NextMoments
+pub mod FirstStages
