@@ -131,6 +131,7 @@ pub record Agree (sc : Scenario) (hands : List HandIn) (n : ℕ) (m : Moment) (s
   pub nodes : (me : Side) (i : ℕ) (st : NodeState) → IsGoodNode sc m me i st → Holds sc m s me st
   pub trusted : (kind : Side) (j : ℕ) → is_good_now sc m kind j ≡ true → has (s.trusted kind) j ≡ true
   pub inside : (kind : Side) (j : ℕ) → has (s.trusted kind) j ≡ true → j < count_of kind sc.sizes
+  pub owned : (k p : ℕ) → slice_get s.owners k ≡ Some p → has (s.trusted Biu) p ≡ true
   pub finished : (slot : ℕ) → slot < sync_slot_of sc.sizes → 3 * slot + 3 ≤ m.window → IsFinished sc hands m s slot (s.values slot)
   pub relayed : (slot : ℕ) → slot < sync_slot_of sc.sizes → m.window ≡ 3 * slot + 1 → HasRelays sc hands m s slot
   pub voted : (slot : ℕ) → slot < sync_slot_of sc.sizes → m.window ≡ 3 * slot + 2 → HasVoted sc hands m s slot

@@ -13,3 +13,5 @@ pub mod Settings
 pub mod Carrying
 pub mod NextMoments
 pub mod FirstStages
+pub mod Senders
+pub mod SecondStages

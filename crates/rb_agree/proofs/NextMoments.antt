@@ -20,7 +20,8 @@ use Rattle.rb_rules.proofs.RoundStates.{Stays, through-stays, state-after}
 use Rattle.rb_rules.proofs.WindowNumbers.{get-front, get-back, get-number, get-each, length-each}
 use Rattle.rb_agree.proofs.Tests.{Present, same_some}
 use Rattle.rb_agree.proofs.JudgedWindows.{rows_of, IsPassed, stays-trusted}
-use Rattle.rb_agree.proofs.Invariant.{Shared, IsGoodNode, is_good_now, slot_numbered, SparesGood, Holds, Agree}
+use Rattle.rb_base.specs.declared.values.Heard.{Heard}
+use Rattle.rb_agree.proofs.Invariant.{Shared, kind_in, IsGoodNode, is_good_now, slot_numbered, SparesGood, IsVector, IsOwn, Holds, Agree}
 use Rattle.rb_agree.proofs.Goodnesses.{good_earlier, slot_goes_on}
 use Rattle.rb_agree.proofs.Settings.{Setting, stages_with, good_state, after}
 
@@ -90,3 +91,16 @@ pub stages_after : (sc : Scenario) (hands : List HandIn) (n : ℕ) (m : Moment) 
     → (next sc m).book.stages ≡ stages_with sc m slot (q + 1)
 stages_after sc hands n m s slot q c =
     ap (λ b. b.stages) (book_exact sc m slot q c.below c.small c.at) ∙ ap (λ b. b.stages) c.passed.is
+
+-- What is known goes on.
+
+pub vector_next : (sc : Scenario) (m : Moment) (accused : Side) (value : Heard) → IsVector sc m accused value → IsVector sc (next sc m) accused value
+vector_next sc m accused value v = record { valid = v.valid; spared = λ j good. v.spared j (was_good sc m accused j good) }
+
+pub own_next : (sc : Scenario) (hands : List HandIn) (m : Moment) (slot p : ℕ) (value : Heard) → IsOwn sc hands m slot p value → IsOwn sc hands (next sc m) slot p value
+unfolding after_window
+own_next sc hands m slot p value own = record {
+  said = own.said;
+  carried = own.carried;
+  vector = λ d. vector_next sc m (other (kind_in sc.sizes slot)) value (own.vector d);
+}

@@ -19,7 +19,8 @@ use Rattle.rb_rules.specs.NodeState.{NodeState, sender_at}
 use Rattle.rb_rules.specs.Ports.{PortState}
 use Rattle.rb_rules.specs.Slots.{Sender, same_side, sender_kind, has_third_stage, listens, role_of}
 use Rattle.rb_rules.specs.Slots.Sender.{Nobody, Node, EachTrusted}
-use Rattle.rb_rules.specs.Standing.{vector_of}
+use Rattle.rb_rules.specs.Standing.{is_unlike, vector_of}
+use Rattle.rb_rules.proofs.Standings.{alike_is_not_unlike}
 use Rattle.rb_rules.proofs.Senses.{IsCarried}
 
 pub same_side-is : (a b : Side) → same_side a b ≡ true → a ≡ b
@@ -125,6 +126,16 @@ says_vote sizes me i st slot word = go (sender_at sizes me st slot)
     go EachTrusted = inl refl
     go (Node p) = one-way (listens (other me) (role_of sizes slot) 3) (get_or st.votes slot Fault)
 
+-- a node says nothing where the other kind doesn't listen
+pub says_nothing : (sizes : Sizes) (me : Side) (i : ℕ) (st : NodeState) (slot stage word : ℕ) → listens (other me) (role_of sizes slot) stage ≡ false
+    → says sizes me i st slot stage word ≡ None
+says_nothing sizes me i st slot stage word deaf = go (sender_at sizes me st slot)
+  where
+    go : (sender : Sender) → says_of me i st slot (role_of sizes slot) sender stage word ≡ None
+    go Nobody = refl
+    go EachTrusted = refl
+    go (Node p) = rw deaf refl
+
 -- What is said where a node speaks.
 
 pub own_is_said : (sizes : Sizes) (me : Side) (i : ℕ) (st : NodeState) (slot word : ℕ) → sender_at sizes me st slot ≡ Node i → me ≡ sender_kind (role_of sizes slot)
@@ -150,6 +161,11 @@ pub vote_is_said : (sizes : Sizes) (me : Side) (i p : ℕ) (st : NodeState) (slo
 vote_is_said sizes me i p st slot word sender speaks =
     let role : Role = role_of sizes slot in
     ap (λ x. says_of me i st slot role x 3 word) sender ∙ ap (λ b. if b then Some (get_or st.votes slot Fault) else None) speaks
+
+-- what is the value, or nothing, isn't unlike it
+pub only-alike : (said : Option Heard) (value : Heard) → IsOnly said value → is_unlike value said ≡ false
+only-alike said value (inl none) = ap (is_unlike value) none
+only-alike said value (inr some) = ap (is_unlike value) some ∙ alike_is_not_unlike value
 
 -- Words are in range.
 
