@@ -15,3 +15,4 @@ pub mod NextMoments
 pub mod FirstStages
 pub mod Senders
 pub mod SecondStages
+pub mod ThirdStages

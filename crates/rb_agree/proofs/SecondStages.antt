@@ -236,7 +236,7 @@ one_vote sc hands n m s slot c p sender a b sta stb here_a here_b =
 voters-vote : (role : Role) → votes_in (sender_kind role) role 2 ≡ true
 voters-vote role = ap (λ b. b && true) (voters_listen role)
 
-idle-vote : (sc : Scenario) (hands : List HandIn) (n : ℕ) (m : Moment) (s : Shared) (slot q : ℕ) (c : Setting sc hands n m s slot q) → sender_of sc.sizes s slot ≡ Nobody
+pub idle-vote : (sc : Scenario) (hands : List HandIn) (n : ℕ) (m : Moment) (s : Shared) (slot q : ℕ) (c : Setting sc hands n m s slot q) → sender_of sc.sizes s slot ≡ Nobody
     → (me : Side) (i : ℕ) (st : NodeState) → IsGoodNode sc m me i st → vote_of sc hands n m s slot q c me i st ≡ Fault
 idle-vote sc hands n m s slot q c idle me i st here =
     vote_over_nothing st.far (expected_at sc.sizes me st slot (q + 1)) (sense_in sc m slot (q + 1) (windows sc hands n m s slot q c) me i st)
@@ -244,7 +244,7 @@ idle-vote sc hands n m s slot q c idle me i st here =
     ∙ idle_expects_nobody me (role_of sc.sizes slot) st.far.trusted (q + 1) j)
 
 -- no source is seen that was not seen with the newest stage
-benign-before : (kind : Side) (st : JudgedStage) (stages : List JudgedStage) (j : ℕ) → is_benign kind (st ∷ stages) j ≡ true → is_benign kind stages j ≡ true
+pub benign-before : (kind : Side) (st : JudgedStage) (stages : List JudgedStage) (j : ℕ) → is_benign kind (st ∷ stages) j ≡ true → is_benign kind stages j ≡ true
 benign-before kind st stages j h = go (was_taken kind j st) (list_any (was_taken kind j) stages) h
   where
     go : (a b : Bool) → not (a || b) ≡ true → not b ≡ true
