@@ -10,7 +10,7 @@ use Rattle.rb_rules.specs.declared.closing.Closing.{Closing}
 use Rattle.rb_rules.specs.declared.role.Role.{Role}
 use Rattle.rb_rules.specs.declared.sense.Sense.{Sense}
 use Rattle.rb_rules.specs.declared.sense.Sense.TheVariants.{Silent, One}
-use Rattle.rb_rules.specs.ExactStage.{Outcome, own_value, is_sender, value_said, says_of, says, message_of, keeping, at_source, closing_of, got_of, reference_value, compared, votes_after, owners_after, delivery_of, see_value, close_exact, outcome_of}
+use Rattle.rb_rules.specs.ExactStage.{Outcome, own_value, is_sender, value_said, says_of, says, message_of, keep_sent, at_source, closing_of, taken_of_sender, reference_value, compare_with, votes_after, owners_after, delivery_of, see_value, close_exact, outcome_of}
 use Rattle.rb_rules.specs.NodeState.{NodeState, sender_at}
 use Rattle.rb_rules.specs.Sense.{is_one, is_silent, value_in}
 use Rattle.rb_rules.specs.Slots.{Sender, same_side, sender_kind, has_third_stage, listens, expects_of, expects, role_of}
@@ -111,7 +111,7 @@ abbrev pub with_sent : NodeState → Option Heard → NodeState
 with_sent st sent = record st { sent = sent }
 
 pub keeping-is : (sizes : Sizes) (me : Side) (i : ℕ) (st : NodeState) (slot stage word : ℕ)
-    → keeping sizes me i st slot stage word ≡ with_sent st (sent_by sizes me i st slot stage word)
+    → keep_sent sizes me i st slot stage word ≡ with_sent st (sent_by sizes me i st slot stage word)
 keeping-is sizes me i st slot stage word =
     go ((stage == 1) && is_some (says sizes me i st slot stage word)) (says sizes me i st slot stage word)
   where
@@ -122,10 +122,10 @@ keeping-is sizes me i st slot stage word =
 -- what a close makes of a node, part by part
 pub record ExactClose (sizes : Sizes) (me : Side) (i : ℕ) (st : NodeState) (sent : Option Heard) (slot stage : ℕ) (sense : ℕ → Sense) (x : Outcome) : Type 0 where
   pub far : x.state.far
-      ≡ compared (reference_value me i (with_sent st sent) (role_of sizes slot) (sender_at sizes me st slot) stage (closing_at sizes me st slot stage sense))
+      ≡ compare_with (reference_value me i (with_sent st sent) (role_of sizes slot) (sender_at sizes me st slot) stage (closing_at sizes me st slot stage sense))
       (closing_at sizes me st slot stage sense) (with_evidence (has_evidence st.far (expected_at sizes me st slot stage) sense) st.far)
   pub sent_after : x.state.sent ≡ (if stage == 2 then None else sent)
-  pub got : x.state.got ≡ (if stage == 1 then got_of (sender_at sizes me st slot) (closing_at sizes me st slot stage sense) else st.got)
+  pub got : x.state.got ≡ (if stage == 1 then taken_of_sender (sender_at sizes me st slot) (closing_at sizes me st slot stage sense) else st.got)
   pub votes : x.state.votes ≡ votes_after me st slot (role_of sizes slot) stage (closing_at sizes me st slot stage sense)
   pub owners : x.state.owners ≡ owners_after sizes me st slot stage (votes_after me st slot (role_of sizes slot) stage (closing_at sizes me st slot stage sense))
   pub sees : x.closed.sees ≡ map see_value (closing_at sizes me st slot stage sense).taken
@@ -155,14 +155,14 @@ exact_close sizes Rmu i st sent slot stage sense = record {
 
 -- Whom a close spares.
 
-compared-direct : (value : Option Heard) (c : Closing) (s : Standing) → (compared value c s).direct ≡ s.direct
+compared-direct : (value : Option Heard) (c : Closing) (s : Standing) → (compare_with value c s).direct ≡ s.direct
 compared-direct None c s = refl
 compared-direct (Some value) c s = refl
 
 -- a source that did no wrong is not accused directly
 pub spares_right : (reference : Option Heard) (s : Standing) (expected : ℕ → Bool) (sense : ℕ → Sense) (j : ℕ) → j < 16
     → does_wrong (expected j) (sense j) ≡ false → has s.direct j ≡ false
-    → has (compared reference (closing_of s expected sense) (with_evidence (has_evidence s expected sense) s)).direct j ≡ false
+    → has (compare_with reference (closing_of s expected sense) (with_evidence (has_evidence s expected sense) s)).direct j ≡ false
 spares_right reference s expected sense j below right clear =
     ap (λ d. has d j) (compared-direct reference (closing_of s expected sense) (with_evidence (has_evidence s expected sense) s))
     ∙ others_stay (has_evidence s expected sense) s j below (right_is_no_evidence s expected sense j right) ∙ clear
@@ -170,7 +170,7 @@ spares_right reference s expected sense j below right clear =
 -- and a source of which nothing but the value was taken is not accused by mismatch
 pub spares_alike : (reference : Option Heard) (s : Standing) (expected : ℕ → Bool) (sense : ℕ → Sense) (j : ℕ) → j < 16
     → ((value : Heard) → reference ≡ Some value → is_unlike value (taken_of value_in s expected sense j) ≡ false) → has s.mismatch j ≡ false
-    → has (compared reference (closing_of s expected sense) (with_evidence (has_evidence s expected sense) s)).mismatch j ≡ false
+    → has (compare_with reference (closing_of s expected sense) (with_evidence (has_evidence s expected sense) s)).mismatch j ≡ false
 spares_alike None s expected sense j below alike clear = clear
 spares_alike (Some value) s expected sense j below alike clear =
     alike_stay (λ k. is_unlike value (at_source (closing_of s expected sense).taken k)) (with_evidence (has_evidence s expected sense) s) j below

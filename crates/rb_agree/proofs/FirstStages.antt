@@ -16,7 +16,7 @@ use Rattle.rb_rules.specs.declared.role.Role.TheVariants.{Schedule, Data, DiagBi
 use Rattle.rb_rules.specs.declared.sense.Sense.{Sense}
 use Rattle.rb_rules.specs.Book.{of_kind}
 use Rattle.rb_rules.specs.Conviction.{is_valid, names}
-use Rattle.rb_rules.specs.ExactStage.{own_value, says, at_source, closing_of, got_of}
+use Rattle.rb_rules.specs.ExactStage.{own_value, says, at_source, closing_of, taken_of_sender}
 use Rattle.rb_rules.specs.Goodness.{Scenario, is_good}
 use Rattle.rb_rules.specs.Hearing.{word_for}
 use Rattle.rb_rules.specs.Judging.{is_asymmetric, is_benign}
@@ -67,7 +67,7 @@ got-is : (sc : Scenario) (hands : List HandIn) (n : ℕ) (m : Moment) (s : Share
 got-is sc hands n m s slot c me i p st now here is sender =
     let x : Closed sc hands n m s slot 0 c me i st = closes sc hands n m s slot 0 c me i st here in
     ap (λ t. t.got) (sym is ∙ x.is) ∙ x.parts.got
-    ∙ ap (λ y. got_of y (closing_at sc.sizes me st slot 1 (sense_in sc m slot 1 (windows sc hands n m s slot 0 c) me i st)))
+    ∙ ap (λ y. taken_of_sender y (closing_at sc.sizes me st slot 1 (sense_in sc m slot 1 (windows sc hands n m s slot 0 c) me i st)))
     (sender-held sc m s me st slot (c.agree.nodes me i st here) ∙ sender)
 
 -- a good node as one of the other kind's other kind
@@ -188,11 +188,11 @@ got-carried : (sc : Scenario) (hands : List HandIn) (n : ℕ) (m : Moment) (s : 
 got-carried sc hands n m s slot c me i st now here is sender e =
     let sense : ℕ → Sense = sense_in sc m slot 1 (windows sc hands n m s slot 0 c) me i st in
     let x : Closed sc hands n m s slot 0 c me i st = closes sc hands n m s slot 0 c me i st here in
-    let got : now.got ≡ got_of sender (closing_at sc.sizes me st slot 1 sense) =
-    ap (λ t. t.got) (sym is ∙ x.is) ∙ x.parts.got ∙ ap (λ y. got_of y (closing_at sc.sizes me st slot 1 sense)) (sender-held sc m s me st slot (c.agree.nodes me i st here) ∙ e) in
+    let got : now.got ≡ taken_of_sender sender (closing_at sc.sizes me st slot 1 sense) =
+    ap (λ t. t.got) (sym is ∙ x.is) ∙ x.parts.got ∙ ap (λ y. taken_of_sender y (closing_at sc.sizes me st slot 1 sense)) (sender-held sc m s me st slot (c.agree.nodes me i st here) ∙ e) in
     subst (λ o. IfSome o IsCarried) (sym got) (go sender)
   where
-    go : (sender : Sender) → IfSome (got_of sender (closing_at sc.sizes me st slot 1 (sense_in sc m slot 1 (windows sc hands n m s slot 0 c) me i st))) IsCarried
+    go : (sender : Sender) → IfSome (taken_of_sender sender (closing_at sc.sizes me st slot 1 (sense_in sc m slot 1 (windows sc hands n m s slot 0 c) me i st))) IsCarried
     go Nobody = tt
     go EachTrusted = tt
     go (Node p) =

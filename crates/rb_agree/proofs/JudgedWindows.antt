@@ -17,7 +17,7 @@ use Rattle.rb_base.specs.declared.values.See.TheVariants.{Nothing, Value, Time}
 use Rattle.rb_rules.specs.declared.cause.Cause.{Cause}
 use Rattle.rb_rules.specs.declared.closing.Closed.{Closed}
 use Rattle.rb_rules.specs.declared.plan.Window.{Window}
-use Rattle.rb_rules.specs.Book.{Each, of_kind, in_order, map_each, Row, Book, trusted_in, trusted_by, see_in, judged_of, judged, with_stage}
+use Rattle.rb_rules.specs.Book.{Each, of_kind, in_order, map_each, Row, Book, trusted_in, trusted_by, see_in, judged_of, after_verdict, with_stage}
 use Rattle.rb_rules.specs.ExactStage.{present, see_value}
 use Rattle.rb_rules.specs.Goodness.{Scenario, is_good, good_at}
 use Rattle.rb_rules.specs.Hearing.{Coming, close_window, arrival_of, sole_time, judged_see, row_of}
@@ -142,14 +142,14 @@ first_row_trusts sc m slot stage ws trusted all r rs h kind =
 pub record IsPassed (sc : Scenario) (place : Place) (rows : Each (Option Row)) (b : Book) : Type 0 where
   pub not_ended : b.ended ≡ false
   pub no_cause : verdict_of (judged_of sc place rows ∷ b.stages) ≡ None
-  pub is : with_stage sc place rows b ≡ judged sc.sizes place rows (judged_of sc place rows ∷ b.stages) b None
+  pub is : with_stage sc place rows b ≡ after_verdict sc.sizes place rows (judged_of sc place rows ∷ b.stages) b None
 
 pub passed : (sc : Scenario) (place : Place) (rows : Each (Option Row)) (b : Book) → (with_stage sc place rows b).ended ≡ false → IsPassed sc place rows b
 unfolding with_stage
 passed sc place rows b h = go b.ended (verdict_of (judged_of sc place rows ∷ b.stages)) refl refl h
   where
     open_book : Bool → Option Cause → Book
-    open_book e v = elim e [ true ↦ b | false ↦ judged sc.sizes place rows (judged_of sc place rows ∷ b.stages) b v ]
+    open_book e v = elim e [ true ↦ b | false ↦ after_verdict sc.sizes place rows (judged_of sc place rows ∷ b.stages) b v ]
     go : (e : Bool) (v : Option Cause) → b.ended ≡ e → verdict_of (judged_of sc place rows ∷ b.stages) ≡ v
         → (open_book e v).ended ≡ false → IsPassed sc place rows b
     go true v p q h = cc

@@ -14,12 +14,12 @@ use Rattle.rb_rules.specs.declared.plan.Window.{Window}
 use Rattle.rb_rules.specs.declared.sense.Sense.{Sense}
 use Rattle.rb_rules.specs.declared.sense.Sense.TheVariants.{Silent, One}
 use Rattle.rb_rules.specs.Book.{Each, of_kind, map_each}
-use Rattle.rb_rules.specs.ExactStage.{Outcome, at_source, keeping}
+use Rattle.rb_rules.specs.ExactStage.{Outcome, at_source, keep_sent}
 use Rattle.rb_rules.specs.Goodness.{Scenario, is_good, clock_of}
 use Rattle.rb_rules.specs.Hearing.{Sending, Coming, Span, span_of, tail_at, window_numbered, sending, coming_of, said_by, heard_from, arrival_of}
 use Rattle.rb_rules.specs.NodeState.{NodeState}
 use Rattle.rb_rules.specs.NodeSteps.{expect_of, message_said, close}
-use Rattle.rb_rules.specs.Rounds.{Moment, Result, window_in, word_in, sending_in, sent_in, heard_at, close_on, go_through, results_of}
+use Rattle.rb_rules.specs.Rounds.{Moment, Result, window_in, word_for_window, sending_in, sent_in, heard_at, close_on, go_through, results_of}
 use Rattle.rb_rules.specs.Sense.{suits, sense_of}
 use Rattle.rb_rules.specs.Spelling.{IsMessage, spelling_of}
 use Rattle.rb_rules.specs.SyncStage.{new_epoch_of, send_tick_of}
@@ -116,7 +116,7 @@ sync_tick sc m q small at l v z = record { tick = λ me st. omega (arith, ticks_
 
 -- the word that a node has for its window
 abbrev pub word_at : Scenario → Moment → ℕ → ℕ → ℕ
-word_at sc m slot i = word_in sc m i (record { slot = slot; stage = 0; first = 0; last = 0 })
+word_at sc m slot i = word_for_window sc m i (record { slot = slot; stage = 0; first = 0; last = 0 })
 
 -- what a node sends, by the window
 pub sent-at : (sc : Scenario) (m : Moment) (slot stage : ℕ) (ws : Windows sc m slot stage) (me : Side) (j : ℕ) (st : NodeState)
@@ -146,7 +146,7 @@ sending-some sizes plan me j st slot stage word tick message is at =
 
 -- the state in which a node closes its window
 abbrev pub kept_in : (sc : Scenario) (m : Moment) (slot stage : ℕ) → Side → ℕ → NodeState → NodeState
-kept_in sc m slot stage me i st = keeping sc.sizes me i st slot stage (word_at sc m slot i)
+kept_in sc m slot stage me i st = keep_sent sc.sizes me i st slot stage (word_at sc m slot i)
 
 -- what comes to it of a source
 abbrev pub heard_in : (sc : Scenario) (m : Moment) (slot stage : ℕ) → Windows sc m slot stage → Side → ℕ → NodeState → ℕ → List Coming

@@ -3,7 +3,7 @@ ghost use Rattle.std.specs.Prelude.{◌≡◌, ◌+◌, ◌<◌, ◌==◌, List,
 ghost use Rattle.rb_base.specs.Nodes.{side_of};
 ghost use Rattle.rb_base.specs.Sizes.{sync_slot_of};
 ghost use Rattle.rb_eligible.specs.Inboxes.{Received, Shows};
-ghost use Rattle.rb_rules.specs.ExactStage.{close_exact, closing_of, compared, delivery_of, got_of, owners_after, reference_value, votes_after, votes_in};
+ghost use Rattle.rb_rules.specs.ExactStage.{close_exact, closing_of, compare_with, delivery_of, taken_of_sender, owners_after, reference_value, votes_after, votes_in};
 ghost use Rattle.rb_rules.specs.NodeSteps.{expect_of};
 ghost use Rattle.rb_rules.specs.Slots.{expects};
 ghost use Rattle.rb_rules.specs.Standing.{has_evidence, with_evidence};
@@ -12,7 +12,7 @@ ghost use Rattle.rb_slot.specs.Senders.{sender_of};
 
 use crate::engine::Engine;
 use crate::sender::{Sender, expects};
-use crate::shown::{got_of, values_seen};
+use crate::shown::{taken_of_sender, values_seen};
 use crate::slots::{listens, role_of};
 use rb_base::{Delivery, Heard, Kind, NodeSet, Place};
 use rb_eligible::{Expect, Inbox};
@@ -46,10 +46,10 @@ fn first_votes(votes: &[Heard; 112]) -> [Heard; 16]
 
 // What a relay has of the slot's sender after the close of a stage.
 fn got_after(got: Option<Heard>, sender: Sender, stage: u8, closing: &Closing) -> Option<Heard>
-    ensures { result ≡ (if stage == 1 then got_of (sender_of sender) closing.now else got) }
+    ensures { result ≡ (if stage == 1 then taken_of_sender (sender_of sender) closing.now else got) }
 {
     if stage == 1 {
-        got_of(sender, closing)
+        taken_of_sender(sender, closing)
     } else {
         got
     }
@@ -156,7 +156,7 @@ impl<K: Kind> Engine<K> {
     fn compare(&mut self, role: Role, sender: Sender, stage: u8, closing: &Closing)
         ensures { self.new ≡ record self.old {
           state = record self.old.state {
-            far = compared
+            far = compare_with
                 (reference_value (side_of K.CODE) self.old.index self.old.state role (sender_of sender) stage closing.now)
                 closing.now self.old.state.far;
           };
@@ -172,7 +172,7 @@ impl<K: Kind> Engine<K> {
         ensures { self.new ≡ record self.old {
           state = record self.old.state {
             sent = if stage == 2 then None else self.old.state.sent;
-            got = if stage == 1 then got_of (sender_of sender) closing.now else self.old.state.got;
+            got = if stage == 1 then taken_of_sender (sender_of sender) closing.now else self.old.state.got;
           };
         } }
     {

@@ -1,6 +1,6 @@
 //! What a node shows of a window that it has closed.
 ghost use Rattle.std.specs.Prelude.{◌≡◌, map};
-ghost use Rattle.rb_rules.specs.ExactStage.{at_source, got_of, see_value};
+ghost use Rattle.rb_rules.specs.ExactStage.{at_source, taken_of_sender, see_value};
 ghost use Rattle.rb_rules.specs.SyncStage.{see_time};
 ghost use Rattle.rb_slot.specs.Senders.{sender_of};
 
@@ -62,8 +62,8 @@ fn at_source(taken: &[Option<Heard>; 16], source: u8) -> Option<Heard>
 }
 
 // What was taken of the slot's sender.
-pub(crate) fn got_of(sender: Sender, closing: &Closing) -> Option<Heard>
-    ensures { result ≡ got_of (sender_of sender) closing.now }
+pub(crate) fn taken_of_sender(sender: Sender, closing: &Closing) -> Option<Heard>
+    ensures { result ≡ taken_of_sender (sender_of sender) closing.now }
 {
     match sender {
         Sender::Nobody => None,
