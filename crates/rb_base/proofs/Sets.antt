@@ -1,12 +1,12 @@
 -- Sets of nodes: what is in a set that a test makes, and when two sets are one.
 use Rattle.std.proofs.Common.{◌≡◌, ◌≢◌, ℕ, min, max, zero, suc, ◌+◌, ◌-◌, ◌*◌, ◌%◌, ◌^◌, ◌<◌, ◌≤◌, ◌⊎◌, Bool, true, false, cond, not, ◌||◌, ◌&&◌, ◌==◌, nat_lt, bit_and, bit_or, w16, inl, inr, refl, sym, ◌∙◌, ap, add-zero, arith}
-use Rattle.std.specs.Int.{bit_at}
+use Rattle.std.specs.Int.{bit_at, trailing_zeros}
 use Rattle.std.proofs.lemmas.Bool.{cases_lt, cases_order}
 use Rattle.std.proofs.lemmas.Bool.Decides.{nat_tests}
 use Rattle.std.proofs.lemmas.Nat.{and_le_l, or_lt}
-use Rattle.std.proofs.lemmas.Nat.Bits.{bit_at-lt, bit_at-zero, bit_at_above, bit_at_and, bit_at_cat_high, bit_at_cat_low, bit_at_clear_other, bit_at_clear_same, bit_at_not, bit_at_ones, bit_at_ones_above, bit_at_or, bit_at_set_other, bit_at_set_same, same_from_bits_below}
+use Rattle.std.proofs.lemmas.Nat.Bits.{bit_at-lt, bit_at-pow_other, bit_at-pow_same, bit_at-trailing_zeros, bit_at-zero, bit_at_above, bit_at_and, bit_at_cat_high, bit_at_cat_low, bit_at_clear_other, bit_at_clear_same, bit_at_not, bit_at_ones, bit_at_ones_above, bit_at_or, bit_at_set_other, bit_at_set_same, same_from_bits_below}
 use Rattle.std.proofs.Math.Pow.{pow_mono}
-use Rattle.rb_base.specs.Nodes.{has, set_below, set_of}
+use Rattle.rb_base.specs.Nodes.{TakesFirst, has, set_below, set_of}
 
 set_below-lt : (n : ℕ) (p : ℕ → Bool) → set_below n p < 2 ^ n
 unfolding set_below
@@ -200,3 +200,40 @@ first_is k h =
 -- what is in a set that is known as the set of a test
 pub has-is : (s i : ℕ) (p : ℕ → Bool) → s ≡ set_of p → i < 16 → has s i ≡ p i
 has-is s i p e h = ap (λ t. has t i) e ∙ has-set_of i p h
+
+-- `1 << k`
+pub only_is : (k : ℕ) → k < 16 → 1 * 2 ^ k % 2 ^ 16 ≡ set_of (λ i. i == k)
+only_is k h =
+    let fits : 2 ^ suc k ≤ 2 ^ 16 = pow_mono h in
+    let whole : 1 * 2 ^ k % 2 ^ 16 ≡ 2 ^ k = omega (arith, fits) in
+    rw whole
+    (is_set_of _ _ (omega (arith, fits)) (λ i _. elim (cases_order i k) [
+      | inl same ↦ rw same (ap (λ b. b == 1) (bit_at-pow_same k) ∙ sym (eq_self k))
+      | inr order ↦ let ne : i ≢ k = apart i k order in ap (λ b. b == 1) (bit_at-pow_other k i ne) ∙ sym (eq_other i k ne)
+    ]))
+
+-- what is left of a set is less than it once a node was taken out
+pub without_less : (s k : ℕ) → s < 2 ^ 16 → k < 16 → has s k ≡ true → set_of (λ i. has s i && not (i == k)) < s
+without_less s k fits h inside =
+    let after = set_of (λ i. has s i && not (i == k)) in
+    let most : after ≤ s = rw (← remove_is s k fits h) (and_le_l s (65535 - 1 * 2 ^ k % 2 ^ 16)) in
+    let out : has after k ≡ false = has-set_of k (λ i. has s i && not (i == k)) h ∙ ap (λ b. has s k && not b) (eq_self k) ∙ and-false (has s k) in
+    let changed : after ≢ s = λ same. let no : true ≡ false = sym inside ∙ ap (λ t. has t k) (sym same) ∙ out in absurd cc in
+    omega (arith, most, changed)
+
+-- the number of the lowest node of a set is below 16
+pub lowest_below : (s : ℕ) → 0 < s → s < 2 ^ 16 → trailing_zeros w16 s < 16
+lowest_below s some fits = (bit_at-trailing_zeros w16 s some fits).0
+
+-- the lowest node is taken out of the set
+pub takes_first : (before after k : ℕ) → 0 < before → before < 2 ^ 16 → k ≡ trailing_zeros w16 before → after ≡ set_of (λ i. has before i && not (i == k)) → TakesFirst before after k
+takes_first before after k some fits is rest =
+    let all : (trailing_zeros w16 before < 16) × (bit_at before (trailing_zeros w16 before) ≡ 1) × ((i : ℕ) → i < trailing_zeros w16 before → bit_at before i ≡ 0) =
+    bit_at-trailing_zeros w16 before some fits in
+    let inside : has before k ≡ true = rw is (ap (λ b. b == 1) all.1) in
+    record {
+      inside = inside;
+      first = λ i less. ap (λ b. b == 1) (all.2 i (let e : i < trailing_zeros w16 before = omega arith in e));
+      rest = rest;
+      less = rw rest (without_less before k fits (let e : trailing_zeros w16 before < 16 = all.0 in omega arith) inside);
+    }

@@ -1,5 +1,5 @@
 -- The kinds of node, and sets of nodes of one kind. A set is the number whose bit i says whether node i is in it.
-use Rattle.std.specs.Prelude.{ℕ, zero, suc, ◌+◌, ◌^◌, Bool, ◌==◌, cond, if◌then◌else◌}
+use Rattle.std.specs.Prelude.{ℕ, zero, suc, ◌≡◌, ◌+◌, ◌^◌, ◌<◌, Bool, true, false, ◌==◌, ◌&&◌, not, cond, if◌then◌else◌}
 use Rattle.std.specs.Int.{bit_at}
 use Rattle.rb_base.specs.Counting.{count_if, numbers}
 
@@ -33,3 +33,10 @@ set_of passes = set_below 16 passes
 -- how many nodes are in the set
 unfoldable pub size : ℕ → ℕ
 size set = count_if (has set) (numbers 16)
+
+-- the node with the lowest number is taken out of the set
+pub record TakesFirst (before after node : ℕ) : Type 0 where
+  pub inside : has before node ≡ true
+  pub first : (i : ℕ) → i < node → has before i ≡ false
+  pub rest : after ≡ set_of (λ i. has before i && not (i == node))
+  pub less : after < before

@@ -28,12 +28,20 @@ impl<K> NodeId<K> {
         ensures value { IfSome result (λ id. id ≡ index) }
     {
         if index < 16 {
-            Some(NodeId {
-                index,
-                kind: PhantomData,
-            })
+            Some(NodeId::of(index))
         } else {
             None
+        }
+    }
+
+    /// The node with this number, which is below 16.
+    pub fn of(index: u8) -> NodeId<K>
+        requires { index < 16 }
+        ensures { result ≡ index }
+    {
+        NodeId {
+            index,
+            kind: PhantomData,
         }
     }
 

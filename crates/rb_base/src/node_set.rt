@@ -1,6 +1,6 @@
 //! Sets of nodes of one kind.
-ghost use Rattle.std.specs.Prelude.{◌≡◌, ℕ, ◌≤◌, ◌||◌, ◌&&◌, ◌==◌, not, false, nat_lt};
-ghost use Rattle.rb_base.specs.Nodes.{has, set_of, size};
+ghost use Rattle.std.specs.Prelude.{◌≡◌, ℕ, ◌≤◌, ◌↔◌, ◌||◌, ◌&&◌, ◌==◌, not, false, nat_lt, IfSome, IsNone, IsTrue};
+ghost use Rattle.rb_base.specs.Nodes.{TakesFirst, has, set_of, size};
 
 use crate::NodeId;
 use std::marker::{Model, PhantomData};
@@ -38,6 +38,13 @@ impl<K: Copy> NodeSet<K> {
         NodeSet::from_bits((next - 1) as u16)
     }
 
+    /// The set of this node alone.
+    pub fn only(id: NodeId<K>) -> NodeSet<K>
+        ensures { result ≡ set_of (λ i. i == id) }
+    {
+        NodeSet::from_bits(1 << id.index())
+    }
+
     /// Adds the node, which may be in the set already.
     pub fn insert(&mut self, id: NodeId<K>)
         ensures { self.new ≡ set_of (λ i. has self.old i || (i == id)) }
@@ -52,11 +59,62 @@ impl<K: Copy> NodeSet<K> {
         self.bits &= !(1 << id.index());
     }
 
+    /// Takes the node with the lowest number out of the set and gives it. None exactly where the set is empty. So a loop
+    /// `while let Some(id) = left.pop_first()` walks over the nodes of a set in order.
+    pub fn pop_first(&mut self) -> Option<NodeId<K>>
+        ensures empty { IsNone result ↔ (self.old ≡ 0) }
+        ensures first { IfSome result (TakesFirst self.old self.new) }
+        ensures ended { IsNone result → self.new ≡ 0 }
+    {
+        if self.bits == 0 {
+            return None;
+        }
+        let first = NodeId::of(self.bits.trailing_zeros() as u8);
+        self.remove(first);
+        Some(first)
+    }
+
     /// Whether the node is in the set.
     pub fn contains(&self, id: NodeId<K>) -> bool
         ensures { result ≡ has self.now id }
     {
         (self.bits >> id.index()) & 1 == 1
+    }
+
+    /// Whether the node with this number is in the set. No set has a node from 16 on.
+    pub fn has(&self, index: u8) -> bool
+        ensures { result ≡ has self.now index }
+    {
+        let bits = self.bits;
+        index < 16 && (bits >> index) & 1 == 1
+    }
+
+    /// Whether no node is in the set.
+    pub fn is_empty(&self) -> bool
+        ensures { IsTrue result ↔ (self.now ≡ 0) }
+    {
+        self.bits == 0
+    }
+
+    /// The nodes that are in one of the two sets.
+    pub fn union(self, other: NodeSet<K>) -> NodeSet<K>
+        ensures { result ≡ set_of (λ i. has self i || has other i) }
+    {
+        NodeSet::from_bits(self.bits | other.bits)
+    }
+
+    /// The nodes that are in both sets.
+    pub fn intersection(self, other: NodeSet<K>) -> NodeSet<K>
+        ensures { result ≡ set_of (λ i. has self i && has other i) }
+    {
+        NodeSet::from_bits(self.bits & other.bits)
+    }
+
+    /// The nodes of this set that are not in the other.
+    pub fn difference(self, other: NodeSet<K>) -> NodeSet<K>
+        ensures { result ≡ set_of (λ i. has self i && not (has other i)) }
+    {
+        NodeSet::from_bits(self.bits & !other.bits)
     }
 
     /// The number of nodes in the set.
@@ -82,5 +140,30 @@ impl<K: Copy> NodeSet<K> {
             bits,
             kind: PhantomData,
         }
+    }
+}
+
+#[cfg(test)]
+mod tests {
+    use super::*;
+    use crate::Biu;
+
+    // The sets {1, 4, 15} and {0, 4}.
+    #[test]
+    fn sets(rt: HostRuntime) {
+        let mut odd: NodeSet<Biu> = NodeSet::from_bits(0b1000_0000_0001_0010);
+        let even = NodeSet::from_bits(0b1_0001);
+        assert_eq!(rt; odd.union(even).bits(), 0b1000_0000_0001_0011);
+        assert_eq!(rt; odd.intersection(even), NodeSet::only(NodeId::of(4)));
+        assert_eq!(rt; odd.difference(even).bits(), 0b1000_0000_0000_0010);
+        for (index, is_in) in [(0, false), (1, true), (15, true), (16, false), (255, false)] {
+            assert_eq!(rt; odd.has(index), is_in, "node {index}");
+        }
+        for index in [1, 4, 15] {
+            assert!(rt; !odd.is_empty());
+            assert_eq!(rt; odd.pop_first(), NodeId::new(index));
+        }
+        assert_eq!(rt; odd.pop_first(), None);
+        assert!(rt; odd.is_empty());
     }
 }

@@ -59,9 +59,11 @@ impl Shape {
         self.slots
     }
 
-    /// The number of the sync slot: one schedule slot a BIU, the data slots and one diagnosis slot a node come before it.
+    /// The number of the sync slot, at most 112: one schedule slot a BIU, the data slots and one diagnosis slot a node come
+    /// before it.
     pub fn sync_slot(&self) -> u16
-        ensures { result ≡ sync_slot_of self.now }
+        ensures value { result ≡ sync_slot_of self.now }
+        ensures most { result ≤ 112 }
     {
         2 * u16::from(self.biu) + u16::from(self.rmu) + self.slots
     }

@@ -1,5 +1,5 @@
 -- What is lawful: all that is known of a scenario that was accepted. Every law of the bus has it as its premise.
-use Rattle.std.specs.Prelude.{ℕ, ◌≡◌, ◌⊎◌, ◌+◌, ◌-◌, ◌^◌, ◌<◌, ◌≤◌, ◌==◌, nat_lt, if◌then◌else◌, Bool, true, false, All, List, [], ◌∷◌, length, Option, Some, None}
+use Rattle.std.specs.Prelude.{⊤, ℕ, ◌≡◌, ◌⊎◌, ◌+◌, ◌-◌, ◌^◌, ◌<◌, ◌≤◌, ◌==◌, nat_lt, if◌then◌else◌, Bool, true, false, All, List, [], ◌∷◌, length, Option, Some, None}
 use Rattle.rb_base.specs.Nodes.{Side, other}
 use Rattle.rb_base.specs.Nodes.Side.{Biu, Rmu}
 use Rattle.rb_base.specs.Sizes.{IsShape, Sizes, sync_slot_of}
@@ -30,8 +30,8 @@ IsNodeOf sizes (node.Rmu i) = i < sizes.rmus
 -- the pattern is a node of the bus, or all nodes of a kind
 abbrev pub IsPatternOf : Sizes → Pattern → Type 0
 IsPatternOf sizes (One name) = IsNodeOf sizes name
-IsPatternOf sizes AllBiu = Unit {0}
-IsPatternOf sizes AllRmu = Unit {0}
+IsPatternOf sizes AllBiu = ⊤
+IsPatternOf sizes AllRmu = ⊤
 
 -- the kind of a node
 abbrev pub kind_of : NodeName → Side
@@ -64,7 +64,7 @@ pub record IsRangeIn (low high : ℕ) (range : ℕ × ℕ) : Type 0 where
 
 -- the number of the bus, where messages carry one, is a byte
 abbrev pub IsVersion : Version → Type 0
-IsVersion version.One = Unit {0}
+IsVersion version.One = ⊤
 IsVersion (version.Two bus) = bus < 2 ^ 8
 
 -- how many segments the clocks have
@@ -86,7 +86,7 @@ ticks_at sizes plan place = if nat_lt place.slot (sync_slot_of sizes) then plan.
 
 -- the onset, if there is one, lies in the run
 abbrev pub IsOnsetOf : Scenario → Option (ℕ × ℕ) → Type 0
-IsOnsetOf sc None = Unit {0}
+IsOnsetOf sc None = ⊤
 IsOnsetOf sc (Some onset) = (onset.0 < sc.frames) × (onset.1 ≤ sync_slot_of sc.sizes)
 
 -- the delay is within the plan's bounds
@@ -117,8 +117,8 @@ pub record IsRaw (bytes : List ℕ) : Type 0 where
 -- what is said is a word, a fault, a call, or bytes as they are
 abbrev pub IsContent : Content → Type 0
 IsContent (Word word) = word < 2 ^ 32
-IsContent Fault = Unit {0}
-IsContent Sync = Unit {0}
+IsContent Fault = ⊤
+IsContent Sync = ⊤
 IsContent (Raw bytes) = IsRaw bytes.items
 
 -- An entry is said by a node that is not good at its first place, to nodes of the other kind, in windows of the run. It comes

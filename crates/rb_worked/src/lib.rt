@@ -5,6 +5,7 @@
 pub mod cores;
 pub mod events;
 pub mod frames;
+pub mod lawful;
 pub mod lies;
 pub mod ordinary;
 pub mod parts;
