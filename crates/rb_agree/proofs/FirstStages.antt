@@ -27,12 +27,12 @@ use Rattle.rb_rules.specs.Sense.{value_in}
 use Rattle.rb_rules.specs.Slots.{Sender, sender_kind, count_of, role_of}
 use Rattle.rb_rules.specs.Slots.Sender.{Nobody, Node, EachTrusted}
 use Rattle.rb_rules.specs.Standing.{Standing, taken_of, vector_of}
-use Rattle.rb_rules.specs.StandsFor.{moment_at}
+use Rattle.rb_rules.specs.Moments.{before_slot}
 use Rattle.rb_rules.proofs.Senses.{IsCarried}
 use Rattle.rb_rules.proofs.Votes.{taken_at}
 use Rattle.rb_agree.proofs.Tests.{true_or_false, and_first, and_none, or_neither, Present, present_if, same_some}
 use Rattle.rb_agree.proofs.Goodnesses.{good_below_16, few_nodes}
-use Rattle.rb_agree.proofs.Invariant.{Shared, sender_of, kind_in, IsGoodNode, is_good_now, slot_numbered, is_diagnosis, IsVector, before_slot, IsOwn, GoodSent, HasRelays, Holds, Agree}
+use Rattle.rb_agree.proofs.Invariant.{Shared, sender_of, kind_in, IsGoodNode, is_good_now, slot_numbered, is_diagnosis, IsVector, IsOwn, GoodSent, HasRelays, Holds, Agree}
 use Rattle.rb_agree.proofs.ExactWindows.{other_twice, take_at, expected_at, closing_at, sent_by}
 use Rattle.rb_agree.proofs.Exchanges.{IsHeard, sender-held, far-held}
 use Rattle.rb_agree.proofs.NodeWindows.{Windows, sense_in, word_at}

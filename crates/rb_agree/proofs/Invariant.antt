@@ -19,7 +19,8 @@ use Rattle.rb_rules.specs.Ports.{HandIn}
 use Rattle.rb_rules.specs.Rounds.{Moment, moment, windows_in}
 use Rattle.rb_rules.specs.Slots.{Sender, role_of, sender_kind, sender_in, count_of}
 use Rattle.rb_rules.specs.Slots.Sender.{Nobody, Node}
-use Rattle.rb_rules.specs.StandsFor.{moment_at, votes_on}
+use Rattle.rb_rules.specs.Moments.{before_slot}
+use Rattle.rb_rules.specs.StandsFor.{votes_on}
 use Rattle.rb_rules.proofs.RoundStates.{Knows}
 use Rattle.rb_rules.proofs.Senses.{IsCarried}
 use Rattle.rb_agree.proofs.Premises.{Premise}
@@ -76,10 +77,6 @@ is_diagnosis Sync = false
 pub record IsVector (sc : Scenario) (m : Moment) (accused : Side) (value : Heard) : Type 0 where
   pub valid : is_valid (count_of accused sc.sizes) value ≡ true
   pub spared : (j : ℕ) → is_good_now sc m accused j ≡ true → names j value ≡ false
-
--- the moment before a slot
-abbrev pub before_slot : Scenario → List HandIn → ℕ → ℕ → Moment
-before_slot sc hands frame slot = moment_at sc hands frame slot 1
 
 -- the value is what node p, the slot's sender, said when the slot began
 pub record IsOwn (sc : Scenario) (hands : List HandIn) (m : Moment) (slot p : ℕ) (value : Heard) : Type 0 where
