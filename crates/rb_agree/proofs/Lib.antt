@@ -16,3 +16,5 @@ pub mod FirstStages
 pub mod Senders
 pub mod SecondStages
 pub mod ThirdStages
+pub mod Schedules
+pub mod ExactAgrees
