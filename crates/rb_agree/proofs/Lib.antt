@@ -18,3 +18,4 @@ pub mod SecondStages
 pub mod ThirdStages
 pub mod Schedules
 pub mod ExactAgrees
+pub mod SyncWindows

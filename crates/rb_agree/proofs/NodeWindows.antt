@@ -55,17 +55,17 @@ exact_windows sc m slot q below small at =
     }
 
 -- the first offset and the ticks of a stage of the sync slot
-sync_first : Sizes → Plan → ℕ → ℕ
+pub sync_first : Sizes → Plan → ℕ → ℕ
 sync_first sizes plan zero = f0_of sizes plan
 sync_first sizes plan (suc zero) = f0_of sizes plan + plan.l
 sync_first sizes plan (suc (suc r)) = f0_of sizes plan + plan.l + plan.v
 
-sync_ticks : Plan → ℕ → ℕ
+pub sync_ticks : Plan → ℕ → ℕ
 sync_ticks plan zero = plan.l
 sync_ticks plan (suc zero) = plan.v
 sync_ticks plan (suc (suc r)) = plan.z
 
-sync_window : (sizes : Sizes) (plan : Plan) (r : ℕ) → r < 3
+pub sync_window : (sizes : Sizes) (plan : Plan) (r : ℕ) → r < 3
     → slice_get (sync_windows sizes plan) r ≡ Some (window_of (sync_slot_of sizes) (r + 1) (sync_first sizes plan r) (sync_ticks plan r))
 unfolding sync_first sync_ticks
 sync_window sizes plan zero h = refl
