@@ -19,3 +19,4 @@ pub mod ThirdStages
 pub mod Schedules
 pub mod ExactAgrees
 pub mod SyncWindows
+pub mod SyncAgrees
