@@ -20,3 +20,4 @@ pub mod Schedules
 pub mod ExactAgrees
 pub mod SyncWindows
 pub mod SyncAgrees
+pub mod Vectors
