@@ -21,3 +21,4 @@ pub mod ExactAgrees
 pub mod SyncWindows
 pub mod SyncAgrees
 pub mod Vectors
+pub mod FrameTurns

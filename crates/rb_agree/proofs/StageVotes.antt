@@ -18,7 +18,7 @@ use Rattle.rb_agree.proofs.Premises.{Premise, is_active, is_sound}
 less-same : (a b c d : ℕ) → a ≡ b → c ≡ d → a < c → b < d
 less-same a b c d p q h = omega arith
 
-how_many-count : (p : ℕ → Bool) → how_many p ≡ count_if p (numbers 16)
+pub how_many-count : (p : ℕ → Bool) → how_many p ≡ count_if p (numbers 16)
 how_many-count p = how_many-is p ∙ size-set_of p
 
 -- a source of which something was taken is trusted, and not benign
