@@ -22,3 +22,4 @@ pub mod SyncWindows
 pub mod SyncAgrees
 pub mod Vectors
 pub mod FrameTurns
+pub mod FrameAgrees
