@@ -23,3 +23,4 @@ pub mod SyncAgrees
 pub mod Vectors
 pub mod FrameTurns
 pub mod FrameAgrees
+pub mod Agreement
