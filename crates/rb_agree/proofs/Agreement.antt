@@ -25,7 +25,7 @@ use Rattle.rb_agree.proofs.ThirdStages.{voted}
 
 -- What a step is while the run goes on.
 
-ended-end : (b : Book) → (with_end b).ended ≡ true
+pub ended-end : (b : Book) → (with_end b).ended ≡ true
 ended-end b = go b.ended refl
   where
     go : (e : Bool) → b.ended ≡ e → (elim e as (λ _. Book) [ true ↦ b | false ↦ record b { given = b.given ++ Ended ∷ []; ended = true } ]).ended ≡ true

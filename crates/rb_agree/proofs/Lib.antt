@@ -24,3 +24,4 @@ pub mod Vectors
 pub mod FrameTurns
 pub mod FrameAgrees
 pub mod Agreement
+pub mod Places
