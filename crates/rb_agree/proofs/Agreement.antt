@@ -73,7 +73,7 @@ agreed : (sc : Scenario) (hands : List HandIn) (n : ℕ) (m : Moment) (s : Share
 agreed sc hands n m s is agree = record { shared = s; agree = subst (λ m. Agree sc hands n m s) is agree }
 
 -- a window below the sync slot
-exact-setting : (sc : Scenario) (hands : List HandIn) (n : ℕ) (m : Moment) (s : Shared) (slot q : ℕ) → IsLawful sc → Agree sc hands n m s
+pub exact-setting : (sc : Scenario) (hands : List HandIn) (n : ℕ) (m : Moment) (s : Shared) (slot q : ℕ) → IsLawful sc → Agree sc hands n m s
     → slot < sync_slot_of sc.sizes → q < 3 → m.window ≡ 3 * slot + q → (next sc m).book.ended ≡ false → Setting sc hands n m s slot q
 exact-setting sc hands n m s slot q law agree below small at running = record {
   law = law;

@@ -25,3 +25,5 @@ pub mod FrameTurns
 pub mod FrameAgrees
 pub mod Agreement
 pub mod Places
+pub mod SlotRuns
+pub mod Deliveries

@@ -158,28 +158,33 @@ third-voted (DiagBiu i) h = refl
 third-voted (DiagRmu i) h = refl
 third-voted Sync h = refl
 
--- the slot is finished
-pub finished_3 : (sc : Scenario) (hands : List HandIn) (n : ℕ) (m : Moment) (s : Shared) (slot : ℕ) (c : Setting sc hands n m s slot 2)
-    → IsFinished sc hands (next sc m) s slot (voted sc hands n m s slot c).value
-finished_3 sc hands n m s slot c =
+-- after the slot each good node that votes on it holds the value
+pub held_3 : (sc : Scenario) (hands : List HandIn) (n : ℕ) (m : Moment) (s : Shared) (slot : ℕ) (c : Setting sc hands n m s slot 2) (me : Side) (i : ℕ) (st now : NodeState)
+    → IsGoodNode sc m me i st → after sc m me i st ≡ now → votes_on sc.sizes slot me ≡ true → get_or now.votes slot Fault ≡ (voted sc hands n m s slot c).value
+held_3 sc hands n m s slot c me i st now here is votes =
     let k : Side = kind_in sc.sizes slot in
     let role : Role = role_of sc.sizes slot in
     let v : HasVoted sc hands m s slot = voted sc hands n m s slot c in
-    record {
-      is_value = value_next sc hands n m s slot 2 c slot v.value v.is_value;
-      held = λ me i now h votes.
-          let from : CameFrom sc m me i now = came_from sc hands n m s c.agree me i now h in
-          elim (one_or_other me k) [
-            | inl mine ↦
-                let voter : IsGoodNode sc m k i from.st = subst (λ x. IsGoodNode sc m x i from.st) mine from.was in
-                let none : votes_in me role 3 ≡ false = ap (λ x. votes_in x role 3) mine ∙ ap (λ b. b && true) (voters_deaf role 3 refl) in
-                ap (λ x. get_or x slot Fault) (votes_kept sc hands n m s slot 2 c me i from.st now from.was from.is none) ∙ v.held i from.st voter
-            | inr far ↦
-                let listener : IsGoodNode sc m (other k) i from.st = subst (λ x. IsGoodNode sc m x i from.st) far from.was in
-                let third : has_third_stage role ≡ true = third-voted role (sym (ap (votes_on sc.sizes slot) far) ∙ votes) in
-                let some : votes_in me role 3 ≡ true =
-                ap (λ x. votes_in x role 3) far ∙ ap (λ b. (if b then false else has_third_stage role) && true) (same_side_other k) ∙ ap (λ b. b && true) third in
-                vote-held sc hands n m s slot 2 c me i from.st now from.was from.is some
-                ∙ ap (λ x. vote_of sc hands n m s slot 2 c x i from.st) far ∙ vote_3 sc hands n m s slot c i from.st third listener
-          ];
-    }
+    elim (one_or_other me k) [
+      | inl mine ↦
+          let voter : IsGoodNode sc m k i st = subst (λ x. IsGoodNode sc m x i st) mine here in
+          let none : votes_in me role 3 ≡ false = ap (λ x. votes_in x role 3) mine ∙ ap (λ b. b && true) (voters_deaf role 3 refl) in
+          ap (λ x. get_or x slot Fault) (votes_kept sc hands n m s slot 2 c me i st now here is none) ∙ v.held i st voter
+      | inr far ↦
+          let listener : IsGoodNode sc m (other k) i st = subst (λ x. IsGoodNode sc m x i st) far here in
+          let third : has_third_stage role ≡ true = third-voted role (sym (ap (votes_on sc.sizes slot) far) ∙ votes) in
+          let some : votes_in me role 3 ≡ true =
+          ap (λ x. votes_in x role 3) far ∙ ap (λ b. (if b then false else has_third_stage role) && true) (same_side_other k) ∙ ap (λ b. b && true) third in
+          vote-held sc hands n m s slot 2 c me i st now here is some
+          ∙ ap (λ x. vote_of sc hands n m s slot 2 c x i st) far ∙ vote_3 sc hands n m s slot c i st third listener
+    ]
+
+-- the slot is finished
+pub finished_3 : (sc : Scenario) (hands : List HandIn) (n : ℕ) (m : Moment) (s : Shared) (slot : ℕ) (c : Setting sc hands n m s slot 2)
+    → IsFinished sc hands (next sc m) s slot (voted sc hands n m s slot c).value
+finished_3 sc hands n m s slot c = record {
+  is_value = value_next sc hands n m s slot 2 c slot (voted sc hands n m s slot c).value (voted sc hands n m s slot c).is_value;
+  held = λ me i now h votes.
+      let from : CameFrom sc m me i now = came_from sc hands n m s c.agree me i now h in
+      held_3 sc hands n m s slot c me i from.st now from.was from.is votes;
+}
