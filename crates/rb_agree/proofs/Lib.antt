@@ -27,3 +27,4 @@ pub mod Agreement
 pub mod Places
 pub mod SlotRuns
 pub mod Deliveries
+pub mod SlotValues

@@ -233,7 +233,7 @@ one_vote sc hands n m s slot c p sender a b sta stb here_a here_b =
 
 -- After stage 2.
 
-voters-vote : (role : Role) → votes_in (sender_kind role) role 2 ≡ true
+pub voters-vote : (role : Role) → votes_in (sender_kind role) role 2 ≡ true
 voters-vote role = ap (λ b. b && true) (voters_listen role)
 
 pub idle-vote : (sc : Scenario) (hands : List HandIn) (n : ℕ) (m : Moment) (s : Shared) (slot q : ℕ) (c : Setting sc hands n m s slot q) → sender_of sc.sizes s slot ≡ Nobody

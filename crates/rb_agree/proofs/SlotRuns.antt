@@ -131,3 +131,10 @@ third_frame sc hands frame slot r =
 
 pub second_frame : (sc : Scenario) (hands : List HandIn) (frame slot : ℕ) → IsSlot sc hands frame slot → (next sc (before_slot sc hands frame slot)).frame ≡ frame
 second_frame sc hands frame slot r = next-frame sc (before_slot sc hands frame slot) ∙ r.frame_is
+
+-- a node that is good before stage 2 is good before stage 3
+pub next-slot-good : (sc : Scenario) (hands : List HandIn) (n : ℕ) (m : Moment) (s : Shared) (slot : ℕ) → Setting sc hands n m s slot 1 → (k : ℕ) → Setting sc hands k (next sc m) s slot 2
+    → (me : Side) (i : ℕ) → is_good_now sc m me i ≡ true → is_good_now sc (next sc m) me i ≡ true
+next-slot-good sc hands n m s slot c k d me i good =
+    good_here sc hands k (next sc m) s slot 2 d me i ∙ ap (λ f. is_good sc me i f slot) (next-frame sc m)
+    ∙ sym (good_here sc hands n m s slot 1 c me i) ∙ good
