@@ -261,11 +261,11 @@ lies_by_all sizes plan frames slots stages offset range h =
     (either_by _ _ _ _ (leb-true (sync_slot_of sizes) slots.0) (ltb-true offset plan.l) parts.0)
     (either_by _ _ _ _ (ltb-true slots.1 (sync_slot_of sizes))
     (λ all.
-        let four = and_parts _ (lies_in_stage plan stages offset 4) all in
-        let three = and_parts _ (lies_in_stage plan stages offset 3) four.0 in
-        let two = and_parts (lies_in_stage plan stages offset 1) (lies_in_stage plan stages offset 2) three.0 in
-        at_each_stage (λ stage. offset < ticks_in_sync plan stage) stages range
-        (lies_by plan stages offset 1 two.0) (lies_by plan stages offset 2 two.1) (lies_by plan stages offset 3 three.1) (lies_by plan stages offset 4 four.1))
+    let four = and_parts _ (lies_in_stage plan stages offset 4) all in
+    let three = and_parts _ (lies_in_stage plan stages offset 3) four.0 in
+    let two = and_parts (lies_in_stage plan stages offset 1) (lies_in_stage plan stages offset 2) three.0 in
+    at_each_stage (λ stage. offset < ticks_in_sync plan stage) stages range
+    (lies_by plan stages offset 1 two.0) (lies_by plan stages offset 2 two.1) (lies_by plan stages offset 3 three.1) (lies_by plan stages offset 4 four.1))
     parts.1)
 
 -- a written offset is tested, and the one that stands in for none is that of good nodes

@@ -22,7 +22,7 @@ pub struct Bus {
 }
 
 /// The number of the last frame.
-pub fn last_frame(bus: &Bus) -> u64
+pub(crate) fn last_frame(bus: &Bus) -> u64
     ensures value { result ≡ bus.now.frames - 1 }
     ensures small { result < 2 ^ 32 }
 {
@@ -30,7 +30,7 @@ pub fn last_frame(bus: &Bus) -> u64
 }
 
 /// The number of the sync slot.
-pub fn sync_slot(bus: &Bus) -> u64
+pub(crate) fn sync_slot(bus: &Bus) -> u64
     ensures value { result ≡ sync_slot_of bus.now.shape }
     ensures small { result < 2 ^ 16 }
 {

@@ -65,8 +65,8 @@ impl Test for AreSegments {
 
 /// Clock entries for a node of the bus, with numbers in range.
 #[derive(Clone, Copy)]
-struct IsClock {
-    bus: Bus,
+pub(crate) struct IsClock {
+    pub(crate) bus: Bus,
 }
 
 impl EntryTest for IsClock {

@@ -82,7 +82,7 @@ fn are_distinct_among(shape: &Shape, values: &Array) -> bool
 }
 
 /// Whether no node is named by two entries.
-pub fn are_distinct(shape: &Shape, value: Option<&Value>) -> bool
+pub(crate) fn are_distinct(shape: &Shape, value: Option<&Value>) -> bool
     requires { IsShape shape.now }
     ensures { result ≡ are_distinct (nodes_in shape.now (entries_in (option_map (λ x. view x.now) value.entry))) }
 {
@@ -141,7 +141,7 @@ fn entry_among<'a>(shape: &Shape, values: &'a Array, name: NodeName) -> Option<&
 }
 
 /// The entry that is for the node.
-pub fn entry_for<'a>(
+pub(crate) fn entry_for<'a>(
     shape: &Shape,
     value: Option<&'a Value>,
     name: NodeName,
@@ -159,7 +159,7 @@ pub fn entry_for<'a>(
 }
 
 /// The node of this kind with this number.
-pub fn name_of<K: Kind>(index: u8) -> NodeName
+pub(crate) fn name_of<K: Kind>(index: u8) -> NodeName
     ensures { result ≡ name_of (side_of K.CODE) index }
 {
     if K::CODE == 0 {

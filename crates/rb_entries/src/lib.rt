@@ -3,7 +3,7 @@
 
 pub mod bus;
 pub mod clocks;
-pub mod entries;
+mod entries;
 pub mod faults;
 pub mod links;
 pub mod refusal;
@@ -16,3 +16,5 @@ pub use links::{IsLink, rules_in};
 pub use refusal::Refusal;
 pub use says::{IsSay, says_in};
 
+#[cfg(test)]
+mod tests;

@@ -16,7 +16,7 @@ use toml::value::Array;
 use toml::{Table, Value};
 
 /// Whether both are nodes of the bus, and of different kinds.
-pub fn are_apart(from: Option<Pattern>, to: Option<Pattern>) -> bool
+pub(crate) fn are_apart(from: Option<Pattern>, to: Option<Pattern>) -> bool
     ensures { result ≡ are_apart from to }
 {
     match from {
@@ -58,7 +58,7 @@ impl EntryTest for IsLink {
 }
 
 /// The nodes that are named at a key of an entry in range.
-pub fn pattern_of(bus: &Bus, key: &str, entry: &Table) -> Pattern
+pub(crate) fn pattern_of(bus: &Bus, key: &str, entry: &Table) -> Pattern
     ensures { result ≡ pattern_of bus.now key.now (table_view entry.now) }
 {
     pattern_at(&bus.shape, entry, key).unwrap_or(Pattern::AllBiu)
@@ -107,11 +107,7 @@ fn rules_among(alloc: Global, bus: &Bus, values: &Array) -> Result<Vec<Rule>, Al
 }
 
 /// The rules of the entries in range.
-pub fn rules_in(
-    alloc: Global,
-    bus: &Bus,
-    value: Option<&Value>,
-) -> Result<Vec<Rule>, AllocError>
+pub fn rules_in(alloc: Global, bus: &Bus, value: Option<&Value>) -> Result<Vec<Rule>, AllocError>
     requires { list_all (is_link bus.now) (entries_in (option_map (λ x. view x.now) value)) ≡ true }
     ensures { IfOk result (λ v. v.items ≡ map (rule_of bus.now) (entries_in (option_map (λ x. view x.now) value.entry))) }
 {

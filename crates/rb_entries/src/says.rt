@@ -292,11 +292,7 @@ fn says_among(alloc: Global, bus: &Bus, values: &Array) -> Result<Vec<Say>, Allo
 }
 
 /// What the entries in range say.
-pub fn says_in(
-    alloc: Global,
-    bus: &Bus,
-    value: Option<&Value>,
-) -> Result<Vec<Say>, AllocError>
+pub fn says_in(alloc: Global, bus: &Bus, value: Option<&Value>) -> Result<Vec<Say>, AllocError>
     requires bus { bus.now.plan.h < 2 ^ 32 }
     requires says { list_all (is_say bus.now) (entries_in (option_map (λ x. view x.now) value)) ≡ true }
     ensures { IfOk result (λ v. v.items ≡ map (say_of bus.now) (entries_in (option_map (λ x. view x.now) value.entry))) }
