@@ -28,3 +28,4 @@ pub mod Places
 pub mod SlotRuns
 pub mod Deliveries
 pub mod SlotValues
+pub mod FrameBegins
