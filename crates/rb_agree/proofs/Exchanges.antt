@@ -38,7 +38,7 @@ use Rattle.rb_agree.proofs.Goodnesses.{few_slots, exact_role, single_sender}
 
 -- What all good nodes hold.
 
-trusted-either : (a b : Side) (st : NodeState) → trusted_of a b st ≡ trusted_of b a st
+pub trusted-either : (a b : Side) (st : NodeState) → trusted_of a b st ≡ trusted_of b a st
 trusted-either Biu Biu st = refl
 trusted-either Biu Rmu st = refl
 trusted-either Rmu Biu st = refl

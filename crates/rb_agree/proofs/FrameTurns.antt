@@ -28,6 +28,7 @@ use Rattle.rb_agree.proofs.Premises.{Premise, is_active, is_sound}
 use Rattle.rb_agree.proofs.Goodnesses.{good_below_16, good_earlier, good_before, few_nodes, slot_last}
 use Rattle.rb_agree.proofs.Invariant.{Shared, sender_of, kind_in, IsGoodNode, is_good_now, slot_numbered, is_diagnosis, IsVector, IsOwn, IsFinished, Holds, Agree}
 use Rattle.rb_agree.proofs.ExactWindows.{other_twice}
+use Rattle.rb_agree.proofs.Exchanges.{trusted-either}
 use Rattle.rb_agree.proofs.StageVotes.{how_many-count}
 use Rattle.rb_agree.proofs.Vectors.{vector_slot, vector_role, vector_slot-role, vector_slot-lt, convicted_same}
 
@@ -99,12 +100,6 @@ vector-end sc hands n m s e kind i t =
     (end-done sc hands n m s e (vector_slot sc.sizes kind i) (vector_slot-lt sc.sizes kind i (e.agree.inside kind i t))) t
 
 -- Whom a good node convicts.
-
-trusted-either : (a b : Side) (st : NodeState) → trusted_of a b st ≡ trusted_of b a st
-trusted-either Biu Biu st = refl
-trusted-either Biu Rmu st = refl
-trusted-either Rmu Biu st = refl
-trusted-either Rmu Rmu st = refl
 
 pub convicted_held : (sc : Scenario) (hands : List HandIn) (n : ℕ) (m : Moment) (s : Shared) → AtEnd sc hands n m s → (me : Side) (i : ℕ) (st : NodeState) → IsGoodNode sc m me i st
     → (accused : Side) → convicted_at sc.sizes me st accused ≡ convicted_all sc.sizes s accused

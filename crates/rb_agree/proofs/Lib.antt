@@ -29,3 +29,4 @@ pub mod SlotRuns
 pub mod Deliveries
 pub mod SlotValues
 pub mod FrameBegins
+pub mod SlotLaws
