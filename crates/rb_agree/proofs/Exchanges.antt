@@ -44,7 +44,7 @@ trusted-either Biu Rmu st = refl
 trusted-either Rmu Biu st = refl
 trusted-either Rmu Rmu st = refl
 
-far-trusted : (me : Side) (st : NodeState) → st.far.trusted ≡ trusted_of (other me) me st
+pub far-trusted : (me : Side) (st : NodeState) → st.far.trusted ≡ trusted_of (other me) me st
 far-trusted Biu st = refl
 far-trusted Rmu st = refl
 

@@ -30,3 +30,5 @@ pub mod Deliveries
 pub mod SlotValues
 pub mod FrameBegins
 pub mod SlotLaws
+pub mod Convicting
+pub mod WidelyAccused
