@@ -32,3 +32,4 @@ pub mod FrameBegins
 pub mod SlotLaws
 pub mod Convicting
 pub mod WidelyAccused
+pub mod PortLists
