@@ -33,3 +33,4 @@ pub mod SlotLaws
 pub mod Convicting
 pub mod WidelyAccused
 pub mod PortLists
+pub mod PortSlots
