@@ -54,7 +54,7 @@ abbrev pub delivery_from : NodeState → ℕ → Heard → ℕ → Delivery
 delivery_from st slot value p = record { frame = st.frame; slot = slot; sender = p; value = value }
 
 -- a BIU delivers the vote of stage 2, where there is an owner
-delivery-2 : (st : NodeState) (slot : ℕ) (role : Role) (sender : Sender) (voted : Heard)
+pub delivery-2 : (st : NodeState) (slot : ℕ) (role : Role) (sender : Sender) (voted : Heard)
     → delivery_of Biu st slot role sender 2 voted ≡ option_map (delivery_from st slot voted) (owner_sending role sender)
 delivery-2 st slot (Schedule i) sender voted = refl
 delivery-2 st slot (Data n) Nobody voted = refl
@@ -96,7 +96,7 @@ owner-held sc m s me st slot h = go (role_of sc.sizes slot)
 abbrev pub line_from : ℕ → Delivery → SlotLine
 line_from i d = record { receiver = i; sender = d.sender; value = d.value }
 
-line-closed : (sc : Scenario) (m : Moment) (slot stage : ℕ) (ws : Windows sc m slot stage) (me : Side) (i : ℕ) (st : NodeState)
+pub line-closed : (sc : Scenario) (m : Moment) (slot stage : ℕ) (ws : Windows sc m slot stage) (me : Side) (i : ℕ) (st : NodeState)
     → line_in (close_on sc me i (kept_in sc m slot stage me i st) (own_window sc m slot stage ws me st) (heard_in sc m slot stage ws me i st)).row
     ≡ option_map (line_from i) (close sc.sizes me i (kept_in sc m slot stage me i st) slot stage (ws.first me st) (sense_in sc m slot stage ws me i st)).closed.delivered
 unfolding close_on row_of
@@ -137,7 +137,7 @@ line-good sc hands n m s slot q c me i st here =
 
 -- The lines of all.
 
-none-delivered : (f : Option Row → Option SlotLine) (xs : List (Option Row)) → ((i : ℕ) (x : Option Row) → slice_get xs i ≡ Some x → f x ≡ None) → filter_map f xs ≡ []
+pub none-delivered : (f : Option Row → Option SlotLine) (xs : List (Option Row)) → ((i : ℕ) (x : Option Row) → slice_get xs i ≡ Some x → f x ≡ None) → filter_map f xs ≡ []
 none-delivered f [] none = refl
 none-delivered f (x ∷ xs) none =
     ap (λ o. cons_option o (filter_map f xs)) (none 0 x refl) ∙ none-delivered f xs (λ i y h. none (suc i) y h)
@@ -158,7 +158,7 @@ some-delivered f good make from (x ∷ xs) each =
     go false rest = refl
 
 -- the rows of the BIUs, one by one
-row-of : (sc : Scenario) (m : Moment) (slot stage : ℕ) (ws : Windows sc m slot stage) (P : ℕ → Option SlotLine → Type 0)
+pub row-of : (sc : Scenario) (m : Moment) (slot stage : ℕ) (ws : Windows sc m slot stage) (P : ℕ → Option SlotLine → Type 0)
     → ((i : ℕ) (st : NodeState) → slice_get (of_kind Biu m.nodes) i ≡ Some st → P i (line_in (row_after sc m Biu i st)))
     → (i : ℕ) (x : Option Row) → slice_get (of_kind Biu (rows_of sc m)) i ≡ Some x → P i (line_in x)
 row-of sc m slot stage ws P each i x h = go (slice_get (of_kind Biu m.nodes) i) refl (sym (row-at sc m Biu i) ∙ h)

@@ -38,13 +38,13 @@ use Rattle.rb_agree.proofs.Goodnesses.{few_slots, exact_role, single_sender}
 
 -- What all good nodes hold.
 
-trusted-either : (a b : Side) (st : NodeState) → trusted_of a b st ≡ trusted_of b a st
+pub trusted-either : (a b : Side) (st : NodeState) → trusted_of a b st ≡ trusted_of b a st
 trusted-either Biu Biu st = refl
 trusted-either Biu Rmu st = refl
 trusted-either Rmu Biu st = refl
 trusted-either Rmu Rmu st = refl
 
-far-trusted : (me : Side) (st : NodeState) → st.far.trusted ≡ trusted_of (other me) me st
+pub far-trusted : (me : Side) (st : NodeState) → st.far.trusted ≡ trusted_of (other me) me st
 far-trusted Biu st = refl
 far-trusted Rmu st = refl
 

@@ -100,6 +100,10 @@ shared_next sizes s = record {
   values = λ t. Fault;
 }
 
+pub next-trusted : (sizes : Sizes) (s : Shared) (kind : Side) → (shared_next sizes s).trusted kind ≡ without (s.trusted kind) (convicted_all sizes s kind)
+unfolding shared_next
+next-trusted sizes s kind = refl
+
 -- who is trusted afterwards was trusted before
 trusted-before : (trusted convicted j : ℕ) → has (without trusted convicted) j ≡ true → has trusted j ≡ true
 trusted-before trusted convicted j h =
@@ -134,7 +138,7 @@ turned_from sc hands n m s agree me i now h =
       is = same_some (turn_if_known sc.sizes sc.plan me old.value) now (sym (state-turned sc hands m me i old.value old.is) ∙ h.there);
     }
 
-holds-turned : (sc : Scenario) (hands : List HandIn) (n : ℕ) (m : Moment) (s : Shared) → AtEnd sc hands n m s
+pub holds-turned : (sc : Scenario) (hands : List HandIn) (n : ℕ) (m : Moment) (s : Shared) → AtEnd sc hands n m s
     → (me : Side) (i : ℕ) (now : NodeState) → IsGoodNode sc (next_frame sc hands m) me i now → Holds sc (next_frame sc hands m) (shared_next sc.sizes s) me now
 unfolding begin_frame shared_next
 holds-turned sc hands n m s e me i now h =

@@ -28,3 +28,9 @@ pub mod Places
 pub mod SlotRuns
 pub mod Deliveries
 pub mod SlotValues
+pub mod FrameBegins
+pub mod SlotLaws
+pub mod Convicting
+pub mod WidelyAccused
+pub mod PortLists
+pub mod PortSlots

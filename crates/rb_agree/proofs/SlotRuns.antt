@@ -46,7 +46,7 @@ pub record IsSlot (sc : Scenario) (hands : List HandIn) (frame slot : ℕ) : Typ
   pub after_second : next sc (next sc (before_slot sc hands frame slot)) ≡ before_stage sc hands frame slot 3
   pub after_third : next sc (next sc (next sc (before_slot sc hands frame slot))) ≡ after_slot sc hands frame slot
 
-next-window : (sc : Scenario) (m : Moment) → (next sc m).window ≡ m.window + 1
+pub next-window : (sc : Scenario) (m : Moment) → (next sc m).window ≡ m.window + 1
 unfolding after_window
 next-window sc m = refl
 
@@ -98,7 +98,7 @@ slot_runs sc hands law frame slot below complete =
 
 -- Good nodes of the slot.
 
-next-frame : (sc : Scenario) (m : Moment) → (next sc m).frame ≡ m.frame
+pub next-frame : (sc : Scenario) (m : Moment) → (next sc m).frame ≡ m.frame
 unfolding after_window
 next-frame sc m = refl
 

@@ -39,17 +39,17 @@ pub record SyncSetting (sc : Scenario) (hands : List HandIn) (n : ℕ) (m : Mome
   pub judged : 2 ≤ q → Premise sc m.frame (sync_slot_of sc.sizes) s.trusted (next sc m).book.stages
 
 -- good nodes are those of the sync slot
-good-here : (sc : Scenario) (hands : List HandIn) (n : ℕ) (m : Moment) (s : Shared) (q : ℕ) (ws : Windows sc m (sync_slot_of sc.sizes) (q + 1)) → SyncSetting sc hands n m s q ws
+pub good-here : (sc : Scenario) (hands : List HandIn) (n : ℕ) (m : Moment) (s : Shared) (q : ℕ) (ws : Windows sc m (sync_slot_of sc.sizes) (q + 1)) → SyncSetting sc hands n m s q ws
     → (me : Side) (i : ℕ) → is_good_now sc m me i ≡ is_good sc me i m.frame (sync_slot_of sc.sizes)
 good-here sc hands n m s q ws c me i = ap (is_good sc me i m.frame) (slot_last sc.sizes m.window q c.at)
 
 -- what the window leaves of a good node
-leaves : (sc : Scenario) (hands : List HandIn) (n : ℕ) (m : Moment) (s : Shared) (q : ℕ) (ws : Windows sc m (sync_slot_of sc.sizes) (q + 1)) → SyncSetting sc hands n m s q ws
+pub leaves : (sc : Scenario) (hands : List HandIn) (n : ℕ) (m : Moment) (s : Shared) (q : ℕ) (ws : Windows sc m (sync_slot_of sc.sizes) (q + 1)) → SyncSetting sc hands n m s q ws
     → (me : Side) (i : ℕ) (st : NodeState) → IsGoodNode sc m me i st → IsAfterSync st (after sc m me i st) (λ j. does_wrong (expects_call me st (q + 1) j) (sense_in sc m (sync_slot_of sc.sizes) (q + 1) ws me i st j))
 leaves sc hands n m s q ws c me i st here =
     sync_closes sc m (q + 1) ws me i st (sym (good-here sc hands n m s q ws c me i) ∙ here.good)
 
-spared : (sc : Scenario) (hands : List HandIn) (n : ℕ) (m : Moment) (s : Shared) (q : ℕ) (ws : Windows sc m (sync_slot_of sc.sizes) (q + 1)) → SyncSetting sc hands n m s q ws
+pub spared : (sc : Scenario) (hands : List HandIn) (n : ℕ) (m : Moment) (s : Shared) (q : ℕ) (ws : Windows sc m (sync_slot_of sc.sizes) (q + 1)) → SyncSetting sc hands n m s q ws
     → (me : Side) (i j : ℕ) (st : NodeState) → IsGoodNode sc m me i st → is_good_now sc m (other me) j ≡ true → has (after sc m me i st).far.direct j ≡ false
 spared sc hands n m s q ws c me i j st here good =
     let there : Present (slice_get (of_kind (other me) m.nodes) j) = good_state sc hands n m s c.agree (other me) j good in

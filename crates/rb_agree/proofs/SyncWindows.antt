@@ -171,7 +171,7 @@ close-parts sizes me st sent stage first sense = record {
       (right_is_no_evidence st.far (expects_call me st stage) sense j right);
 }
 
-close-sync : (sizes : Sizes) (me : Side) (i : ℕ) (st : NodeState) (stage first : ℕ) (sense : ℕ → Sense)
+pub close-sync : (sizes : Sizes) (me : Side) (i : ℕ) (st : NodeState) (stage first : ℕ) (sense : ℕ → Sense)
     → close sizes me i st (sync_slot_of sizes) stage first sense ≡ close_sync sizes me st stage (st.epoch + first) sense
 close-sync sizes me i st stage first sense = go (sync_slot_of sizes == sync_slot_of sizes) (in-sync sizes)
   where
