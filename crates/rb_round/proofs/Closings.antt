@@ -18,8 +18,3 @@ closing_is s expected sense taken values voted taken_is values_are voted_is =
     let vote : voted ≡ majority_of (present (each_node (taken_of value_in s expected sense))) =
     voted_is ∙ ap majority_of values_are ∙ ap (λ t. majority_of (present t)) taken_is in
     rw (taken_is, vote) refl
-
--- `mismatch | differing`
-pub mismatch_is : (mismatch differing : ℕ) (p : ℕ → Bool) → mismatch < 2 ^ 16 → differing < 2 ^ 16 → differing ≡ set_of p
-    → set_of (λ j. has mismatch j || has differing j) ≡ set_of (λ j. has mismatch j || p j)
-mismatch_is mismatch differing p hm hd is = same_set_of _ _ (λ j h. ap (λ b. has mismatch j || b) (ap (λ t. has t j) is ∙ has-set_of j p h))
