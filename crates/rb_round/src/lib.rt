@@ -50,13 +50,13 @@ pub fn close_stage<K: Copy>(
 {
     let mut closing = nothing_taken();
     let mut sees = [See::Nothing; 16];
-    close_stage_in(inbox, standing, expect, expected, &mut closing, &mut sees);
+    close_stage_into(inbox, standing, expect, expected, &mut closing, &mut sees);
     closing
 }
 
 /// The same in place: the closing is written over `closing`, and what is shown of each source over `sees`. Where nobody is
 /// expected and nothing came that costs next to nothing.
-pub fn close_stage_in<K: Copy>(
+pub fn close_stage_into<K: Copy>(
     inbox: &Inbox<K>,
     standing: &mut Standing<K>,
     expect: &Expect,

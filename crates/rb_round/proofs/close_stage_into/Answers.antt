@@ -4,7 +4,7 @@ use Rattle.rb_rules.specs.ExactStage.{present}
 use Rattle.rb_eligible.specs.Inboxes.{sense_in}
 use Rattle.rb_eligible.specs.Standings.{standing_of}
 use Rattle.rb_round.proofs.Closings.{closing_is}
-use Rattle.rb_round.proofs.close_stage_in.Goals as goal
+use Rattle.rb_round.proofs.close_stage_into.Goals as goal
 
 pub returns-clause-closing : goal.returns-clause-closing
 returns-clause-closing g c = λ received shown.
