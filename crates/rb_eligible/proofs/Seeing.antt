@@ -1,5 +1,5 @@
 -- What is shown of each source while it is written down beside what was taken of it.
-use Rattle.std.proofs.Common.{◌≡◌, ℕ, ◌<◌, Option, None, List, length, map, get_or, set, replicate, inl, inr, refl, sym, ◌∙◌, ap, arith}
+use Rattle.std.proofs.Common.{◌≡◌, ℕ, ◌<◌, Option, None, List, length, map, get_or, set, replicate, inl, inr, sym, ◌∙◌, ap, arith}
 use Rattle.std.proofs.lemmas.Bool.{cases_eq}
 use Rattle.std.proofs.lemmas.List.{ext_get_or, get_or-map, get_or-replicate, get_or-set_other, get_or-set_same, length-map}
 use Rattle.rb_base.specs.declared.values.Heard.{Heard}

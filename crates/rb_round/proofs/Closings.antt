@@ -1,7 +1,5 @@
 -- The close of a stage, and mismatch accusations.
-use Rattle.std.proofs.Common.{◌≡◌, ℕ, ◌<◌, ◌^◌, Bool, ◌||◌, Option, List, refl, ◌∙◌, ap}
-use Rattle.rb_base.specs.Nodes.{has, set_of}
-use Rattle.rb_base.proofs.Sets.{has-set_of, same_set_of}
+use Rattle.std.proofs.Common.{◌≡◌, ℕ, Bool, Option, List, refl, ◌∙◌, ap}
 use Rattle.rb_base.specs.declared.values.Heard.{Heard}
 use Rattle.rb_rules.specs.Majority.{majority_of}
 use Rattle.rb_rules.specs.ExactStage.{closing_of, each_node, present}

@@ -1,4 +1,4 @@
-use Rattle.std.proofs.Common.{◌≡◌, ℕ, ◌<◌, ◌&&◌, Bool, false, if◌then◌else◌, None, get_or, refl, sym, ◌∙◌, ap, arith}
+use Rattle.std.proofs.Common.{◌≡◌, ℕ, ◌<◌, ◌&&◌, false, if◌then◌else◌, None, refl, sym, ◌∙◌, ap, arith}
 use Rattle.rb_base.specs.Nodes.{has}
 use Rattle.rb_base.proofs.Sets.{has_none, is_set_of}
 use Rattle.rb_rules.specs.Sense.{is_one, value_in}

@@ -1,6 +1,6 @@
-use Rattle.std.proofs.Common.{◌≡◌, ◌<◌, ◌^◌, ℕ, Bool, ◌&&◌, ◌==◌, not, true, false, if◌then◌else◌, None, length, get_or, inl, inr, refl, sym, ◌∙◌, ap, arith}
+use Rattle.std.proofs.Common.{◌≡◌, ◌<◌, ℕ, Bool, ◌&&◌, ◌==◌, not, true, None, length, get_or, inl, refl, sym, ◌∙◌, ap}
 use Rattle.std.proofs.Math.ListN.{length-set}
-use Rattle.rb_base.specs.Nodes.{has, set_of}
+use Rattle.rb_base.specs.Nodes.{has}
 use Rattle.rb_base.proofs.Sets.{has-is, is_set_of, set_of-lt}
 use Rattle.rb_rules.specs.Sense.{is_one, value_in}
 use Rattle.rb_eligible.specs.Inboxes.{is_sole, sense_in}

@@ -1,6 +1,5 @@
 use Rattle.std.proofs.Common.{◌≡◌, ℕ, ◌<◌, ◌^◌, ◌&&◌, ◌||◌, not, true, false, if◌then◌else◌, None, List, length, get_or}
 use Rattle.rb_base.specs.Nodes.{has}
-use Rattle.rb_base.specs.declared.values.See.TheVariants.{Nothing}
 use Rattle.rb_eligible.proofs.Seeing.{AreShown}
 use Rattle.rb_rules.specs.Sense.{is_one, value_in}
 use Rattle.rb_eligible.specs.Inboxes.{Received, Shows, is_sole, sense_in}

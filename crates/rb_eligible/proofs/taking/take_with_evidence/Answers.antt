@@ -1,6 +1,6 @@
-use Rattle.std.proofs.Common.{◌≡◌, ◌<◌, ℕ, Bool, ◌&&◌, if◌then◌else◌, None, sym, ◌∙◌, ap}
+use Rattle.std.proofs.Common.{ℕ, Bool, ◌&&◌, if◌then◌else◌, None, ◌∙◌, ap}
 use Rattle.std.proofs.lemmas.List.FromFn.{fill_by_all}
-use Rattle.rb_base.specs.Nodes.{has, set_of}
+use Rattle.rb_base.specs.Nodes.{has}
 use Rattle.rb_base.proofs.Sets.{has-is, same_set_of}
 use Rattle.rb_rules.specs.Sense.{is_one, value_in}
 use Rattle.rb_rules.specs.Standing.{is_eligible, taken_of}

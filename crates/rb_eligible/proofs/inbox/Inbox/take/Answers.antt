@@ -1,9 +1,8 @@
-use Rattle.std.proofs.Common.{◌≡◌, ◌+◌, ◌<◌, ◌≤◌, List, ◌++◌, ◌∷◌, [], false, length, set, sym, ◌∙◌, ap, arith, subst}
+use Rattle.std.proofs.Common.{◌≡◌, ◌<◌, List, ◌++◌, ◌∷◌, [], false, length, sym, ◌∙◌, ap, arith}
 use Rattle.std.proofs.Math.ListN.{length-set}
 use Rattle.rb_base.specs.Nodes.{has}
-use Rattle.rb_rules.specs.Sense.{Arrival}
-use Rattle.rb_eligible.specs.Inboxes.{IsInbox, Kept, Received, Shows, StampsUpTo}
-use Rattle.rb_eligible.proofs.Shown.{shows_first, shows_spoilt, short_first, up_to_first, up_to_spoilt, with_node}
+use Rattle.rb_eligible.specs.Inboxes.{Kept, Received, Shows}
+use Rattle.rb_eligible.proofs.Shown.{shows_first, shows_spoilt, short_first, up_to_first, up_to_spoilt}
 use Rattle.rb_eligible.proofs.inbox.Inbox.take.Goals as goal
 use Rattle.rb_eligible.proofs.inbox.Inbox.take.Goals.{else-not-again-via-then-not-again+else-bytes-le-MOST_BYTES, else-not-again-via-else-not-again}
 
