@@ -2,7 +2,7 @@
 ghost use Rattle.std.specs.Prelude.{◌≡◌, ◌≤◌, ◌<◌, ◌+◌, ◌==◌, ◌||◌, ◌&&◌, if◌then◌else◌, map, min, not};
 ghost use Rattle.rb_base.specs.Counting.{numbers};
 ghost use Rattle.rb_base.specs.Nodes.{has, set_of};
-ghost use Rattle.rb_rules.specs.Standing.{calm_after, first_standing, is_eligible, lapsed, lapses, vector_of, with_evidence, with_mismatch, without};
+ghost use Rattle.rb_rules.specs.Standing.{calm_after, first_standing, is_eligible, standing_at_end, lapses, vector_of, with_evidence, with_mismatch, without};
 ghost use Rattle.rb_eligible.specs.Standings.{calm_at_end, standing_of};
 
 use rb_base::{NodeId, NodeSet};
@@ -191,7 +191,7 @@ impl<K: Copy> Standing<K> {
     /// frames in a row without direct evidence against it; with 0 none lapses. Mismatch accusations stay, and so do
     /// convictions. The next frame begins without evidence.
     pub fn lapse(&mut self, probation: u16)
-        ensures { standing_of self.new ≡ lapsed probation (standing_of self.old) }
+        ensures { standing_of self.new ≡ standing_at_end probation (standing_of self.old) }
     {
         let lapsing = self.lapsing(probation);
         self.calm = self.calms(probation);

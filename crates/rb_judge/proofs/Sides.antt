@@ -8,7 +8,7 @@ use Rattle.rb_base.specs.declared.node.NodeName.{NodeName}
 use Rattle.rb_base.specs.declared.values.See.{See}
 use Rattle.rb_base.specs.declared.values.See.TheVariants.{Nothing}
 use Rattle.rb_base.proofs.Sets.{eq_self, has-is, has_above, has_none, same_set_of}
-use Rattle.rb_rules.specs.Judging.{JudgedStage, are_alike, classes_of, good_now, is_benign, is_something, is_suspect, noted, stage_begun, trusted_now, was_taken, was_unlike, with_sight}
+use Rattle.rb_rules.specs.Judging.{JudgedStage, are_alike, classes_of, good_now, is_benign, is_something, is_suspect, with_newest_sight, stage_begun, trusted_now, was_taken, was_unlike, with_sight}
 use Rattle.rb_rules.specs.Links.{name_of, same_node}
 use Rattle.rb_judge.specs.declared.seen.Seen.{Seen}
 use Rattle.rb_judge.specs.declared.sources.Sources.{Sources}
@@ -132,7 +132,7 @@ pub kind_noted : (kind : Side) (r from : ℕ) (see : See) (stages : List JudgedS
     → ((sight : ℕ → See) → ShowsSource (eps_now stages) (good_now (other kind) stages) sight (seen_of from before)
     → ShowsSource (eps_now stages) (good_now (other kind) stages) (λ i. if i == r then see else sight i) (seen_of from after))
     → ((j : ℕ) → j < 16 → j ≢ from → seen_of j after ≡ seen_of j before) → KeepsSets before after
-    → ShowsKind kind stages before → ShowsKind kind (noted (name_of (other kind) r) from see stages) after
+    → ShowsKind kind stages before → ShowsKind kind (with_newest_sight (name_of (other kind) r) from see stages) after
 kind_noted kind r from see [] before after good here others sets is = absurd (let e = has_none r in cc)
 kind_noted kind r from see (x ∷ earlier) before after good here others sets is = record {
   good = sets.good ∙ is.good;
@@ -168,14 +168,14 @@ pub kind_notes : (kind : Side) (r from eps good : ℕ) (see : See) (stages : Lis
     → eps ≡ eps_now stages → good ≡ good_now (other kind) stages → has good r ≡ true
     → ((sight : ℕ → See) → ShowsSource eps good sight (seen_of from before) → ShowsSource eps good (λ i. if i == r then see else sight i) (seen_of from after))
     → ((j : ℕ) → j < 16 → j ≢ from → seen_of j after ≡ seen_of j before) → KeepsSets before after
-    → ShowsKind kind stages before → ShowsKind kind (noted (name_of (other kind) r) from see stages) after
+    → ShowsKind kind stages before → ShowsKind kind (with_newest_sight (name_of (other kind) r) from see stages) after
 kind_notes kind r from eps good see stages before after eps_is good_is is_good here others sets is =
     let Step : ℕ → ℕ → Type 0 = λ e g. (sight : ℕ → See) → ShowsSource e g sight (seen_of from before) → ShowsSource e g (λ i. if i == r then see else sight i) (seen_of from after) in
     let step : Step (eps_now stages) (good_now (other kind) stages) =
     subst (λ (g : ℕ). Step (eps_now stages) g) good_is (subst (λ (e : ℕ). Step e good) eps_is here) in
     kind_noted kind r from see stages before after (ap (λ g. has g r) (sym good_is) ∙ is_good) step others sets is
 
-pub eps_stays : (receiver : NodeName) (from : ℕ) (see : See) (stages : List JudgedStage) → eps_now stages ≡ eps_now (noted receiver from see stages)
+pub eps_stays : (receiver : NodeName) (from : ℕ) (see : See) (stages : List JudgedStage) → eps_now stages ≡ eps_now (with_newest_sight receiver from see stages)
 eps_stays receiver from see [] = refl
 eps_stays receiver from see (x ∷ earlier) = refl
 
@@ -186,7 +186,7 @@ member_below s i fits member =
 
 -- of the sources of the receiver's own kind nothing is noted
 pub kind_stays : (kind : Side) (r from : ℕ) (see : See) (stages : List JudgedStage) (s : Sources)
-    → ShowsKind kind stages s → ShowsKind kind (noted (name_of kind r) from see stages) s
+    → ShowsKind kind stages s → ShowsKind kind (with_newest_sight (name_of kind r) from see stages) s
 kind_stays kind r from see [] s is = is
 kind_stays kind r from see (x ∷ earlier) s is = record {
   good = is.good;

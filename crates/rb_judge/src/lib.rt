@@ -3,7 +3,7 @@
 
 ghost use Rattle.std.specs.Prelude.{◌≡◌, ◌<◌, true, false, [], ◌∷◌, List};
 ghost use Rattle.rb_base.specs.Nodes.Side.{Biu as biu_side, Rmu as rmu_side};
-ghost use Rattle.rb_rules.specs.Judging.{JudgedStage, are_few_good, by_kind, cause_of, classes_of, noted, stage_begun, verdict_of};
+ghost use Rattle.rb_rules.specs.Judging.{JudgedStage, are_few_good, by_kind, cause_of, classes_of, with_newest_sight, stage_begun, verdict_of};
 ghost use Rattle.rb_judge.specs.Kinds.{sets_of};
 ghost use Rattle.rb_judge.specs.Stages.{Shows, has_noted, is_good_now, sizes_of, sources_of};
 
@@ -74,7 +74,7 @@ impl Judge {
         requires good { is_good_now self.old receiver ≡ true }
         requires source { from < sources_of self.old receiver }
         requires once { has_noted self.old receiver from ≡ false }
-        ensures seen { (stages : List JudgedStage) → Shows self.old stages → Shows self.new (noted receiver from see stages) }
+        ensures seen { (stages : List JudgedStage) → Shows self.old stages → Shows self.new (with_newest_sight receiver from see stages) }
         ensures shape { sizes_of self.new ≡ sizes_of self.old }
     {
         match receiver {

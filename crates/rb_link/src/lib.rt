@@ -3,7 +3,7 @@
 
 ghost use Rattle.std.specs.Prelude.{◌≡◌, ◌<◌, IfOk, IfSome, filter, reverse};
 ghost use Rattle.std.specs.List.{find};
-ghost use Rattle.rb_rules.specs.Links.{applies, covers, delay_of, is_within, same_node, stands_for};
+ghost use Rattle.rb_rules.specs.Links.{applies, covers, delay_of, is_in_range, same_node, stands_for};
 ghost use Rattle.rb_link.specs.Pairs.{delay_or, is_between, receiver_of, sender_of};
 
 use rb_base::{NodeName, OutOfMemory, Place};

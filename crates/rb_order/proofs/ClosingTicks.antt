@@ -7,13 +7,13 @@ use Rattle.rb_rules.specs.declared.plan.Plan.{Plan}
 use Rattle.rb_rules.specs.declared.plan.Window.{Window}
 use Rattle.rb_rules.specs.Book.{Each}
 use Rattle.rb_rules.specs.Core.{Core, Act, is_spent, state_at, said_at, window_here, is_last, epoch_at, state_kept, of_source, act_on, act_at, tick}
-use Rattle.rb_rules.specs.ExactStage.{Outcome, keeping}
+use Rattle.rb_rules.specs.ExactStage.{Outcome, keep_sent}
 use Rattle.rb_rules.specs.Goodness.{Scenario, is_good, clock_of}
 use Rattle.rb_rules.specs.Hearing.{Coming, Sending, arrival_of, close_window, row_of}
 use Rattle.rb_rules.specs.NodeState.{NodeState}
-use Rattle.rb_rules.specs.Rounds.{Moment, Result, word_in, heard_at, close_on, go_through}
+use Rattle.rb_rules.specs.Rounds.{Moment, Result, word_for_window, heard_at, close_on, go_through}
 use Rattle.rb_rules.specs.Sense.{Arrival}
-use Rattle.rb_rules.specs.WorldStep.{got_of}
+use Rattle.rb_rules.specs.WorldStep.{coming_from}
 use Rattle.rb_order.proofs.SameHeard.{AllOf, kept_as, close-is, row-is}
 
 -- a good node's inbox holds of each source what it hears in the rounds
@@ -21,11 +21,11 @@ pub record HoldsHeard (sc : Scenario) (m : Moment) (sent : Each (Option Sending)
   pub good : is_good sc me i m.frame w.slot ≡ true
   pub some_tick : nat_le w.first w.last ≡ true
   pub stamped : inbox ≡ map (kept_as (clock_of sc me i)) got
-  pub all : (j : ℕ) → AllOf (got_of got j) (heard_at sc me i st w sent j)
+  pub all : (j : ℕ) → AllOf (coming_from got j) (heard_at sc me i st w sent j)
 
 -- the state with which the node closes the window: it has said what it had to say
 abbrev pub spoken : Scenario → Moment → Side → ℕ → NodeState → Window → NodeState
-spoken sc m me i st w = keeping sc.sizes me i st w.slot w.stage (word_in sc m i w)
+spoken sc m me i st w = keep_sent sc.sizes me i st w.slot w.stage (word_for_window sc m i w)
 
 -- what the core makes of the close
 abbrev pub closing_of : Scenario → Moment → Side → ℕ → NodeState → Window → List (ℕ × Arrival) → Outcome
@@ -37,7 +37,7 @@ pub result-is : (sc : Scenario) (m : Moment) (sent : Each (Option Sending)) (me 
     → go_through sc m sent me i st w
     ≡ record {
       state = (closing_of sc m me i st w inbox).state;
-      row = Some (row_of me i (closing_of sc m me i st w inbox).state (got_of got) (closing_of sc m me i st w inbox).closed);
+      row = Some (row_of me i (closing_of sc m me i st w inbox).state (coming_from got) (closing_of sc m me i st w inbox).closed);
     }
 unfolding go_through close_on
 result-is sc m sent me i st w inbox got h =

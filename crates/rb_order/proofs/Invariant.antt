@@ -4,12 +4,12 @@ use Rattle.std.proofs.Common.{◌≡◌, ℕ, zero, suc, ◌+◌, ◌-◌, ◌<�
 use Rattle.rb_base.specs.Nodes.{Side, other}
 use Rattle.rb_base.specs.Nodes.Side.{Biu}
 use Rattle.rb_rules.specs.Book.{of_kind, Book, fresh_book}
-use Rattle.rb_rules.specs.ExactStage.{at_source, keeping}
+use Rattle.rb_rules.specs.ExactStage.{at_source, keep_sent}
 use Rattle.rb_rules.specs.Goodness.{Scenario, is_good}
 use Rattle.rb_rules.specs.Hearing.{Coming, Sending, Span, span_of, heard_from, port_at}
 use Rattle.rb_rules.specs.NodeState.{NodeState}
 use Rattle.rb_rules.specs.Ports.{HandIn}
-use Rattle.rb_rules.specs.Rounds.{Moment, window_in, word_in, sent_in, go_through, moment, windows_in}
+use Rattle.rb_rules.specs.Rounds.{Moment, window_in, word_for_window, sent_in, go_through, moment, windows_in}
 use Rattle.rb_rules.specs.SyncStage.{new_epoch_of}
 use Rattle.rb_rules.specs.WorldStep.{Timed, Site, World}
 use Rattle.rb_order.proofs.Receiving.{Receives}
@@ -36,7 +36,7 @@ pub record Stands (sc : Scenario) (m : Moment) (me : Side) (i : ℕ) (st : NodeS
   pub from : st.epoch + (window_in sc m me st).first ≤ s.core.had
   pub core : s.core.state
       ≡ state_with (went_out (sending_of sc m me i) s.ahead) st
-      (keeping sc.sizes me i st (window_in sc m me st).slot (window_in sc m me st).stage (word_in sc m i (window_in sc m me st)))
+      (keep_sent sc.sizes me i st (window_in sc m me st).slot (window_in sc m me st).stage (word_for_window sc m i (window_in sc m me st)))
 
 -- or it has closed all windows of the moment's frame, and the tick that is pending begins the next
 pub record Waits (sc : Scenario) (m : Moment) (me : Side) (i : ℕ) (st : NodeState) (s : Site) (a : Timed) : Type 0 where

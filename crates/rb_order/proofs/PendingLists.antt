@@ -9,7 +9,7 @@ use Rattle.rb_rules.specs.Core.{Core, arrive, is_spent}
 use Rattle.rb_rules.specs.Hearing.{Coming}
 use Rattle.rb_rules.specs.Sense.{Arrival}
 use Rattle.rb_rules.specs.Slots.{count_of}
-use Rattle.rb_rules.specs.WorldStep.{got_of}
+use Rattle.rb_rules.specs.WorldStep.{coming_from}
 use Rattle.rb_order.proofs.SameHeard.{IsOneOf, Every, AllOf, kept_as}
 
 -- c is of source j and comes by time t, that of the open window's last tick; or it comes later
@@ -22,9 +22,9 @@ is_later j t c = (c.from == j) && nat_lt t c.time
 -- of source j: what came and what is still pending by time t are together what was sent for the open window so far, and what
 -- pends for later is what was sent for the next one
 pub record Hears (j t : ℕ) (got coming sent next : List Coming) : Type 0 where
-  pub came : Every (λ c. IsOneOf c sent) (got_of got j)
+  pub came : Every (λ c. IsOneOf c sent) (coming_from got j)
   pub pends : Every (λ c. IsOneOf c sent) (filter (is_now j t) coming)
-  pub as_many : length (got_of got j) + length (filter (is_now j t) coming) ≡ length sent
+  pub as_many : length (coming_from got j) + length (filter (is_now j t) coming) ≡ length sent
   pub later : filter (is_later j t) coming ≡ next
 
 -- x is the item at place n
@@ -96,7 +96,7 @@ arrival-keeps j t n c got coming sent next at le h =
     let not_later : nat_lt t c.time ≡ false = grind (arith, nat_tests) in
     let P : Coming → Type 0 = λ x. IsOneOf x sent in
     let fewer_now = fewer (is_now j t) n c coming at in
-    let as_many : length (got_of got j) + length (filter (is_now j t) coming) ≡ length sent = h.as_many in
+    let as_many : length (coming_from got j) + length (filter (is_now j t) coming) ≡ length sent = h.as_many in
     let same_later : filter (is_later j t) (remove coming n) ≡ next =
     (let go : (b : Bool) → (c.from == j) ≡ b → is_later j t c ≡ false = λ b. elim b as (λ b. (c.from == j) ≡ b → is_later j t c ≡ false) [ true ↦ λ e. rw (e, not_later) refl | false ↦ λ e. rw e refl ] in
     same_others (is_later j t) n c coming at (go (c.from == j) refl) ∙ h.later) in
@@ -104,33 +104,33 @@ arrival-keeps j t n c got coming sent next at le h =
     λ b. elim b as (λ b. (c.from == j) ≡ b → Hears j t (got ++ c ∷ []) (remove coming n) sent next) [
       | true ↦ λ e.
           let now : is_now j t c ≡ true = rw (e, in_time) refl in
-          let more : got_of (got ++ c ∷ []) j ≡ got_of got j ++ c ∷ [] = filter-last (λ x. x.from == j) got c ∙ ap (λ b. got_of got j ++ cond b (c ∷ []) []) e in
+          let more : coming_from (got ++ c ∷ []) j ≡ coming_from got j ++ c ∷ [] = filter-last (λ x. x.from == j) got c ∙ ap (λ b. coming_from got j ++ cond b (c ∷ []) []) e in
           let its : IsOneOf c sent = passing P (is_now j t) n c coming at now h.pends in
           let one : ◌≡◌ {A = ℕ} (cond (is_now j t c) 1 0) 1 = ap (λ b. cond b 1 0) now in
-          let long : length (got_of (got ++ c ∷ []) j) ≡ length (got_of got j) + 1 = ap length more ∙ length-append (got_of got j) (c ∷ []) in
+          let long : length (coming_from (got ++ c ∷ []) j) ≡ length (coming_from got j) + 1 = ap length more ∙ length-append (coming_from got j) (c ∷ []) in
           record {
-            came = subst (Every P) (sym more) (each-append P (got_of got j) (c ∷ []) h.came (its, tt));
+            came = subst (Every P) (sym more) (each-append P (coming_from got j) (c ∷ []) h.came (its, tt));
             pends = left P (is_now j t) n c coming at h.pends;
             as_many = omega (arith, long, fewer_now, one, as_many);
             later = same_later;
           }
       | false ↦ λ e.
           let now : is_now j t c ≡ false = rw e refl in
-          let more : got_of (got ++ c ∷ []) j ≡ got_of got j = filter-last (λ x. x.from == j) got c ∙ ap (λ b. got_of got j ++ cond b (c ∷ []) []) e ∙ append-nil (got_of got j) in
+          let more : coming_from (got ++ c ∷ []) j ≡ coming_from got j = filter-last (λ x. x.from == j) got c ∙ ap (λ b. coming_from got j ++ cond b (c ∷ []) []) e ∙ append-nil (coming_from got j) in
           let same : filter (is_now j t) (remove coming n) ≡ filter (is_now j t) coming = same_others (is_now j t) n c coming at now in
           record {
             came = subst (Every P) (sym more) h.came;
             pends = subst (Every P) (sym same) h.pends;
-            as_many = ap (λ l. length l + length (filter (is_now j t) (remove coming n))) more ∙ ap (λ l. length (got_of got j) + length l) same ∙ as_many;
+            as_many = ap (λ l. length l + length (filter (is_now j t) (remove coming n))) more ∙ ap (λ l. length (coming_from got j) + length l) same ∙ as_many;
             later = same_later;
           }
     ] in
     go (c.from == j) refl
 
 -- where nothing is pending for the window, all that was sent has come
-pub all-came : (j t : ℕ) (got coming sent next : List Coming) → filter (is_now j t) coming ≡ [] → Hears j t got coming sent next → AllOf (got_of got j) sent
+pub all-came : (j t : ℕ) (got coming sent next : List Coming) → filter (is_now j t) coming ≡ [] → Hears j t got coming sent next → AllOf (coming_from got j) sent
 all-came j t got coming sent next none h =
-    let as_many : length (got_of got j) + length (filter (is_now j t) coming) ≡ length sent = h.as_many in
+    let as_many : length (coming_from got j) + length (filter (is_now j t) coming) ≡ length sent = h.as_many in
     let zero_now : length (filter (is_now j t) coming) ≡ 0 = ap length none in
     record { as_many = omega arith; entries = h.came }
 

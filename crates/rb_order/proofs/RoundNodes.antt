@@ -12,7 +12,7 @@ use Rattle.rb_rules.specs.Conviction.{turn}
 use Rattle.rb_rules.specs.Goodness.{Scenario, onsets_of, is_before, is_good}
 use Rattle.rb_rules.specs.Hearing.{window_numbered}
 use Rattle.rb_rules.specs.NodeState.{NodeState, first_state}
-use Rattle.rb_rules.specs.NodeSteps.{turned}
+use Rattle.rb_rules.specs.NodeSteps.{turn_if_known}
 use Rattle.rb_rules.specs.Ports.{HandIn}
 use Rattle.rb_rules.specs.Rounds.{Moment, Result, window_in, sent_in, go_through, results_of, after_window, begin_frame, next_frame, first_moment, step, moment, windows_in}
 use Rattle.rb_rules.specs.Slots.{count_of}
@@ -186,7 +186,7 @@ turned-stand : (sc : Scenario) (hands : List HandIn) (m : Moment) (me : Side) (i
     → Stands sc (next_frame sc hands m) me st
 unfolding begin_frame
 turned-stand sc hands m me i old st full was is stood =
-    let now : NodeState = turned sc.sizes sc.plan me old in
+    let now : NodeState = turn_if_known sc.sizes sc.plan me old in
     let same : now ≡ st = some-same now st (sym (state-turned sc hands m me i old was) ∙ is) in
     let known : is_some (new_epoch_of sc.plan me old) ≡ true =
     epoch-known sc.sizes sc.plan me old (subst (λ n. Knows sc.sizes me n old) full stood.knows) in
@@ -204,7 +204,7 @@ frame-stand sc hands m over h =
     let full : m.window ≡ windows_in sc.sizes = omega arith in
     record {
       window = omega arith;
-      counts = λ me. length-each (λ me i st. turned sc.sizes sc.plan me st) m.nodes me ∙ h.counts me;
+      counts = λ me. length-each (λ me i st. turn_if_known sc.sizes sc.plan me st) m.nodes me ∙ h.counts me;
       stands = λ me i st there good.
           let long : length (of_kind me m.nodes) ≡ count_of me sc.sizes = h.counts me in
           let counted : i < count_of me sc.sizes = good-counts sc me i (m.frame + 1) (slot_numbered sc.sizes 0) good in

@@ -18,7 +18,7 @@ use Rattle.rb_rules.specs.Hearing.{Coming, arrival_of, close_window, sole_time, 
 use Rattle.rb_rules.specs.NodeState.{NodeState}
 use Rattle.rb_rules.specs.NodeSteps.{expect_of, close}
 use Rattle.rb_rules.specs.Sense.{Arrival, sense_of}
-use Rattle.rb_rules.specs.WorldStep.{got_of}
+use Rattle.rb_rules.specs.WorldStep.{coming_from}
 
 -- x is one of the list
 abbrev pub IsOneOf : Coming → List Coming → Type 0
@@ -60,13 +60,13 @@ abbrev pub kept_as : Timeline → Coming → ℕ × Arrival
 kept_as clock c = (c.from, arrival_of clock c)
 
 -- the inbox of a source is what came of it
-pub from-came : (clock : Timeline) (j : ℕ) (got : List Coming) → of_source (map (kept_as clock) got) j ≡ map (arrival_of clock) (got_of got j)
+pub from-came : (clock : Timeline) (j : ℕ) (got : List Coming) → of_source (map (kept_as clock) got) j ≡ map (arrival_of clock) (coming_from got j)
 from-came clock j [] = refl
 from-came clock j (c ∷ cs) = one (from-came clock j cs) (c.from == j)
   where
-    one : of_source (map (kept_as clock) cs) j ≡ map (arrival_of clock) (got_of cs j) → (b : Bool)
+    one : of_source (map (kept_as clock) cs) j ≡ map (arrival_of clock) (coming_from cs j) → (b : Bool)
         → map (λ (a : ℕ × Arrival). a.1) (cond b (kept_as clock c ∷ filter (λ a. a.0 == j) (map (kept_as clock) cs)) (filter (λ a. a.0 == j) (map (kept_as clock) cs)))
-        ≡ map (arrival_of clock) (cond b (c ∷ got_of cs j) (got_of cs j))
+        ≡ map (arrival_of clock) (cond b (c ∷ coming_from cs j) (coming_from cs j))
     one more true = ap (λ l. arrival_of clock c ∷ l) more
     one more false = more
 
@@ -78,18 +78,18 @@ same-close sizes plan me i st w f g same = ap (close sizes me i st w.slot w.stag
 
 -- a close on the inbox is a close on what is heard
 pub close-is : (sizes : Sizes) (plan : Plan) (me : Side) (i : ℕ) (st : NodeState) (w : Window) (clock : Timeline) (inbox : List (ℕ × Arrival)) (got : List Coming)
-    (heard : ℕ → List Coming) → inbox ≡ map (kept_as clock) got → ((j : ℕ) → AllOf (got_of got j) (heard j))
+    (heard : ℕ → List Coming) → inbox ≡ map (kept_as clock) got → ((j : ℕ) → AllOf (coming_from got j) (heard j))
     → close_window sizes plan me i st w (of_source inbox) ≡ close_window sizes plan me i st w (λ j. map (arrival_of clock) (heard j))
 close-is sizes plan me i st w clock inbox got heard is all =
     let e : Expect = expect_of sizes plan.version st w.slot w.stage in
     ap (λ x. close_window sizes plan me i st w (of_source x)) is
     ∙ same-close sizes plan me i st w (of_source (map (kept_as clock) got)) (λ j. map (arrival_of clock) (heard j))
-    (λ j. ap (sense_of e) (from-came clock j got) ∙ same-sense e clock (got_of got j) (heard j) (all j))
+    (λ j. ap (sense_of e) (from-came clock j got) ∙ same-sense e clock (coming_from got j) (heard j) (all j))
 
 -- what the node tells is the same, too
-pub row-is : (me : Side) (i : ℕ) (st : NodeState) (got : List Coming) (heard : ℕ → List Coming) (c : Closed) → ((j : ℕ) → AllOf (got_of got j) (heard j))
-    → row_of me i st (got_of got) c ≡ row_of me i st heard c
+pub row-is : (me : Side) (i : ℕ) (st : NodeState) (got : List Coming) (heard : ℕ → List Coming) (c : Closed) → ((j : ℕ) → AllOf (coming_from got j) (heard j))
+    → row_of me i st (coming_from got) c ≡ row_of me i st heard c
 unfolding row_of
 row-is me i st got heard c all =
     ap (λ (sees : ℕ → See). let r : Row = record (row_of me i st heard c) { sees = each_node sees } in r)
-    (fun_ext (λ j. ap (λ t. judged_see t (get_or c.sees j Nothing)) (same-time (got_of got j) (heard j) (all j))))
+    (fun_ext (λ j. ap (λ t. judged_see t (get_or c.sees j Nothing)) (same-time (coming_from got j) (heard j) (all j))))

@@ -3,7 +3,7 @@ use Rattle.std.proofs.Common.{◌≡◌, ℕ, ◌+◌, ◌<◌, ◌≤◌, ◌==
 use Rattle.std.proofs.lemmas.Bool.Decides.{nat_tests}
 use Rattle.std.proofs.lemmas.List.{append-nil}
 use Rattle.rb_rules.specs.Hearing.{Coming}
-use Rattle.rb_rules.specs.WorldStep.{got_of}
+use Rattle.rb_rules.specs.WorldStep.{coming_from}
 use Rattle.rb_order.proofs.SameHeard.{IsOneOf, Every}
 use Rattle.rb_order.proofs.PendingLists.{Hears, is_now, is_later, filter-last, each-append}
 
@@ -21,9 +21,9 @@ say-now j t got coming next e its le h =
     let P : Coming → Type 0 = λ c. IsOneOf c (e ∷ []) in
     let more : filter (is_now j t) (coming ++ e ∷ []) ≡ filter (is_now j t) coming ++ e ∷ [] = filter-last (is_now j t) coming e ∙ ap (λ b. filter (is_now j t) coming ++ cond b (e ∷ []) []) now in
     let long : length (filter (is_now j t) (coming ++ e ∷ [])) ≡ length (filter (is_now j t) coming) + 1 = ap length more ∙ length-append (filter (is_now j t) coming) (e ∷ []) in
-    let as_many : length (got_of got j) + length (filter (is_now j t) coming) ≡ 0 = h.as_many in
+    let as_many : length (coming_from got j) + length (filter (is_now j t) coming) ≡ 0 = h.as_many in
     record {
-      came = each-none P (got_of got j) h.came;
+      came = each-none P (coming_from got j) h.came;
       pends = subst (Every P) (sym more) (each-append P (filter (is_now j t) coming) (e ∷ []) (each-none P (filter (is_now j t) coming) h.pends) (inl refl, tt));
       as_many = omega (arith, long, as_many);
       later = filter-last (is_later j t) coming e ∙ ap (λ b. filter (is_later j t) coming ++ cond b (e ∷ []) []) later ∙ append-nil (filter (is_later j t) coming) ∙ h.later;
@@ -41,7 +41,7 @@ say-next j t got coming sent e its lt h =
     record {
       came = h.came;
       pends = subst (Every P) (sym same) h.pends;
-      as_many = ap (λ l. length (got_of got j) + length l) same ∙ h.as_many;
+      as_many = ap (λ l. length (coming_from got j) + length l) same ∙ h.as_many;
       later = filter-last (is_later j t) coming e ∙ ap (λ b. filter (is_later j t) coming ++ cond b (e ∷ []) []) later ∙ ap (λ l. l ++ e ∷ []) h.later;
     }
 
@@ -55,7 +55,7 @@ say-other j t got coming sent next e its h =
     record {
       came = h.came;
       pends = subst (Every P) (sym same) h.pends;
-      as_many = ap (λ l. length (got_of got j) + length l) same ∙ h.as_many;
+      as_many = ap (λ l. length (coming_from got j) + length l) same ∙ h.as_many;
       later = filter-last (is_later j t) coming e ∙ ap (λ b. filter (is_later j t) coming ++ cond b (e ∷ []) []) later ∙ append-nil (filter (is_later j t) coming) ∙ h.later;
     }
 

@@ -8,7 +8,7 @@ use Rattle.rb_base.specs.Nodes.Side.{Biu}
 use Rattle.rb_base.specs.Sizes.{Sizes, sync_slot_of}
 use Rattle.rb_base.specs.declared.values.Place.{Place}
 use Rattle.rb_rules.specs.declared.cause.Cause.{Cause}
-use Rattle.rb_rules.specs.Book.{Each, Record, Row, Begun, Milestone, Book, judged_of, judged, with_stage, frame_records, with_frame, with_end}
+use Rattle.rb_rules.specs.Book.{Each, Record, Row, Begun, Milestone, Book, judged_of, after_verdict, with_stage, frame_records, with_frame, with_end}
 use Rattle.rb_rules.specs.Book.Milestone.{Begin, Stage, End}
 use Rattle.rb_rules.specs.Book.Record.{Slot, Ended, Breach}
 use Rattle.rb_rules.specs.Goodness.{Scenario, is_good}
@@ -37,7 +37,7 @@ guarded-more b x true h = inl refl
 guarded-more b x false h = h
 
 judged-more : (sizes : Sizes) (place : Place) (rows : Each (Option Row)) (stages : List JudgedStage) (b : Book) (v : Option Cause)
-    → AtMostOneMore b.given (judged sizes place rows stages b v).given
+    → AtMostOneMore b.given (after_verdict sizes place rows stages b v).given
 judged-more sizes place rows stages b None =
     if-more b.given (Slot place.frame place.slot b.lines) ((place.stage == 3) && nat_lt place.slot (sync_slot_of sizes))
 judged-more sizes place rows stages b (Some cause) = inr (Breach place cause, refl)
@@ -46,7 +46,7 @@ pub stage-more : (sc : Scenario) (place : Place) (rows : Each (Option Row)) (b :
 unfolding with_stage
 stage-more sc place rows b =
     let stages : List JudgedStage = judged_of sc place rows ∷ b.stages in
-    guarded-more b (judged sc.sizes place rows stages b (verdict_of stages)) b.ended (judged-more sc.sizes place rows stages b (verdict_of stages))
+    guarded-more b (after_verdict sc.sizes place rows stages b (verdict_of stages)) b.ended (judged-more sc.sizes place rows stages b (verdict_of stages))
 
 begun-more : (xs : List Record) (frame : ℕ) (begun : List Begun) → AtMostOneMore xs (xs ++ frame_records frame begun)
 begun-more xs frame [] = none-more xs

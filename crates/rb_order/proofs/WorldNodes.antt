@@ -17,7 +17,7 @@ use Rattle.rb_rules.specs.Hearing.{Coming, Sending, Span, coming_said, said_by, 
 use Rattle.rb_rules.specs.NodeState.{NodeState}
 use Rattle.rb_rules.specs.Ports.{PortState, with_state}
 use Rattle.rb_rules.specs.Slots.{count_of, same_side}
-use Rattle.rb_rules.specs.WorldStep.{Site, World, says_in, going_on, stopped, entering, proceed, span_from, with_close, with_epoch, after_act, after_arrival, sent_to, with_message, at_node, with_act, ticked, Pending, with_pending, Due, happens, is_complete, book_with, settle, settled, needs_no_event, take_due, due_of, take, go_on, frame_in, hand, fresh_site, first_world, Choice, choose, world_after}
+use Rattle.rb_rules.specs.WorldStep.{Site, World, says_in, await, stop, enter, proceed, span_from, with_close, with_epoch, after_act, after_arrival, sent_to, with_message, at_node, with_act, pass_and_tick, Pending, with_pending, Due, happens, is_complete, book_with, settle, settled, needs_no_event, take_due, due_of, take, go_on, frame_in, hand, fresh_site, first_world, Choice, choose, world_after}
 use Rattle.rb_rules.specs.WorldStep.Choice.{Take, GoOn, Hand}
 use Rattle.rb_rules.specs.WorldStep.Pending.{Tick, Arrival}
 use Rattle.rb_rules.proofs.WindowNumbers.{get-each, length-each, get-made}
@@ -70,11 +70,11 @@ says-known sc me i span =
     by j false h = h
 
 -- a node that goes on, enters a window or stops
-enter-known : (sc : Scenario) (me : Side) (i : ℕ) (o : Option Span) (s : Site) → Known sc.sizes me s.coming → Known sc.sizes me (entering sc me i o s).coming
+enter-known : (sc : Scenario) (me : Side) (i : ℕ) (o : Option Span) (s : Site) → Known sc.sizes me s.coming → Known sc.sizes me (enter sc me i o s).coming
 enter-known sc me i None s h = known-append sc.sizes me s.coming [] h tt
 enter-known sc me i (Some span) s h = by (is_good sc me i span.place.frame span.place.slot)
   where
-    by : (b : Bool) → Known sc.sizes me (elim b as (λ _. Site) [ true ↦ going_on sc me i (says_in sc me i span) s | false ↦ stopped s ]).coming
+    by : (b : Bool) → Known sc.sizes me (elim b as (λ _. Site) [ true ↦ await sc me i (says_in sc me i span) s | false ↦ stop s ]).coming
     by true = known-append sc.sizes me s.coming (says_in sc me i span) h (says-known sc me i span)
     by false = tt
 
@@ -168,7 +168,7 @@ pending-known : (sc : Scenario) (w : World) (me : Side) (i : ℕ) (s : Site) (p 
     → NodesKnown sc (with_pending sc w me i s p).sites
 unfolding with_act
 pending-known sc w me i s (Tick k) h known =
-    let x : Act = ticked sc w.ports me i k s.core in
+    let x : Act = pass_and_tick sc w.ports me i k s.core in
     message-known sc me i x.core.state.frame k x.message (at_node me i (after_act sc w.ports me i x) w.sites) h
     (at-known sc me i (after_act sc w.ports me i x) w.sites (act-known sc w.ports me i x) known)
 pending-known sc w me i s (Arrival place c) h known = at-known sc me i (after_arrival sc me i place c) w.sites (arrival-known sc me i place c) known

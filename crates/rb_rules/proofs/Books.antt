@@ -6,7 +6,7 @@ use Rattle.rb_base.specs.Sizes.{Sizes}
 use Rattle.rb_base.specs.declared.values.Place.{Place}
 use Rattle.rb_rules.specs.declared.cause.Cause.{Cause}
 use Rattle.rb_rules.specs.declared.plan.Window.{Window}
-use Rattle.rb_rules.specs.Book.{Each, Record, Row, Begun, Book, judged_of, judged, with_stage, frame_records, with_frame, with_end}
+use Rattle.rb_rules.specs.Book.{Each, Record, Row, Begun, Book, judged_of, after_verdict, with_stage, frame_records, with_frame, with_end}
 use Rattle.rb_rules.specs.Book.Record.{Ended}
 use Rattle.rb_rules.specs.Book.Milestone.{Stage, End}
 use Rattle.rb_rules.specs.Goodness.{Scenario}
@@ -44,7 +44,7 @@ guarded-on b x true is p = on-refl b
 guarded-on b x false is p = record { more = p; over = λ h. cc }
 
 judged-more : (sizes : Sizes) (place : Place) (rows : Each (Option Row)) (stages : List JudgedStage) (b : Book) (v : Option Cause)
-    → IsPrefix b.given (judged sizes place rows stages b v).given
+    → IsPrefix b.given (after_verdict sizes place rows stages b v).given
 judged-more sizes place rows stages b None = (_, refl)
 judged-more sizes place rows stages b (Some cause) = (_, refl)
 
@@ -52,7 +52,7 @@ pub stage-on : (sc : Scenario) (place : Place) (rows : Each (Option Row)) (b : B
 unfolding with_stage
 stage-on sc place rows b =
     let stages : List JudgedStage = judged_of sc place rows ∷ b.stages in
-    guarded-on b (judged sc.sizes place rows stages b (verdict_of stages)) b.ended refl
+    guarded-on b (after_verdict sc.sizes place rows stages b (verdict_of stages)) b.ended refl
     (judged-more sc.sizes place rows stages b (verdict_of stages))
 
 pub frame-on : (sc : Scenario) (frame : ℕ) (begun : List Begun) (b : Book) → GoesOn b (with_frame sc frame begun b)

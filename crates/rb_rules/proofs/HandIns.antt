@@ -4,12 +4,12 @@ use Rattle.std.proofs.lemmas.Bool.Decides.{nat_tests}
 use Rattle.rb_rules.specs.Book.{Each, Book, with_end}
 use Rattle.rb_rules.specs.Goodness.{Scenario}
 use Rattle.rb_rules.specs.NodeState.{NodeState}
-use Rattle.rb_rules.specs.Ports.{PortState, HandIn, with_state, handed}
+use Rattle.rb_rules.specs.Ports.{PortState, HandIn, with_state, hand_over}
 use Rattle.rb_rules.specs.Rounds.{Moment, after_window, begin_frame, next_frame, step, moment, windows_in}
 use Rattle.rb_rules.proofs.Books.{stepped}
 
 handed-more : (frame : ℕ) (hands : List HandIn) (h : HandIn) (ports : List PortState) → (h.frame == frame) ≡ false
-    → handed frame (hands ++ h ∷ []) ports ≡ handed frame hands ports
+    → hand_over frame (hands ++ h ∷ []) ports ≡ hand_over frame hands ports
 handed-more frame [] h ports e = ap (λ b. if b then with_state h.biu h.state ports else ports) e
 handed-more frame (x ∷ xs) h ports e = handed-more frame xs h (if x.frame == frame then with_state x.biu x.state ports else ports) e
 

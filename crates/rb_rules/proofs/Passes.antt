@@ -7,7 +7,7 @@ use Rattle.rb_base.specs.Nodes.{has}
 use Rattle.rb_base.specs.Sizes.{Sizes}
 use Rattle.rb_base.specs.declared.values.Heard.{Heard}
 use Rattle.rb_base.specs.declared.values.Heard.TheVariants.{Fault}
-use Rattle.rb_rules.specs.Owners.{requested, owners_in_pass, owners_of}
+use Rattle.rb_rules.specs.Owners.{request_in, owners_in_pass, owners_of}
 
 -- lists that begin alike begin alike after a list
 same_beginning : {X : Type 0} (xs ys zs : List X) (d : ℕ) → ((e : ℕ) → e ≤ d → take e ys ≡ take e zs) → take d (xs ++ ys) ≡ take d (xs ++ zs)
@@ -68,6 +68,6 @@ pub enough_passes : (sizes : Sizes) (trusted : ℕ) (requests : List Heard) (n :
     → take sizes.data_slots (flat_map (owners_in_pass sizes trusted requests) (numbers n)) ≡ owners_of sizes trusted requests
 enough_passes sizes trusted requests n le =
     same_first (owners_in_pass sizes trusted requests)
-    (λ p. none_pass (λ i. has trusted i && nat_lt p (requested (get_or requests i Fault))) (λ i. has trusted i && nat_lt (p + 1) (requested (get_or requests i Fault)))
-    (λ i. asks_for_more (has trusted i) p (requested (get_or requests i Fault))) (numbers sizes.bius))
+    (λ p. none_pass (λ i. has trusted i && nat_lt p (request_in (get_or requests i Fault))) (λ i. has trusted i && nat_lt (p + 1) (request_in (get_or requests i Fault)))
+    (λ i. asks_for_more (has trusted i) p (request_in (get_or requests i Fault))) (numbers sizes.bius))
     n sizes.data_slots 0 sizes.data_slots le (omega arith)

@@ -5,12 +5,12 @@ use Rattle.std.proofs.lemmas.Bool.Decides.{nat_tests}
 use Rattle.std.proofs.lemmas.List.FromFn.{get_or-map-range_with_len}
 use Rattle.rb_base.specs.Nodes.{has}
 use Rattle.rb_base.proofs.Sets.{has-set_of, has_none}
-use Rattle.rb_rules.specs.Standing.{Standing, calm_after, lapses, next_calm, lapsed}
+use Rattle.rb_rules.specs.Standing.{Standing, calm_after, lapses, next_calm, standing_at_end}
 
 -- the standing after so many ends of frames without new evidence
 abbrev pub ended : ℕ → ℕ → Standing → Standing
 ended q zero s = s
-ended q (suc n) s = lapsed q (ended q n s)
+ended q (suc n) s = standing_at_end q (ended q n s)
 
 -- node j is accused, and so many frames in a row ended without evidence against it
 pub record IsCalm (s : Standing) (j n : ℕ) : Type 0 where
@@ -18,10 +18,10 @@ pub record IsCalm (s : Standing) (j n : ℕ) : Type 0 where
   pub calm : slice_index s.calm j ≡ n
   pub no_news : has s.fresh j ≡ false
 
-calm_is : (q : ℕ) (s : Standing) (j : ℕ) → j < 16 → slice_index (lapsed q s).calm j ≡ next_calm q s j
+calm_is : (q : ℕ) (s : Standing) (j : ℕ) → j < 16 → slice_index (standing_at_end q s).calm j ≡ next_calm q s j
 calm_is q s j below = get_or-map-range_with_len (next_calm q s) 0 16 j j 0 below (zero-add j)
 
-accused_is : (q : ℕ) (s : Standing) (j : ℕ) → j < 16 → has (lapsed q s).direct j ≡ (has s.direct j && not (lapses q s j))
+accused_is : (q : ℕ) (s : Standing) (j : ℕ) → j < 16 → has (standing_at_end q s).direct j ≡ (has s.direct j && not (lapses q s j))
 accused_is q s j below = has-set_of j (λ j. has s.direct j && not (lapses q s j)) below
 
 -- the tests of a lapse, each by what its parts say
@@ -47,7 +47,7 @@ calm_of : (d l : Bool) (before after : ℕ) → d ≡ true → l ≡ false → (
 calm_of d l before after p q = rw (p, q) refl
 
 -- the end of the frame that has the evidence
-first_end : (q : ℕ) (s : Standing) (j : ℕ) → j < 16 → has s.direct j ≡ true → has s.fresh j ≡ true → IsCalm (lapsed q s) j 0
+first_end : (q : ℕ) (s : Standing) (j : ℕ) → j < 16 → has s.direct j ≡ true → has s.fresh j ≡ true → IsCalm (standing_at_end q s) j 0
 first_end q s j below accused fresh =
     let stays : lapses q s j ≡ false = fresh_stays (has s.direct j) (has s.fresh j) (nat_le 1 q) (nat_le q (calm_after s j)) fresh in
     let after : calm_after s j ≡ 0 = rw fresh refl in
@@ -66,7 +66,7 @@ more_calm s j n few c =
     is ∙ rw now (omega arith)
 
 -- an end before the probation is over
-next_end : (q : ℕ) (s : Standing) (j n : ℕ) → j < 16 → q ≤ 4096 → n + 1 < q → IsCalm s j n → IsCalm (lapsed q s) j (n + 1)
+next_end : (q : ℕ) (s : Standing) (j n : ℕ) → j < 16 → q ≤ 4096 → n + 1 < q → IsCalm s j n → IsCalm (standing_at_end q s) j (n + 1)
 next_end q s j n below most early c =
     let accused : has s.direct j ≡ true = c.accused in
     let news : has s.fresh j ≡ false = c.no_news in
@@ -85,7 +85,7 @@ next_end q s j n below most early c =
     }
 
 -- the end with which it is over
-last_end : (q : ℕ) (s : Standing) (j n : ℕ) → j < 16 → q ≤ 4096 → n + 1 ≡ q → IsCalm s j n → has (lapsed q s).direct j ≡ false
+last_end : (q : ℕ) (s : Standing) (j n : ℕ) → j < 16 → q ≤ 4096 → n + 1 ≡ q → IsCalm s j n → has (standing_at_end q s).direct j ≡ false
 last_end q s j n below most over c =
     let accused : has s.direct j ≡ true = c.accused in
     let news : has s.fresh j ≡ false = c.no_news in
@@ -103,7 +103,7 @@ pub stands_in_probation : (q : ℕ) (s : Standing) (j : ℕ) → j < 16 → q �
 stands_in_probation q s j below most accused fresh zero early = first_end q s j below accused fresh
 stands_in_probation q s j below most accused fresh (suc n) early =
     let before : IsCalm (ended q (suc n) s) j n = stands_in_probation q s j below most accused fresh n (omega arith) in
-    let next : IsCalm (lapsed q (ended q (suc n) s)) j (n + 1) = next_end q (ended q (suc n) s) j n below most (omega arith) before in
+    let next : IsCalm (standing_at_end q (ended q (suc n) s)) j (n + 1) = next_end q (ended q (suc n) s) j n below most (omega arith) before in
     subst (λ k. IsCalm (ended q (suc (suc n)) s) j k) (omega arith) next
 
 -- and lapses with the q-th of these

@@ -12,13 +12,13 @@ use Rattle.rb_rules.specs.declared.plan.Window.{Window}
 use Rattle.rb_rules.specs.declared.role.Role.TheVariants.{Sync}
 use Rattle.rb_rules.specs.declared.sense.Sense.{Sense}
 use Rattle.rb_rules.specs.Book.{Each, of_kind, map_each}
-use Rattle.rb_rules.specs.ExactStage.{Outcome, keeping, says, compared, close_exact, outcome_of}
+use Rattle.rb_rules.specs.ExactStage.{Outcome, keep_sent, says, compare_with, close_exact, outcome_of}
 use Rattle.rb_rules.specs.Goodness.{Scenario, is_good, clock_of}
 use Rattle.rb_rules.specs.Hearing.{Coming, Sending, window_numbered, arrival_of, tail_at}
 use Rattle.rb_rules.specs.NodeState.{NodeState}
-use Rattle.rb_rules.specs.NodeSteps.{expect_of, close, turned}
+use Rattle.rb_rules.specs.NodeSteps.{expect_of, close, turn_if_known}
 use Rattle.rb_rules.specs.Ports.{HandIn}
-use Rattle.rb_rules.specs.Rounds.{Moment, Result, window_in, word_in, sent_in, heard_at, close_on, go_through, results_of, after_window, begin_frame, next_frame, windows_in}
+use Rattle.rb_rules.specs.Rounds.{Moment, Result, window_in, word_for_window, sent_in, heard_at, close_on, go_through, results_of, after_window, begin_frame, next_frame, windows_in}
 use Rattle.rb_rules.specs.Sense.{sense_of}
 use Rattle.rb_rules.specs.Slots.{listens}
 use Rattle.rb_rules.specs.Standing.{Standing}
@@ -43,10 +43,10 @@ state-after sc m me i st h =
 
 -- and after its turn to the next frame
 pub state-turned : (sc : Scenario) (hands : List HandIn) (m : Moment) (me : Side) (i : ℕ) (st : NodeState) → slice_get (of_kind me m.nodes) i ≡ Some st
-    → slice_get (of_kind me (next_frame sc hands m).nodes) i ≡ Some (turned sc.sizes sc.plan me st)
+    → slice_get (of_kind me (next_frame sc hands m).nodes) i ≡ Some (turn_if_known sc.sizes sc.plan me st)
 unfolding begin_frame
 state-turned sc hands m me i st h =
-    get-each (λ me i st. turned sc.sizes sc.plan me st) m.nodes me i ∙ ap (option_map (λ st. turned sc.sizes sc.plan me st)) h
+    get-each (λ me i st. turn_if_known sc.sizes sc.plan me st) m.nodes me i ∙ ap (option_map (λ st. turn_if_known sc.sizes sc.plan me st)) h
 
 -- what no window changes
 pub record Stays (a b : NodeState) : Type 0 where
@@ -66,11 +66,11 @@ kept-stays : (st : NodeState) (sent : Option Heard) (b : Bool) → Stays st (if 
 kept-stays st sent true = record { frame = refl; epoch = refl; near = refl; trusted = refl }
 kept-stays st sent false = stays-refl st
 
-pub keeping-stays : (sizes : Sizes) (me : Side) (i : ℕ) (st : NodeState) (slot stage word : ℕ) → Stays st (keeping sizes me i st slot stage word)
+pub keeping-stays : (sizes : Sizes) (me : Side) (i : ℕ) (st : NodeState) (slot stage word : ℕ) → Stays st (keep_sent sizes me i st slot stage word)
 keeping-stays sizes me i st slot stage word =
     kept-stays st (says sizes me i st slot stage word) ((stage == 1) && is_some (says sizes me i st slot stage word))
 
-compared-trusted : (value : Option Heard) (c : Closing) (s : Standing) → (compared value c s).trusted ≡ s.trusted
+compared-trusted : (value : Option Heard) (c : Closing) (s : Standing) → (compare_with value c s).trusted ≡ s.trusted
 compared-trusted None c s = refl
 compared-trusted (Some value) c s = refl
 
@@ -208,7 +208,7 @@ kept-knows sizes me n st sent true h = record { k1 = h.k1; k2 = h.k2; k3 = h.k3 
 kept-knows sizes me n st sent false h = h
 
 keeping-knows : (sizes : Sizes) (me : Side) (i : ℕ) (n : ℕ) (st : NodeState) (slot stage word : ℕ) → Knows sizes me n st
-    → Knows sizes me n (keeping sizes me i st slot stage word)
+    → Knows sizes me n (keep_sent sizes me i st slot stage word)
 keeping-knows sizes me i n st slot stage word =
     kept-knows sizes me n st (says sizes me i st slot stage word) ((stage == 1) && is_some (says sizes me i st slot stage word))
 
@@ -218,7 +218,7 @@ gone b st x = elim b [ true ↦ x | false ↦ record { state = st; row = None } 
 
 gone-is : (sc : Scenario) (m : Moment) (sent : Each (Option Sending)) (me : Side) (i : ℕ) (st : NodeState) (w : Window)
     → go_through sc m sent me i st w
-    ≡ gone (is_good sc me i m.frame w.slot && nat_le w.first w.last) st (close_on sc me i (keeping sc.sizes me i st w.slot w.stage (word_in sc m i w)) w (heard_at sc me i st w sent))
+    ≡ gone (is_good sc me i m.frame w.slot && nat_le w.first w.last) st (close_on sc me i (keep_sent sc.sizes me i st w.slot w.stage (word_for_window sc m i w)) w (heard_at sc me i st w sent))
 unfolding go_through gone
 gone-is sc m sent me i st w = refl
 
@@ -235,11 +235,11 @@ on-stays sc me i st w heard = close-stays sc.sizes me i st w.slot w.stage w.firs
 pub through-stays : (sc : Scenario) (m : Moment) (sent : Each (Option Sending)) (me : Side) (i : ℕ) (st : NodeState) (w : Window)
     → Stays st (go_through sc m sent me i st w).state
 through-stays sc m sent me i st w =
-    let kept : NodeState = keeping sc.sizes me i st w.slot w.stage (word_in sc m i w) in
+    let kept : NodeState = keep_sent sc.sizes me i st w.slot w.stage (word_for_window sc m i w) in
     let x : Result = close_on sc me i kept w (heard_at sc me i st w sent) in
     rw (gone-is sc m sent me i st w)
     (gone-stays (is_good sc me i m.frame w.slot && nat_le w.first w.last) st x
-    (stays-trans st kept x.state (keeping-stays sc.sizes me i st w.slot w.stage (word_in sc m i w)) (on-stays sc me i kept w (heard_at sc me i st w sent))))
+    (stays-trans st kept x.state (keeping-stays sc.sizes me i st w.slot w.stage (word_for_window sc m i w)) (on-stays sc me i kept w (heard_at sc me i st w sent))))
 
 -- a close of any window, by whether it is one of the sync slot
 closed : Sizes → Side → ℕ → NodeState → ℕ → ℕ → ℕ → (ℕ → Sense) → Bool → Outcome
@@ -273,8 +273,8 @@ through-knows : (sc : Scenario) (m : Moment) (sent : Each (Option Sending)) (me 
     → ((kept : NodeState) (sense : ℕ → Sense) → Knows sc.sizes me n kept → Knows sc.sizes me (n + 1) (closed sc.sizes me i kept w.slot w.stage w.first sense in_sync).state)
     → (nat_le w.first w.last ≡ false → Knows sc.sizes me (n + 1) st) → Knows sc.sizes me (n + 1) (go_through sc m sent me i st w).state
 through-knows sc m sent me i n st w in_sync e good h closing over =
-    let kept : NodeState = keeping sc.sizes me i st w.slot w.stage (word_in sc m i w) in
-    let before : Knows sc.sizes me n kept = keeping-knows sc.sizes me i n st w.slot w.stage (word_in sc m i w) h in
+    let kept : NodeState = keep_sent sc.sizes me i st w.slot w.stage (word_for_window sc m i w) in
+    let before : Knows sc.sizes me n kept = keeping-knows sc.sizes me i n st w.slot w.stage (word_for_window sc m i w) h in
     rw (gone-is sc m sent me i st w)
     (gone-knows sc me (n + 1) (is_good sc me i m.frame w.slot) (nat_le w.first w.last) st (close_on sc me i kept w (heard_at sc me i st w sent)) good
     (λ t. on-knows sc me i (n + 1) kept w (heard_at sc me i st w sent) in_sync e (λ sense. closing kept sense before)) over)

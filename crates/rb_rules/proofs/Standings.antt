@@ -5,7 +5,7 @@ use Rattle.rb_base.proofs.Sets.{has-set_of, is_set_of}
 use Rattle.rb_base.specs.declared.values.Heard.{Heard}
 use Rattle.rb_rules.specs.declared.sense.Sense.{Sense}
 use Rattle.rb_rules.proofs.Majorities.{same_heard_self}
-use Rattle.rb_rules.specs.Standing.{Standing, is_eligible, taken_of, does_wrong, has_evidence, with_evidence, is_unlike, with_mismatch, lapses, lapsed, calm_after}
+use Rattle.rb_rules.specs.Standing.{Standing, is_eligible, taken_of, does_wrong, has_evidence, with_evidence, is_unlike, with_mismatch, lapses, standing_at_end, calm_after}
 
 -- where something unlike a value was taken, something was taken
 pub unlike_is_taken : (value : Heard) (taken : Option Heard) → is_unlike value taken ≡ true → is_some taken ≡ true
@@ -77,7 +77,7 @@ none_lapses s j =
     go (has s.direct j) (has s.fresh j) (nat_le 0 (calm_after s j))
 
 -- so a frame's end leaves the accused as they are
-pub accused_stay : (s : Standing) → s.direct < 2 ^ 16 → (lapsed 0 s).direct ≡ s.direct
+pub accused_stay : (s : Standing) → s.direct < 2 ^ 16 → (standing_at_end 0 s).direct ≡ s.direct
 accused_stay s fits =
     let and_true : (b : Bool) → b ≡ (b && true) = λ b. elim b as (λ b. b ≡ (b && true)) [ true ↦ refl | false ↦ refl ] in
     sym (is_set_of s.direct (λ j. has s.direct j && not (lapses 0 s j)) fits (λ j below.

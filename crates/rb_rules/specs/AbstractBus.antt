@@ -67,8 +67,8 @@ MayHave sc bus offered role (Node i) value =
 MayHave sc bus offered role EachTrusted value = ⊤
 
 -- the bus after a slot with this value. The schedule stands after the last schedule slot
-abbrev pub after_slot : Sizes → Heard → AbstractBus → AbstractBus
-after_slot sizes value bus = record bus {
+abbrev pub bus_after_slot : Sizes → Heard → AbstractBus → AbstractBus
+bus_after_slot sizes value bus = record bus {
   slot = bus.slot + 1;
   values = bus.values ++ value ∷ [];
   owners = if bus.slot + 1 == sizes.bius then owners_of sizes bus.bius (bus.values ++ value ∷ []) else bus.owners;
@@ -77,7 +77,7 @@ after_slot sizes value bus = record bus {
 -- one slot
 pub record SlotStep (sc : Scenario) (offered : ℕ → ℕ) (value : Heard) (before after : AbstractBus) : Type 0 where
   pub may_have : MayHave sc before offered (role_of sc.sizes before.slot) (sender_on sc.sizes before) value
-  pub after_is : after ≡ after_slot sc.sizes value before
+  pub after_is : after ≡ bus_after_slot sc.sizes value before
 
 -- the nodes of a kind that the values of the frame's diagnosis slots convict
 abbrev pub convicted_on : Sizes → Side → AbstractBus → ℕ
@@ -86,8 +86,8 @@ convicted_on sizes accused bus =
     (λ i. get_or bus.values (first_diagnosis_of (other accused) sizes + i) Fault)
 
 -- the bus at the begin of the next frame
-abbrev pub after_frame : Sizes → ℕ → AbstractBus → AbstractBus
-after_frame sizes low bus = record {
+abbrev pub bus_after_frame : Sizes → ℕ → AbstractBus → AbstractBus
+bus_after_frame sizes low bus = record {
   low = low;
   frame = bus.frame + 1;
   slot = 0;
@@ -100,7 +100,7 @@ after_frame sizes low bus = record {
 -- from one frame to the next: it takes at least the shortest ticks of all windows, and nobody who is good there is convicted
 pub record FrameStep (sc : Scenario) (before after : AbstractBus) : Type 0 where
   pub later : before.low + tail_start_of sc.sizes sc.plan * shortest_of sc.plan ≤ after.low
-  pub after_is : after ≡ after_frame sc.sizes after.low before
+  pub after_is : after ≡ bus_after_frame sc.sizes after.low before
   pub good_stay : (side : Side) (j : ℕ) → is_good sc side j after.frame 0 ≡ true → has (trusted_on side after) j ≡ true
 
 -- a slot below the sync slot, or the sync slot with the step to the next frame; `offered` is the word that is offered in a

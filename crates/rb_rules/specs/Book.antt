@@ -119,21 +119,21 @@ slot_records sizes place lines =
     if (place.stage == 3) && nat_lt place.slot (sync_slot_of sizes) then Slot place.frame place.slot lines ∷ [] else []
 
 -- the book after a stage on which this is the verdict. Deliveries come in stage 2
-abbrev pub judged : Sizes → Place → Each (Option Row) → List JudgedStage → Book → Option Cause → Book
-judged sizes place rows stages b None = record {
+abbrev pub after_verdict : Sizes → Place → Each (Option Row) → List JudgedStage → Book → Option Cause → Book
+after_verdict sizes place rows stages b None = record {
   upcoming = after_stage sizes place;
   stages = stages;
   lines = if place.stage == 2 then filter_map line_in rows.bius else b.lines;
   given = b.given ++ slot_records sizes place b.lines;
   ended = false;
 }
-judged sizes place rows stages b (Some cause) = record b { given = b.given ++ Breach place cause ∷ []; ended = true }
+after_verdict sizes place rows stages b (Some cause) = record b { given = b.given ++ Breach place cause ∷ []; ended = true }
 
 -- a stage is settled: all nodes good there have closed it. A book that has ended stays as it is
 unfoldable pub with_stage : Scenario → Place → Each (Option Row) → Book → Book
 with_stage sc place rows b =
     let stages : List JudgedStage = judged_of sc place rows ∷ b.stages in
-    elim b.ended [ true ↦ b | false ↦ judged sc.sizes place rows stages b (verdict_of stages) ]
+    elim b.ended [ true ↦ b | false ↦ after_verdict sc.sizes place rows stages b (verdict_of stages) ]
 
 -- Frames.
 

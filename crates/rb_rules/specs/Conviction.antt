@@ -5,9 +5,9 @@ use Rattle.rb_base.specs.Nodes.{Side, other, has, set_of}
 use Rattle.rb_base.specs.Sizes.{Sizes}
 use Rattle.rb_base.specs.declared.values.Heard.{Heard}
 use Rattle.rb_base.specs.declared.values.Heard.TheVariants.{Word, Fault}
-use Rattle.rb_rules.specs.NodeState.{NodeState, begun, trusted_of}
+use Rattle.rb_rules.specs.NodeState.{NodeState, fresh_state, trusted_of}
 use Rattle.rb_rules.specs.Slots.{count_of, first_diagnosis_of}
-use Rattle.rb_rules.specs.Standing.{lapsed, without}
+use Rattle.rb_rules.specs.Standing.{standing_at_end, without}
 
 -- a voted vector is valid where it is a mask of the nodes that there are, `others` of them
 abbrev pub is_valid : ℕ → Heard → Bool
@@ -47,6 +47,6 @@ convicted_at sizes me st accused =
 -- at the tick of its next epoch a node convicts, lets accusations lapse and begins the next frame. Convictions are for good
 unfoldable pub turn : Sizes → ℕ → Side → ℕ → NodeState → NodeState
 turn sizes probation me epoch st =
-    begun sizes (st.frame + 1) epoch
-    (lapsed probation (record st.far { trusted = without st.far.trusted (convicted_at sizes me st (other me)) }))
+    fresh_state sizes (st.frame + 1) epoch
+    (standing_at_end probation (record st.far { trusted = without st.far.trusted (convicted_at sizes me st (other me)) }))
     (without st.near (convicted_at sizes me st me))

@@ -9,10 +9,10 @@ use Rattle.rb_rules.specs.declared.message.Message.{Message}
 use Rattle.rb_rules.specs.declared.plan.Plan.{Plan}
 use Rattle.rb_rules.specs.declared.plan.Window.{Window}
 use Rattle.rb_rules.specs.declared.record.Epoch.{Epoch}
-use Rattle.rb_rules.specs.ExactStage.{keeping}
+use Rattle.rb_rules.specs.ExactStage.{keep_sent}
 use Rattle.rb_rules.specs.Hearing.{Sending, sending, tail_at, close_window, epoch_of}
 use Rattle.rb_rules.specs.NodeState.{NodeState, first_state}
-use Rattle.rb_rules.specs.NodeSteps.{turned}
+use Rattle.rb_rules.specs.NodeSteps.{turn_if_known}
 use Rattle.rb_rules.specs.Sense.{Arrival}
 use Rattle.rb_rules.specs.Slots.{count_of, first_diagnosis_of}
 use Rattle.rb_rules.specs.SyncStage.{new_epoch_of}
@@ -48,7 +48,7 @@ is_tick (Some tick) k = tick == k
 -- the state at tick k: at the node's next epoch it has turned
 unfoldable pub state_at : Sizes → Plan → Side → NodeState → ℕ → NodeState
 state_at sizes plan me st k =
-    elim (is_tick (new_epoch_of plan me st) k) [ true ↦ turned sizes plan me st | false ↦ st ]
+    elim (is_tick (new_epoch_of plan me st) k) [ true ↦ turn_if_known sizes plan me st | false ↦ st ]
 
 -- the window of tick k; after those of the slots it is the tail
 abbrev pub window_here : Sizes → Plan → Side → NodeState → ℕ → Window
@@ -86,7 +86,7 @@ epoch_at sizes me st k = elim (st.epoch == k) [ true ↦ Some (epoch_of sizes me
 -- a sender keeps the value that it says in its own slot
 abbrev pub state_kept : Sizes → Side → ℕ → NodeState → ℕ → Option Message → NodeState
 state_kept sizes me index st word None = st
-state_kept sizes me index st word (Some m) = keeping sizes me index st m.slot m.stage word
+state_kept sizes me index st word (Some m) = keep_sent sizes me index st m.slot m.stage word
 
 -- the arrivals of source j
 abbrev pub of_source : List (ℕ × Arrival) → ℕ → List Arrival

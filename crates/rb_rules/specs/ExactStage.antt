@@ -67,8 +67,8 @@ message_of st slot stage heard.Fault =
     record { tag = tag.Fault; frame = st.frame % 65536; slot = slot; stage = stage; value = 0 }
 
 -- a sender keeps the value that it says in its own slot
-abbrev pub keeping : Sizes → Side → ℕ → NodeState → ℕ → ℕ → ℕ → NodeState
-keeping sizes me index st slot stage word =
+abbrev pub keep_sent : Sizes → Side → ℕ → NodeState → ℕ → ℕ → ℕ → NodeState
+keep_sent sizes me index st slot stage word =
     if (stage == 1) && is_some (says sizes me index st slot stage word)
     then record st { sent = says sizes me index st slot stage word }
     else st
@@ -94,10 +94,10 @@ closing_of s expected sense =
     record { taken = taken; voted = majority_of (present taken) }
 
 -- what a relay took of the slot's sender
-abbrev pub got_of : Sender → Closing → Option Heard
-got_of Nobody c = None
-got_of (Node i) c = at_source c.taken i
-got_of EachTrusted c = None
+abbrev pub taken_of_sender : Sender → Closing → Option Heard
+taken_of_sender Nobody c = None
+taken_of_sender (Node i) c = at_source c.taken i
+taken_of_sender EachTrusted c = None
 
 -- a node votes in each of the stages 2 and 3 in which it listens. The vote over nothing, as in an idle slot, is Fault
 abbrev pub votes_in : Side → Role → ℕ → Bool
@@ -114,14 +114,14 @@ abbrev pub with_unlike : Heard → List (Option Heard) → Standing → Standing
 with_unlike value taken s = with_mismatch (λ j. is_unlike value (at_source taken j)) s
 
 -- these accusations by the reference value, where there is one
-abbrev pub compared : Option Heard → Closing → Standing → Standing
-compared None c s = s
-compared (Some value) c s = with_unlike value c.taken s
+abbrev pub compare_with : Option Heard → Closing → Standing → Standing
+compare_with None c s = s
+compare_with (Some value) c s = with_unlike value c.taken s
 
 -- the standing after a close: direct evidence, then mismatch accusations
 abbrev pub standing_after : Side → ℕ → NodeState → Role → Sender → ℕ → (ℕ → Sense) → Closing → Standing
 standing_after me index st role sender stage sense c =
-    compared (reference_value me index st role sender stage c) c
+    compare_with (reference_value me index st role sender stage c) c
     (with_evidence (has_evidence st.far (expects me role sender st.far.trusted stage) sense) st.far)
 
 -- the votes after a close
@@ -158,7 +158,7 @@ outcome_of sizes me index st slot stage role sender sense c =
       state = record st {
         far = standing_after me index st role sender stage sense c;
         sent = if stage == 2 then None else st.sent;
-        got = if stage == 1 then got_of sender c else st.got;
+        got = if stage == 1 then taken_of_sender sender c else st.got;
         votes = votes;
         owners = owners_after sizes me st slot stage votes;
       };

@@ -67,9 +67,9 @@ was_unlike kind j s =
 -- The stages of a frame so far, the newest first.
 
 -- in the newest stage this receiver saw this of source j
-abbrev pub noted : NodeName → ℕ → See → List JudgedStage → List JudgedStage
-noted receiver j see [] = []
-noted receiver j see (s ∷ earlier) = with_sight receiver j see s ∷ earlier
+abbrev pub with_newest_sight : NodeName → ℕ → See → List JudgedStage → List JudgedStage
+with_newest_sight receiver j see [] = []
+with_newest_sight receiver j see (s ∷ earlier) = with_sight receiver j see s ∷ earlier
 
 -- the sets of the newest stage; they are empty before the first
 abbrev pub good_now : Side → List JudgedStage → ℕ

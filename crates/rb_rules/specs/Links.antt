@@ -35,13 +35,13 @@ stands_for AllBiu n = is_biu n
 stands_for AllRmu n = is_rmu n
 
 -- the number lies between the two, both included
-abbrev pub is_within : ℕ × ℕ → ℕ → Bool
-is_within range n = nat_le range.0 n && nat_le n range.1
+abbrev pub is_in_range : ℕ × ℕ → ℕ → Bool
+is_in_range range n = nat_le range.0 n && nat_le n range.1
 
 -- the ranges of frames, slots and stages have this place
 abbrev pub covers : ℕ × ℕ → ℕ × ℕ → ℕ × ℕ → Place → Bool
 covers frames slots stages place =
-    is_within frames place.frame && is_within slots place.slot && is_within stages place.stage
+    is_in_range frames place.frame && is_in_range slots place.slot && is_in_range stages place.stage
 
 -- the rule is for the messages of this place between these two nodes
 abbrev pub applies : Rule → NodeName → NodeName → Place → Bool

@@ -22,8 +22,8 @@ pub record NodeState : Type 0 where
   pub k3 : Option ℕ
 
 -- a frame begins without votes, owners and middles
-abbrev pub begun : Sizes → ℕ → ℕ → Standing → ℕ → NodeState
-begun sizes frame epoch far near = record {
+abbrev pub fresh_state : Sizes → ℕ → ℕ → Standing → ℕ → NodeState
+fresh_state sizes frame epoch far near = record {
   frame = frame;
   epoch = epoch;
   far = far;
@@ -40,7 +40,7 @@ begun sizes frame epoch far near = record {
 -- at first all nodes are trusted, and frame 0 begins with tick 0
 abbrev pub first_state : Sizes → Side → NodeState
 first_state sizes me =
-    begun sizes 0 0 (first_standing (count_of (other me) sizes)) (set_of (λ i. nat_lt i (count_of me sizes)))
+    fresh_state sizes 0 0 (first_standing (count_of (other me) sizes)) (set_of (λ i. nat_lt i (count_of me sizes)))
 
 -- the trusted nodes of a kind, as a node of kind me holds them
 abbrev pub trusted_of : Side → Side → NodeState → ℕ

@@ -35,8 +35,8 @@ close sizes me index st slot stage first sense =
     ]
 
 -- a node at the end of a frame turns to the next one, if it knows the tick with which that begins
-abbrev pub turned : Sizes → Plan → Side → NodeState → NodeState
-turned sizes plan me st =
+abbrev pub turn_if_known : Sizes → Plan → Side → NodeState → NodeState
+turn_if_known sizes plan me st =
     elim (new_epoch_of plan me st) [ None ↦ st | Some epoch ↦ turn sizes plan.probation me epoch st ]
 
 -- the owner of a slot, where it is a data slot that has one and the schedule stands

@@ -8,14 +8,14 @@ use Rattle.rb_base.specs.declared.values.Heard.{Heard}
 use Rattle.rb_base.specs.declared.values.Heard.TheVariants.{Word, Fault}
 
 -- how many slots a voted request asks for
-abbrev pub requested : Heard → ℕ
-requested (Word slots) = slots
-requested Fault = 0
+abbrev pub request_in : Heard → ℕ
+request_in (Word slots) = slots
+request_in Fault = 0
 
 -- in pass p each trusted BIU that asks for more than p slots gets one, in order of the BIUs
 abbrev pub owners_in_pass : Sizes → ℕ → List Heard → ℕ → List ℕ
 owners_in_pass sizes trusted requests pass =
-    filter (λ i. has trusted i && nat_lt pass (requested (get_or requests i Fault))) (numbers sizes.bius)
+    filter (λ i. has trusted i && nat_lt pass (request_in (get_or requests i Fault))) (numbers sizes.bius)
 
 -- the owners of the data slots in order; a slot past the end has none. The passes come one after another. A pass in which
 -- nobody asks is followed by no other, so as many passes as there are slots are enough

@@ -61,6 +61,6 @@ with_state zero state (port ∷ ports) = record port { state = state } ∷ ports
 with_state (suc i) state (port ∷ ports) = port ∷ with_state i state ports
 
 -- the ports after the hand-ins of a frame, in their order
-abbrev pub handed : ℕ → List HandIn → List PortState → List PortState
-handed frame [] ports = ports
-handed frame (h ∷ hs) ports = handed frame hs (if h.frame == frame then with_state h.biu h.state ports else ports)
+abbrev pub hand_over : ℕ → List HandIn → List PortState → List PortState
+hand_over frame [] ports = ports
+hand_over frame (h ∷ hs) ports = hand_over frame hs (if h.frame == frame then with_state h.biu h.state ports else ports)

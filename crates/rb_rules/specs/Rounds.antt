@@ -7,12 +7,12 @@ use Rattle.rb_rules.specs.declared.plan.Window.{Window}
 use Rattle.rb_rules.specs.declared.record.SlotLine.{SlotLine}
 use Rattle.rb_rules.specs.Book.{Each, of_kind, in_order, each_of, map_from, map_each, Record, Begun, Row, Book, line_in, fresh_book, with_stage, with_frame, with_end}
 use Rattle.rb_rules.specs.Clock.{stamp_of}
-use Rattle.rb_rules.specs.ExactStage.{keeping, present}
+use Rattle.rb_rules.specs.ExactStage.{keep_sent, present}
 use Rattle.rb_rules.specs.Goodness.{Scenario, is_good, clock_of}
 use Rattle.rb_rules.specs.Hearing.{Sending, Coming, Span, window_numbered, span_of, sending, port_at, word_for, heard_from, arrival_of, close_window, row_of, epoch_of, begun_of}
 use Rattle.rb_rules.specs.NodeState.{NodeState, first_state}
-use Rattle.rb_rules.specs.NodeSteps.{turned}
-use Rattle.rb_rules.specs.Ports.{PortState, HandIn, delivered_to, handed}
+use Rattle.rb_rules.specs.NodeSteps.{turn_if_known}
+use Rattle.rb_rules.specs.Ports.{PortState, HandIn, delivered_to, hand_over}
 use Rattle.rb_rules.specs.Slots.{role_of}
 use Rattle.rb_rules.specs.Windows.{windows_of_frame}
 
@@ -34,11 +34,11 @@ windows_in sizes = 3 * sync_slot_of sizes + 4
 abbrev pub window_in : Scenario → Moment → Side → NodeState → Window
 window_in sc m me st = window_numbered sc.sizes sc.plan me st m.window
 
-abbrev pub word_in : Scenario → Moment → ℕ → Window → ℕ
-word_in sc m i w = word_for sc m.ports i w.slot (role_of sc.sizes w.slot)
+abbrev pub word_for_window : Scenario → Moment → ℕ → Window → ℕ
+word_for_window sc m i w = word_for sc m.ports i w.slot (role_of sc.sizes w.slot)
 
 abbrev pub sending_in : Scenario → Moment → Side → ℕ → NodeState → Window → Option Sending
-sending_in sc m me i st w = sending sc.sizes sc.plan me i st w.slot w.stage (word_in sc m i w)
+sending_in sc m me i st w = sending sc.sizes sc.plan me i st w.slot w.stage (word_for_window sc m i w)
 
 -- what each node sends if it is good
 unfoldable pub sent_in : Scenario → Moment → Each (Option Sending)
@@ -63,7 +63,7 @@ heard_at sc me i st w sent = heard_from sc me i (span_of st w) (of_kind (other m
 unfoldable pub go_through : Scenario → Moment → Each (Option Sending) → Side → ℕ → NodeState → Window → Result
 go_through sc m sent me i st w =
     elim (is_good sc me i m.frame w.slot && nat_le w.first w.last) [
-      | true ↦ close_on sc me i (keeping sc.sizes me i st w.slot w.stage (word_in sc m i w)) w (heard_at sc me i st w sent)
+      | true ↦ close_on sc me i (keep_sent sc.sizes me i st w.slot w.stage (word_for_window sc m i w)) w (heard_at sc me i st w sent)
       | false ↦ record { state = st; row = None }
     ]
 
@@ -126,7 +126,7 @@ begin_frame sc hands frame nodes ports b = record {
   frame = frame;
   window = 0;
   nodes = nodes;
-  ports = handed frame hands ports;
+  ports = hand_over frame hands ports;
   book = with_frame sc frame (present (in_order (map_each (begun_if_good sc frame ports) nodes))) b;
 }
 
@@ -138,17 +138,17 @@ first_moment sc hands =
 
 abbrev pub next_frame : Scenario → List HandIn → Moment → Moment
 next_frame sc hands m =
-    begin_frame sc hands (m.frame + 1) (map_each (λ me i st. turned sc.sizes sc.plan me st) m.nodes) m.ports m.book
+    begin_frame sc hands (m.frame + 1) (map_each (λ me i st. turn_if_known sc.sizes sc.plan me st) m.nodes) m.ports m.book
 
 -- one window, and after the tail the next frame
-abbrev pub moved : Scenario → List HandIn → Moment → Moment
-moved sc hands m =
+abbrev pub move_on : Scenario → List HandIn → Moment → Moment
+move_on sc hands m =
     elim (nat_lt m.window (windows_in sc.sizes)) [ true ↦ after_window sc m (results_of sc m) | false ↦ next_frame sc hands m ]
 
 -- a step. Once the frame after the last has begun the end is given, and the states alone go on
 unfoldable pub step : Scenario → List HandIn → Moment → Moment
 step sc hands m =
-    let next : Moment = moved sc hands m in
+    let next : Moment = move_on sc hands m in
     record next { book = elim (m.frame == sc.frames) [ true ↦ with_end m.book | false ↦ next.book ] }
 
 -- the moment after so many steps. After a breach, too, the states go on and the book does not

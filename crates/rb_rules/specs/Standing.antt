@@ -70,8 +70,8 @@ next_calm probation s j =
     if not (has s.direct j) then slice_index s.calm j else (if lapses probation s j then 0 else calm_after s j)
 
 -- the standing at the end of a frame. Mismatch accusations and convictions stay
-abbrev pub lapsed : ℕ → Standing → Standing
-lapsed probation s = record s {
+abbrev pub standing_at_end : ℕ → Standing → Standing
+standing_at_end probation s = record s {
   direct = set_of (λ j. has s.direct j && not (lapses probation s j));
   fresh = 0;
   calm = map (next_calm probation s) (numbers 16);

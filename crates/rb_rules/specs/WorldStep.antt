@@ -128,37 +128,37 @@ says_in sc me i span =
     (numbers (count_of (other me) sc.sizes))
 
 -- the node's next tick that isn't quiet is pending, and this comes to it, too
-abbrev pub going_on : Scenario → Side → ℕ → List Coming → Site → Site
-going_on sc me i more s = record s {
+abbrev pub await : Scenario → Side → ℕ → List Coming → Site → Site
+await sc me i more s = record s {
   ahead = option_map (λ k. record { tick = k; time = time_of (clock_of sc me i) k }) (next_tick sc.sizes sc.plan me i s.core);
   coming = s.coming ++ more;
 }
 
 -- a node that is not good any more
-abbrev pub stopped : Site → Site
-stopped s = record s { runs = false; ahead = None; coming = [] }
+abbrev pub stop : Site → Site
+stop s = record s { runs = false; ahead = None; coming = [] }
 
 -- at a window's begin a node that is not good there stops, and to the others comes what they are told in it
-abbrev pub entering : Scenario → Side → ℕ → Option Span → Site → Site
-entering sc me i None s = going_on sc me i [] s
-entering sc me i (Some span) s =
-    elim (is_good sc me i span.place.frame span.place.slot) [ true ↦ going_on sc me i (says_in sc me i span) s | false ↦ stopped s ]
+abbrev pub enter : Scenario → Side → ℕ → Option Span → Site → Site
+enter sc me i None s = await sc me i [] s
+enter sc me i (Some span) s =
+    elim (is_good sc me i span.place.frame span.place.slot) [ true ↦ await sc me i (says_in sc me i span) s | false ↦ stop s ]
 
 -- the node before its next tick
 unfoldable pub proceed : Scenario → Side → ℕ → Site → Site
-proceed sc me i s = entering sc me i (span_from sc.sizes sc.plan me s.core.state s.core.had) s
+proceed sc me i s = enter sc me i (span_from sc.sizes sc.plan me s.core.state s.core.had) s
 
 -- An event happens at a node.
 
 -- what was got of source j
-abbrev pub got_of : List Coming → ℕ → List Coming
-got_of got j = filter (λ c. c.from == j) got
+abbrev pub coming_from : List Coming → ℕ → List Coming
+coming_from got j = filter (λ c. c.from == j) got
 
 -- what the node has told after a tick at which it closed this. The tail is no stage, so it tells nothing of it
 abbrev pub with_close : Side → ℕ → NodeState → Option Closed → Site → Site
 with_close me i st None s = s
 with_close me i st (Some c) s =
-    record s { got = []; row = elim (c.place.stage == 4) [ true ↦ s.row | false ↦ Some (row_of me i st (got_of s.got) c) ] }
+    record s { got = []; row = elim (c.place.stage == 4) [ true ↦ s.row | false ↦ Some (row_of me i st (coming_from s.got) c) ] }
 
 -- and after one with which this frame began
 abbrev pub with_epoch : Scenario → List PortState → Side → ℕ → Option Epoch → Site → Site
@@ -212,17 +212,17 @@ word_of sc ports i None = 0
 word_of sc ports i (Some slot) = word_for sc ports i slot (role_of sc.sizes slot)
 
 -- the slot for which a word is wanted at the next tick of a core
-abbrev pub wanted : Scenario → Side → ℕ → Core → Option ℕ
-wanted sc me i c = wants sc.sizes sc.plan me i c
+abbrev pub wants_in : Scenario → Side → ℕ → Core → Option ℕ
+wants_in sc me i c = wants sc.sizes sc.plan me i c
 
 -- tick k of a node's core. Before it the quiet ticks pass
-unfoldable pub ticked : Scenario → List PortState → Side → ℕ → ℕ → Core → Act
-ticked sc ports me i k c =
+unfoldable pub pass_and_tick : Scenario → List PortState → Side → ℕ → ℕ → Core → Act
+pass_and_tick sc ports me i k c =
     let ready = pass_to k c in
-    tick sc.sizes sc.plan me i ready (word_of sc ports i (wanted sc me i ready))
+    tick sc.sizes sc.plan me i ready (word_of sc ports i (wants_in sc me i ready))
 
 abbrev pub with_pending : Scenario → World → Side → ℕ → Site → Pending → World
-with_pending sc w me i s (Tick k) = with_act sc w me i k (ticked sc w.ports me i k s.core)
+with_pending sc w me i s (Tick k) = with_act sc w me i k (pass_and_tick sc w.ports me i k s.core)
 with_pending sc w me i s (Arrival place c) = record w { sites = at_node me i (after_arrival sc me i place c) w.sites }
 
 -- the event happens, before anything is settled
@@ -347,11 +347,11 @@ abbrev pub world_after : Scenario → List Choice → World
 world_after sc choices = fold (choose sc) (first_world sc) choices
 
 -- what happens at node i of kind me, as it is shown: the quiet ticks that pass before it, and what then comes
-abbrev pub shown : Scenario → List PortState → Side → ℕ → Core → Pending → Event
-shown sc ports me i c (Tick k) =
-    let slot = wanted sc me i (pass_to k c) in
+abbrev pub event_of : Scenario → List PortState → Side → ℕ → Core → Pending → Event
+event_of sc ports me i c (Tick k) =
+    let slot = wants_in sc me i (pass_to k c) in
     record { node = name_of me i; quiet = k - c.had; kind = kind.Tick (word_of sc ports i slot) (is_some slot) }
-shown sc ports me i c (Arrival place a) = record {
+event_of sc ports me i c (Arrival place a) = record {
   node = name_of me i;
   quiet = stamp_of (clock_of sc me i) a.time - c.had;
   kind = kind.Arrive a.from (record { items = a.bytes });
@@ -360,7 +360,7 @@ shown sc ports me i c (Arrival place a) = record {
 -- the due event at place i, as it is shown
 unfoldable pub event_at : Scenario → World → ℕ → Option Event
 event_at sc w i =
-    option_and_then (λ d. option_map (λ s. shown sc w.ports d.side d.node s.core d.pending) (slice_get (of_kind d.side w.sites) d.node))
+    option_and_then (λ d. option_map (λ s. event_of sc w.ports d.side d.node s.core d.pending) (slice_get (of_kind d.side w.sites) d.node))
     (slice_get (due_of sc w) i)
 
 -- Events are rounds.

@@ -66,8 +66,8 @@ abbrev pub IsDocument : List ℕ → Members → Type 0
 IsDocument bytes t = IsUtf8 bytes × (parse_document bytes ≡ Some t)
 
 -- the scenario that an accepted one shows
-abbrev pub shown : Accepted → Scenario
-shown a = record {
+abbrev pub scenario_of : Accepted → Scenario
+scenario_of a = record {
   sizes = a.plan.sizes;
   plan = a.plan.plan;
   frames = a.frames;
@@ -84,7 +84,7 @@ shown a = record {
 -- the document breaks no rule, and it says the scenario
 pub record Says (document : Members) (a : Accepted) : Type 0 where
   pub unbroken : first_broken document ≡ None
-  pub scenario : shown a ≡ scenario_of document
+  pub scenario : scenario_of a ≡ scenario_of document
   pub served : a.built ≡ is_served (has_key (codes "requests") document) (scenario_of document)
 
 -- the bytes are the text of a document that says the scenario

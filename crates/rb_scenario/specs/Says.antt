@@ -69,9 +69,9 @@ has_times bus e =
     && ((number_at (codes "early") 0 e == 0) || is_sync_alone (sync_slot_of bus.shape) (slots_of e))
 
 -- The four things that can be said. A word below 2^32
-abbrev pub word_in : Data → Option Content
-word_in (integer (pos n)) = if nat_le n 4294967295 then Some (Word n) else None
-word_in _ = None
+abbrev pub word_content : Data → Option Content
+word_content (integer (pos n)) = if nat_le n 4294967295 then Some (Word n) else None
+word_content _ = None
 
 -- what the mark `true` stands for
 abbrev pub marked : Content → Data → Option Content
@@ -99,7 +99,7 @@ meant meaning (Some d) next = meaning d
 -- what the first of the four that is there means
 abbrev pub content_there : Members → Option Content
 content_there e =
-    meant word_in (get_member (codes "word") e)
+    meant word_content (get_member (codes "word") e)
     (meant (marked Fault) (get_member (codes "fault") e)
     (meant (marked Sync) (get_member (codes "sync") e)
     (meant raw_in (get_member (codes "raw") e) None)))

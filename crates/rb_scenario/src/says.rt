@@ -5,7 +5,7 @@ ghost use Rattle.hex.specs.Hex.{decode_of};
 ghost use Rattle.toml.specs.Data.{as_table};
 ghost use Rattle.toml.specs.View.{view, table_view, array_view};
 ghost use Rattle.rb_document.specs.Walk.{entries_in, tables_in};
-ghost use Rattle.rb_scenario.specs.Says.{content_in, content_there, has_ranges, has_times, is_say, is_sync_alone, lies_in_all, lies_in_stage, marked, raw_in, say_of, short_bytes, ticks_in_sync, word_in};
+ghost use Rattle.rb_scenario.specs.Says.{content_in, content_there, has_ranges, has_times, is_say, is_sync_alone, lies_in_all, lies_in_stage, marked, raw_in, say_of, short_bytes, ticks_in_sync, word_content};
 
 use crate::bus::{Bus, last_frame, sync_slot};
 use crate::links::{are_apart, pattern_of};
@@ -129,8 +129,8 @@ fn has_times(bus: &Bus, entry: &Table) -> bool
 }
 
 /// A word below 2^32.
-fn word_in(value: &Value) -> Option<Content>
-    ensures { result ≡ word_in (view value.now) }
+fn word_content(value: &Value) -> Option<Content>
+    ensures { result ≡ word_content (view value.now) }
 {
     match value.as_integer() {
         Some(number) => match u32::try_from(number) {
@@ -184,7 +184,7 @@ fn content_there(entry: &Table) -> Option<Content>
     ensures { result ≡ content_there (table_view entry.now) }
 {
     if let Some(value) = member(entry, "word") {
-        return word_in(value);
+        return word_content(value);
     }
     if let Some(value) = member(entry, "fault") {
         return marked(Content::Fault, value);

@@ -12,7 +12,7 @@ use Rattle.rb_base.specs.Sizes.{Sizes}
 use Rattle.rb_base.specs.declared.values.Heard.{Heard}
 use Rattle.rb_base.specs.declared.values.Heard.TheVariants.{Fault}
 use Rattle.rb_schedule.specs.Asking.{asks}
-use Rattle.rb_rules.specs.Owners.{owners_in_pass, owners_of, requested}
+use Rattle.rb_rules.specs.Owners.{owners_in_pass, owners_of, request_in}
 
 -- ---- lists
 
@@ -162,7 +162,7 @@ pub nobody_later : (sizes : Sizes) (trusted : ℕ) (requests : List Heard) (k j 
     → owners_in_pass sizes trusted requests j ≡ []
 nobody_later sizes trusted requests k j h none =
     filter_fewer (asks trusted requests k) (asks trusted requests j)
-    (λ i. asks_earlier (has trusted i) k j (requested (get_or requests i Fault)) h)
+    (λ i. asks_earlier (has trusted i) k j (request_in (get_or requests i Fault)) h)
     (numbers sizes.bius)
     none
 

@@ -2,7 +2,7 @@
 #![tactic(auto)]
 
 ghost use Rattle.std.specs.Prelude.{◌≡◌, ℕ, [], ◌∷◌, ◌++◌, ◌<◌, ◌≤◌, nat_lt, length, take, slice_get, List};
-ghost use Rattle.rb_rules.specs.Owners.{owners_of, owners_in_pass, requested};
+ghost use Rattle.rb_rules.specs.Owners.{owners_of, owners_in_pass, request_in};
 ghost use Rattle.rb_schedule.specs.Asking.{asks};
 
 use arrayvec::ArrayVec;
@@ -54,7 +54,7 @@ impl Owners {
 
 // Whether a voted request asks for more slots than there were passes.
 fn asks_more(request: Heard, pass: u32) -> bool
-    ensures { result ≡ nat_lt pass (requested request) }
+    ensures { result ≡ nat_lt pass (request_in request) }
 {
     match request {
         Heard::Word(slots) => pass < slots,

@@ -11,10 +11,10 @@ use Rattle.rb_rules.specs.declared.sense.Expect.{Expect}
 use Rattle.rb_rules.specs.declared.sense.Sense.{Sense}
 use Rattle.rb_rules.specs.declared.sense.Sense.TheVariants.{Silent, One}
 use Rattle.rb_rules.specs.Conviction.{convicted_by}
-use Rattle.rb_rules.specs.ExactStage.{Outcome, message_of, says, keeping, close_exact}
+use Rattle.rb_rules.specs.ExactStage.{Outcome, message_of, says, keep_sent, close_exact}
 use Rattle.rb_rules.specs.NodeState.{NodeState, first_state}
 use Rattle.rb_rules.specs.Sense.{Arrival}
-use Rattle.rb_rules.specs.Standing.{Standing, first_standing, with_evidence, is_unlike, with_mismatch, lapsed}
+use Rattle.rb_rules.specs.Standing.{Standing, first_standing, with_evidence, is_unlike, with_mismatch, standing_at_end}
 use Rattle.rb_rules.specs.SyncStage.{close_sync}
 
 abbrev pub sizes : Sizes
@@ -61,7 +61,7 @@ accused =
     with_mismatch (λ j. is_unlike (Word 4) (if j == 2 then Some (Word 5) else None)) (with_evidence (λ j. j == 1) (first_standing 3))
 
 abbrev pub two_frames_later : Standing → Standing
-two_frames_later s = lapsed 2 (lapsed 2 s)
+two_frames_later s = standing_at_end 2 (standing_at_end 2 s)
 
 abbrev pub accused_anew : Standing → Standing
 accused_anew s = with_evidence (λ j. j == 1) s
@@ -92,7 +92,7 @@ relays = comes 0 2 (Some (Word 2) ∷ Some (Word 2) ∷ Some (Word 7) ∷ [])
 
 -- the sender, and BIU 3, after stage 2
 abbrev pub sender : NodeState
-sender = (close_exact sizes Biu 0 (keeping sizes Biu 0 biu 0 1 2) 0 2 relays).state
+sender = (close_exact sizes Biu 0 (keep_sent sizes Biu 0 biu 0 1 2) 0 2 relays).state
 
 abbrev pub bystander : NodeState
 bystander = (close_exact sizes Biu 3 biu 0 2 relays).state

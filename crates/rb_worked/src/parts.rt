@@ -9,13 +9,13 @@ ghost use Rattle.rb_rules.specs.declared.message.Tag.TheVariants as tag;
 ghost use Rattle.rb_rules.specs.declared.message.Version.TheVariants as version;
 ghost use Rattle.rb_rules.specs.declared.role.Role.TheVariants.{Schedule, Data, DiagBiu, DiagRmu, Sync};
 ghost use Rattle.rb_rules.specs.declared.sense.Sense.TheVariants.{Silent, One, Bad};
-ghost use Rattle.rb_rules.specs.ExactStage.{says, keeping, close_exact};
+ghost use Rattle.rb_rules.specs.ExactStage.{says, keep_sent, close_exact};
 ghost use Rattle.rb_rules.specs.Middle.{middle_of};
 ghost use Rattle.rb_rules.specs.Owners.{owners_of};
 ghost use Rattle.rb_rules.specs.Sense.{sense_of};
 ghost use Rattle.rb_rules.specs.Slots.{role_of, sender_in, expects, expected_by};
 ghost use Rattle.rb_rules.specs.Slots.Sender.{Nobody, Node, EachTrusted};
-ghost use Rattle.rb_rules.specs.Standing.{is_eligible, vector_of, lapsed};
+ghost use Rattle.rb_rules.specs.Standing.{is_eligible, vector_of, standing_at_end};
 ghost use Rattle.rb_rules.specs.Spelling.{spelling_of};
 ghost use Rattle.rb_rules.specs.SyncStage.{calls, close_sync, send_tick_of, new_epoch_of};
 ghost use Rattle.rb_worked.specs.Parts.{sizes, plan, biu, rmu, expected, word_10, accused, two_frames_later, accused_anew, comes, that_heard, that_heard_nothing, relayed_by, relays, sender, bystander, that_voted, that_scheduled, in_data_slot, in_idle_slot, called, rmu_after, biu_after, convicted};
@@ -58,11 +58,11 @@ pub fn accused_nodes()
 /// With a probation of one frame an accusation stands at the end of its own frame and lapses at the end of the next; with two,
 /// new evidence begins the count anew.
 pub fn probation_passes()
-    ensures own_frame { (lapsed 1 accused).direct ≡ 2 }
-    ensures next_frame { (lapsed 1 (lapsed 1 accused)).direct ≡ 0 }
-    ensures mismatch_stays { (lapsed 1 (lapsed 1 accused)).mismatch ≡ 4 }
+    ensures own_frame { (standing_at_end 1 accused).direct ≡ 2 }
+    ensures next_frame { (standing_at_end 1 (standing_at_end 1 accused)).direct ≡ 0 }
+    ensures mismatch_stays { (standing_at_end 1 (standing_at_end 1 accused)).mismatch ≡ 4 }
     ensures after_two { (two_frames_later accused).direct ≡ 2 }
-    ensures after_three { (lapsed 2 (two_frames_later accused)).direct ≡ 0 }
+    ensures after_three { (standing_at_end 2 (two_frames_later accused)).direct ≡ 0 }
     ensures counted_anew { (two_frames_later (accused_anew (two_frames_later accused))).direct ≡ 2 }
 {}
 
@@ -95,7 +95,7 @@ pub fn owners_by_requests()
 /// Stage 1: the sender alone says its request, and keeps it.
 pub fn request_is_sent()
     ensures said { says sizes Biu 0 biu 0 1 2 ≡ Some (Word 2) }
-    ensures kept { (keeping sizes Biu 0 biu 0 1 2).sent ≡ Some (Word 2) }
+    ensures kept { (keep_sent sizes Biu 0 biu 0 1 2).sent ≡ Some (Word 2) }
     ensures others { (says sizes Biu 1 biu 0 1 2 ∷ says sizes Rmu 0 rmu 0 1 2 ∷ []) ≡ (None ∷ None ∷ []) }
 {}
 
