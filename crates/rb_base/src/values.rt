@@ -8,7 +8,8 @@ pub enum Heard {
     Fault,
 }
 
-/// A stage of a slot of a frame. Frames and slots are counted from 0, the stages of a slot are 1 to 3.
+/// A stage of a slot of a frame. Frames and slots are counted from 0. The stages of a slot are 1 to 3, and the tail of the sync
+/// slot counts as its stage 4.
 #[derive(Clone, Copy, Debug, PartialEq, Eq, Default)]
 pub struct Place {
     pub frame: u32,

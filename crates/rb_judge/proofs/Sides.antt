@@ -1,5 +1,5 @@
 -- What is kept of the nodes of one kind as sources shows the stages, from call to call.
-use Rattle.std.proofs.Common.{◌≡◌, ◌≢◌, ℕ, ◌<◌, ◌^◌, Bool, true, false, not, ◌&&◌, ◌||◌, ◌==◌, if◌then◌else◌, List, [], ◌∷◌, inl, inr, refl, sym, ◌∙◌, ap, subst}
+use Rattle.std.proofs.Common.{◌≡◌, ◌≢◌, ℕ, ◌<◌, ◌^◌, Bool, true, false, not, ◌&&◌, ◌||◌, ◌==◌, if◌then◌else◌, List, [], ◌∷◌, inl, inr, refl, sym, ◌∙◌, ap, subst, slice_index}
 use Rattle.std.specs.List.{list_any}
 use Rattle.std.proofs.lemmas.Bool.{cases_lt}
 use Rattle.rb_base.specs.Nodes.{Side, other, has, set_of}
@@ -11,8 +11,8 @@ use Rattle.rb_base.proofs.Sets.{eq_self, has-is, has_above, has_none, same_set_o
 use Rattle.rb_rules.specs.Judging.{JudgedStage, are_alike, classes_of, good_now, is_benign, is_something, is_suspect, with_newest_sight, stage_begun, trusted_now, was_taken, was_unlike, with_sight}
 use Rattle.rb_rules.specs.Links.{name_of, same_node}
 use Rattle.rb_judge.specs.declared.seen.Seen.{Seen}
-use Rattle.rb_judge.specs.declared.sources.Sources.{Sources}
-use Rattle.rb_judge.specs.Kinds.{Begins, KeepsSets, ShowsKind, classes_kept, eps_now, seen_of, sight_now, suspected, taken_so_far, unlike_so_far}
+use Rattle.rb_judge.specs.declared.stage_sets.StageSets.{StageSets}
+use Rattle.rb_judge.specs.Kinds.{AreSetsOf, Begins, KeepsSets, KeptKind, KnowsKind, ShowsKind, classes_kept, eps_now, is_suspected, seen_of, sight_now, taken_so_far, unlike_so_far}
 use Rattle.rb_judge.specs.Sights.{ShowsSource, some_node, some_unlike}
 use Rattle.rb_judge.proofs.Sights.{same_number, same_sights}
 use Rattle.rb_judge.proofs.SomeNode.{and_all, and_none, not_twice, or_order, some_none, some_same}
@@ -55,7 +55,7 @@ source_none eps good seen by_none none_heard alike = record {
         some_none _ (λ a h. ap (λ b. has good a && b) (some_none _ (λ b h. and_none (has good b))) ∙ and_none (has good a))
 
 -- before the first stage of a frame
-pub kind_none : (kind : Side) (s : Sources) → s.good ≡ 0 → s.trusted ≡ 0 → s.unlike ≡ 0 → s.taken ≡ 0 → s.unlike_now ≡ 0 → s.heard_now ≡ 0
+pub kind_none : (kind : Side) (s : KeptKind) → s.good ≡ 0 → s.trusted ≡ 0 → s.unlike ≡ 0 → s.taken ≡ 0 → s.unlike_now ≡ 0 → s.heard_now ≡ 0
     → ((j : ℕ) → (seen_of j s).by ≡ 0) → ShowsKind kind [] s
 kind_none kind s no_good no_trusted no_unlike no_taken no_unlike_now no_heard no_by = record {
   good = no_good;
@@ -86,7 +86,7 @@ heard_is eps good sight seen is =
     ] e in
     is.heard ∙ some_same _ _ (λ i h. at (has good i) (has seen.by i) (is_something (sight i)) (is.by i h) (is.within i h))
 
-pub unlike_is_so_far : (kind : Side) (stages : List JudgedStage) (s : Sources) (j : ℕ) → ShowsKind kind stages s → j < 16
+pub unlike_is_so_far : (kind : Side) (stages : List JudgedStage) (s : KeptKind) (j : ℕ) → ShowsKind kind stages s → j < 16
     → unlike_so_far s j ≡ list_any (was_unlike kind j) stages
 unlike_is_so_far kind [] s j is h =
     let now : has s.unlike_now j ≡ false = (is.sights j h).unlike ∙ some_none _ (λ a _. ap (λ b. b && some_node (λ b. has 0 b && not (are_alike 0 Nothing Nothing))) (has_none a)) in
@@ -96,7 +96,7 @@ unlike_is_so_far kind (x ∷ earlier) s j is h =
     ∙ ap (λ b. list_any (was_unlike kind j) earlier || b) ((is.sights j h).unlike ∙ was_unlike_is kind j x)
     ∙ or_order (list_any (was_unlike kind j) earlier) (was_unlike kind j x)
 
-pub taken_is_so_far : (kind : Side) (stages : List JudgedStage) (s : Sources) (j : ℕ) → ShowsKind kind stages s → j < 16
+pub taken_is_so_far : (kind : Side) (stages : List JudgedStage) (s : KeptKind) (j : ℕ) → ShowsKind kind stages s → j < 16
     → taken_so_far s j ≡ list_any (was_taken kind j) stages
 taken_is_so_far kind [] s j is h =
     let now : has s.heard_now j ≡ false = heard_is _ _ _ _ (is.sights j h) ∙ some_none _ (λ i _. ap (λ b. b && false) (has_none i)) in
@@ -106,14 +106,41 @@ taken_is_so_far kind (x ∷ earlier) s j is h =
     ∙ ap (λ b. list_any (was_taken kind j) earlier || b) (heard_is _ _ _ _ (is.sights j h) ∙ was_taken_is kind j x)
     ∙ or_order (list_any (was_taken kind j) earlier) (was_taken kind j x)
 
-pub kind_begun : (kind : Side) (stages : List JudgedStage) (before after : Sources) (good trusted : Side → ℕ) (eps : ℕ)
-    → Begins before after (good kind) (trusted kind) → ShowsKind kind stages before → ShowsKind kind (stage_begun good trusted eps ∷ stages) after
-kind_begun kind stages before after good trusted eps begins is = record {
+-- what is kept of the sights is enough for the classes
+pub kind_knows : (kind : Side) (stages : List JudgedStage) (s : KeptKind) → ShowsKind kind stages s → KnowsKind kind stages s
+kind_knows kind stages s is = record {
+  good = is.good;
+  trusted = is.trusted;
+  unlike = λ j h. unlike_is_so_far kind stages s j is h;
+  taken = λ j h. taken_is_so_far kind stages s j is h;
+}
+
+pub kind_begun : (kind : Side) (stages : List JudgedStage) (before after : KeptKind) (good trusted : Side → ℕ) (eps : ℕ)
+    → Begins before after (good kind) (trusted kind) 0 0 → ((j : ℕ) → slice_index after.by j ≡ 0)
+    → KnowsKind kind stages before → ShowsKind kind (stage_begun good trusted eps ∷ stages) after
+kind_begun kind stages before after good trusted eps begins by_none is = record {
   good = begins.good_is;
   trusted = begins.trusted_is;
-  sights = λ j h. source_none eps (good (other kind)) (seen_of j after) (begins.by_none j) (ap (λ m. has m j) begins.none_heard ∙ has_none j) (ap (λ m. has m j) begins.none_unlike ∙ has_none j);
-  unlike = λ j h. begins.unlike j h ∙ unlike_is_so_far kind stages before j is h;
-  taken = λ j h. begins.taken j h ∙ taken_is_so_far kind stages before j is h;
+  sights = λ j h. source_none eps (good (other kind)) (seen_of j after) (by_none j) (ap (λ m. has m j) begins.heard_is ∙ has_none j) (ap (λ m. has m j) begins.unlike_now_is ∙ has_none j);
+  unlike = λ j h. begins.unlike_is j h ∙ is.unlike j h;
+  taken = λ j h. begins.taken_is j h ∙ is.taken j h;
+}
+
+-- a stage that is told whole
+pub kind_passed : {K : Type 0} (kind : Side) (stages : List JudgedStage) (before after : KeptKind) (sets : StageSets K) (s : JudgedStage)
+    → Begins before after sets.good sets.trusted sets.taken sets.unlike → AreSetsOf kind sets s
+    → KnowsKind kind stages before → KnowsKind kind (s ∷ stages) after
+kind_passed kind stages before after sets s begins are is = record {
+  good = begins.good_is ∙ are.good;
+  trusted = begins.trusted_is ∙ are.trusted;
+  unlike = λ j h.
+      ap (λ b. b || has after.unlike_now j) (begins.unlike_is j h ∙ is.unlike j h)
+      ∙ ap (λ b. list_any (was_unlike kind j) stages || b) (ap (λ m. has m j) begins.unlike_now_is ∙ are.unlike j h)
+      ∙ or_order (list_any (was_unlike kind j) stages) (was_unlike kind j s);
+  taken = λ j h.
+      ap (λ b. b || has after.heard_now j) (begins.taken_is j h ∙ is.taken j h)
+      ∙ ap (λ b. list_any (was_taken kind j) stages || b) (ap (λ m. has m j) begins.heard_is ∙ are.taken j h)
+      ∙ or_order (list_any (was_taken kind j) stages) (was_taken kind j s);
 }
 
 -- ---- a sight is noted
@@ -127,7 +154,7 @@ other_kind Biu i r = refl
 other_kind Rmu i r = refl
 
 -- of a source of the other kind than the receiver
-pub kind_noted : (kind : Side) (r from : ℕ) (see : See) (stages : List JudgedStage) (before after : Sources)
+pub kind_noted : (kind : Side) (r from : ℕ) (see : See) (stages : List JudgedStage) (before after : KeptKind)
     → has (good_now (other kind) stages) r ≡ true
     → ((sight : ℕ → See) → ShowsSource (eps_now stages) (good_now (other kind) stages) sight (seen_of from before)
     → ShowsSource (eps_now stages) (good_now (other kind) stages) (λ i. if i == r then see else sight i) (seen_of from after))
@@ -164,7 +191,7 @@ kind_noted kind r from see (x ∷ earlier) before after good here others sets is
 }
 
 -- the same, said of the sets and the bound that are kept
-pub kind_notes : (kind : Side) (r from eps good : ℕ) (see : See) (stages : List JudgedStage) (before after : Sources)
+pub kind_notes : (kind : Side) (r from eps good : ℕ) (see : See) (stages : List JudgedStage) (before after : KeptKind)
     → eps ≡ eps_now stages → good ≡ good_now (other kind) stages → has good r ≡ true
     → ((sight : ℕ → See) → ShowsSource eps good sight (seen_of from before) → ShowsSource eps good (λ i. if i == r then see else sight i) (seen_of from after))
     → ((j : ℕ) → j < 16 → j ≢ from → seen_of j after ≡ seen_of j before) → KeepsSets before after
@@ -185,7 +212,7 @@ member_below s i fits member =
     elim (cases_lt i 16) [ inl below ↦ below | inr above ↦ absurd (let e = has_above s i fits above in cc) ]
 
 -- of the sources of the receiver's own kind nothing is noted
-pub kind_stays : (kind : Side) (r from : ℕ) (see : See) (stages : List JudgedStage) (s : Sources)
+pub kind_stays : (kind : Side) (r from : ℕ) (see : See) (stages : List JudgedStage) (s : KeptKind)
     → ShowsKind kind stages s → ShowsKind kind (with_newest_sight (name_of kind r) from see stages) s
 kind_stays kind r from see [] s is = is
 kind_stays kind r from see (x ∷ earlier) s is = record {
@@ -199,20 +226,20 @@ kind_stays kind r from see (x ∷ earlier) s is = record {
 
 -- ---- the classes
 
-pub classes_are : (kind : Side) (stages : List JudgedStage) (s : Sources) → ShowsKind kind stages s → classes_kept s ≡ classes_of kind stages
+pub classes_are : (kind : Side) (stages : List JudgedStage) (s : KeptKind) → KnowsKind kind stages s → classes_kept s ≡ classes_of kind stages
 unfolding classes_of
 classes_are kind stages s is =
-    let suspect : (j : ℕ) → suspected s j ≡ is_suspect kind stages j =
+    let suspect : (j : ℕ) → is_suspected s j ≡ is_suspect kind stages j =
     λ j. ap (λ m. has m j && not (has s.good j)) is.trusted ∙ ap (λ m. has (trusted_now kind stages) j && not (has m j)) is.good in
     let good : set_of (λ j. has s.trusted j && has s.good j) ≡ (classes_of kind stages).good =
     same_set_of _ _ (λ j h. ap (λ m. has m j && has s.good j) is.trusted ∙ ap (λ m. has (trusted_now kind stages) j && has m j) is.good) in
-    let benign : set_of (λ j. suspected s j && not (taken_so_far s j)) ≡ (classes_of kind stages).benign =
-    same_set_of _ _ (λ j h. ap (λ b. b && not (taken_so_far s j)) (suspect j) ∙ ap (λ b. is_suspect kind stages j && not b) (taken_is_so_far kind stages s j is h)) in
-    let symmetric : set_of (λ j. (suspected s j && taken_so_far s j) && not (unlike_so_far s j)) ≡ (classes_of kind stages).symmetric =
+    let benign : set_of (λ j. is_suspected s j && not (taken_so_far s j)) ≡ (classes_of kind stages).benign =
+    same_set_of _ _ (λ j h. ap (λ b. b && not (taken_so_far s j)) (suspect j) ∙ ap (λ b. is_suspect kind stages j && not b) (is.taken j h)) in
+    let symmetric : set_of (λ j. (is_suspected s j && taken_so_far s j) && not (unlike_so_far s j)) ≡ (classes_of kind stages).symmetric =
     same_set_of _ _ (λ j h.
     ap (λ b. (b && taken_so_far s j) && not (unlike_so_far s j)) (suspect j)
-    ∙ ap (λ b. (is_suspect kind stages j && b) && not (unlike_so_far s j)) (taken_is_so_far kind stages s j is h ∙ not_twice (list_any (was_taken kind j) stages))
-    ∙ ap (λ b. (is_suspect kind stages j && not (is_benign kind stages j)) && not b) (unlike_is_so_far kind stages s j is h)) in
-    let asymmetric : set_of (λ j. suspected s j && unlike_so_far s j) ≡ (classes_of kind stages).asymmetric =
-    same_set_of _ _ (λ j h. ap (λ b. b && unlike_so_far s j) (suspect j) ∙ ap (λ b. is_suspect kind stages j && b) (unlike_is_so_far kind stages s j is h)) in
+    ∙ ap (λ b. (is_suspect kind stages j && b) && not (unlike_so_far s j)) (is.taken j h ∙ not_twice (list_any (was_taken kind j) stages))
+    ∙ ap (λ b. (is_suspect kind stages j && not (is_benign kind stages j)) && not b) (is.unlike j h)) in
+    let asymmetric : set_of (λ j. is_suspected s j && unlike_so_far s j) ≡ (classes_of kind stages).asymmetric =
+    same_set_of _ _ (λ j h. ap (λ b. b && unlike_so_far s j) (suspect j) ∙ ap (λ b. is_suspect kind stages j && b) (is.unlike j h)) in
     rw (good, benign, symmetric, asymmetric) refl

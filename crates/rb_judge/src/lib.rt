@@ -4,17 +4,22 @@
 ghost use Rattle.std.specs.Prelude.{◌≡◌, ◌<◌, true, false, [], ◌∷◌, List};
 ghost use Rattle.rb_base.specs.Nodes.Side.{Biu as biu_side, Rmu as rmu_side};
 ghost use Rattle.rb_rules.specs.Judging.{JudgedStage, are_few_good, by_kind, cause_of, classes_of, with_newest_sight, stage_begun, verdict_of};
-ghost use Rattle.rb_judge.specs.Kinds.{sets_of};
-ghost use Rattle.rb_judge.specs.Stages.{Shows, has_noted, is_good_now, sizes_of, sources_of};
+ghost use Rattle.rb_judge.specs.Kinds.{AreSetsOf, sets_of};
+ghost use Rattle.rb_judge.specs.Stages.{Knows, Shows, has_noted, is_good_now, sources_of};
 
 pub use classes::Classes;
 use rb_base::{Biu, NodeName, NodeSet, Rmu, See, Shape};
 pub use rb_rules::Cause;
 use sources::Sources;
+pub use stage_sets::StageSets;
+use std::marker::Model;
 
 mod classes;
 mod seen;
 mod sources;
+mod stage_sets;
+#[cfg(test)]
+mod tests;
 
 /// What was seen in the stages of a frame so far, as much of it as the classes of nodes depend on. Its size does not depend
 /// on how much was seen.
@@ -22,15 +27,24 @@ mod sources;
 pub struct Judge {
     shape: Shape,
     eps: u32,
-    bius: Sources,
-    rmus: Sources,
+    bius: Sources<Biu>,
+    rmus: Sources<Rmu>,
+}
+
+impl Model for Judge {
+    ghost use Rattle.rb_judge.specs.Kinds.{kept_kind};
+    ghost use Rattle.rb_judge.specs.Stages.{KeptJudge};
+
+    ghost Value = { KeptJudge };
+
+    ghost view = { λ j. record { sizes = j.shape; eps = j.eps; bius = kept_kind j.bius; rmus = kept_kind j.rmus } };
 }
 
 impl Judge {
     /// A judge of a bus of this shape, at the begin of a frame.
     pub fn new(shape: &Shape) -> Judge
         ensures begun { Shows result [] }
-        ensures shape { sizes_of result ≡ shape.now }
+        ensures shape { result.sizes ≡ shape.now }
     {
         Judge {
             shape: *shape,
@@ -43,7 +57,7 @@ impl Judge {
     /// A frame begins: all that was seen is forgotten.
     pub fn frame(&mut self)
         ensures begun { Shows self.new [] }
-        ensures shape { sizes_of self.new ≡ sizes_of self.old }
+        ensures shape { self.new.sizes ≡ self.old.sizes }
     {
         self.eps = 0;
         self.bius = Sources::new();
@@ -60,13 +74,13 @@ impl Judge {
         trusted_rmu: NodeSet<Rmu>,
         eps: u32,
     )
-        ensures begun { (stages : List JudgedStage) → Shows self.old stages
+        ensures begun { (stages : List JudgedStage) → Knows self.old stages
             → Shows self.new (stage_begun (by_kind good_biu good_rmu) (by_kind trusted_biu trusted_rmu) eps ∷ stages) }
-        ensures shape { sizes_of self.new ≡ sizes_of self.old }
+        ensures shape { self.new.sizes ≡ self.old.sizes }
     {
         self.eps = eps;
-        self.bius.begin(good_biu.bits(), trusted_biu.bits());
-        self.rmus.begin(good_rmu.bits(), trusted_rmu.bits());
+        self.bius.begin(good_biu, trusted_biu);
+        self.rmus.begin(good_rmu, trusted_rmu);
     }
 
     /// In the stage that runs, the receiver saw this of node `from` of the other kind. Where nothing is noted, it saw nothing.
@@ -75,7 +89,7 @@ impl Judge {
         requires source { from < sources_of self.old receiver }
         requires once { has_noted self.old receiver from ≡ false }
         ensures seen { (stages : List JudgedStage) → Shows self.old stages → Shows self.new (with_newest_sight receiver from see stages) }
-        ensures shape { sizes_of self.new ≡ sizes_of self.old }
+        ensures shape { self.new.sizes ≡ self.old.sizes }
     {
         match receiver {
             NodeName::Biu(i) => {
@@ -89,16 +103,28 @@ impl Judge {
         }
     }
 
+    /// A stage begins and is told whole, by the sets of its nodes of both kinds. It stands beside `stage` and a `note` for each
+    /// sight, for who keeps these sets: of such a stage no single sights can be noted.
+    pub fn whole_stage(&mut self, biu: &StageSets<Biu>, rmu: &StageSets<Rmu>)
+        ensures known { (stages : List JudgedStage) (s : JudgedStage) → Knows self.old stages
+            → AreSetsOf biu_side biu.now s → AreSetsOf rmu_side rmu.now s → Knows self.new (s ∷ stages) }
+        ensures shape { self.new.sizes ≡ self.old.sizes }
+        ensures bound { self.new.eps ≡ self.old.eps }
+    {
+        self.bius.pass(biu);
+        self.rmus.pass(rmu);
+    }
+
     /// The classes of the trusted BIUs, by all that was seen in the frame so far.
     pub fn biu(&self) -> Classes<Biu>
-        ensures { (stages : List JudgedStage) → Shows self.now stages → sets_of result ≡ classes_of biu_side stages }
+        ensures { (stages : List JudgedStage) → Knows self.now stages → sets_of result ≡ classes_of biu_side stages }
     {
         self.bius.classes()
     }
 
     /// The classes of the trusted RMUs, by all that was seen in the frame so far.
     pub fn rmu(&self) -> Classes<Rmu>
-        ensures { (stages : List JudgedStage) → Shows self.now stages → sets_of result ≡ classes_of rmu_side stages }
+        ensures { (stages : List JudgedStage) → Knows self.now stages → sets_of result ≡ classes_of rmu_side stages }
     {
         self.rmus.classes()
     }
@@ -107,7 +133,7 @@ impl Judge {
     /// do not, or both kinds have an asymmetric node. The first that applies is the cause. This is the premise of Miner,
     /// Geser, Pike and Maddalon (FORMATS 2004) on symmetric and asymmetric faults.
     pub fn verdict(&self) -> Option<Cause>
-        ensures { (stages : List JudgedStage) → Shows self.now stages → result ≡ verdict_of stages }
+        ensures { (stages : List JudgedStage) → Knows self.now stages → result ≡ verdict_of stages }
     {
         cause_of(&self.biu(), &self.rmu())
     }
@@ -132,39 +158,5 @@ fn cause_of(biu: &Classes<Biu>, rmu: &Classes<Rmu>) -> Option<Cause>
         Some(Cause::TwoSided)
     } else {
         None
-    }
-}
-
-#[cfg(test)]
-mod tests {
-    use super::*;
-
-    // Stages of which nothing was seen, on a bus of four BIUs and three RMUs that are all trusted but for the last of each kind.
-    #[test]
-    fn verdicts_on_silence(rt: HostRuntime) {
-        let shape = Shape::new(4, 3, 8).unwrap();
-        let mut judge = Judge::new(&shape);
-        assert_eq!(rt; judge.verdict(), Some(Cause::FewGoodBiu));
-        let rows = [
-            (15, 7, None),
-            (1, 1, None),
-            (8, 7, Some(Cause::FewGoodBiu)),
-            (15, 4, Some(Cause::FewGoodRmu)),
-            (0, 0, Some(Cause::FewGoodBiu)),
-        ];
-        for (good_biu, good_rmu, verdict) in rows {
-            judge.stage(
-                NodeSet::from_bits(good_biu),
-                NodeSet::from_bits(good_rmu),
-                NodeSet::from_bits(7),
-                NodeSet::from_bits(3),
-                10000,
-            );
-            assert_eq!(rt; judge.verdict(), verdict);
-            assert_eq!(rt; judge.biu().good.bits(), good_biu & 7);
-            assert_eq!(rt; judge.rmu().benign.bits(), 3 & !good_rmu);
-        }
-        judge.frame();
-        assert_eq!(rt; judge.verdict(), Some(Cause::FewGoodBiu));
     }
 }

@@ -1,11 +1,11 @@
 //! What is kept of the sights of one source in a stage.
-ghost use Rattle.std.specs.Prelude.{◌≡◌, ℕ, ◌<◌, true, false, ◌==◌, ◌||◌, if◌then◌else◌};
-ghost use Rattle.rb_base.specs.Nodes.{has, set_of};
+ghost use Rattle.std.specs.Prelude.{◌≡◌, ℕ, ◌<◌, true, false, ◌==◌, if◌then◌else◌};
+ghost use Rattle.rb_base.specs.Nodes.{has};
 ghost use Rattle.rb_base.specs.declared.values.See.{See};
 ghost use Rattle.rb_rules.specs.Majority.{same_heard};
 ghost use Rattle.rb_judge.specs.Sights.{ShowsSource, clashes, is_unlike, kept_of, kept_with, widened};
 
-use rb_base::{Biu, Heard, NodeId, NodeSet, See};
+use rb_base::{Heard, NodeId, NodeSet, See};
 
 /// What is kept of the sights that are something.
 #[derive(Clone, Copy)]
@@ -30,25 +30,9 @@ pub struct Seen {
     pub kept: Kept,
 }
 
-// Whether node i is in the set.
-pub(crate) fn has(set: u16, i: u8) -> bool
-    requires { i < 16 }
-    ensures { result ≡ has set i }
-{
-    (set >> i) & 1 == 1
-}
-
-// The set with node i.
-pub(crate) fn with_node(set: u16, i: u8) -> u16
-    requires { i < 16 }
-    ensures { result ≡ set_of (λ k. has set k || (k == i)) }
-{
-    set | 1 << i
-}
-
 impl Seen {
     /// One sight more. The receiver is good, and saw nothing of the source so far.
-    pub(crate) fn noted(self, good: u16, eps: u32, receiver: u8, see: See) -> Seen
+    pub(crate) fn noted<R: Copy>(self, good: NodeSet<R>, eps: u32, receiver: u8, see: See) -> Seen
         requires number { receiver < 16 }
         requires good { has good receiver ≡ true }
         requires once { has self.by receiver ≡ false }
@@ -59,11 +43,13 @@ impl Seen {
             return self;
         }
         let kept = kept_with(eps, self.heard, self.kept, see);
-        let by = with_node(self.by, receiver);
+        let mut by: NodeSet<R> = NodeSet::from_bits(self.by);
+        by.insert(NodeId::of(receiver));
+        let by = by.bits();
         Seen {
             by,
             heard: true,
-            unlike: by != good || is_unlike(kept),
+            unlike: by != good.bits() || is_unlike(kept),
             kept,
         }
     }

@@ -1,14 +1,14 @@
 -- The last rule that applies gives the delay, whether it is looked for among all rules or among those of a pair of nodes.
-use Rattle.std.proofs.Common.{◌≡◌, ℕ, ◌<◌, length, get_or, arith, Bool, true, false, cond, ◌&&◌, if◌then◌else◌, List, [], ◌∷◌, Option, Some, None, reverse, filter, refl, ◌∙◌, ap}
+use Rattle.std.proofs.Common.{◌≡◌, ℕ, Bool, true, false, cond, ◌&&◌, if◌then◌else◌, List, [], ◌∷◌, Option, Some, None, reverse, filter, refl, ◌∙◌, ap}
 use Rattle.std.specs.List.{find}
 use Rattle.std.specs.Option.{option_or}
-use Rattle.std.proofs.lemmas.List.{get_or_default, reverse-append}
+use Rattle.std.proofs.lemmas.List.{reverse-append}
 use Rattle.std.proofs.lemmas.List.Folds.{find-append}
 use Rattle.rb_base.specs.declared.node.NodeName.{NodeName}
 use Rattle.rb_base.specs.declared.values.Place.{Place}
 use Rattle.rb_rules.specs.declared.link.Rule.{Rule}
 use Rattle.rb_rules.specs.Links.{applies, covers, delay_after}
-use Rattle.rb_link.specs.Pairs.{IsIndex, delay_or, is_between, receiver_of, sender_of}
+use Rattle.rb_link.specs.Pairs.{delay_or, is_between}
 
 -- the delay of the last rule that passes, else the one before them
 abbrev delay_by : (Rule → Bool) → ℕ → List Rule → ℕ
@@ -59,16 +59,3 @@ last_of_pair base rules from to place =
     found_last here base (filter (is_between from to) rules)
     ∙ delay_by-filter (is_between from to) here base rules
     ∙ delay_by-applies base rules from to place
-
--- what the index holds for the pair
-pub index_at : (rules : List Rule) (pairs : List (List Rule)) (i pair : ℕ) (from to : NodeName) (here : List Rule)
-    → IsIndex rules pairs → i ≡ pair → pair < 512 → sender_of pair ≡ from → receiver_of pair ≡ to → here ≡ get_or pairs i here
-    → here ≡ filter (is_between from to) rules
-index_at rules pairs i pair from to here index is below sender receiver read =
-    let within : i < length pairs = omega (arith, index.all) in
-    read
-    ∙ get_or_default pairs i here [] within
-    ∙ ap (λ k. get_or pairs k []) is
-    ∙ index.each pair below
-    ∙ ap (λ n. filter (is_between n (receiver_of pair)) rules) sender
-    ∙ ap (λ n. filter (is_between from n) rules) receiver

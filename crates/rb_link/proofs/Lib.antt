@@ -1,1 +1,2 @@
 pub mod LastRules
+pub mod PairIndex

@@ -1,5 +1,5 @@
 -- The rules by the pair of nodes that they are for.
-use Rattle.std.specs.Prelude.{ℕ, ◌≡◌, ◌-◌, ◌/◌, ◌%◌, ◌<◌, nat_lt, ◌&&◌, Bool, if◌then◌else◌, List, [], length, filter, slice_index_or, Option, Some, None}
+use Rattle.std.specs.Prelude.{ℕ, ◌≡◌, ◌+◌, ◌-◌, ◌/◌, ◌%◌, ◌<◌, nat_lt, ◌&&◌, Bool, cond, if◌then◌else◌, List, [], ◌∷◌, length, slice_index, slice_range, Option, Some, None}
 use Rattle.rb_base.specs.declared.node.NodeName.{NodeName}
 use Rattle.rb_base.specs.declared.node.NodeName.TheVariants.{Biu, Rmu}
 use Rattle.rb_rules.specs.declared.link.Rule.{Rule}
@@ -17,14 +17,22 @@ sender_of pair = if nat_lt pair 256 then Biu (pair / 16) else Rmu (pair / 16 - 1
 abbrev pub receiver_of : ℕ → NodeName
 receiver_of pair = if nat_lt pair 256 then Rmu (pair % 16) else Biu (pair % 16)
 
--- the rules for the messages of this pair, in their order
-abbrev pub rules_of : ℕ → List Rule → List Rule
-rules_of pair rules = filter (is_between (sender_of pair) (receiver_of pair)) rules
+-- the places of the rules that pass, where the first has place n
+abbrev pub places_from : ℕ → (Rule → Bool) → List Rule → List ℕ
+places_from n passes [] = []
+places_from n passes (r ∷ rs) = cond (passes r) (n ∷ places_from (n + 1) passes rs) (places_from (n + 1) passes rs)
 
--- the lists hold the rules of each pair, by its number
-pub record IsIndex (rules : List Rule) (pairs : List (List Rule)) : Type 0 where
-  pub all : length pairs ≡ 512
-  pub each : (pair : ℕ) → pair < 512 → slice_index_or pairs pair [] ≡ rules_of pair rules
+-- the places of the rules for the messages of this pair, in order
+unfoldable pub places_for : ℕ → List Rule → List ℕ
+places_for pair rules = places_from 0 (is_between (sender_of pair) (receiver_of pair)) rules
+
+-- the places that stand between the starts of this pair and of the next
+abbrev pub places_of : List ℕ → List ℕ → ℕ → List ℕ
+places_of starts places pair = slice_range places (slice_index starts pair) (slice_index starts (pair + 1))
+
+-- where a pair and the next one have starts, the places of the pair's rules stand between them
+pub record IsIndex (rules : List Rule) (starts places : List ℕ) : Type 0 where
+  pub each : (pair : ℕ) → pair + 1 < length starts → places_of starts places pair ≡ places_for pair rules
 
 -- the delay of the rule that was found, else the base
 abbrev pub delay_or : ℕ → Option Rule → ℕ

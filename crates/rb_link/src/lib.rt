@@ -1,10 +1,10 @@
 //! How long each message of a bus is on its way. Rules on delays are this project's own.
 #![tactic(auto)]
 
-ghost use Rattle.std.specs.Prelude.{◌≡◌, ◌<◌, IfOk, IfSome, filter, reverse};
-ghost use Rattle.std.specs.List.{find};
+ghost use Rattle.std.specs.Prelude.{◌≡◌, ◌+◌, ◌<◌, ◌≤◌, ◌++◌, ◌∷◌, [], cond, IfOk, IfSome, length, reverse, slice_get};
+ghost use Rattle.std.specs.List.{filter_map, find};
 ghost use Rattle.rb_rules.specs.Links.{applies, covers, delay_of, is_in_range, same_node, stands_for};
-ghost use Rattle.rb_link.specs.Pairs.{delay_or, is_between, receiver_of, sender_of};
+ghost use Rattle.rb_link.specs.Pairs.{IsIndex, delay_or, is_between, places_from, places_of, receiver_of, sender_of};
 
 use rb_base::{NodeName, OutOfMemory, Place};
 pub use rb_rules::{Pattern, Rule};
@@ -14,13 +14,16 @@ use std::marker::Model;
 // The number of pairs of a sender and a receiver of unlike kinds.
 const PAIRS: u16 = 512;
 
-/// The delays of a bus, in reference units: the one of a message for which there is no rule, and the rules. The rules are
-/// also kept by the pair of nodes that they are for, since each message is looked up.
+// As many rules can be numbered. A bus has far fewer.
+const NUMBERED: usize = 65536;
+
+/// The delays of a bus, in reference units: the one of a message for which there is no rule, and the rules. Beside them it is
+/// kept which rules are for each pair of nodes, since each message is looked up.
 #[derive(Drop)]
 pub struct Delays {
     base: u32,
     rules: Vec<Rule>,
-    pairs: Vec<PairRules>,
+    index: Index,
 }
 
 impl Model for Delays {
@@ -32,51 +35,101 @@ impl Model for Delays {
 
     ghost view = { λ d. record { base = d.base; rules = d.rules.items } };
 
-    ghost invariant = { λ d. IsIndex d.rules.items d.pairs.items };
+    ghost invariant = { λ d. IsIndex d.rules.items d.index.starts.items d.index.places.items };
 }
 
-/// The rules for the messages from one node to another, in their order.
+/// Which rules are for each pair of nodes: `places` holds the numbers of the rules, pair by pair, and `starts` where those of
+/// each pair begin and the last end. Where there are too many rules to be numbered, both are empty.
 #[derive(Drop)]
-struct PairRules {
-    rules: Vec<Rule>,
+struct Index {
+    starts: Vec<usize>,
+    places: Vec<u16>,
 }
 
-impl Model for PairRules {
-    ghost use Rattle.std.specs.Prelude.{List};
-    ghost use Rattle.rb_rules.specs.declared.link.Rule.{Rule};
-
-    ghost Value = { List Rule };
-
-    ghost view = { λ p. p.rules.items };
+impl Index {
+    fn new(alloc: Global, rules: &[Rule]) -> Result<Index, OutOfMemory>
+        ensures { IfOk result (λ x. IsIndex rules.now x.starts.items x.places.items) }
+    {
+        let mut starts = Vec::new(alloc);
+        let mut places = Vec::new(alloc);
+        if rules.len() > NUMBERED {
+            return Ok(Index { starts, places });
+        }
+        for pair in 0..PAIRS {
+            add_start(&mut starts, &places)?;
+            add_places(&mut places, rules, sender_of(pair), receiver_of(pair))?;
+        }
+        add_start(&mut starts, &places)?;
+        Ok(Index { starts, places })
+    }
 }
 
-impl PairRules {
-    fn new(
-        alloc: Global,
-        rules: &[Rule],
-        from: NodeName,
-        to: NodeName,
-    ) -> Result<PairRules, OutOfMemory>
-        ensures { IfOk result (λ p. p ≡ filter (is_between from to) rules.now) }
-    {
-        let rules = rules
-            .iter()
-            .copied()
-            .filter(|rule| is_between(rule, from, to))
-            .collect(alloc)?;
-        Ok(PairRules { rules })
+// The numbers of the rules that are for messages from the one node to the other come behind those that are there.
+fn add_places(
+    places: &mut Vec<u16>,
+    rules: &[Rule],
+    from: NodeName,
+    to: NodeName,
+) -> Result<(), OutOfMemory>
+    requires { length rules.now ≤ NUMBERED }
+    ensures { IfOk result (λ _. places.new.items ≡ places.old.items ++ places_from 0 (is_between from to) rules.now) }
+{
+    let mut number: usize = 0;
+    for rule in rules {
+        add_if(places, is_between(rule, from, to), number as u16)?;
+        number += 1;
     }
+    Ok(())
+}
 
-    // The last of the rules that has this place.
-    fn last(&self, place: Place) -> Option<Rule>
-        ensures { result ≡ find (λ rule. covers rule.frames rule.slots rule.stages place) (reverse self.now) }
-    {
-        self.rules
-            .iter()
-            .rev()
-            .copied()
-            .find(|rule| covers(rule, place))
-    }
+// The next pair begins where the places end that are there.
+fn add_start(starts: &mut Vec<usize>, places: &[u16]) -> Result<(), OutOfMemory>
+    ensures { IfOk result (λ _. starts.new.items ≡ starts.old.items ++ length places.now ∷ []) }
+{
+    add(starts, places.len())
+}
+
+fn add<T: Copy>(list: &mut Vec<T>, item: T) -> Result<(), OutOfMemory>
+    ensures { IfOk result (λ _. list.new.items ≡ list.old.items ++ item ∷ []) }
+{
+    list.push(item).map_err(|_| OutOfMemory)
+}
+
+// The number comes behind those that are there, if its rule passes.
+fn add_if(places: &mut Vec<u16>, passes: bool, number: u16) -> Result<(), OutOfMemory>
+    ensures { IfOk result (λ _. places.new.items ≡ places.old.items ++ cond passes (number ∷ []) []) }
+{
+    if passes { add(places, number) } else { Ok(()) }
+}
+
+// The numbers of the rules of a pair, where it has a number and the rules have.
+fn places_of<'a>(starts: &[usize], places: &'a [u16], pair: u16) -> Option<&'a [u16]>
+    ensures starts { IfSome result (λ _. pair + 1 < length starts.now) }
+    ensures places { IfSome result (λ found. found.now ≡ places_of starts.now places.now pair) }
+{
+    let start = starts.get(usize::from(pair))?;
+    let end = starts.get(usize::from(pair) + 1)?;
+    places.get(*start..*end)
+}
+
+// The last of the rules with these numbers that has this place.
+fn last_at(rules: &[Rule], places: &[u16], place: Place) -> Option<Rule>
+    ensures { result ≡ find (λ rule. covers rule.frames rule.slots rule.stages place)
+        (filter_map (slice_get rules.now) (reverse places.now)) }
+{
+    places
+        .iter()
+        .rev()
+        .copied()
+        .filter_map(|number| rule_at(rules, number))
+        .find(|rule| covers(rule, place))
+}
+
+// The rule with this number, if there is one.
+fn rule_at(rules: &[Rule], number: u16) -> Option<Rule>
+    ensures { result ≡ slice_get rules.now number }
+{
+    rules.get(usize::from(number)).copied()
 }
 
 impl Delays {
@@ -84,17 +137,13 @@ impl Delays {
     pub fn new(alloc: Global, base: u32, rules: &[Rule]) -> Result<Delays, OutOfMemory>
         ensures { IfOk result (λ d. d ≡ record { base = base; rules = rules.now }) }
     {
-        let mut pairs = Vec::new(alloc);
-        for pair in 0..PAIRS {
-            let of_pair = PairRules::new(alloc, rules, sender_of(pair), receiver_of(pair))?;
-            pairs.push(of_pair).map_err(|_| OutOfMemory)?;
-        }
+        let index = Index::new(alloc, rules)?;
         let rules = Vec::from_slice(alloc, rules)?;
-        Ok(Delays { base, rules, pairs })
+        Ok(Delays { base, rules, index })
     }
 
     /// How long a message of this place from one node to another is on its way, in reference units. The place is the one
-    /// that the message's header names.
+    /// that the message's header names. Only the rules for these two nodes are looked at.
     pub fn delay(&self, from: NodeName, to: NodeName, place: Place) -> u32
         ensures { result ≡ delay_of self.now from to place }
     {
@@ -108,8 +157,11 @@ impl Delays {
     fn last(&self, from: NodeName, to: NodeName, place: Place) -> Option<Rule>
         ensures { delay_or self.now.base result ≡ delay_of self.now from to place }
     {
-        match pair_of(from, to) {
-            Some(pair) => self.pairs[usize::from(pair)].last(place),
+        let Some(pair) = pair_of(from, to) else {
+            return last_rule(&self.rules, from, to, place);
+        };
+        match places_of(&self.index.starts, &self.index.places, pair) {
+            Some(places) => last_at(&self.rules, places, place),
             None => last_rule(&self.rules, from, to, place),
         }
     }
@@ -262,6 +314,40 @@ mod tests {
             let place = Place { frame, slot, stage };
             assert_eq!(rt; delays.delay(from, to, place), delay);
         }
+        Ok(())
+    }
+
+    #[test]
+    fn more_rules_than_can_be_numbered(rt: HostRuntime) -> Result<(), Fail> {
+        let rule = Rule {
+            from: Pattern::AllBiu,
+            to: Pattern::AllRmu,
+            frames: ALL_FRAMES,
+            slots: ALL_SLOTS,
+            stages: ALL_STAGES,
+            delay: 7000,
+        };
+        let last = Rule {
+            delay: 5000,
+            ..rule
+        };
+        let place = Place {
+            frame: 1,
+            slot: 2,
+            stage: 3,
+        };
+        let mut rules = vec![in rt.alloc(); rule; 65536]?;
+        let numbered = Delays::new(rt.alloc(), 10000, &rules)?;
+        assert_eq!(rt;
+            numbered.delay(NodeName::Biu(15), NodeName::Rmu(15), place),
+            7000
+        );
+        rules.push(last)?;
+        let delays = Delays::new(rt.alloc(), 10000, &rules)?;
+        assert_eq!(rt;
+            delays.delay(NodeName::Biu(15), NodeName::Rmu(15), place),
+            5000
+        );
         Ok(())
     }
 }

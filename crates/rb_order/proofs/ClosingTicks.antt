@@ -1,4 +1,5 @@
--- The tick with which a node closes a window does what the rounds do with the node in that window.
+-- For the law that events are rounds, which is still to come: the tick with which a node closes a window does what the rounds
+-- do with the node in that window.
 use Rattle.std.proofs.Common.{◌≡◌, ℕ, ◌+◌, ◌<◌, ◌^◌, ◌&&◌, nat_le, true, false, List, [], map, sym, ◌∙◌, ap, arith, Option, Some, None}
 use Rattle.std.proofs.lemmas.Bool.Decides.{nat_tests}
 use Rattle.rb_base.specs.Nodes.{Side}

@@ -1,5 +1,5 @@
--- The invariant of a run event by event: each node stands in a moment of the rounds of its own, and what has come to it and is
--- pending there is what the rounds' nodes have sent.
+-- For the law that events are rounds, which is still to come: the invariant of a run event by event: each node stands in a
+-- moment of the rounds of its own, and what has come to it and is pending there is what the rounds' nodes have sent.
 use Rattle.std.proofs.Common.{◌≡◌, ℕ, zero, suc, ◌+◌, ◌-◌, ◌<◌, ◌≤◌, ◌⊎◌, nat_lt, Bool, true, false, List, [], Option, Some, None, slice_get, option_and_then}
 use Rattle.rb_base.specs.Nodes.{Side, other}
 use Rattle.rb_base.specs.Nodes.Side.{Biu}

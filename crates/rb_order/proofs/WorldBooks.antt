@@ -1,5 +1,5 @@
 -- The book of the world only grows, by at most one record a call, and that record is the turn.
-use Rattle.std.proofs.Common.{◌≡◌, ℕ, suc, ◌+◌, ◌==◌, ◌&&◌, not, ◌⊎◌, inl, inr, nat_lt, Bool, true, false, List, [], ◌∷◌, ◌++◌, length, refl, subst, sym, ◌∙◌, ap, arith, Option, Some, None, slice_get, if◌then◌else◌}
+use Rattle.std.proofs.Common.{◌≡◌, ℕ, zero, suc, ◌+◌, ◌==◌, ◌&&◌, not, ◌⊎◌, inl, inr, nat_lt, Bool, true, false, List, [], ◌∷◌, ◌++◌, length, refl, subst, sym, ◌∙◌, ap, arith, Option, Some, None, slice_get, if◌then◌else◌}
 use Rattle.std.proofs.lemmas.Bool.Decides.{nat_tests}
 use Rattle.std.proofs.lemmas.List.{append-nil}
 use Rattle.std.proofs.lemmas.Option.{slice_get_past}
@@ -14,9 +14,10 @@ use Rattle.rb_rules.specs.Book.Record.{Slot, Ended, Breach}
 use Rattle.rb_rules.specs.Goodness.{Scenario, is_good}
 use Rattle.rb_rules.specs.Judging.{JudgedStage, verdict_of}
 use Rattle.rb_rules.specs.Ports.{with_state}
-use Rattle.rb_rules.specs.WorldStep.{Site, World, Pending, Due, needs_no_event, with_pending, with_act, happens, is_complete, book_with, settle, settled, take_due, take, go_on, hand, frame_in, Choice, choose}
+use Rattle.rb_rules.specs.WorldStep.{Site, World, Pending, Due, Way, with_pending, with_act, happens, is_complete, book_with, comes_so, settle_next, record_since, settle, take_if_due, take, go_on, hand, frame_in, Choice, choose}
 use Rattle.rb_rules.specs.WorldStep.Choice.{Take, GoOn, Hand}
 use Rattle.rb_rules.specs.WorldStep.Pending.{Tick, Arrival}
+use Rattle.rb_rules.specs.WorldStep.Way.{ByAnEvent, ByItself}
 use Rattle.rb_rules.proofs.Books.{GoesOn, on-refl, on-trans, stage-on, frame-on, end-on}
 use Rattle.rb_rules.proofs.WindowNumbers.{get-back}
 
@@ -88,47 +89,26 @@ test-more : (sc : Scenario) (w : World) (b : Bool) → AtMostOneMore w.book.give
 test-more sc w true = book-more sc w.sites w.book w.book.upcoming
 test-more sc w false = inl refl
 
-settle-on : (sc : Scenario) (may : Milestone → Bool) (n : ℕ) (w : World) → GoesOn w.book (settle sc may n w).book
-settle-on sc may n w = test-on sc w (may w.book.upcoming && is_complete sc w.sites w.book.upcoming && (length w.book.given == n))
+next-on : (sc : Scenario) (way : Way) (w : World) → GoesOn w.book (settle_next sc way w).book
+next-on sc way w = test-on sc w (comes_so sc way w.book.upcoming && is_complete sc w.sites w.book.upcoming)
 
-settle-more : (sc : Scenario) (may : Milestone → Bool) (n : ℕ) (w : World) → AtMostOneMore w.book.given (settle sc may n w).book.given
-settle-more sc may n w = test-more sc w (may w.book.upcoming && is_complete sc w.sites w.book.upcoming && (length w.book.given == n))
+next-more : (sc : Scenario) (way : Way) (w : World) → AtMostOneMore w.book.given (settle_next sc way w).book.given
+next-more sc way w = test-more sc w (comes_so sc way w.book.upcoming && is_complete sc w.sites w.book.upcoming)
 
-and-false : (a b : Bool) → b ≡ false → (a && b) ≡ false
-and-false true b h = h
-and-false false b h = refl
+-- what follows a milestone that gave this
+abbrev settle_rest : Scenario → Way → ℕ → World → Option Record → World
+settle_rest sc way others next r = elim r [ None ↦ settle sc way others next | Some r ↦ record next { turn = Some r } ]
 
--- nothing is settled once there is another number of records
-settle-stops : (sc : Scenario) (may : Milestone → Bool) (n : ℕ) (w : World) → (length w.book.given == n) ≡ false → settle sc may n w ≡ w
-settle-stops sc may n w h =
-    ap (after_test sc w) (and-false (may w.book.upcoming && is_complete sc w.sites w.book.upcoming) (length w.book.given == n) h)
+rest-on : (sc : Scenario) (way : Way) (n : ℕ) (w next : World) → GoesOn w.book next.book → GoesOn next.book (settle sc way n next).book
+    → (r : Option Record) → GoesOn w.book (settle_rest sc way n next r).book
+rest-on sc way n w next one rest None = on-trans w.book next.book (settle sc way n next).book one rest
+rest-on sc way n w next one rest (Some r) = one
 
-length-one : (xs : List Record) (r : Record) → length (xs ++ r ∷ []) ≡ length xs + 1
-length-one [] r = refl
-length-one (x ∷ xs) r = ap suc (length-one xs r) ∙ omega arith
-
-other-length : (a n : ℕ) → a ≡ n + 1 → (a == n) ≡ false
-other-length a n h = grind (arith, nat_tests)
-
--- what two milestones in a row give
-pub settled-more : (sc : Scenario) (may : Milestone → Bool) (w : World)
-    → AtMostOneMore w.book.given (settled sc may (length w.book.given) w).book.given
-settled-more sc may w =
-    let n : ℕ = length w.book.given in
-    let one : World = settle sc may n w in
-    elim (settle-more sc may n w) [
-      | inl same ↦
-          let second : AtMostOneMore one.book.given (settle sc may n one).book.given = settle-more sc may n one in
-          subst (λ xs. AtMostOneMore xs (settle sc may n one).book.given) same second
-      | inr added ↦
-          let long : length one.book.given ≡ n + 1 = ap length added.1 ∙ length-one w.book.given added.0 in
-          let stops : settle sc may n one ≡ one = settle-stops sc may n one (other-length (length one.book.given) n long) in
-          inr (added.0, ap (λ w. w.book.given) stops ∙ added.1)
-    ]
-
-pub settled-on : (sc : Scenario) (may : Milestone → Bool) (n : ℕ) (w : World) → GoesOn w.book (settled sc may n w).book
-settled-on sc may n w =
-    on-trans w.book (settle sc may n w).book (settle sc may n (settle sc may n w)).book (settle-on sc may n w) (settle-on sc may n (settle sc may n w))
+pub settle-on : (sc : Scenario) (way : Way) (n : ℕ) (w : World) → GoesOn w.book (settle sc way n w).book
+settle-on sc way zero w = on-refl w.book
+settle-on sc way (suc n) w =
+    rest-on sc way n w (settle_next sc way w) (next-on sc way w) (settle-on sc way n (settle_next sc way w))
+    (record_since w (settle_next sc way w))
 
 -- an event by itself leaves the book alone
 pending-book : (sc : Scenario) (w : World) (me : Side) (i : ℕ) (s : Site) (p : Pending) → (with_pending sc w me i s p).book ≡ w.book
@@ -157,32 +137,39 @@ last-one xs ys r e =
     let z : length xs + 0 ≡ length xs = omega arith in
     ap (λ l. slice_get l (length xs)) e ∙ ap (slice_get (xs ++ r ∷ [])) (sym z) ∙ get-back xs (r ∷ []) 0
 
-turn-by : (before : List Record) (w : World) → AtMostOneMore before w.book.given → w.turn ≡ slice_get w.book.given (length before) → IsTurn before w
-turn-by before w (inl same) e = inl (same, e ∙ none-past before w.book.given same)
-turn-by before w (inr added) e = inr (added.0, (added.1, e ∙ last-one before w.book.given added.0 added.1))
-
-settled-turn : (sc : Scenario) (may : Milestone → Bool) (w : World) → IsTurn w.book.given (settled sc may (length w.book.given) w)
-settled-turn sc may w = turn-by w.book.given (settled sc may (length w.book.given) w) (settled-more sc may w) refl
+-- what is settled gives one record at most, which is the turn
+settle-turn : (sc : Scenario) (way : Way) (n : ℕ) (w : World) → IsTurn w.book.given (settle sc way n w)
+settle-turn sc way zero w = inl (refl, refl)
+settle-turn sc way (suc n) w =
+    let next : World = settle_next sc way w in
+    elim (next-more sc way w) [
+      | inl same ↦
+          let none : record_since w next ≡ None = none-past w.book.given next.book.given same in
+          let rest : IsTurn next.book.given (settle sc way n next) = settle-turn sc way n next in
+          subst (λ r. IsTurn w.book.given (settle_rest sc way n next r)) (sym none)
+          (subst (λ given. IsTurn given (settle sc way n next)) same rest)
+      | inr added ↦
+          let one : record_since w next ≡ Some added.0 = last-one w.book.given next.book.given added.0 added.1 in
+          subst (λ r. IsTurn w.book.given (settle_rest sc way n next r)) (sym one) (inr (added.0, (added.1, refl)))
+    ]
 
 -- an event that is taken gives one record at most, which is the turn
-pub take-turn : (sc : Scenario) (w : World) (d : Due) → IsTurn w.book.given (take_due sc w (Some d))
+pub take-turn : (sc : Scenario) (w : World) (d : Due) → IsTurn w.book.given (take_if_due sc w (Some d))
 take-turn sc w d =
-    let may : Milestone → Bool = λ m. not (needs_no_event sc m) in
     let same : (happens sc w d).book ≡ w.book = happens-book sc w d in
-    subst (λ b. IsTurn b.given (settled sc may (length b.given) (happens sc w d))) same (settled-turn sc may (happens sc w d))
+    subst (λ b. IsTurn b.given (take_if_due sc w (Some d))) same (settle-turn sc ByAnEvent 2 (happens sc w d))
 
 -- so does a record that needs no event
 pub go-on-turn : (sc : Scenario) (w : World) → w.book.ended ≡ false → IsTurn w.book.given (go_on sc w)
 unfolding go_on
 go-on-turn sc w h =
-    subst (λ b. IsTurn w.book.given (elim b as (λ _. World) [ true ↦ w | false ↦ settled sc (needs_no_event sc) (length w.book.given) w ])) (sym h)
-    (settled-turn sc (needs_no_event sc) w)
+    subst (λ b. IsTurn w.book.given (elim b as (λ _. World) [ true ↦ w | false ↦ settle sc ByItself 2 w ])) (sym h)
+    (settle-turn sc ByItself 2 w)
 
-take-on-due : (sc : Scenario) (w : World) (o : Option Due) → GoesOn w.book (take_due sc w o).book
+take-on-due : (sc : Scenario) (w : World) (o : Option Due) → GoesOn w.book (take_if_due sc w o).book
 take-on-due sc w None = on-refl w.book
 take-on-due sc w (Some d) =
-    let may : Milestone → Bool = λ m. not (needs_no_event sc m) in
-    subst (λ b. GoesOn b (take_due sc w (Some d)).book) (happens-book sc w d) (settled-on sc may (length w.book.given) (happens sc w d))
+    subst (λ b. GoesOn b (take_if_due sc w (Some d)).book) (happens-book sc w d) (settle-on sc ByAnEvent 2 (happens sc w d))
 
 -- whatever is chosen, the book only grows
 pub take-on : (sc : Scenario) (w : World) (i : ℕ) → GoesOn w.book (take sc w i).book
@@ -190,9 +177,9 @@ unfolding take
 take-on sc w i = take-on-due sc w _
 
 go-on-by : (sc : Scenario) (w : World) (b : Bool)
-    → GoesOn w.book (elim b as (λ _. World) [ true ↦ w | false ↦ settled sc (needs_no_event sc) (length w.book.given) w ]).book
+    → GoesOn w.book (elim b as (λ _. World) [ true ↦ w | false ↦ settle sc ByItself 2 w ]).book
 go-on-by sc w true = on-refl w.book
-go-on-by sc w false = settled-on sc (needs_no_event sc) (length w.book.given) w
+go-on-by sc w false = settle-on sc ByItself 2 w
 
 pub go-on-on : (sc : Scenario) (w : World) → GoesOn w.book (go_on sc w).book
 unfolding go_on

@@ -1,4 +1,5 @@
--- In every world there are as many nodes as the bus has, and what comes to a node comes from nodes that there are.
+-- For the law that events are rounds, which is still to come: in every world there are as many nodes as the bus has, and what
+-- comes to a node comes from nodes that there are.
 use Rattle.std.proofs.Common.{◌≡◌, ℕ, zero, suc, ◌+◌, ◌<◌, ◌==◌, ◌&&◌, not, Bool, true, false, List, [], ◌∷◌, ◌++◌, length, remove, refl, sym, ◌∙◌, subst, arith, Option, Some, None, slice_get, option_map, map, filter, fold}
 use Rattle.std.specs.Prelude.{flat_map}
 use Rattle.std.specs.List.{range_with_len}
@@ -10,16 +11,17 @@ use Rattle.rb_base.specs.Sizes.{Sizes}
 use Rattle.rb_rules.specs.declared.closing.Closed.{Closed}
 use Rattle.rb_rules.specs.declared.message.Message.{Message}
 use Rattle.rb_rules.specs.declared.record.Epoch.{Epoch}
-use Rattle.rb_rules.specs.Book.{Each, of_kind, each_of, map_each, Milestone}
+use Rattle.rb_rules.specs.Book.{Each, of_kind, each_of, map_each, Milestone, Record}
 use Rattle.rb_rules.specs.Core.{Act}
 use Rattle.rb_rules.specs.Goodness.{Scenario, is_good, clock_of}
 use Rattle.rb_rules.specs.Hearing.{Coming, Sending, Span, coming_said, said_by, is_said, coming_of}
 use Rattle.rb_rules.specs.NodeState.{NodeState}
 use Rattle.rb_rules.specs.Ports.{PortState, with_state}
 use Rattle.rb_rules.specs.Slots.{count_of, same_side}
-use Rattle.rb_rules.specs.WorldStep.{Site, World, says_in, await, stop, enter, proceed, span_from, with_close, with_epoch, after_act, after_arrival, sent_to, with_message, at_node, with_act, pass_and_tick, Pending, with_pending, Due, happens, is_complete, book_with, settle, settled, needs_no_event, take_due, due_of, take, go_on, frame_in, hand, fresh_site, first_world, Choice, choose, world_after}
+use Rattle.rb_rules.specs.WorldStep.{Site, World, says_in, await, stop, enter, proceed, span_from, with_close, with_epoch, after_act, after_arrival, sent_to, with_message, at_node, with_act, pass_and_tick, Pending, with_pending, Due, happens, is_complete, book_with, Way, comes_so, settle_next, record_since, settle, take_if_due, due_of, take, go_on, frame_in, hand, fresh_site, first_world, Choice, choose, world_after}
 use Rattle.rb_rules.specs.WorldStep.Choice.{Take, GoOn, Hand}
 use Rattle.rb_rules.specs.WorldStep.Pending.{Tick, Arrival}
+use Rattle.rb_rules.specs.WorldStep.Way.{ByAnEvent, ByItself}
 use Rattle.rb_rules.proofs.WindowNumbers.{get-each, length-each, get-made}
 use Rattle.rb_order.proofs.DueEvents.{IsDue, due-is}
 use Rattle.rb_order.proofs.SameHeard.{Every}
@@ -186,26 +188,33 @@ unfolding happens
 happens-known sc w d known = happens-by sc w d (slice_get (of_kind d.side w.sites) d.node) refl known
 
 -- settling leaves the nodes alone
-settle-sites : (sc : Scenario) (may : Milestone → Bool) (n : ℕ) (w : World) → (settle sc may n w).sites ≡ w.sites
-settle-sites sc may n w = by (may w.book.upcoming && is_complete sc w.sites w.book.upcoming && (length w.book.given == n))
+next-sites : (sc : Scenario) (way : Way) (w : World) → (settle_next sc way w).sites ≡ w.sites
+next-sites sc way w = by (comes_so sc way w.book.upcoming && is_complete sc w.sites w.book.upcoming)
   where
     by : (b : Bool) → (elim b as (λ _. World) [ true ↦ record w { book = book_with sc w.sites w.book w.book.upcoming } | false ↦ w ]).sites ≡ w.sites
     by true = refl
     by false = refl
 
-settled-sites : (sc : Scenario) (may : Milestone → Bool) (n : ℕ) (w : World) → (settled sc may n w).sites ≡ w.sites
-settled-sites sc may n w = settle-sites sc may n (settle sc may n w) ∙ settle-sites sc may n w
+rest-sites : (sc : Scenario) (way : Way) (n : ℕ) (w next : World) → next.sites ≡ w.sites → (settle sc way n next).sites ≡ next.sites
+    → (r : Option Record) → (elim r as (λ _. World) [ None ↦ settle sc way n next | Some r ↦ record next { turn = Some r } ]).sites ≡ w.sites
+rest-sites sc way n w next one rest None = rest ∙ one
+rest-sites sc way n w next one rest (Some r) = one
 
-due-known : (sc : Scenario) (w : World) (o : Option Due) → NodesKnown sc w.sites → NodesKnown sc (take_due sc w o).sites
+settle-sites : (sc : Scenario) (way : Way) (n : ℕ) (w : World) → (settle sc way n w).sites ≡ w.sites
+settle-sites sc way zero w = refl
+settle-sites sc way (suc n) w =
+    rest-sites sc way n w (settle_next sc way w) (next-sites sc way w) (settle-sites sc way n (settle_next sc way w))
+    (record_since w (settle_next sc way w))
+
+due-known : (sc : Scenario) (w : World) (o : Option Due) → NodesKnown sc w.sites → NodesKnown sc (take_if_due sc w o).sites
 due-known sc w None known = known
 due-known sc w (Some d) known =
-    let may : Milestone → Bool = λ m. not (needs_no_event sc m) in
-    subst (NodesKnown sc) (sym (settled-sites sc may (length w.book.given) (happens sc w d))) (happens-known sc w d known)
+    subst (NodesKnown sc) (sym (settle-sites sc ByAnEvent 2 (happens sc w d))) (happens-known sc w d known)
 
 go-sites : (sc : Scenario) (w : World) (b : Bool)
-    → (elim b as (λ _. World) [ true ↦ w | false ↦ settled sc (needs_no_event sc) (length w.book.given) w ]).sites ≡ w.sites
+    → (elim b as (λ _. World) [ true ↦ w | false ↦ settle sc ByItself 2 w ]).sites ≡ w.sites
 go-sites sc w true = refl
-go-sites sc w false = settled-sites sc (needs_no_event sc) (length w.book.given) w
+go-sites sc w false = settle-sites sc ByItself 2 w
 
 hand-inner : (w : World) (x : World) (b : Bool) → x.sites ≡ w.sites → (elim b as (λ _. World) [ true ↦ x | false ↦ w ]).sites ≡ w.sites
 hand-inner w x true e = e

@@ -91,7 +91,8 @@ impl Source for MemSource {
         if self.script.begin_call() {
             return Err(self.script.fail());
         }
-        Ok(self.supply.give(into))
+        let given = self.supply.give(into);
+        Ok(given)
     }
 }
 

@@ -1,4 +1,4 @@
--- Who is convicted, and who is not.
+-- For the laws of agreement: who is convicted, and who is not.
 use Rattle.std.proofs.Common.{◌≡◌, ℕ, ◌<◌, ◌≤◌, Bool, true, false, ◌&&◌, nat_lt, refl, ◌∙◌, ap, arith}
 use Rattle.std.proofs.lemmas.Bool.Decides.{nat_tests}
 use Rattle.rb_base.specs.Nodes.{has}

@@ -1,4 +1,5 @@
--- Whoever was seen unlike was taken: so the three classes leave nothing out, and none of them meets another.
+-- For the laws of agreement: whoever was seen unlike was taken: so the three classes leave nothing out, and none of them meets
+-- another.
 use Rattle.std.proofs.Common.{◌≡◌, ℕ, Bool, true, false, ◌&&◌, ◌||◌, not, List, [], ◌∷◌, ◌⊎◌, inl, inr, sym, subst, refl}
 use Rattle.std.specs.List.{list_any}
 use Rattle.rb_base.specs.Counting.{numbers}

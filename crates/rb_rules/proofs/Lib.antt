@@ -1,4 +1,5 @@
 pub mod Stamps
+pub mod Lawfulness
 pub mod Drift
 pub mod Spellings
 pub mod Majorities

@@ -1,4 +1,5 @@
--- As many passes as there are data slots are enough: more of them give the same owners.
+-- For a law on the schedule that is still to come: as many passes as there are data slots are enough: more of them give the
+-- same owners.
 use Rattle.std.proofs.Common.{◌≡◌, ℕ, zero, suc, ◌+◌, ◌≤◌, Bool, true, false, ◌&&◌, nat_lt, cond, List, [], ◌∷◌, ◌++◌, take, filter, get_or, refl, sym, ◌∙◌, ap, arith}
 use Rattle.std.specs.List.{flat_map, range_with_len}
 use Rattle.std.proofs.lemmas.Bool.Decides.{nat_tests}

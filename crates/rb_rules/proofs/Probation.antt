@@ -1,5 +1,5 @@
--- How long an accusation stands: where its newest evidence is of frame e and the probation is q frames, it stands in the
--- frames up to e + q and lapses with the next.
+-- For a law on probation that is still to come: how long an accusation stands: where its newest evidence is of frame e and the
+-- probation is q frames, it stands in the frames up to e + q and lapses with the next.
 use Rattle.std.proofs.Common.{◌≡◌, ℕ, zero, suc, ◌+◌, ◌<◌, ◌≤◌, min, Bool, true, false, not, ◌&&◌, nat_le, slice_index, if◌then◌else◌, refl, ◌∙◌, ap, arith, subst, zero-add}
 use Rattle.std.proofs.lemmas.Bool.Decides.{nat_tests}
 use Rattle.std.proofs.lemmas.List.FromFn.{get_or-map-range_with_len}

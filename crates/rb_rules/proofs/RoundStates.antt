@@ -1,4 +1,4 @@
--- What the rounds keep of each node: its frame, its epoch, whom it trusts, and which middles it knows.
+-- For the laws of runs: what the rounds keep of each node: its frame, its epoch, whom it trusts, and which middles it knows.
 use Rattle.std.proofs.Common.{◌≡◌, ℕ, zero, suc, ◌+◌, ◌-◌, ◌*◌, ◌/◌, ◌<◌, ◌≤◌, ◌==◌, ◌&&◌, nat_lt, nat_le, Bool, true, false, List, map, refl, subst, inl, inr, ◌%◌, sym, ◌∙◌, ap, arith, Option, Some, None, slice_get, option_map, is_some, if◌then◌else◌}
 use Rattle.std.proofs.lemmas.Bool.{cases_lt}
 use Rattle.std.proofs.lemmas.Bool.Decides.{nat_tests}

@@ -1,4 +1,4 @@
--- The vote of a close, by counts of the sources.
+-- For the laws of agreement: the vote of a close, by counts of the sources.
 use Rattle.std.proofs.Common.{◌≡◌, ℕ, ◌+◌, ◌<◌, ◌≤◌, Bool, true, false, cond, not, ◌&&◌, ◌||◌, List, [], ◌∷◌, length, map, Option, Some, None, is_some, refl, ◌∙◌, ap, arith, zero-add}
 use Rattle.std.specs.List.{cons_option}
 use Rattle.std.proofs.lemmas.List.FromFn.{get_or-map-range_with_len}

@@ -22,5 +22,8 @@ pub mod Hearing
 pub mod Rounds
 pub mod Core
 pub mod WorldStep
+pub mod Moments
+pub mod Headline
 pub mod AbstractBus
 pub mod StandsFor
+pub mod Lawful

@@ -1,6 +1,5 @@
 -- What it is that the rounds of a scenario stand for a run of the abstract bus: what all good nodes have in common.
-use Rattle.std.specs.Prelude.{ℕ, ◌≡◌, ◌+◌, ◌-◌, ◌*◌, ◌<◌, ◌≤◌, max, Bool, true, false, if◌then◌else◌, Some, List, [], filter, map, get_or, slice_get}
-use Rattle.rb_base.specs.Counting.{numbers}
+use Rattle.std.specs.Prelude.{ℕ, ◌≡◌, ◌+◌, ◌*◌, ◌<◌, ◌≤◌, max, Bool, true, false, if◌then◌else◌, Some, List, [], get_or}
 use Rattle.rb_base.specs.Nodes.{Side, other, has}
 use Rattle.rb_base.specs.Nodes.Side.{Biu, Rmu}
 use Rattle.rb_base.specs.Sizes.{Sizes, sync_slot_of}
@@ -9,37 +8,15 @@ use Rattle.rb_base.specs.declared.values.Heard.TheVariants.{Fault}
 use Rattle.rb_rules.specs.declared.plan.Plan.{Plan}
 use Rattle.rb_rules.specs.declared.record.SlotLine.{SlotLine}
 use Rattle.rb_rules.specs.AbstractBus.{AbstractBus, IsRun, trusted_on, sender_on}
-use Rattle.rb_rules.specs.Book.{of_kind}
-use Rattle.rb_rules.specs.Clock.{time_of}
-use Rattle.rb_rules.specs.Goodness.{Scenario, is_good, clock_of}
-use Rattle.rb_rules.specs.Hearing.{port_at}
+use Rattle.rb_rules.specs.Goodness.{Scenario, is_good}
+use Rattle.rb_rules.specs.Headline.{lines_of}
+use Rattle.rb_rules.specs.Moments.{before_stage, IsComplete, IsReached, IsGoodBefore, IsGoodAfter, time_in_frame, offered_in}
 use Rattle.rb_rules.specs.NodeState.{NodeState, trusted_of}
 use Rattle.rb_rules.specs.Plan.{tail_start_of, shortest_of, longest_of}
-use Rattle.rb_rules.specs.Ports.{HandIn, offered_at}
-use Rattle.rb_rules.specs.Rounds.{Moment, moment, windows_in}
+use Rattle.rb_rules.specs.Ports.{HandIn}
 use Rattle.rb_rules.specs.Slots.{Sender, has_third_stage, role_of, same_side}
 use Rattle.rb_rules.specs.Slots.Sender.{Nobody, Node, EachTrusted}
 use Rattle.rb_rules.specs.SyncStage.{new_epoch_of}
-
--- The rounds at a slot.
-
--- the moment before a stage of a slot of a frame; before stage 4 the slot is over
-abbrev pub moment_at : Scenario → List HandIn → ℕ → ℕ → ℕ → Moment
-moment_at sc hands frame slot stage = moment sc hands (frame * (windows_in sc.sizes + 1) + 3 * slot + stage - 1)
-
--- the slot is complete without a breach: its three stages are, and so are all slots before it
-abbrev pub IsComplete : Scenario → List HandIn → ℕ → ℕ → Type 0
-IsComplete sc hands frame slot = (moment_at sc hands frame slot 4).book.ended ≡ false
-
--- the word that BIU i's application offers in a slot
-abbrev pub offered_in : Scenario → List HandIn → ℕ → ℕ → ℕ → ℕ
-offered_in sc hands frame slot i = offered_at (port_at sc (moment_at sc hands frame slot 1).ports i) slot
-
--- node i of a kind is good in the slot, and these are its states before the slot and after it
-pub record IsGoodAt (sc : Scenario) (hands : List HandIn) (frame slot : ℕ) (me : Side) (i : ℕ) (before after : NodeState) : Type 0 where
-  pub good : is_good sc me i frame slot ≡ true
-  pub state_before : slice_get (of_kind me (moment_at sc hands frame slot 1).nodes) i ≡ Some before
-  pub state_after : slice_get (of_kind me (moment_at sc hands frame slot 4).nodes) i ≡ Some after
 
 -- The abstract bus at a slot: its state before it is the one after so many steps.
 
@@ -54,14 +31,17 @@ value_on bus slot = get_or bus.values slot Fault
 
 -- the node begins offset o of the frame in the band of the bus. So two good nodes differ by at most p + 2 r o
 pub record IsInBand (sc : Scenario) (bus : AbstractBus) (me : Side) (i : ℕ) (st : NodeState) (o : ℕ) : Type 0 where
-  pub not_early : bus.low + o * shortest_of sc.plan ≤ time_of (clock_of sc me i) (st.epoch + o)
-  pub not_late : time_of (clock_of sc me i) (st.epoch + o) ≤ bus.low + sc.plan.p + o * longest_of sc.plan
+  pub not_early : bus.low + o * shortest_of sc.plan ≤ time_in_frame sc me i st o
+  pub not_late : time_in_frame sc me i st o ≤ bus.low + sc.plan.p + o * longest_of sc.plan
 
--- the node trusts whom the bus trusts, and from the first data slot on it holds the bus's schedule
-pub record HoldsSets (sc : Scenario) (bus : AbstractBus) (me : Side) (st : NodeState) : Type 0 where
+-- the node trusts whom the bus trusts
+pub record HoldsTrusted (bus : AbstractBus) (me : Side) (st : NodeState) : Type 0 where
   pub bius : trusted_of Biu me st ≡ bus.bius
   pub rmus : trusted_of Rmu me st ≡ bus.rmus
-  pub owners : sc.sizes.bius ≤ bus.slot → st.owners ≡ bus.owners
+
+-- from the first data slot on the node holds the bus's schedule
+abbrev pub HoldsOwners : Scenario → AbstractBus → NodeState → Type 0
+HoldsOwners sc bus st = sc.sizes.bius ≤ bus.slot → st.owners ≡ bus.owners
 
 -- a node of this kind votes in the slot: of data slots only BIUs do
 abbrev pub votes_on : Sizes → ℕ → Side → Bool
@@ -84,50 +64,63 @@ pub record FrameTakes (sizes : Sizes) (plan : Plan) (me : Side) (st : NodeState)
   pub least : st.epoch + tail_start_of sizes plan ≤ epoch
   pub most : epoch < st.epoch + tail_start_of sizes plan + max plan.z (plan.v + plan.c)
 
--- a good node in a slot between two states of the bus
-pub record AgreesAt (sc : Scenario) (frame slot : ℕ) (bus next : AbstractBus) (me : Side) (i : ℕ) (before after : NodeState) : Type 0 where
-  pub band : IsInBand sc bus me i before (3 * slot * sc.plan.l)
-  pub sets : HoldsSets sc bus me before
-  pub vote : HoldsVote sc slot next me after
-  pub spares : SparesAllGood sc frame slot me after
-  pub frame_takes : slot ≡ sync_slot_of sc.sizes → FrameTakes sc.sizes sc.plan me after
+-- a good node before a slot, by the bus's state there
+pub record AgreesBefore (sc : Scenario) (bus : AbstractBus) (me : Side) (i : ℕ) (st : NodeState) : Type 0 where
+  pub band : IsInBand sc bus me i st (3 * bus.slot * sc.plan.l)
+  pub trusted : HoldsTrusted bus me st
+  pub owners : HoldsOwners sc bus st
+
+-- a good node after a slot, by the bus's state after it
+pub record AgreesAfter (sc : Scenario) (frame slot : ℕ) (next : AbstractBus) (me : Side) (st : NodeState) : Type 0 where
+  pub vote : HoldsVote sc slot next me st
+  pub spares : SparesAllGood sc frame slot me st
+  pub frame_takes : slot ≡ sync_slot_of sc.sizes → FrameTakes sc.sizes sc.plan me st
 
 -- What holds of a slot.
 
 -- what is delivered in a data slot: the value, at each good BIU; nothing where the slot is idle
 abbrev pub lines_on : Scenario → ℕ → ℕ → Sender → Heard → List SlotLine
 lines_on sc frame slot Nobody value = []
-lines_on sc frame slot (Node owner) value =
-    map (λ i. record { receiver = i; sender = owner; value = value }) (filter (λ i. is_good sc Biu i frame slot) (numbers sc.sizes.bius))
+lines_on sc frame slot (Node owner) value = lines_of sc frame slot owner value
 lines_on sc frame slot EachTrusted value = []
 
 -- the deliveries of a data slot, which has no third stage, are those of the bus
 abbrev pub DeliversOn : Scenario → List HandIn → ℕ → ℕ → AbstractBus → AbstractBus → Type 0
 DeliversOn sc hands frame slot bus next =
     has_third_stage (role_of sc.sizes slot) ≡ false
-    → (moment_at sc hands frame slot 3).book.lines ≡ lines_on sc frame slot (sender_on sc.sizes bus) (value_on next slot)
+    → (before_stage sc hands frame slot 3).book.lines ≡ lines_on sc frame slot (sender_on sc.sizes bus) (value_on next slot)
 
--- the first time of the bus in a frame is that of a node, where one is good at the frame's begin
+-- what all good nodes have in common in a slot between two states of the bus
+pub record SlotAgrees (sc : Scenario) (hands : List HandIn) (frame slot : ℕ) (bus next : AbstractBus) : Type 0 where
+  pub before : (me : Side) (i : ℕ) (st : NodeState) → IsGoodBefore sc hands frame slot me i st → AgreesBefore sc bus me i st
+  pub after : (me : Side) (i : ℕ) (st : NodeState) → IsGoodAfter sc hands frame slot me i st → AgreesAfter sc frame slot next me st
+  pub good_are_trusted : (kind : Side) (j : ℕ) → is_good sc kind j frame slot ≡ true → has (trusted_on kind bus) j ≡ true
+  pub deliveries : DeliversOn sc hands frame slot bus next
+
+-- What holds of the begin of a frame.
+
+-- the first time of the bus in a frame is that of a node that begins it
 pub record IsLow (sc : Scenario) (hands : List HandIn) (frame low : ℕ) : Type 0 where
   pub me : Side
   pub i : ℕ
   pub st : NodeState
-  pub good : is_good sc me i frame 0 ≡ true
-  pub state : slice_get (of_kind me (moment_at sc hands frame 0 1).nodes) i ≡ Some st
-  pub time : time_of (clock_of sc me i) st.epoch ≡ low
+  pub begins : IsGoodBefore sc hands frame 0 me i st
+  pub time : time_in_frame sc me i st 0 ≡ low
 
-pub record SlotAgrees (sc : Scenario) (hands : List HandIn) (frame slot : ℕ) (bus next : AbstractBus) : Type 0 where
-  pub good_nodes : (me : Side) (i : ℕ) (before after : NodeState) → IsGoodAt sc hands frame slot me i before after
-      → AgreesAt sc frame slot bus next me i before after
-  pub good_are_trusted : (kind : Side) (j : ℕ) → is_good sc kind j frame slot ≡ true → has (trusted_on kind bus) j ≡ true
-  pub deliveries : DeliversOn sc hands frame slot bus next
-  pub low : IsLow sc hands frame bus.low
+-- what all good nodes have in common at the begin of a frame. Its first time is free where no node is good there
+pub record FrameAgrees (sc : Scenario) (hands : List HandIn) (frame : ℕ) (bus : AbstractBus) : Type 0 where
+  pub good_nodes : (me : Side) (i : ℕ) (st : NodeState) → IsGoodBefore sc hands frame 0 me i st → AgreesBefore sc bus me i st
+  pub low : (me : Side) (i : ℕ) (st : NodeState) → IsGoodBefore sc hands frame 0 me i st → IsLow sc hands frame bus.low
 
--- the rounds stand for a run of the bus: up to and with each slot that is complete without a breach the bus makes its steps,
--- and what all good nodes hold there is what the bus holds
+-- The run.
+
+-- the rounds stand for a run of the bus: up to each frame that is reached, and up to and with each slot that is complete without
+-- a breach, the bus makes its steps, and what all good nodes hold there is what the bus holds
 pub record StandsFor (sc : Scenario) (hands : List HandIn) : Type 0 where
   pub bus : ℕ → AbstractBus
-  pub run : (frame slot : ℕ) → slot ≤ sync_slot_of sc.sizes → IsComplete sc hands frame slot
+  pub run_to_frame : (frame : ℕ) → IsReached sc hands frame → IsRun sc (offered_in sc hands) (steps_to sc.sizes frame 0) bus
+  pub frames : (frame : ℕ) → IsReached sc hands frame → FrameAgrees sc hands frame (bus (steps_to sc.sizes frame 0))
+  pub run_to_slot : (frame slot : ℕ) → slot ≤ sync_slot_of sc.sizes → IsComplete sc hands frame slot
       → IsRun sc (offered_in sc hands) (steps_to sc.sizes frame slot + 1) bus
-  pub agrees : (frame slot : ℕ) → slot ≤ sync_slot_of sc.sizes → IsComplete sc hands frame slot
+  pub slots : (frame slot : ℕ) → slot ≤ sync_slot_of sc.sizes → IsComplete sc hands frame slot
       → SlotAgrees sc hands frame slot (bus (steps_to sc.sizes frame slot)) (bus (steps_to sc.sizes frame slot + 1))

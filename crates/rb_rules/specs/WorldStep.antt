@@ -1,5 +1,5 @@
 -- The world's step: all node cores of a run with what is pending at each, one event after another in the order of time.
-use Rattle.std.specs.Prelude.{◌≡◌, ℕ, ◌-◌, min, ◌==◌, ◌&&◌, ◌||◌, not, Bool, true, false, Option, Some, None, is_some, option_and_then, option_map, option_to_list, List, [], ◌∷◌, ◌++◌, filter, flat_map, fold, length, map, remove, slice_get, slice_set}
+use Rattle.std.specs.Prelude.{◌≡◌, ℕ, zero, suc, ◌-◌, min, ◌==◌, ◌&&◌, ◌||◌, not, Bool, true, false, Option, Some, None, is_some, option_and_then, option_map, option_to_list, List, [], ◌∷◌, ◌++◌, filter, flat_map, fold, length, map, remove, slice_get, slice_set}
 use Rattle.std.specs.List.{enumerate_from, list_all}
 use Rattle.rb_base.specs.Counting.{numbers}
 use Rattle.rb_base.specs.Nodes.{Side, other}
@@ -266,33 +266,50 @@ book_with sc sites b (Begin frame) =
 book_with sc sites b (Stage place) = with_stage sc place (told_by_good sc place.frame place.slot (λ s. row_for place s.row) sites) b
 book_with sc sites b End = with_end b
 
--- the next milestone is settled, if it may be and is complete and there are still n records
-abbrev pub settle : Scenario → (Milestone → Bool) → ℕ → World → World
-settle sc may n w =
-    elim (may w.book.upcoming && is_complete sc w.sites w.book.upcoming && (length w.book.given == n)) [
+-- how a milestone comes to be settled
+pub data Way : Type 0 where
+  ByAnEvent : Way
+  ByItself : Way
+
+-- this is the way in which a milestone is settled
+abbrev pub comes_so : Scenario → Way → Milestone → Bool
+comes_so sc ByAnEvent m = not (needs_no_event sc m)
+comes_so sc ByItself m = needs_no_event sc m
+
+-- the next milestone is settled, if this is its way and all that it needs has been told
+abbrev pub settle_next : Scenario → Way → World → World
+settle_next sc way w =
+    elim (comes_so sc way w.book.upcoming && is_complete sc w.sites w.book.upcoming) [
       | true ↦ record w { book = book_with sc w.sites w.book w.book.upcoming }
       | false ↦ w
     ]
 
--- milestones are settled up to the first that gives a record. One that gives none is followed at once by at most one more
-abbrev pub settled : Scenario → (Milestone → Bool) → ℕ → World → World
-settled sc may n w =
-    let after : World = settle sc may n (settle sc may n w) in
-    record after { turn = slice_get after.book.given n }
+-- the record that the second of two worlds has and the first has not
+abbrev pub record_since : World → World → Option Record
+record_since before after = slice_get after.book.given (length before.book.given)
+
+-- at most so many milestones are settled, up to the first that gives a record. That record is the turn
+abbrev pub settle : Scenario → Way → ℕ → World → World
+settle sc way zero w = record w { turn = None }
+settle sc way (suc others) w =
+    let next : World = settle_next sc way w in
+    elim (record_since w next) [ None ↦ settle sc way others next | Some r ↦ record next { turn = Some r } ]
 
 -- The step.
 
-abbrev pub take_due : Scenario → World → Option Due → World
-take_due sc w None = w
-take_due sc w (Some d) = settled sc (λ m. not (needs_no_event sc m)) (length w.book.given) (happens sc w d)
+-- an event happens, and what it completes is settled: at most a last stage of a frame, which gives no record, and the begin
+-- of the next frame
+abbrev pub take_if_due : Scenario → World → Option Due → World
+take_if_due sc w None = w
+take_if_due sc w (Some d) = settle sc ByAnEvent 2 (happens sc w d)
 
--- the due event at place i is taken, and what it completes is settled
+-- the due event at place i is taken
 unfoldable pub take : Scenario → World → ℕ → World
-take sc w i = take_due sc w (slice_get (due_of sc w) i)
+take sc w i = take_if_due sc w (slice_get (due_of sc w) i)
 
 -- a record that needs no event is given
 unfoldable pub go_on : Scenario → World → World
-go_on sc w = elim w.book.ended [ true ↦ w | false ↦ settled sc (needs_no_event sc) (length w.book.given) w ]
+go_on sc w = elim w.book.ended [ true ↦ w | false ↦ settle sc ByItself 2 w ]
 
 -- the frame whose record it is
 abbrev pub frame_in : Option Record → Option ℕ

@@ -16,7 +16,7 @@ pub struct Plan {
     /// The ticks of the windows of the sync slot's stages 2 and 3.
     pub v: u32,
     pub z: u32,
-    /// By how many ticks a BIU's next frame begins later than an RMU's would.
+    /// A BIU's next frame begins `z + c` ticks after its own last call, an RMU's `z` ticks after the middle stamp of those calls.
     pub c: u32,
     /// The bound on the skew of the nodes' epochs.
     pub p: u32,

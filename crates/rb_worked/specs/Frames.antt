@@ -197,3 +197,33 @@ state_handed_in_records =
 -- 77 for BIU 0 in frame 1
 abbrev pub hand_ins : List HandIn
 hand_ins = record { frame = 1; biu = 0; state = 77 } ∷ []
+
+-- RMU 2 is silent in frame 0. In frame 1 it lies, and so does BIU 1
+abbrev pub convicted_rmu : Scenario
+convicted_rmu = record ordinary_use {
+  frames = 2;
+  requests = 1 ∷ 1 ∷ 1 ∷ 1 ∷ [];
+  biu_onsets = None ∷ Some (1, 5) ∷ None ∷ None ∷ [];
+  rmu_onsets = None ∷ None ∷ Some (0, 0) ∷ [];
+  says =
+      says (b 1) (One (r 0)) (1, 1) (5, 5) (1, 1) (Word 1)
+      ∷ says (b 1) (One (r 1)) (1, 1) (5, 5) (1, 1) (Word 2)
+      ∷ says (r 2) (One (b 0)) (1, 1) (6, 6) (2, 2) (Word 5)
+      ∷ says (r 2) (One (b 2)) (1, 1) (6, 6) (2, 2) (Word 6)
+      ∷ [];
+}
+
+abbrev pub convicted_rmu_records : List Record
+convicted_rmu_records =
+    all_begin 0 0 0 0 0 (all_but (r 2 ∷ [])) usual_ports
+    ∷ silent 0 0 4
+    ++ delivered 0 4 ((0, word 10) ∷ (1, word 20) ∷ (2, word 30) ∷ (3, word 40) ∷ []) (0 ∷ 1 ∷ 2 ∷ 3 ∷ [])
+    ++ silent 0 8 11
+    ++ all_begin 1 917 9170000 0 4 (all_but (r 2 ∷ [])) usual_ports
+    ∷ silent 1 0 4
+    ++ delivered 1 4 ((0, word 10) ∷ []) (0 ∷ 1 ∷ 2 ∷ 3 ∷ [])
+    ++ delivered 1 5 ((1, none) ∷ (2, word 30) ∷ (3, word 40) ∷ []) (0 ∷ 2 ∷ 3 ∷ [])
+    ++ silent 1 8 11
+    ++ all_begin 2 1834 18340000 2 4 (all_but (b 1 ∷ r 2 ∷ [])) (port 0 10 1 ∷ port 2 30 1 ∷ port 3 40 1 ∷ [])
+    ∷ Ended
+    ∷ []

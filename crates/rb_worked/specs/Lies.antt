@@ -1,8 +1,10 @@
 -- Nodes that are silent or lie in a frame, and what the good ones record.
-use Rattle.std.specs.Prelude.{List, [], ◌∷◌, ◌++◌, Some, None}
+use Rattle.std.specs.Prelude.{ℕ, List, [], ◌∷◌, ◌++◌, Some, None}
 use Rattle.rb_rules.specs.declared.cause.Cause.TheVariants.{FewGoodBiu, FewGoodRmu, TwoSided}
 use Rattle.rb_rules.specs.declared.link.Pattern.TheVariants.{One, AllBiu, AllRmu}
-use Rattle.rb_rules.specs.declared.say.Content.TheVariants.{Word}
+use Rattle.rb_rules.specs.declared.say.Content.{Content}
+use Rattle.rb_rules.specs.declared.say.Content.TheVariants.{Word, Sync}
+use Rattle.rb_rules.specs.declared.say.Say.{Say}
 use Rattle.rb_rules.specs.Book.{Record}
 use Rattle.rb_rules.specs.Book.Record.{Ended, Breach}
 use Rattle.rb_rules.specs.Goodness.{Scenario}
@@ -129,14 +131,57 @@ too_few_good_records =
     ∷ Breach (at 0 0 2) FewGoodRmu
     ∷ []
 
--- RMU 1 relays to BIU 0 in the last tick of the window, and to BIU 1 after it
-abbrev pub message_too_late : Scenario
-message_too_late = record ordinary_use {
+-- what RMU 1 says after it has relayed BIU 0's request: all that is right for a node whose BIUs have these vectors
+abbrev pub rest_of_frame : ℕ → ℕ → ℕ → ℕ → List Say
+rest_of_frame v0 v1 v2 v3 =
+    says (r 1) AllBiu (0, 0) (1, 3) (2, 2) (Word 2)
+    ∷ says (r 1) AllBiu (0, 0) (4, 4) (2, 2) (Word 10)
+    ∷ says (r 1) AllBiu (0, 0) (5, 5) (2, 2) (Word 20)
+    ∷ says (r 1) AllBiu (0, 0) (6, 6) (2, 2) (Word 30)
+    ∷ says (r 1) AllBiu (0, 0) (7, 7) (2, 2) (Word 40)
+    ∷ says (r 1) AllBiu (0, 0) (8, 8) (2, 2) (Word 10)
+    ∷ says (r 1) AllBiu (0, 0) (9, 9) (2, 2) (Word 20)
+    ∷ says (r 1) AllBiu (0, 0) (10, 10) (2, 2) (Word 30)
+    ∷ says (r 1) AllBiu (0, 0) (11, 11) (2, 2) (Word 40)
+    ∷ says (r 1) AllBiu (0, 0) (12, 12) (2, 2) (Word v0)
+    ∷ says (r 1) AllBiu (0, 0) (13, 13) (2, 2) (Word v1)
+    ∷ says (r 1) AllBiu (0, 0) (14, 14) (2, 2) (Word v2)
+    ∷ says (r 1) AllBiu (0, 0) (15, 15) (2, 2) (Word v3)
+    ∷ says (r 1) AllBiu (0, 0) (17, 17) (1, 1) (Word 0)
+    ∷ says (r 1) AllBiu (0, 0) (16, 18) (3, 3) (Word 0)
+    ∷ says (r 1) AllBiu (0, 0) (19, 19) (2, 2) Sync
+    ∷ []
+
+-- the request of BIU 0 as RMU 1 relays it, with the header of stage 2
+abbrev pub relayed_request : Content
+relayed_request = raw (1 ∷ 0 ∷ 0 ∷ 0 ∷ 0 ∷ 2 ∷ 0 ∷ 0 ∷ 0 ∷ 2 ∷ 1 ∷ [])
+
+-- RMU 1 relays it to all BIUs in the last tick of stage 2
+abbrev pub message_in_time : Scenario
+message_in_time = record ordinary_use {
   rmu_onsets = None ∷ Some (0, 0) ∷ None ∷ [];
+  says = record (says (r 1) AllBiu (0, 0) (0, 0) (2, 2) relayed_request) { offset = 14 } ∷ rest_of_frame 0 0 0 0;
+}
+
+abbrev pub message_in_time_records : List Record
+message_in_time_records =
+    all_begin 0 0 0 0 0 (all_but (r 1 ∷ [])) usual_ports
+    ∷ silent 0 0 4
+    ++ usual_words 0 (0 ∷ 1 ∷ 2 ∷ 3 ∷ [])
+    ++ silent 0 12 7
+    ++ all_begin 1 917 9170000 0 0 (all_but (r 1 ∷ [])) usual_ports
+    ∷ Ended
+    ∷ []
+
+-- to BIU 0 it comes in that tick, to the other BIUs one tick later, when the window is over
+abbrev pub message_too_late : Scenario
+message_too_late = record message_in_time {
   says =
-      record (says (r 1) (One (b 0)) (0, 0) (0, 0) (2, 2) (Word 2)) { offset = 14 }
-      ∷ record (says (r 1) (One (b 1)) (0, 0) (0, 0) (3, 3) (Word 2)) { offset = 0 }
-      ∷ [];
+      record (says (r 1) (One (b 0)) (0, 0) (0, 0) (2, 2) relayed_request) { offset = 14 }
+      ∷ record (says (r 1) (One (b 1)) (0, 0) (0, 0) (3, 3) relayed_request) { offset = 0 }
+      ∷ record (says (r 1) (One (b 2)) (0, 0) (0, 0) (3, 3) relayed_request) { offset = 0 }
+      ∷ record (says (r 1) (One (b 3)) (0, 0) (0, 0) (3, 3) relayed_request) { offset = 0 }
+      ∷ rest_of_frame 0 2 2 2;
 }
 
 abbrev pub message_too_late_records : List Record
@@ -149,10 +194,10 @@ message_too_late_records =
     ∷ Ended
     ∷ []
 
--- RMU 2 sends two messages to BIU 0, and bytes that spell none to the others
+-- RMU 1 is silent. RMU 2 sends two messages to BIU 0, and bytes that spell none to the others
 abbrev pub ill_formed_messages : Scenario
 ill_formed_messages = record ordinary_use {
-  rmu_onsets = None ∷ None ∷ Some (0, 0) ∷ [];
+  rmu_onsets = None ∷ Some (0, 0) ∷ Some (0, 0) ∷ [];
   says =
       says (r 2) (One (b 0)) (0, 0) (0, 0) (2, 2) (Word 2)
       ∷ says (r 2) (One (b 0)) (0, 0) (0, 0) (2, 2) (Word 2)
@@ -164,11 +209,11 @@ ill_formed_messages = record ordinary_use {
 
 abbrev pub ill_formed_messages_records : List Record
 ill_formed_messages_records =
-    all_begin 0 0 0 0 0 (all_but (r 2 ∷ [])) usual_ports
+    all_begin 0 0 0 0 0 (all_but (r 1 ∷ r 2 ∷ [])) usual_ports
     ∷ silent 0 0 4
     ++ usual_words 0 (0 ∷ 1 ∷ 2 ∷ 3 ∷ [])
     ++ silent 0 12 7
-    ++ all_begin 1 917 9170000 0 4 (all_but (r 2 ∷ [])) usual_ports
+    ++ all_begin 1 917 9170000 0 6 (all_but (r 1 ∷ r 2 ∷ [])) usual_ports
     ∷ Ended
     ∷ []
 

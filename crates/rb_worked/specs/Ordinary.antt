@@ -1,5 +1,6 @@
 -- Buses without a fault, and what they record.
 use Rattle.std.specs.Prelude.{List, [], ◌∷◌, ◌++◌, replicate, None}
+use Rattle.rb_rules.specs.declared.link.Pattern.TheVariants.{AllBiu, AllRmu}
 use Rattle.rb_rules.specs.Book.{Record}
 use Rattle.rb_rules.specs.Book.Record.{Frame, Ended}
 use Rattle.rb_rules.specs.Goodness.{Scenario}
@@ -101,5 +102,24 @@ one_state_records =
     ++ delivered 0 2 ((0, word 3) ∷ (1, word 37) ∷ []) (0 ∷ 1 ∷ [])
     ++ silent 0 4 3
     ++ all_begin 1 377 3770000 0 0 (b 0 ∷ b 1 ∷ r 0 ∷ []) (port 0 1091 0 ∷ port 1 1091 0 ∷ [])
+    ∷ Ended
+    ∷ []
+
+-- what the BIUs call in stage 1 of the sync slot takes as long as it may; there is no rule for what comes back
+abbrev pub slow_calls : Scenario
+slow_calls = record ordinary_use {
+  delays = record {
+    base = 10000;
+    rules = record { from = AllBiu; to = AllRmu; frames = (0, 0); slots = (19, 19); stages = (1, 1); delay = 15000 } ∷ [];
+  };
+}
+
+abbrev pub slow_calls_records : List Record
+slow_calls_records =
+    all_begin 0 0 0 0 0 everybody usual_ports
+    ∷ silent 0 0 4
+    ++ usual_words 0 (0 ∷ 1 ∷ 2 ∷ 3 ∷ [])
+    ++ silent 0 12 7
+    ++ all_begin 1 918 9180000 0 0 everybody usual_ports
     ∷ Ended
     ∷ []

@@ -2,10 +2,19 @@
 //! by computing. No code is run, and nothing stands on this crate.
 #![tactic(auto)]
 
+pub mod abstract_bus;
+pub mod accusing;
 pub mod cores;
 pub mod events;
 pub mod frames;
+pub mod judged;
+pub mod lawful;
 pub mod lies;
+pub mod messages;
 pub mod ordinary;
 pub mod parts;
 pub mod resynchronisation;
+pub mod steps;
+pub mod timely;
+pub mod timing;
+pub mod values;

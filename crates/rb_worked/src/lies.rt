@@ -3,7 +3,7 @@
 
 ghost use Rattle.std.specs.Prelude.{◌≡◌, []};
 ghost use Rattle.rb_rules.specs.Rounds.{records_of};
-ghost use Rattle.rb_worked.specs.Lies.{silent_rmu, silent_rmu_records, symmetric_rmu, symmetric_rmu_records, asymmetric_sender, asymmetric_sender_records, no_majority, no_majority_records, two_sided, two_sided_records, too_few_good, too_few_good_records, message_too_late, message_too_late_records, ill_formed_messages, ill_formed_messages_records, greedy_biu, greedy_biu_records, nobody_good, nobody_good_records};
+ghost use Rattle.rb_worked.specs.Lies.{silent_rmu, silent_rmu_records, symmetric_rmu, symmetric_rmu_records, asymmetric_sender, asymmetric_sender_records, no_majority, no_majority_records, two_sided, two_sided_records, too_few_good, too_few_good_records, message_in_time, message_in_time_records, message_too_late, message_too_late_records, ill_formed_messages, ill_formed_messages_records, greedy_biu, greedy_biu_records, nobody_good, nobody_good_records};
 
 /// An RMU is silent: the words come all the same, and all convict it.
 pub fn silent_rmu()
@@ -35,12 +35,18 @@ pub fn too_few_good()
     ensures { records_of too_few_good [] ≡ too_few_good_records }
 {}
 
-/// An RMU's message comes in time at one BIU and too late at another: it is asymmetric, and all accuse and convict it.
+/// An RMU of which all else is right relays a request in the last tick of the window: nobody accuses it.
+pub fn message_in_time()
+    ensures { records_of message_in_time [] ≡ message_in_time_records }
+{}
+
+/// The relay comes in that tick at one BIU, and one tick later at the three others: these accuse the RMU, and all convict it.
 pub fn message_too_late()
     ensures { records_of message_too_late [] ≡ message_too_late_records }
 {}
 
-/// An RMU sends two messages, too few bytes, a wrong check and a Fault with a value: nothing is taken, and all convict it.
+/// Of two faulty RMUs one is silent, and the other sends two messages, too few bytes, a wrong check and a Fault with a value: if one
+/// BIU took any of it, the good RMU would not outnumber it, and the run would end there. All convict both.
 pub fn ill_formed_messages()
     ensures { records_of ill_formed_messages [] ≡ ill_formed_messages_records }
 {}

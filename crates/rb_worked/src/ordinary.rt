@@ -3,7 +3,7 @@
 
 ghost use Rattle.std.specs.Prelude.{◌≡◌, []};
 ghost use Rattle.rb_rules.specs.Rounds.{records_of};
-ghost use Rattle.rb_worked.specs.Ordinary.{ordinary_use, ordinary_use_records, smallest_bus, smallest_bus_records, greatest_drift, greatest_drift_records, unequal_requests, unequal_requests_records, one_state, one_state_records};
+ghost use Rattle.rb_worked.specs.Ordinary.{ordinary_use, ordinary_use_records, smallest_bus, smallest_bus_records, greatest_drift, greatest_drift_records, unequal_requests, unequal_requests_records, one_state, one_state_records, slow_calls, slow_calls_records};
 
 /// All nodes are good, and each BIU has two data slots: all words come at all BIUs, and each node begins the next frame at tick
 /// 917.
@@ -30,4 +30,9 @@ pub fn unequal_requests()
 /// Two BIUs run one application on what is delivered: their states stay equal.
 pub fn one_state()
     ensures { records_of one_state [] ≡ one_state_records }
+{}
+
+/// The BIUs' calls take longer on their way than the RMUs': all nodes begin the next frame one tick later.
+pub fn slow_calls()
+    ensures { records_of slow_calls [] ≡ slow_calls_records }
 {}

@@ -66,12 +66,14 @@ pub fn probation_passes()
     ensures counted_anew { (two_frames_later (accused_anew (two_frames_later accused))).direct ≡ 2 }
 {}
 
-/// What slots are for, and who sends in them. BIU 1 is convicted, and the data slots 0 and 1 are those of BIUs 0 and 3.
+/// What slots are for, and who sends in them. BIU 1 and RMU 2 are convicted, and the data slots 0 and 1 are those of BIUs 0 and 3.
+/// A diagnosis slot goes by the trust in its own sender: RMU 1 and BIU 2 have theirs.
 pub fn roles_and_senders()
     ensures roles { map (role_of sizes) (0 ∷ 3 ∷ 4 ∷ 11 ∷ 12 ∷ 15 ∷ 16 ∷ 18 ∷ 19 ∷ [])
         ≡ (Schedule 0 ∷ Schedule 3 ∷ Data 0 ∷ Data 7 ∷ DiagBiu 0 ∷ DiagBiu 3 ∷ DiagRmu 0 ∷ DiagRmu 2 ∷ Sync ∷ []) }
-    ensures senders { map (sender_in 13 7 (0 ∷ 3 ∷ [])) (Schedule 0 ∷ Schedule 1 ∷ Data 1 ∷ Data 2 ∷ DiagBiu 1 ∷ DiagRmu 2 ∷ Sync ∷ [])
-        ≡ (Node 0 ∷ Nobody ∷ Node 3 ∷ Nobody ∷ Nobody ∷ Node 2 ∷ EachTrusted ∷ []) }
+    ensures senders { map (sender_in 13 3 (0 ∷ 3 ∷ [])) (Schedule 0 ∷ Schedule 1 ∷ Data 1 ∷ Data 2 ∷ Sync ∷ [])
+        ≡ (Node 0 ∷ Nobody ∷ Node 3 ∷ Nobody ∷ EachTrusted ∷ []) }
+    ensures diagnosis { map (sender_in 13 3 []) (DiagBiu 1 ∷ DiagBiu 2 ∷ DiagRmu 1 ∷ DiagRmu 2 ∷ []) ≡ (Nobody ∷ Node 2 ∷ Node 1 ∷ Nobody ∷ []) }
 {}
 
 /// Whom the nodes of a kind expect in the stages of a slot, where BIU 1 is convicted.
@@ -154,5 +156,5 @@ pub fn next_epochs()
 pub fn vectors_convict()
     ensures most { convicted 15 (Word 2 ∷ Word 2 ∷ Word 0 ∷ Word 2 ∷ []) ≡ 2 }
     ensures tie { convicted 15 (Word 2 ∷ Word 2 ∷ Word 0 ∷ Word 0 ∷ []) ≡ 0 }
-    ensures only_valid { convicted 14 (Word 0 ∷ Word 10 ∷ Word 2 ∷ Fault ∷ []) ≡ 2 }
+    ensures only_valid { convicted 14 (Word 0 ∷ Word 8 ∷ Word 2 ∷ Fault ∷ []) ≡ 2 }
 {}

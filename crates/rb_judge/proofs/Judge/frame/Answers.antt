@@ -5,8 +5,8 @@ use Rattle.rb_judge.proofs.Judge.frame.Goals as goal
 
 pub returns-clause-begun : goal.returns-clause-begun
 returns-clause-begun c =
-    let b = c.new-self.ensures in
-    let r = c.new-self-2.ensures in
+    let b = c.new-self-inside.ensures in
+    let r = c.new-self-inside-2.ensures in
     record {
       eps = refl;
       bius = kind_none Biu _ b.none_good b.none_trusted b.none_unlike b.none_taken b.none_unlike_now b.none_heard b.by_none;

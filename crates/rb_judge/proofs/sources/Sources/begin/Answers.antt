@@ -1,14 +1,14 @@
-use Rattle.std.proofs.Common.{refl, rules}
-use Rattle.rb_base.proofs.Sets.{has-is}
+use Rattle.std.proofs.Common.{◌∙◌}
 use Rattle.rb_judge.proofs.sources.Sources.begin.Goals as goal
 
-pub returns : goal.returns
-returns c = record {
-  good_is = refl;
-  trusted_is = refl;
-  unlike = λ j h. has-is _ j _ c.union-self.ensures h;
-  taken = λ j h. has-is _ j _ c.union-self-2.ensures h;
-  none_heard = refl;
-  none_unlike = refl;
-  by_none = search rules;
-}
+pub returns-clause-sets : goal.returns-clause-sets
+returns-clause-sets g c =
+    let p = c.pass.ensures in
+    record {
+      good_is = p.good_is;
+      trusted_is = p.trusted_is;
+      unlike_is = p.unlike_is;
+      taken_is = p.taken_is;
+      heard_is = p.heard_is ∙ c.empty.ensures.value;
+      unlike_now_is = p.unlike_now_is ∙ c.empty-2.ensures.value;
+    }

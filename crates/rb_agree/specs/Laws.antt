@@ -1,0 +1,96 @@
+-- What holds of every lawful scenario and every list of hand-ins up to the first breach of the premise on faults: in slots that
+-- are complete without one, as are all before them. No clock plays a part in it.
+use Rattle.std.specs.Prelude.{ℕ, ◌≡◌, ◌+◌, ◌<◌, ◌≤◌, ◌||◌, true, false, Some, List, slice_get}
+use Rattle.rb_base.specs.Nodes.{Side, other, has}
+use Rattle.rb_base.specs.Sizes.{sync_slot_of}
+use Rattle.rb_base.specs.declared.values.Heard.{Heard}
+use Rattle.rb_rules.specs.Book.{of_kind}
+use Rattle.rb_rules.specs.Conviction.{is_valid, voted_vector}
+use Rattle.rb_rules.specs.Goodness.{Scenario, is_good}
+use Rattle.rb_rules.specs.Headline.{HoldOneSchedule, ConvictNoGoodNode}
+use Rattle.rb_rules.specs.Judging.{is_benign}
+use Rattle.rb_rules.specs.Lawful.{IsLawful}
+use Rattle.rb_rules.specs.Moments.{before_slot, after_slot, IsComplete, IsSettled, IsGoodBefore, IsGoodAfter}
+use Rattle.rb_rules.specs.NodeState.{NodeState, trusted_of}
+use Rattle.rb_rules.specs.NodeSteps.{convicted_of}
+use Rattle.rb_rules.specs.Ports.{HandIn}
+use Rattle.rb_rules.specs.Slots.{count_of, first_diagnosis_of}
+use Rattle.rb_rules.specs.Standing.{Standing}
+use Rattle.rb_rules.specs.StandsFor.{SparesAllGood}
+use Rattle.rb_agree.specs.Values.{HasValue, IsGoodSender, value_of_sender}
+
+-- Agreement.
+
+-- each slot below the sync slot has one value
+abbrev pub GoodNodesAgree : Type 0
+GoodNodesAgree =
+    (sc : Scenario) (hands : List HandIn) → IsLawful sc
+    → (frame slot : ℕ) → slot < sync_slot_of sc.sizes → IsComplete sc hands frame slot
+    → (value : Heard) × HasValue sc hands frame slot value
+
+-- where the sender is good, it is the sender's own
+abbrev pub GoodSendersAreHeard : Type 0
+GoodSendersAreHeard =
+    (sc : Scenario) (hands : List HandIn) → IsLawful sc
+    → (frame slot : ℕ) → slot < sync_slot_of sc.sizes → IsComplete sc hands frame slot
+    → (p : ℕ) (st : NodeState) → IsGoodSender sc hands frame slot p st
+    → HasValue sc hands frame slot (value_of_sender sc hands frame slot p st)
+
+-- all good nodes trust the same nodes of each kind, in each complete slot and at the begin of each frame
+abbrev pub TrustAlike : Scenario → List HandIn → Type 0
+TrustAlike sc hands =
+    (frame slot : ℕ) → slot ≤ sync_slot_of sc.sizes → IsSettled sc hands frame slot
+    → (me you : Side) (i j : ℕ) (mine yours : NodeState)
+    → IsGoodBefore sc hands frame slot me i mine → IsGoodBefore sc hands frame slot you j yours
+    → (kind : Side) → trusted_of kind me mine ≡ trusted_of kind you yours
+
+-- they hold one schedule and trust the same nodes
+abbrev pub GoodNodesHoldOneSchedule : Type 0
+GoodNodesHoldOneSchedule = (sc : Scenario) (hands : List HandIn) → IsLawful sc → HoldOneSchedule sc hands × TrustAlike sc hands
+
+-- Accusation and conviction.
+
+-- no good node accuses a good one after a slot, directly or by mismatch
+abbrev pub NoGoodNodeIsAccused : Type 0
+NoGoodNodeIsAccused =
+    (sc : Scenario) (hands : List HandIn) → IsLawful sc
+    → (frame slot : ℕ) → slot ≤ sync_slot_of sc.sizes → IsComplete sc hands frame slot
+    → (me : Side) (i : ℕ) (st : NodeState) → IsGoodAfter sc hands frame slot me i st → SparesAllGood sc frame slot me st
+
+-- no good node is convicted, in a complete slot or at the begin of a frame
+abbrev pub NoGoodNodeIsConvicted : Type 0
+NoGoodNodeIsConvicted = (sc : Scenario) (hands : List HandIn) → IsLawful sc → ConvictNoGoodNode sc hands
+
+-- the slot for the vector of node p of a kind
+abbrev pub vector_slot_of : Scenario → Side → ℕ → ℕ
+vector_slot_of sc kind p = first_diagnosis_of kind sc.sizes + p
+
+-- a node of which no good node took anything in the frame so far has no valid vector
+abbrev pub UnheardNodesHaveNoVector : Type 0
+UnheardNodesHaveNoVector =
+    (sc : Scenario) (hands : List HandIn) → IsLawful sc
+    → (frame slot : ℕ) → slot ≤ sync_slot_of sc.sizes → IsComplete sc hands frame slot
+    → (kind : Side) (p : ℕ) → p < count_of kind sc.sizes → vector_slot_of sc kind p ≤ slot
+    → is_benign kind (after_slot sc hands frame slot).book.stages p ≡ true
+    → (me : Side) (i : ℕ) (st : NodeState) → IsGoodAfter sc hands frame slot me i st
+    → (others : ℕ) → is_valid others (voted_vector sc.sizes kind st p) ≡ false
+
+-- a node with this standing accuses node j
+abbrev pub Accuses : Standing → ℕ → Type 0
+Accuses s j = (has s.direct j || has s.mismatch j) ≡ true
+
+-- each node of the other kind that is good in the frame's sync slot accuses node j when it sends its vector
+abbrev pub IsAccusedByAll : Scenario → List HandIn → ℕ → Side → ℕ → Type 0
+IsAccusedByAll sc hands frame accused j =
+    (i : ℕ) (st : NodeState) → is_good sc (other accused) i frame (sync_slot_of sc.sizes) ≡ true
+    → slice_get (of_kind (other accused) (before_slot sc hands frame (vector_slot_of sc (other accused) i)).nodes) i ≡ Some st
+    → Accuses st.far j
+
+-- whoever all accuse is convicted when the frame has ended
+abbrev pub AccusedByAllIsConvicted : Type 0
+AccusedByAllIsConvicted =
+    (sc : Scenario) (hands : List HandIn) → IsLawful sc
+    → (frame : ℕ) → IsComplete sc hands frame (sync_slot_of sc.sizes)
+    → (accused : Side) (j : ℕ) → j < count_of accused sc.sizes → IsAccusedByAll sc hands frame accused j
+    → (me : Side) (i : ℕ) (st : NodeState) → IsGoodBefore sc hands (frame + 1) 0 me i st
+    → has (convicted_of sc.sizes accused me st) j ≡ true
