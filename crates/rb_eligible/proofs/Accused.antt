@@ -1,19 +1,16 @@
--- The sets that a standing holds, as the masks of the code and as the rules have them.
-use Rattle.std.proofs.Common.{◌≡◌, ℕ, ◌+◌, ◌-◌, ◌<◌, ◌^◌, Bool, true, false, not, ◌&&◌, ◌||◌, ◌==◌, if◌then◌else◌, bit_and, bit_or, refl, ◌∙◌, ap}
+-- The sets that a standing holds, as the code makes them and as the rules have them.
+use Rattle.std.proofs.Common.{◌≡◌, ℕ, ◌+◌, Bool, true, false, not, ◌&&◌, ◌||◌, ◌==◌, if◌then◌else◌, refl, ◌∙◌, ap}
 use Rattle.rb_base.specs.Nodes.{has, set_of}
-use Rattle.rb_base.proofs.Sets.{common_is, has-and, has-complement, has-or, has-set_of, same_set_of, without_is}
+use Rattle.rb_base.proofs.Sets.{has-is, same_set_of}
 use Rattle.rb_base.proofs.SetLoops.{passing_below, passing_more, passing_same}
 
--- `t & (d | m)`
-pub either_is : (t d m : ℕ) → t < 2 ^ 16 → bit_and t (bit_or d m) ≡ set_of (λ j. has t j && (has d j || has m j))
-either_is t d m ht = common_is t (bit_or d m) ht ∙ same_set_of _ _ (λ j h. ap (λ b. has t j && b) (has-or d m j))
+-- what a set has in common with the nodes that pass
+pub common_of : (s t r : ℕ) (p : ℕ → Bool) → r ≡ set_of (λ i. has s i && has t i) → t ≡ set_of p → r ≡ set_of (λ i. has s i && p i)
+common_of s t r p is those_are = is ∙ same_set_of _ _ (λ j h. ap (λ b. has s j && b) (has-is t j p those_are h))
 
--- `s & !t`, where t is the set of a test
-pub without_those : (bits s t : ℕ) (p : ℕ → Bool) → bits ≡ s → bits < 2 ^ 16 → t < 2 ^ 16 → t ≡ set_of p
-    → bit_and bits (65535 - t) ≡ set_of (λ j. has s j && not (p j))
-without_those bits s t p same hs ht e =
-    without_is bits t hs ht ∙ same_set_of _ _ (λ j h.
-    ap (λ u. has u j && not (has t j)) same ∙ ap (λ b. has s j && not b) (ap (λ u. has u j) e ∙ has-set_of j p h))
+-- a set without them
+pub without_those : (s t r : ℕ) (p : ℕ → Bool) → r ≡ set_of (λ i. has s i && not (has t i)) → t ≡ set_of p → r ≡ set_of (λ i. has s i && not (p i))
+without_those s t r p is those_are = is ∙ same_set_of _ _ (λ j h. ap (λ b. has s j && not b) (has-is t j p those_are h))
 
 -- number k joins exactly where it passes
 pub passing_next : (p : ℕ → Bool) (s t k : ℕ) → s ≡ passing_below k p → t ≡ (if p k then set_of (λ i. has s i || (i == k)) else s) → t ≡ passing_below (k + 1) p
@@ -25,8 +22,19 @@ passing_next p s t k so_far is =
     ] in
     go (p k) refl is
 
--- `set & (t & !d)`
-pub eligible_is : (set t d : ℕ) → set < 2 ^ 16 → d < 2 ^ 16 → bit_and set (bit_and t (65535 - d)) ≡ set_of (λ j. has set j && (has t j && not (has d j)))
-eligible_is set t d hs hd =
-    common_is set (bit_and t (65535 - d)) hs ∙ same_set_of _ _ (λ j h.
-    ap (λ b. has set j && b) (has-and t (65535 - d) j ∙ ap (λ b. has t j && b) (has-complement d j hd h)))
+-- those of the trusted nodes that are in one of two sets, the expected ones that are no one and the others of which something came
+pub wrong_is : (t e o c missed unasked wrong evidence : ℕ) → missed ≡ set_of (λ j. has e j && not (has o j)) → unasked ≡ set_of (λ j. has c j && not (has e j))
+    → wrong ≡ set_of (λ j. has missed j || has unasked j) → evidence ≡ set_of (λ j. has t j && has wrong j)
+    → evidence ≡ set_of (λ j. has t j && (if has e j then not (has o j) else has c j))
+wrong_is t e o c missed unasked wrong evidence missed_are unasked_are either evidence_are =
+    evidence_are ∙ same_set_of _ _ (λ j h.
+    ap (λ b. has t j && b)
+    (has-is wrong j (λ j. has missed j || has unasked j) either h
+    ∙ ap (λ b. b || has unasked j) (has-is missed j (λ j. has e j && not (has o j)) missed_are h)
+    ∙ ap (λ b. (has e j && not (has o j)) || b) (has-is unasked j (λ j. has c j && not (has e j)) unasked_are h)
+    ∙ one_way (has e j) (has o j) (has c j)))
+  where
+    one_way : (e o c : Bool) → ((e && not o) || (c && not e)) ≡ (if e then not o else c)
+    one_way true true c = elim c as (λ c. (false || (c && false)) ≡ false) [ true ↦ refl | false ↦ refl ]
+    one_way true false c = refl
+    one_way false o c = elim c as (λ c. (false || (c && true)) ≡ c) [ true ↦ refl | false ↦ refl ]

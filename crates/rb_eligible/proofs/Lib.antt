@@ -1,3 +1,7 @@
 pub mod Accused
-pub mod TooLong
-pub mod Taking
+pub mod Scans
+pub mod Evidence
+pub mod Shown
+pub mod Sensed
+pub mod Alike
+pub mod Seeing

@@ -1,11 +1,11 @@
 -- Of which arrivals an inbox is the record.
-use Rattle.std.specs.Prelude.{ℕ, ◌≡◌, ◌≤◌, ◌<◌, ◌==◌, List, [], ◌∷◌, length, take, filter, map, slice_index_or}
+use Rattle.std.specs.Prelude.{ℕ, ◌≡◌, ◌≤◌, ◌<◌, ◌==◌, ◌&&◌, not, Bool, true, false, ◌⊎◌, List, [], ◌∷◌, length, filter, map, slice_index_or}
+use Rattle.rb_base.specs.Nodes.{has}
 use Rattle.rb_rules.specs.declared.sense.Expect.{Expect}
 use Rattle.rb_rules.specs.declared.sense.Sense.{Sense}
-use Rattle.rb_rules.specs.declared.sense.Sense.TheVariants.{Silent, One, Bad}
 use Rattle.rb_rules.specs.Sense.{Arrival, sense_of}
-use Rattle.rb_eligible.specs.declared.inbox.Kept.{Kept}
-use Rattle.rb_eligible.specs.declared.inbox.Kept.TheVariants.{Nothing, Single, Long, Many}
+use Rattle.rb_eligible.specs.declared.reading.Sole.{Sole}
+use Rattle.rb_eligible.specs.Readings.{bytes_of, len_of}
 
 -- an arrival, and the number of the node that it came from
 pub record Received : Type 0 where
@@ -20,36 +20,50 @@ arrivals_of source received = map (λ r. r.arrival) (filter (λ r. r.source == s
 abbrev pub sense_in : Expect → List Received → ℕ → Sense
 sense_in e received source = sense_of e (arrivals_of source received)
 
--- a sole arrival that is longer than any message
-pub record IsLong (arrival : Arrival) (arrivals : List Arrival) : Type 0 where
-  pub sole : arrivals ≡ arrival ∷ []
-  pub long : 12 < length arrival.bytes
+-- what is kept: the sources of which something came, those of which it can be no message, and the sole arrivals of the others
+pub record Kept : Type 0 where
+  pub came : ℕ
+  pub spoilt : ℕ
+  pub soles : List Sole
 
--- what is kept of one source is what its arrivals show: that there is none, the only one, that the only one is longer than
--- any message, or that there are more
-abbrev pub IsKept : Kept → List Arrival → Type 0
-IsKept Nothing arrivals = arrivals ≡ []
-IsKept (Single at len bytes) arrivals = (len ≤ 12) × (arrivals ≡ record { stamp = at; bytes = take len bytes } ∷ [])
-IsKept Long arrivals = (arrival : Arrival) × IsLong arrival arrivals
-IsKept Many arrivals = 1 < length arrivals
+-- what is kept of one source
+abbrev pub sole_at : List Sole → ℕ → Sole
+sole_at soles source = slice_index_or soles source (record { at = 0; low = 0; tail = 0 })
+
+-- of the source came one arrival that is no longer than any message
+abbrev pub is_sole : Kept → ℕ → Bool
+is_sole kept source = has kept.came source && not (has kept.spoilt source)
+
+-- the only arrival is longer than any message, or there are more
+abbrev pub IsSpoilt : List Arrival → Type 0
+IsSpoilt arrivals = ((a : Arrival) × ((arrivals ≡ a ∷ []) × (12 < length a.bytes))) ⊎ (1 < length arrivals)
+
+-- what is kept of one source is what its arrivals show
+abbrev pub IsKept : Bool → Bool → Sole → List Arrival → Type 0
+IsKept false false sole arrivals = arrivals ≡ []
+IsKept false true sole arrivals = ⊥
+IsKept true false sole arrivals =
+    (len_of sole.tail ≤ 12)
+    × (arrivals ≡ record { stamp = sole.at; bytes = bytes_of sole } ∷ [])
+IsKept true true sole arrivals = IsSpoilt arrivals
 
 -- the inbox stands for what was received
-abbrev pub Shows : List Kept → List Received → Type 0
-Shows kept received = (source : ℕ) → source < 16 → IsKept (slice_index_or kept source Nothing) (arrivals_of source received)
+abbrev pub Shows : Kept → List Received → Type 0
+Shows kept received = (source : ℕ) → source < 16
+    → IsKept (has kept.came source) (has kept.spoilt source) (sole_at kept.soles source) (arrivals_of source received)
+
+-- what is kept is that of some arrivals, and no sole arrival is longer than any message
+pub record IsInbox (kept : Kept) : Type 0 where
+  pub all : length kept.soles ≡ 16
+  pub short : (source : ℕ) → source < 16 → len_of (sole_at kept.soles source).tail ≤ 12
+  pub stands : (received : List Received) × Shows kept received
 
 -- the stamp that is kept of a source, if there is one, is at most n
-abbrev pub IsUpTo : ℕ → Kept → Type 0
-IsUpTo n Nothing = Unit {0}
-IsUpTo n (Single at len bytes) = at ≤ n
-IsUpTo n Long = Unit {0}
-IsUpTo n Many = Unit {0}
+abbrev pub IsUpTo : ℕ → Bool → Bool → Sole → Type 0
+IsUpTo n false spoilt sole = Unit {0}
+IsUpTo n true false sole = sole.at ≤ n
+IsUpTo n true true sole = Unit {0}
 
 -- no stamp that the inbox keeps is above n
-abbrev pub StampsUpTo : ℕ → List Kept → Type 0
-StampsUpTo n kept = (source : ℕ) → source < 16 → IsUpTo n (slice_index_or kept source Nothing)
-
--- a message was sensed with a stamp of at most n, or none was
-abbrev pub SenseUpTo : ℕ → Sense → Type 0
-SenseUpTo n Silent = Unit {0}
-SenseUpTo n (One stamp message) = stamp ≤ n
-SenseUpTo n Bad = Unit {0}
+abbrev pub StampsUpTo : ℕ → Kept → Type 0
+StampsUpTo n kept = (source : ℕ) → source < 16 → IsUpTo n (has kept.came source) (has kept.spoilt source) (sole_at kept.soles source)

@@ -4,8 +4,11 @@
 pub use inbox::Inbox;
 pub use rb_rules::{Expect, Sense};
 pub use standing::Standing;
+pub use taking::{Taking, take_with_evidence};
 
 pub mod inbox;
+pub mod reading;
 pub mod standing;
+pub mod taking;
 #[cfg(test)]
 mod tests;

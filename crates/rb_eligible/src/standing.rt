@@ -1,12 +1,11 @@
 //! What a node holds of the nodes of the other kind.
-ghost use Rattle.std.specs.Prelude.{◌≡◌, ◌≤◌, ◌<◌, ◌+◌, ◌==◌, ◌||◌, ◌&&◌, if◌then◌else◌, map, min};
+ghost use Rattle.std.specs.Prelude.{◌≡◌, ◌≤◌, ◌<◌, ◌+◌, ◌==◌, ◌||◌, ◌&&◌, if◌then◌else◌, map, min, not};
 ghost use Rattle.rb_base.specs.Counting.{numbers};
 ghost use Rattle.rb_base.specs.Nodes.{has, set_of};
-ghost use Rattle.rb_rules.specs.Standing.{calm_after, does_wrong, first_standing, is_eligible, standing_at_end, lapses, vector_of, with_evidence, with_mismatch, without};
+ghost use Rattle.rb_rules.specs.Standing.{calm_after, first_standing, is_eligible, standing_at_end, lapses, vector_of, with_evidence, with_mismatch, without};
 ghost use Rattle.rb_eligible.specs.Standings.{calm_at_end, standing_of};
 
 use rb_base::{NodeId, NodeSet};
-use rb_rules::Sense;
 
 /// What a node holds of the nodes of the other kind: which it trusts, which it accuses for what came of them or did not
 /// come (`direct`), which for a value that differed (`mismatch`), and against which it had direct evidence in the frame
@@ -26,17 +25,6 @@ fn one_more(calm: u16) -> u16
     ensures { result ≡ min (calm + 1) 4096 }
 {
     if calm < 4096 { calm + 1 } else { 4096 }
-}
-
-// Whether a source did wrong by what came of it.
-fn does_wrong(expected: bool, sense: &Sense) -> bool
-    ensures { result ≡ does_wrong expected sense.now }
-{
-    match sense {
-        Sense::Silent => expected,
-        Sense::One { .. } => !expected,
-        Sense::Bad => true,
-    }
 }
 
 impl<K: Copy> Standing<K> {
@@ -65,7 +53,7 @@ impl<K: Copy> Standing<K> {
     pub fn eligible_of(&self, set: NodeSet<K>) -> NodeSet<K>
         ensures { result ≡ set_of (λ j. has set j && is_eligible (standing_of self.now) j) }
     {
-        NodeSet::from_bits(set.bits() & (self.trusted.bits() & !self.direct.bits()))
+        set.intersection(self.trusted.difference(self.direct))
     }
 
     /// Direct evidence against the node: it is accused, which it may be already, and the evidence is of this frame.
@@ -76,39 +64,23 @@ impl<K: Copy> Standing<K> {
         self.fresh.insert(id);
     }
 
-    /// The set, with this source where what came of it is direct evidence: it is trusted, and it was expected and didn't
-    /// send exactly its message, or wasn't expected and sent something. The number of a source is below 16.
-    pub fn with_evidence(
-        &self,
-        set: NodeSet<K>,
-        source: u8,
-        expected: NodeSet<K>,
-        sense: &Sense,
-    ) -> NodeSet<K>
-        requires { source < 16 }
-        ensures { result ≡ (if has self.now.trusted source && does_wrong (has expected source) sense.now
-            then set_of (λ j. has set j || (j == source)) else set) }
+    /// The nodes against which there is direct evidence: the trusted ones that were expected and didn't send exactly their
+    /// message, and those that weren't expected and sent something. `ones` are those of which exactly one message came that is
+    /// meant for the window, `came` those of which anything came.
+    pub fn evidence(&self, expected: NodeSet<K>, ones: NodeSet<K>, came: NodeSet<K>) -> NodeSet<K>
+        ensures { result ≡ set_of (λ j. has self.now.trusted j && (if has expected j then not (has ones j) else has came j)) }
     {
-        match NodeId::new(source) {
-            Some(id) => {
-                if self.trusted.contains(id) && does_wrong(expected.contains(id), sense) {
-                    let mut grown = set;
-                    grown.insert(id);
-                    grown
-                } else {
-                    set
-                }
-            }
-            None => set,
-        }
+        let missed = expected.difference(ones);
+        let unasked = came.difference(expected);
+        self.trusted.intersection(missed.union(unasked))
     }
 
     /// Direct evidence against each node of the set.
     pub fn accuse_each(&mut self, set: NodeSet<K>)
         ensures { standing_of self.new ≡ with_evidence (has set) (standing_of self.old) }
     {
-        self.direct = NodeSet::from_bits(self.direct.bits() | set.bits());
-        self.fresh = NodeSet::from_bits(self.fresh.bits() | set.bits());
+        self.direct = self.direct.union(set);
+        self.fresh = self.fresh.union(set);
     }
 
     /// Accuses the node for a value that differed. It stays eligible.
@@ -123,7 +95,7 @@ impl<K: Copy> Standing<K> {
         ensures { standing_of self.new
             ≡ record (standing_of self.old) { trusted = without self.old.trusted set } }
     {
-        self.trusted = NodeSet::from_bits(self.trusted.bits() & !set.bits());
+        self.trusted = self.trusted.difference(set);
     }
 
     /// The vector that the node sends in its diagnosis slot: the mask of the trusted nodes that it accuses in one way or
@@ -131,7 +103,8 @@ impl<K: Copy> Standing<K> {
     pub fn vector(&self) -> u32
         ensures { result ≡ vector_of (standing_of self.now) }
     {
-        u32::from(self.trusted.bits() & (self.direct.bits() | self.mismatch.bits()))
+        let accused = self.direct.union(self.mismatch);
+        u32::from(self.trusted.intersection(accused).bits())
     }
 
     // The node's calm at the end of a frame, while it stays accused.
@@ -174,17 +147,13 @@ impl<K: Copy> Standing<K> {
         ensures { result ≡ (if lapses probation (standing_of self.now) i
             then set_of (λ j. has set j || (j == i)) else set) }
     {
-        match NodeId::new(i) {
-            Some(id) => {
-                if self.lapses(id, probation) {
-                    let mut grown = set;
-                    grown.insert(id);
-                    grown
-                } else {
-                    set
-                }
-            }
-            None => set,
+        let id = NodeId::of(i);
+        if self.lapses(id, probation) {
+            let mut grown = set;
+            grown.insert(id);
+            grown
+        } else {
+            set
         }
     }
 
@@ -204,10 +173,7 @@ impl<K: Copy> Standing<K> {
         requires { i < 16 }
         ensures { result ≡ calm_at_end probation (standing_of self.now) i }
     {
-        match NodeId::new(i) {
-            Some(id) => self.calm_at_end(id, probation),
-            None => 0,
-        }
+        self.calm_at_end(NodeId::of(i), probation)
     }
 
     // The calm of each node in the next frame.
@@ -229,7 +195,7 @@ impl<K: Copy> Standing<K> {
     {
         let lapsing = self.lapsing(probation);
         self.calm = self.calms(probation);
-        self.direct = NodeSet::from_bits(self.direct.bits() & !lapsing.bits());
+        self.direct = self.direct.difference(lapsing);
         self.fresh = NodeSet::empty();
     }
 }

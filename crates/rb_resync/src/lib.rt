@@ -4,40 +4,29 @@
 ghost use Rattle.std.specs.Prelude.{◌≡◌, ℕ, ◌+◌, ◌<◌, ◌≤◌, ◌^◌, ◌++◌, ◌∷◌, [], List, if◌then◌else◌, Some, None, length};
 ghost use Rattle.rb_base.specs.Nodes.{has};
 ghost use Rattle.rb_base.specs.Nodes.Side.{Biu, Rmu};
-ghost use Rattle.rb_eligible.specs.Inboxes.{Received, Shows, StampsUpTo, sense_in};
+ghost use Rattle.rb_eligible.specs.Inboxes.{Received, Shows, StampsUpTo, sense_in, sole_at};
 ghost use Rattle.rb_eligible.specs.Standings.{standing_of};
 ghost use Rattle.rb_rules.specs.ExactStage.{present};
 ghost use Rattle.rb_rules.specs.NodeState.{NodeState};
-ghost use Rattle.rb_rules.specs.Sense.{stamp_in};
 ghost use Rattle.rb_rules.specs.Standing.{has_evidence, with_evidence};
 ghost use Rattle.rb_rules.specs.SyncStage.{new_epoch_of, sync_closing_of};
 
 use arrayvec::ArrayVec;
-use rb_base::NodeSet;
-use rb_eligible::{Inbox, Standing};
+use rb_base::{NodeId, NodeSet, See};
+use rb_eligible::{Inbox, Standing, take_with_evidence};
 use rb_mid::middle;
 use rb_plan::Feasible;
+use rb_rules::Expect;
 pub use rb_rules::SyncClosing;
-use rb_rules::{Expect, Sense};
 
-// The stamp with which a message came.
-fn stamp_in(sense: &Sense) -> Option<u64>
-    ensures { result ≡ stamp_in sense.now }
-{
-    match sense {
-        Sense::Silent => None,
-        Sense::One { at, .. } => Some(*at),
-        Sense::Bad => None,
-    }
-}
-
-// What is taken of a source: the stamp of its call, if the source is one of those of which anything may be taken.
-fn taken(takable: u16, source: u8, sense: &Sense) -> Option<u64>
+// What is taken of a source: its stamp, if it is one of those of which a message is taken.
+fn taken<K: Copy>(inbox: &Inbox<K>, takers: NodeSet<K>, source: u8) -> Option<u64>
     requires { source < 16 }
-    ensures { result ≡ (if has takable source then stamp_in sense.now else None) }
+    ensures { result ≡ (if has takers source then Some (sole_at inbox.now.soles source).at else None) }
 {
-    if (takable >> source) & 1 == 1 {
-        stamp_in(sense)
+    let id = NodeId::of(source);
+    if takers.contains(id) {
+        Some(inbox.sole_at(id).at)
     } else {
         None
     }
@@ -56,8 +45,8 @@ fn add(stamps: &mut ArrayVec<u64, 16>, taken: Option<u64>)
 /// Closes a stage of the sync slot, or the tail. Of each source that is expected and eligible the stamp is taken with which
 /// its call came, if exactly one message came and it is meant for the window. Then each trusted source is accused that was
 /// expected and of which not exactly that came, or that wasn't expected and of which something came. The middle is that of the
-/// stamps, the lower of two, and `first`, the window's first tick, where none was taken. So it is not above `first` and all stamps. Stamps, the middle and `first` are
-/// ticks of the node's own clock.
+/// stamps, the lower of two, and `first`, the window's first tick, where none was taken. So it is not above `first` and all
+/// stamps. Stamps, the middle and `first` are ticks of the node's own clock.
 ///
 /// This is the receiving end of a stage of clock synchronisation by the unified protocol of Miner, Geser, Pike and Maddalon
 /// (FORMATS 2004): local error detection, then the middle value. The rules of evidence are this project's own.
@@ -76,18 +65,16 @@ pub fn close_sync<K: Copy>(
         (standing_of standing.old) }
     ensures soon { (n : ℕ) → StampsUpTo n inbox.now → first ≤ n → result.middle ≤ n }
 {
-    let takable = standing.eligible_of(expected).bits();
-    let mut evidence = NodeSet::empty();
+    let (mut values, mut sees) = ([None; 16], [See::Nothing; 16]);
+    let taking = take_with_evidence(inbox, standing, expect, expected, &mut values, &mut sees);
+    let takers = taking.ones.intersection(inbox.soles());
     let mut taken_of = [None; 16];
     let mut stamps = ArrayVec::new();
     for source in 0..16u8 {
-        let sense = inbox.sense_at(source, expect);
-        evidence = standing.with_evidence(evidence, source, expected, &sense);
-        let stamp = taken(takable, source, &sense);
+        let stamp = taken(inbox, takers, source);
         taken_of[usize::from(source)] = stamp;
         add(&mut stamps, stamp);
     }
-    standing.accuse_each(evidence);
     SyncClosing {
         taken: taken_of,
         middle: middle(&stamps).unwrap_or(first),
@@ -118,7 +105,7 @@ pub fn epoch_rmu(plan: &Feasible, k3: u64) -> u64
 #[cfg(test)]
 mod tests {
     use super::*;
-    use rb_base::{Biu, NodeId, Shape};
+    use rb_base::{Biu, Shape};
     use rb_plan::Plan;
     use rb_rules::Version;
     use std::test::Fail;

@@ -1,7 +1,5 @@
 -- The close of a stage, and mismatch accusations.
-use Rattle.std.proofs.Common.{◌≡◌, ℕ, ◌<◌, ◌^◌, Bool, ◌||◌, Option, List, refl, ◌∙◌, ap}
-use Rattle.rb_base.specs.Nodes.{has, set_of}
-use Rattle.rb_base.proofs.Sets.{has-set_of, same_set_of}
+use Rattle.std.proofs.Common.{◌≡◌, ℕ, Bool, Option, List, refl, ◌∙◌, ap}
 use Rattle.rb_base.specs.declared.values.Heard.{Heard}
 use Rattle.rb_rules.specs.Majority.{majority_of}
 use Rattle.rb_rules.specs.ExactStage.{closing_of, each_node, present}
@@ -18,8 +16,3 @@ closing_is s expected sense taken values voted taken_is values_are voted_is =
     let vote : voted ≡ majority_of (present (each_node (taken_of value_in s expected sense))) =
     voted_is ∙ ap majority_of values_are ∙ ap (λ t. majority_of (present t)) taken_is in
     rw (taken_is, vote) refl
-
--- `mismatch | differing`
-pub mismatch_is : (mismatch differing : ℕ) (p : ℕ → Bool) → mismatch < 2 ^ 16 → differing < 2 ^ 16 → differing ≡ set_of p
-    → set_of (λ j. has mismatch j || has differing j) ≡ set_of (λ j. has mismatch j || p j)
-mismatch_is mismatch differing p hm hd is = same_set_of _ _ (λ j h. ap (λ b. has mismatch j || b) (ap (λ t. has t j) is ∙ has-set_of j p h))

@@ -1,69 +1,37 @@
 //! A stage below the sync slot: what a node makes of what came in it.
 #![tactic(auto)]
 
-ghost use Rattle.std.specs.Prelude.{◌≡◌, ℕ, ◌<◌, ◌++◌, ◌∷◌, [], List, ◌||◌, ◌==◌, if◌then◌else◌, None, length, unwrap_or};
+ghost use Rattle.std.specs.Prelude.{◌≡◌, ℕ, ◌<◌, List, ◌||◌, ◌==◌, if◌then◌else◌, None, map, replicate, unwrap_or, IsTrue};
 ghost use Rattle.rb_base.specs.Nodes.{has, set_of};
+ghost use Rattle.rb_base.specs.declared.values.Heard.{Heard};
 ghost use Rattle.rb_eligible.specs.Inboxes.{Received, Shows, sense_in};
 ghost use Rattle.rb_eligible.specs.Standings.{standing_of};
-ghost use Rattle.rb_rules.specs.ExactStage.{at_source, closing_of, present, with_unlike};
-ghost use Rattle.rb_rules.specs.Sense.{value_in, value_of};
+ghost use Rattle.rb_rules.specs.ExactStage.{at_source, closing_of, present, see_value, with_unlike};
+ghost use Rattle.rb_rules.specs.Majority.{majority_of};
 ghost use Rattle.rb_rules.specs.Standing.{has_evidence, is_unlike, with_evidence};
 
-use arrayvec::ArrayVec;
-use rb_base::{Heard, NodeSet};
-use rb_eligible::{Inbox, Standing};
+use rb_base::{Heard, NodeId, NodeSet, See};
+use rb_eligible::{Inbox, Standing, take_with_evidence};
 pub use rb_rules::Closing;
-use rb_rules::{Expect, Sense, Tag};
-use rb_vote::majority;
+use rb_rules::Expect;
+use rb_vote::majority_taken;
 
-// The value that a message carries.
-fn value_of(tag: Tag, value: u32) -> Option<Heard>
-    ensures { result ≡ value_of tag value }
+// The vote over what was taken. Where all of it is the same value, it is that one, and where nothing was taken, Fault.
+fn vote(taken: &[Option<Heard>; 16], alike: bool, value: Option<Heard>) -> Heard
+    requires { IsTrue alike → majority_of (present taken.now) ≡ unwrap_or value Heard.Fault }
+    ensures { result ≡ majority_of (present taken.now) }
 {
-    match tag {
-        Tag::Word => Some(Heard::Word(value)),
-        Tag::Fault => Some(Heard::Fault),
-        Tag::Sync => None,
-    }
-}
-
-// The value that came.
-fn value_in(sense: &Sense) -> Option<Heard>
-    ensures { result ≡ value_in sense.now }
-{
-    match sense {
-        Sense::Silent => None,
-        Sense::One { message, .. } => value_of(message.tag, message.value),
-        Sense::Bad => None,
-    }
-}
-
-// What is taken of a source: the value that came, if the source is one of those of which anything may be taken.
-fn taken(takable: u16, source: u8, sense: &Sense) -> Option<Heard>
-    requires { source < 16 }
-    ensures { result ≡ (if has takable source then value_in sense.now else None) }
-{
-    if (takable >> source) & 1 == 1 {
-        value_in(sense)
+    if alike {
+        value.unwrap_or(Heard::Fault)
     } else {
-        None
-    }
-}
-
-// Adds the value, if there is one.
-fn add(values: &mut ArrayVec<Heard, 16>, value: Option<Heard>)
-    requires { length values.old.items < 16 }
-    ensures { values.new.items ≡ values.old.items ++ present (value ∷ []) }
-{
-    if let Some(heard) = value {
-        values.push(heard);
+        majority_taken(taken)
     }
 }
 
 /// Closes a stage below the sync slot. Of each source that is expected and eligible the value is taken that came of it, if
-/// exactly one message came and it is meant for the window; a relayed Fault is a value too. Then each trusted source is
-/// accused that was expected and of which not exactly that came, or that wasn't expected and of which something came. The vote
-/// is the majority of what was taken, and Fault over nothing. A mismatch accusation takes no part in any of this.
+/// exactly one message came and it is meant for the window; a relayed Fault is a value too. Then each trusted source is accused
+/// that was expected and of which not exactly that came, or that wasn't expected and of which something came. The vote is the
+/// majority of what was taken, and Fault over nothing. A mismatch accusation takes no part in any of this.
 ///
 /// This is the receiving end of a communication stage of the unified protocol of Miner, Geser, Pike and Maddalon (FORMATS
 /// 2004): local error detection, then the hybrid majority. The rules of evidence are this project's own.
@@ -80,21 +48,41 @@ pub fn close_stage<K: Copy>(
         ≡ with_evidence (has_evidence (standing_of standing.old) (has expected) (sense_in expect.now received))
         (standing_of standing.old) }
 {
-    let takable = standing.eligible_of(expected).bits();
-    let mut evidence = NodeSet::empty();
-    let mut taken_of = [None; 16];
-    let mut values = ArrayVec::new();
-    for source in 0..16u8 {
-        let sense = inbox.sense_at(source, expect);
-        evidence = standing.with_evidence(evidence, source, expected, &sense);
-        let value = taken(takable, source, &sense);
-        taken_of[usize::from(source)] = value;
-        add(&mut values, value);
-    }
-    standing.accuse_each(evidence);
+    let mut closing = nothing_taken();
+    let mut sees = [See::Nothing; 16];
+    close_stage_into(inbox, standing, expect, expected, &mut closing, &mut sees);
+    closing
+}
+
+/// The same in place: the closing is written over `closing`, and what is shown of each source over `sees`. Where nobody is
+/// expected and nothing came that costs next to nothing.
+pub fn close_stage_into<K: Copy>(
+    inbox: &Inbox<K>,
+    standing: &mut Standing<K>,
+    expect: &Expect,
+    expected: NodeSet<K>,
+    closing: &mut Closing,
+    sees: &mut [See; 16],
+)
+    ensures closing { (received : List Received) → Shows inbox.now received
+        → closing.new ≡ closing_of (standing_of standing.old) (has expected) (sense_in expect.now received) }
+    ensures accused { (received : List Received) → Shows inbox.now received
+        → standing_of standing.new
+        ≡ with_evidence (has_evidence (standing_of standing.old) (has expected) (sense_in expect.now received))
+        (standing_of standing.old) }
+    ensures sees { sees.new ≡ map see_value closing.new.taken }
+{
+    let taking = take_with_evidence(inbox, standing, expect, expected, &mut closing.taken, sees);
+    closing.voted = vote(&closing.taken, taking.alike, taking.value);
+}
+
+/// A closing in which nothing was taken.
+pub fn nothing_taken() -> Closing
+    ensures { result ≡ record { taken = replicate 16 None; voted = Heard.Fault } }
+{
     Closing {
-        taken: taken_of,
-        voted: majority(&values),
+        taken: [None; 16],
+        voted: Heard::Fault,
     }
 }
 
@@ -109,13 +97,20 @@ fn is_unlike(value: Heard, taken: Option<Heard>) -> bool
 }
 
 // The set, with this source where something other than the value was taken of it.
-fn with_differing(set: u16, source: u8, value: Heard, taken: Option<Heard>) -> u16
+fn with_differing<K: Copy>(
+    set: NodeSet<K>,
+    source: u8,
+    value: Heard,
+    taken: Option<Heard>,
+) -> NodeSet<K>
     requires { source < 16 }
     ensures { result ≡ (if is_unlike value taken
         then set_of (λ j. has set j || (j == source)) else set) }
 {
     if is_unlike(value, taken) {
-        set | 1 << source
+        let mut grown = set;
+        grown.insert(NodeId::of(source));
+        grown
     } else {
         set
     }
@@ -125,11 +120,11 @@ fn with_differing(set: u16, source: u8, value: Heard, taken: Option<Heard>) -> u
 pub fn accuse_unlike<K: Copy>(closing: &Closing, value: Heard, standing: &mut Standing<K>)
     ensures { standing_of standing.new ≡ with_unlike value closing.now.taken (standing_of standing.old) }
 {
-    let mut differing = 0;
+    let mut differing = NodeSet::empty();
     for source in 0..16u8 {
         differing = with_differing(differing, source, value, closing.taken[usize::from(source)]);
     }
-    standing.mismatch = NodeSet::from_bits(standing.mismatch.bits() | differing);
+    standing.mismatch = standing.mismatch.union(differing);
 }
 
 /// What a node says as a relay of the slot's sender, a node below 16: what it took of it in stage 1, and Fault where it took
@@ -145,7 +140,7 @@ pub fn relay(closing: &Closing, sender: u8) -> Heard
 mod tests {
     use super::*;
     use Heard::{Fault, Word};
-    use rb_base::{NodeId, Rmu};
+    use rb_base::Rmu;
     use rb_rules::Version;
     use std::test::Fail;
 

@@ -63,11 +63,11 @@ fn asks_more(request: Heard, pass: u32) -> bool
 }
 
 // Whether the BIU asks for a slot in this pass.
-fn asks(requests: &[Heard; 16], trusted: u16, index: u8, pass: u32) -> bool
+fn asks(requests: &[Heard; 16], trusted: NodeSet<Biu>, index: u8, pass: u32) -> bool
     requires { index < 16 }
     ensures { result ≡ asks trusted requests.now pass index }
 {
-    (trusted >> index) & 1 == 1 && asks_more(requests[usize::from(index)], pass)
+    trusted.has(index) && asks_more(requests[usize::from(index)], pass)
 }
 
 // One slot for each trusted BIU that asks for more, while there are slots left.
@@ -83,7 +83,6 @@ fn add_pass(
         (owners.old ++ owners_in_pass shape.now trusted requests.now pass) }
 {
     let slots = usize::from(shape.slots());
-    let trusted = trusted.bits();
     for index in 0..shape.biu() {
         if owners.count() == slots {
             return;

@@ -31,7 +31,7 @@ loop-index-preserved c =
     let gets = asks c.args.trusted c.args.requests.now c.args.pass in
     let k = c.loop-index.index in
     let now = c.loop-index.owners in
-    let says : c.asks.result ≡ gets k = c.asks.ensures ∙ ap (λ s. asks s c.args.requests.now c.args.pass k) c.bits-trusted.ensures in
+    let says : c.asks.result ≡ gets k = c.asks.ensures in
     elim c.if-asks.branch [
       | then-asks w ↦
           let room : length now < slots = let fits = c.loop-index.invariant.fits in omega arith in

@@ -1,0 +1,39 @@
+-- What an arrival is kept as, and what its bytes say.
+use Rattle.std.specs.Prelude.{ℕ, ◌≡◌, ◌≤◌, ◌/◌, ◌%◌, Bool, false, ◌⊎◌, Option, None, List, ◌++◌, take}
+use Rattle.std.specs.Int.{to_le_bytes, w32, w64}
+use Rattle.rb_base.specs.declared.values.Heard.{Heard}
+use Rattle.rb_rules.specs.declared.sense.Expect.{Expect}
+use Rattle.rb_rules.specs.ExactStage.{see_value}
+use Rattle.rb_rules.specs.Sense.{is_one, sense_of_one, value_in}
+use Rattle.rb_rules.specs.Spelling.{message_in}
+use Rattle.rb_eligible.specs.declared.reading.Reading.{Reading}
+use Rattle.rb_eligible.specs.declared.reading.Sole.{Sole}
+
+-- the last four bytes, and how many bytes there are, are kept as one number
+abbrev pub high_of : ℕ → ℕ
+high_of tail = tail % 4294967296
+
+abbrev pub len_of : ℕ → ℕ
+len_of tail = tail / 4294967296
+
+-- so many bytes, kept as two numbers
+unfoldable pub spelled : ℕ → ℕ → ℕ → List ℕ
+spelled low high len = take len (to_le_bytes w64 low ++ to_le_bytes w32 high)
+
+-- the bytes of a sole arrival
+abbrev pub bytes_of : Sole → List ℕ
+bytes_of s = spelled s.low (high_of s.tail) (len_of s.tail)
+
+-- whether bytes are one message that is meant for the window, and its value; the stamp plays no part
+pub record Says (e : Expect) (bytes : List ℕ) (one : Bool) (value : Option Heard) : Type 0 where
+  pub one_is : one ≡ is_one (sense_of_one e 0 (message_in e.version bytes))
+  pub value_is : value ≡ value_in (sense_of_one e 0 (message_in e.version bytes))
+
+-- the reading is that of its bytes, unless they are those of no arrival, and it shows its value
+pub record IsReading (e : Expect) (r : Reading) : Type 0 where
+  pub says : len_of r.tail ≤ 12 → Says e (spelled r.low (high_of r.tail) (len_of r.tail)) r.one r.value
+  pub shown : r.see ≡ see_value r.value
+
+-- the one before it had no value, or the same, and was no mixed one
+abbrev pub IsLike : Reading → Reading → Type 0
+IsLike before r = (before.mixed ≡ false) × ((before.value ≡ None) ⊎ (r.value ≡ before.value))

@@ -1,0 +1,257 @@
+//! What the bytes of an arrival say, in a window.
+ghost use Rattle.std.specs.Prelude.{◌≡◌, ◌≤◌, ◌++◌, ℕ, IsTrue, None, ◌<◌, drop, length, slice_index, take, false, ◌⊎◌};
+ghost use Rattle.std.specs.Int.{from_le_bytes, to_le_bytes, w32, w64};
+ghost use Rattle.rb_rules.specs.ExactStage.{see_value};
+ghost use Rattle.rb_rules.specs.Sense.{is_one, sense_of_one, suits, tag_suits, value_in, value_of};
+ghost use Rattle.rb_rules.specs.Spelling.{message_in};
+ghost use Rattle.rb_eligible.specs.Readings.{IsLike, IsReading, Says, bytes_of, high_of, len_of};
+
+use byteorder::{ByteOrder, LittleEndian};
+use rb_base::{Heard, See};
+use rb_frame::{Message, Tag, decode};
+use rb_rules::{Expect, Sense};
+
+// The bytes of the longest message.
+pub(crate) const MOST_BYTES: usize = 12;
+
+/// What is kept of an arrival that is no longer than any message: its stamp, and its bytes as two numbers, the lowest byte
+/// first: `low` has the first eight, `tail` the other four, both filled up with zeros, and above these how many bytes there are.
+#[derive(Clone, Copy, Debug, PartialEq, Eq)]
+pub struct Sole {
+    pub at: u64,
+    pub low: u64,
+    pub tail: u64,
+}
+
+/// The bytes that were read last, as an arrival keeps them: whether they are exactly one message that is meant for the window,
+/// the value that such a message carries, and what is shown of it. Who spells alike is read alike: the next arrival with the
+/// same bytes need not be read. `mixed` says that a value was read and then another one or none.
+#[derive(Clone, Copy, Debug, PartialEq, Eq)]
+pub struct Reading {
+    pub low: u64,
+    pub tail: u64,
+    pub one: bool,
+    pub value: Option<Heard>,
+    pub see: See,
+    pub mixed: bool,
+}
+
+/// The reading before the first: no arrival that is kept has 13 bytes.
+pub(crate) fn nothing_read(expect: &Expect) -> Reading
+    ensures reading { IsReading expect.now result }
+    ensures value { result.value ≡ None }
+{
+    let _version = expect.version;
+    Reading {
+        low: 0,
+        tail: 13 << 32,
+        one: false,
+        value: None,
+        see: See::Nothing,
+        mixed: false,
+    }
+}
+
+// Whether the arrival has the bytes that were read.
+fn spells_alike(sole: &Sole, last: &Reading) -> bool
+    ensures low { IsTrue result → sole.now.low ≡ last.now.low }
+    ensures tail { IsTrue result → sole.now.tail ≡ last.now.tail }
+{
+    sole.low == last.low && sole.tail == last.tail
+}
+
+/// Reads an arrival, once another one was read.
+#[inline(always)]
+pub(crate) fn read(sole: &Sole, expect: &Expect, last: &mut Reading)
+    requires short { len_of sole.now.tail ≤ 12 }
+    requires last { IsReading expect.now last.old }
+    ensures reading { IsReading expect.now last.new }
+    ensures says { Says expect.now (bytes_of sole.now) last.new.one last.new.value }
+    ensures alike { last.new.mixed ≡ false → IsLike last.old last.new }
+{
+    if !spells_alike(sole, last) {
+        read_anew(sole, expect, last);
+    }
+}
+
+// What an arrival says.
+#[inline(never)]
+#[tactic(auto, using(crate::proofs::Sensed::says_sense))]
+fn read_anew(sole: &Sole, expect: &Expect, last: &mut Reading)
+    requires { len_of sole.now.tail ≤ 12 }
+    ensures reading { IsReading expect.now last.new }
+    ensures says { Says expect.now (bytes_of sole.now) last.new.one last.new.value }
+    ensures alike { last.new.mixed ≡ false → IsLike last.old last.new }
+{
+    let sense = sense_of_sole(sole, expect);
+    let value = value_in(&sense);
+    last.mixed = is_mixed(last.mixed, last.value, value);
+    last.low = sole.low;
+    last.tail = sole.tail;
+    last.one = is_one(&sense);
+    last.value = value;
+    last.see = see_value(value);
+}
+
+// What is shown of a source, by the value that was taken of it.
+fn see_value(taken: Option<Heard>) -> See
+    ensures { result ≡ see_value taken }
+{
+    match taken {
+        Some(value) => See::Value(value),
+        None => See::Nothing,
+    }
+}
+
+// Whether values are mixed once one more was read.
+fn is_mixed(mixed: bool, before: Option<Heard>, value: Option<Heard>) -> bool
+    ensures mixed { result ≡ false → mixed ≡ false }
+    ensures same { result ≡ false → (before ≡ None) ⊎ (value ≡ before) }
+{
+    match before {
+        Some(heard) => mixed || value != Some(heard),
+        None => mixed,
+    }
+}
+
+// Whether exactly one message came that is meant for the window.
+fn is_one(sense: &Sense) -> bool
+    ensures { result ≡ is_one sense.now }
+{
+    match sense {
+        Sense::Silent => false,
+        Sense::One { .. } => true,
+        Sense::Bad => false,
+    }
+}
+
+// The value that a message carries.
+fn value_of(tag: Tag, value: u32) -> Option<Heard>
+    ensures { result ≡ value_of tag value }
+{
+    match tag {
+        Tag::Word => Some(Heard::Word(value)),
+        Tag::Fault => Some(Heard::Fault),
+        Tag::Sync => None,
+    }
+}
+
+// The value that came.
+fn value_in(sense: &Sense) -> Option<Heard>
+    ensures { result ≡ value_in sense.now }
+{
+    match sense {
+        Sense::Silent => None,
+        Sense::One { message, .. } => value_of(message.tag, message.value),
+        Sense::Bad => None,
+    }
+}
+
+// Room with the bytes of an arrival.
+fn room_of(low: u64, high: u32) -> [u8; 12]
+    ensures { result ≡ to_le_bytes w64 low ++ to_le_bytes w32 high }
+{
+    let mut room = [0; 12];
+    LittleEndian::write_u64(&mut room[..8], low);
+    LittleEndian::write_u32(&mut room[8..], high);
+    room
+}
+
+/// The sense of an arrival that is the only one of its source.
+#[tactic(auto, unfolding(crate::specs::Readings::spelled))]
+pub(crate) fn sense_of_sole(sole: &Sole, expect: &Expect) -> Sense
+    requires { len_of sole.now.tail ≤ 12 }
+    ensures { result
+        ≡ sense_of_one expect.now sole.now.at (message_in expect.now.version (bytes_of sole.now)) }
+{
+    let len = (sole.tail >> 32) as usize;
+    let room = room_of(sole.low, (sole.tail % 0x1_0000_0000) as u32);
+    sense_of_one(expect, sole.at, &room[..len])
+}
+
+// The sense of a sole arrival.
+fn sense_of_one(expect: &Expect, at: u64, bytes: &[u8]) -> Sense
+    ensures sense { result ≡ sense_of_one expect.now at (message_in expect.now.version bytes.now) }
+{
+    match decode(expect.version, bytes) {
+        Some(message) => {
+            if suits(expect, message) {
+                Sense::One { at, message }
+            } else {
+                Sense::Bad
+            }
+        }
+        None => Sense::Bad,
+    }
+}
+
+// Whether the message is meant for the window.
+fn suits(expect: &Expect, message: Message) -> bool
+    ensures { result ≡ suits expect.now message }
+{
+    message.frame == expect.frame
+        && message.slot == expect.slot
+        && message.stage == expect.stage
+        && tag_suits(expect.sync, message.tag)
+}
+
+// Whether the tag belongs in the sync slot, or in the others.
+fn tag_suits(in_sync: bool, tag: Tag) -> bool
+    ensures { result ≡ tag_suits in_sync tag }
+{
+    match tag {
+        Tag::Word => !in_sync,
+        Tag::Fault => !in_sync,
+        Tag::Sync => in_sync,
+    }
+}
+
+// Room that begins with the bytes.
+fn room_with(bytes: &[u8]) -> [u8; 12]
+    requires { length bytes.now ≤ 12 }
+    ensures begins { take (length bytes.now) result ≡ bytes.now }
+    ensures len { length result ≡ 12 }
+    ensures small { (i : ℕ) → slice_index result i < 256 }
+{
+    let mut room = [0; 12];
+    room[..bytes.len()].copy_from_slice(bytes);
+    room
+}
+
+// The first eight bytes as a number.
+fn low_of(room: &[u8; 12]) -> u64
+    ensures { result ≡ from_le_bytes w64 (take 8 room.now) }
+{
+    LittleEndian::read_u64(&room[..8])
+}
+
+// The other four.
+fn high_of(room: &[u8; 12]) -> u32
+    ensures { result ≡ from_le_bytes w32 (drop 8 room.now) }
+{
+    LittleEndian::read_u32(&room[8..])
+}
+
+// Four bytes as a number, and above them how many bytes there are.
+fn tail_of(high: u32, len: usize) -> u64
+    requires { len ≤ 12 }
+    ensures high { high_of result ≡ high }
+    ensures len { len_of result ≡ len }
+{
+    u64::from(high) + len as u64 * 0x1_0000_0000
+}
+
+/// What is kept of an arrival that is no longer than any message.
+pub(crate) fn sole_of(at: u64, bytes: &[u8]) -> Sole
+    requires { length bytes.now ≤ 12 }
+    ensures at { result.at ≡ at }
+    ensures len { len_of result.tail ≤ 12 }
+    ensures bytes { bytes_of result ≡ bytes.now }
+{
+    let room = room_with(bytes);
+    Sole {
+        at,
+        low: low_of(&room),
+        tail: tail_of(high_of(&room), bytes.len()),
+    }
+}
