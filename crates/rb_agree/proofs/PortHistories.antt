@@ -1,29 +1,26 @@
 -- A good BIU's port is what the bus's values and its hand-ins make of it.
-use Rattle.std.proofs.Common.{◌≡◌, ℕ, zero, suc, ◌+◌, ◌-◌, ◌*◌, ◌<◌, ◌≤◌, true, false, List, [], ◌∷◌, length, Option, Some, None, slice_get, get_or, filter_map, ◌⊎◌, inl, inr, refl, sym, ◌∙◌, ap, subst, arith, lit<}
+use Rattle.std.proofs.Common.{◌≡◌, ℕ, zero, suc, ◌+◌, ◌-◌, ◌*◌, ◌<◌, ◌≤◌, true, List, length, None, slice_get, get_or, inl, inr, sym, ◌∙◌, ap, subst, arith, lit<}
 use Rattle.std.proofs.lemmas.Bool.{cases_lt}
-use Rattle.rb_base.specs.Nodes.{Side}
 use Rattle.rb_base.specs.Nodes.Side.{Biu}
 use Rattle.rb_base.specs.Sizes.{sync_slot_of}
-use Rattle.rb_rules.specs.Book.{of_kind, line_in}
+use Rattle.rb_rules.specs.Book.{of_kind}
 use Rattle.rb_rules.specs.Goodness.{Scenario, is_good}
 use Rattle.rb_rules.specs.Hearing.{port_at}
 use Rattle.rb_rules.specs.Lawful.{IsLawful}
 use Rattle.rb_rules.specs.Moments.{before_stage, before_slot, after_slot, IsRunning, IsComplete, IsReached}
 use Rattle.rb_rules.specs.Ports.{PortState, HandIn, fresh_port}
-use Rattle.rb_rules.specs.Rounds.{Moment, moment, step, next_frame, windows_in}
-use Rattle.rb_rules.specs.Slots.{count_of}
+use Rattle.rb_rules.specs.Rounds.{Moment, moment, step, windows_in}
 use Rattle.rb_agree.specs.Histories.{value_in_lines, delivered_in, with_delivery, states_for, with_states, port_through, port_begun, AreAlike}
 use Rattle.rb_agree.specs.Laws.{PortsFollowTheBus, PortsHoldOneState}
 use Rattle.rb_agree.proofs.Tests.{Present}
 use Rattle.rb_agree.proofs.Goodnesses.{good_counts, good_earlier, good_before}
-use Rattle.rb_agree.proofs.Invariant.{Shared, IsGoodNode, is_good_now, Agree}
 use Rattle.rb_agree.proofs.JudgedWindows.{rows_of, IsPassed, passed}
 use Rattle.rb_agree.proofs.NextMoments.{next}
-use Rattle.rb_agree.proofs.NodeWindows.{Windows, sync_windows_are, tail_windows}
+use Rattle.rb_agree.proofs.NodeWindows.{sync_windows_are, tail_windows}
 use Rattle.rb_agree.proofs.Settings.{item_at}
 use Rattle.rb_agree.proofs.SyncAgrees.{book_sync}
 use Rattle.rb_agree.proofs.Places.{IsPlaced, placed, complete_before, running_earlier}
-use Rattle.rb_agree.proofs.SlotRuns.{IsSlot, slot_runs, step_through, stage_next, next-frame, next-window}
+use Rattle.rb_agree.proofs.SlotRuns.{slot_runs, step_through, stage_next, next-frame}
 use Rattle.rb_agree.proofs.FrameBegins.{IsTurn, frame_turns}
 use Rattle.rb_agree.proofs.PortLists.{ports_long, first-port, turned-port}
 use Rattle.rb_agree.proofs.PortSlots.{slot_port, sync_port, sync_lines}
@@ -54,6 +51,7 @@ sync-stage sc hands law frame q small complete =
   where
     drop-one : (a q : ℕ) → a + (q + 1 - 1) ≡ a + q
     drop-one a q = omega arith
+
     plus : (q : ℕ) → q + 1 + 1 ≡ q + 2
     plus q = omega arith
 
