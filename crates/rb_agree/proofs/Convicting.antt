@@ -1,51 +1,34 @@
 -- A node of which nobody took anything has no vector.
-use Rattle.std.proofs.Common.{◌≡◌, ℕ, zero, suc, ◌+◌, ◌-◌, ◌*◌, ◌<◌, ◌≤◌, ◌==◌, ◌&&◌, ◌||◌, nat_lt, not, Bool, true, false, List, Option, Some, slice_get, get_or, if◌then◌else◌, ◌⊎◌, inl, inr, refl, sym, ◌∙◌, ap, subst, arith}
+use Rattle.std.proofs.Common.{◌≡◌, ℕ, suc, ◌+◌, ◌*◌, ◌<◌, ◌≤◌, true, false, List, slice_get, get_or, if◌then◌else◌, inl, inr, refl, sym, ◌∙◌, ap, subst, arith}
 use Rattle.std.proofs.lemmas.Bool.{cases_lt}
-use Rattle.std.proofs.lemmas.Bool.Decides.{nat_tests}
-use Rattle.rb_base.specs.Nodes.{Side, other, has, set_of}
+use Rattle.rb_base.specs.Nodes.{Side, has}
 use Rattle.rb_base.specs.Nodes.Side.{Biu, Rmu}
 use Rattle.rb_base.specs.Sizes.{Sizes, sync_slot_of}
-use Rattle.rb_base.proofs.Sets.{has-set_of}
 use Rattle.rb_base.specs.declared.values.Heard.{Heard}
-use Rattle.rb_base.specs.declared.values.Heard.TheVariants.{Word, Fault}
-use Rattle.rb_rules.specs.declared.role.Role.{Role}
+use Rattle.rb_base.specs.declared.values.Heard.TheVariants.{Fault}
 use Rattle.rb_rules.specs.Book.{of_kind, judged_of}
-use Rattle.rb_rules.specs.Conviction.{is_valid, names, voted_vector}
-use Rattle.rb_rules.specs.ExactStage.{own_value}
-use Rattle.rb_rules.specs.Goodness.{Scenario, is_good}
-use Rattle.rb_rules.specs.Hearing.{word_for}
+use Rattle.rb_rules.specs.Conviction.{is_valid, voted_vector}
+use Rattle.rb_rules.specs.Goodness.{Scenario}
 use Rattle.rb_rules.specs.Judging.{is_benign}
 use Rattle.rb_rules.specs.Lawful.{IsLawful}
-use Rattle.rb_rules.specs.Moments.{before_stage, before_slot, after_slot, IsRunning, IsComplete, IsGoodBefore, IsGoodAfter}
-use Rattle.rb_rules.specs.NodeState.{NodeState, trusted_of}
-use Rattle.rb_rules.specs.NodeSteps.{convicted_of}
+use Rattle.rb_rules.specs.Moments.{before_stage, before_slot, after_slot, IsComplete, IsGoodAfter}
+use Rattle.rb_rules.specs.NodeState.{NodeState}
 use Rattle.rb_rules.specs.Ports.{HandIn}
-use Rattle.rb_rules.specs.Rounds.{Moment, moment, next_frame, step, sent_in, window_in, windows_in}
-use Rattle.rb_rules.specs.Slots.{Sender, same_side, has_third_stage, sender_kind, count_of, role_of, sender_in}
-use Rattle.rb_rules.specs.Slots.Sender.{Nobody, Node}
-use Rattle.rb_rules.specs.Standing.{vector_of, without}
+use Rattle.rb_rules.specs.Rounds.{Moment}
+use Rattle.rb_rules.specs.Slots.{same_side, has_third_stage, sender_kind, count_of, role_of, sender_in}
+use Rattle.rb_rules.specs.Slots.Sender.{Nobody}
 use Rattle.rb_rules.specs.StandsFor.{votes_on}
-use Rattle.rb_rules.proofs.RoundStates.{Stays, stays-refl, stays-trans, through-stays, state-after}
-use Rattle.rb_agree.specs.Laws.{vector_slot_of, UnheardNodesHaveNoVector, Accuses, IsAccusedByAll, AccusedByAllIsConvicted}
-use Rattle.rb_agree.proofs.Tests.{true_or_false, and_first, and_second, and_both, and_none, not_so, Present}
-use Rattle.rb_agree.proofs.Goodnesses.{good_earlier, good_below_16, few_nodes, slot_last}
-use Rattle.rb_agree.proofs.Invariant.{Shared, sender_of, kind_in, IsGoodNode, is_good_now, slot_numbered, IsOwn, IsValue, IsFinished, HasVoted, Holds, Agree}
-use Rattle.rb_agree.proofs.ExactWindows.{other_twice}
-use Rattle.rb_agree.proofs.Exchanges.{trusted-either, far-trusted}
-use Rattle.rb_agree.proofs.JudgedWindows.{rows_of, stays-trusted}
+use Rattle.rb_agree.specs.Laws.{UnheardNodesHaveNoVector}
+use Rattle.rb_agree.proofs.Tests.{true_or_false}
+use Rattle.rb_agree.proofs.Invariant.{Shared, IsValue, IsFinished, HasVoted}
+use Rattle.rb_agree.proofs.JudgedWindows.{rows_of}
 use Rattle.rb_agree.proofs.NextMoments.{next, stages_after}
-use Rattle.rb_agree.proofs.NodeWindows.{tail_windows}
-use Rattle.rb_agree.proofs.Settings.{Setting, good_state, after}
 use Rattle.rb_agree.proofs.SecondStages.{benign-before}
 use Rattle.rb_agree.proofs.ThirdStages.{voted, held_3, other_votes_kept}
-use Rattle.rb_agree.proofs.SyncAgrees.{SyncSetting, agree_sync, leaves, tail_setting}
+use Rattle.rb_agree.proofs.SyncAgrees.{leaves}
 use Rattle.rb_agree.proofs.Vectors.{vector_slot, vector_role, vector_slot-role, vector_slot-lt}
-use Rattle.rb_agree.proofs.FrameTurns.{AtEnd, convicted_all, VectorOf, vector_end, role-votes, role-kind, role-sender, named_by_all}
-use Rattle.rb_agree.proofs.FrameAgrees.{shared_next, holds-turned}
-use Rattle.rb_agree.proofs.Agreement.{running_before}
-use Rattle.rb_agree.proofs.Places.{IsPlaced, placed, complete_before, running_earlier, good_before_slot}
-use Rattle.rb_agree.proofs.SlotRuns.{IsSlot, slot_runs, good_in_stage, StateFrom, state_from, third_frame, step_through, next-frame, next-window}
-use Rattle.rb_agree.proofs.FrameBegins.{IsTurn, frame_turns}
+use Rattle.rb_agree.proofs.FrameTurns.{role-votes, role-kind, role-sender}
+use Rattle.rb_agree.proofs.SlotRuns.{IsSlot, slot_runs, good_in_stage, StateFrom, state_from, third_frame}
 use Rattle.rb_agree.proofs.SlotLaws.{IsSyncEnd, sync_ends, good_at_end}
 
 -- A node that nobody heard.

@@ -1,15 +1,14 @@
 -- A frame that is reached begins before the first breach.
-use Rattle.std.proofs.Common.{◌≡◌, ℕ, zero, suc, ◌+◌, ◌-◌, ◌*◌, ◌<◌, ◌≤◌, ◌==◌, nat_lt, Bool, true, false, List, ◌⊎◌, inl, inr, refl, sym, ◌∙◌, ap, subst, arith}
+use Rattle.std.proofs.Common.{◌≡◌, ℕ, zero, suc, ◌+◌, ◌-◌, ◌*◌, ◌<◌, ◌≤◌, ◌==◌, nat_lt, Bool, true, false, List, inl, inr, refl, sym, ◌∙◌, ap, arith}
 use Rattle.std.proofs.lemmas.Bool.Decides.{nat_tests}
-use Rattle.rb_base.specs.Sizes.{Sizes, sync_slot_of}
+use Rattle.rb_base.specs.Sizes.{sync_slot_of}
 use Rattle.rb_rules.specs.Book.{Begun, Book, with_frame}
 use Rattle.rb_rules.specs.Goodness.{Scenario}
 use Rattle.rb_rules.specs.Lawful.{IsLawful}
 use Rattle.rb_rules.specs.Moments.{before_stage, before_slot, after_slot, IsRunning, IsComplete, IsReached, BeginsFrame, IsSettled}
 use Rattle.rb_rules.specs.Ports.{HandIn}
-use Rattle.rb_rules.specs.Rounds.{Moment, first_moment, begin_frame, next_frame, after_window, step, moment, windows_in}
+use Rattle.rb_rules.specs.Rounds.{Moment, first_moment, begin_frame, next_frame, step, moment, windows_in}
 use Rattle.rb_rules.proofs.Books.{stepped}
-use Rattle.rb_agree.proofs.Tests.{so_not}
 use Rattle.rb_agree.proofs.Agreement.{ended-end}
 use Rattle.rb_agree.proofs.NextMoments.{next}
 use Rattle.rb_agree.proofs.Places.{IsPlaced, placed, complete_before}
@@ -32,6 +31,7 @@ window-step sc hands m over below = go (m.frame == sc.frames) (nat_lt m.window (
   where
     less-true : (a b : ℕ) → a < b → nat_lt a b ≡ true
     less-true a b h = grind (arith, nat_tests)
+
     go : (over in_frame : Bool) → over ≡ false → in_frame ≡ true → stepped sc hands m over in_frame ≡ next sc m
     go true in_frame p q = cc
     go false true p q = refl
@@ -43,6 +43,7 @@ turn-step sc hands m over full = go (m.frame == sc.frames) (nat_lt m.window (win
   where
     less-false : (a b : ℕ) → b ≤ a → nat_lt a b ≡ false
     less-false a b h = grind (arith, nat_tests)
+
     go : (over in_frame : Bool) → over ≡ false → in_frame ≡ false → stepped sc hands m over in_frame ≡ next_frame sc hands m
     go true in_frame p q = cc
     go false true p q = cc

@@ -1,16 +1,11 @@
 -- The end of a frame: all good nodes convict the same nodes, and no good one.
-use Rattle.std.proofs.Common.{◌≡◌, ℕ, zero, suc, ◌+◌, ◌*◌, ◌<◌, ◌≤◌, ◌==◌, ◌&&◌, ◌||◌, nat_lt, not, Bool, true, false, List, [], length, map, replicate, ◌⊎◌, inl, inr, Option, Some, None, is_some, option_map, slice_get, get_or, if◌then◌else◌, refl, sym, ◌∙◌, ap, subst, arith}
-use Rattle.std.proofs.lemmas.Bool.{cases_lt}
-use Rattle.std.proofs.lemmas.Bool.Decides.{nat_tests}
+use Rattle.std.proofs.Common.{◌≡◌, ℕ, ◌+◌, ◌*◌, ◌<◌, ◌≤◌, ◌&&◌, not, Bool, true, false, List, if◌then◌else◌, refl, sym, ◌∙◌, ap, subst, arith}
 use Rattle.rb_base.specs.Counting.{count_if, numbers}
-use Rattle.rb_base.specs.Nodes.{Side, other, has, set_of}
+use Rattle.rb_base.specs.Nodes.{Side, other, has}
 use Rattle.rb_base.specs.Nodes.Side.{Biu, Rmu}
 use Rattle.rb_base.specs.Sizes.{Sizes, sync_slot_of}
-use Rattle.rb_base.proofs.Sets.{has-set_of, has_above, set_of-lt}
 use Rattle.rb_base.specs.declared.values.Heard.{Heard}
-use Rattle.rb_base.specs.declared.values.Heard.TheVariants.{Word, Fault}
-use Rattle.rb_rules.specs.declared.role.Role.{Role}
-use Rattle.rb_rules.specs.Book.{of_kind}
+use Rattle.rb_base.specs.declared.values.Heard.TheVariants.{Fault}
 use Rattle.rb_rules.specs.Conviction.{is_valid, names, naming, sparing, convicted_by, voted_vector, convicted_at}
 use Rattle.rb_rules.specs.Goodness.{Scenario, is_good}
 use Rattle.rb_rules.specs.Judging.{is_benign}
@@ -18,14 +13,13 @@ use Rattle.rb_rules.specs.Lawful.{IsLawful}
 use Rattle.rb_rules.specs.NodeState.{NodeState, trusted_of}
 use Rattle.rb_rules.specs.Ports.{HandIn}
 use Rattle.rb_rules.specs.Rounds.{Moment, windows_in}
-use Rattle.rb_rules.specs.Slots.{Sender, same_side, sender_kind, has_third_stage, count_of, first_diagnosis_of, role_of, if_trusted, sender_in}
-use Rattle.rb_rules.specs.Slots.Sender.{Nobody, Node}
-use Rattle.rb_rules.specs.StandsFor.{votes_on}
+use Rattle.rb_rules.specs.Slots.{same_side, sender_kind, has_third_stage, count_of, role_of, sender_in}
+use Rattle.rb_rules.specs.Slots.Sender.{Node}
 use Rattle.rb_rules.proofs.Convictions.{named_is_convicted, spared_is_not_convicted}
-use Rattle.rb_agree.proofs.Tests.{true_or_false, and_first, and_second, and_both, not_so, not_true, so_not}
+use Rattle.rb_agree.proofs.Tests.{and_first, and_second, and_both, not_so, so_not}
 use Rattle.rb_agree.proofs.Numbers.{how_many, how_many-le}
 use Rattle.rb_agree.proofs.Premises.{Premise, is_active, is_sound}
-use Rattle.rb_agree.proofs.Goodnesses.{good_below_16, good_earlier, good_before, few_nodes, slot_last}
+use Rattle.rb_agree.proofs.Goodnesses.{good_below_16, few_nodes, slot_last}
 use Rattle.rb_agree.proofs.Invariant.{Shared, sender_of, kind_in, IsGoodNode, is_good_now, slot_numbered, is_diagnosis, IsVector, IsOwn, IsFinished, Holds, Agree}
 use Rattle.rb_agree.proofs.ExactWindows.{other_twice}
 use Rattle.rb_agree.proofs.Exchanges.{trusted-either}
@@ -171,7 +165,7 @@ few_pass sc hands n m s e kind others test none =
 -- and one that each good node's valid vector passes by at least as many
 many_pass : (sc : Scenario) (hands : List HandIn) (n : ℕ) (m : Moment) (s : Shared) (e : AtEnd sc hands n m s) (kind : Side) (others : ℕ) (test : Heard → Bool)
     → ((i : ℕ) → has (s.trusted kind) i ≡ true → is_good_now sc m kind i ≡ true
-        → (is_valid others (s.values (vector_slot sc.sizes kind i)) ≡ true) × (test (s.values (vector_slot sc.sizes kind i)) ≡ true))
+    → (is_valid others (s.values (vector_slot sc.sizes kind i)) ≡ true) × (test (s.values (vector_slot sc.sizes kind i)) ≡ true))
     → how_many (is_sound sc kind m.frame (sync_slot_of sc.sizes) s.trusted)
     ≤ count_if (λ i. has (s.trusted kind) i && is_valid others (s.values (vector_slot sc.sizes kind i)) && test (s.values (vector_slot sc.sizes kind i))) (numbers 16)
 many_pass sc hands n m s e kind others test all =

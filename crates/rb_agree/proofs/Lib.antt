@@ -34,3 +34,4 @@ pub mod Convicting
 pub mod WidelyAccused
 pub mod PortLists
 pub mod PortSlots
+pub mod PortHistories

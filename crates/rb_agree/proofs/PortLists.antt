@@ -1,20 +1,19 @@
 -- Ports through a window, and as a frame begins.
-use Rattle.std.proofs.Common.{◌≡◌, ℕ, zero, suc, ◌+◌, ◌<◌, ◌≤◌, ◌==◌, ◌&&◌, nat_lt, Bool, true, false, cond, List, [], ◌∷◌, length, map, filter, Option, Some, None, option_map, slice_get, get_or, if◌then◌else◌, refl, sym, ◌∙◌, ap, subst, arith}
+use Rattle.std.proofs.Common.{◌≡◌, ℕ, zero, suc, ◌+◌, ◌<◌, ◌==◌, ◌&&◌, nat_lt, Bool, true, false, cond, List, [], ◌∷◌, length, map, filter, Option, None, option_map, get_or, if◌then◌else◌, refl, sym, ◌∙◌, ap, arith}
 use Rattle.std.proofs.lemmas.Bool.Decides.{nat_tests}
 use Rattle.std.proofs.lemmas.List.FromFn.{length-map-range_with_len, get_or-map-range_with_len}
-use Rattle.std.proofs.lemmas.Option.{slice_get-get_or, slice_get-map}
+use Rattle.std.proofs.lemmas.Option.{slice_get-get_or}
 use Rattle.std.proofs.Common.{zero-add}
 use Rattle.rb_base.specs.Counting.{numbers}
 use Rattle.rb_base.specs.Nodes.{Side}
-use Rattle.rb_base.specs.Nodes.Side.{Biu, Rmu}
-use Rattle.rb_base.specs.Sizes.{Sizes}
-use Rattle.rb_rules.specs.Book.{Each, map_each, Row, line_in}
+use Rattle.rb_base.specs.Nodes.Side.{Biu}
+use Rattle.rb_rules.specs.Book.{Each, Row, line_in}
 use Rattle.rb_rules.specs.Goodness.{Scenario}
 use Rattle.rb_rules.specs.Hearing.{port_at}
 use Rattle.rb_rules.specs.Ports.{PortState, HandIn, fresh_port, with_state, hand_over}
-use Rattle.rb_rules.specs.Rounds.{Moment, port_after, ports_after, after_window, results_of, begin_frame, first_moment, next_frame, step, moment, windows_in}
+use Rattle.rb_rules.specs.Rounds.{Moment, port_after, ports_after, after_window, begin_frame, first_moment, next_frame, step, moment, windows_in}
 use Rattle.rb_rules.proofs.Books.{stepped}
-use Rattle.rb_rules.proofs.WindowNumbers.{get-each, length-each, get-number}
+use Rattle.rb_rules.proofs.WindowNumbers.{get-each, length-each}
 use Rattle.rb_agree.specs.Histories.{states_for, with_states}
 use Rattle.rb_agree.proofs.Tests.{get-some}
 
@@ -90,6 +89,7 @@ handed-at frame i (x ∷ xs) ports d h = go (x.frame == frame) (λ ps. handed-at
         ≡ with_states (more_states i frame b x xs) (get_or ports i d)
     taken true e = refl
     taken false e = refl
+
     go : (b : Bool) → ((ps : List PortState) → i < length ps → get_or (hand_over frame xs ps) i d ≡ with_states (states_for i frame xs) (get_or ps i d))
         → get_or (hand_over frame xs (after_hand b x ports)) i d ≡ with_states (more_states i frame (b && (x.biu == i)) x xs) (get_or ports i d)
     go false rest = rest ports h

@@ -1,7 +1,6 @@
 -- The port of a good BIU through a slot: it takes what the bus delivers there.
-use Rattle.std.proofs.Common.{◌≡◌, ℕ, zero, suc, ◌+◌, ◌-◌, ◌*◌, ◌<◌, ◌≤◌, ◌==◌, ◌&&◌, ◌||◌, nat_le, Bool, true, false, List, [], ◌∷◌, length, map, filter, filter_map, Option, Some, None, option_map, slice_get, get_or, cond, ◌⊎◌, inl, inr, refl, sym, ◌∙◌, ap, subst, arith, zero-add}
-use Rattle.std.specs.List.{range_with_len, list_any}
-use Rattle.std.proofs.lemmas.Bool.Decides.{nat_tests}
+use Rattle.std.proofs.Common.{◌≡◌, ℕ, suc, ◌+◌, ◌<◌, ◌==◌, ◌&&◌, ◌||◌, nat_le, Bool, true, false, List, [], ◌∷◌, length, map, filter, filter_map, Option, Some, None, option_map, slice_get, get_or, cond, refl, sym, ◌∙◌, ap, subst, arith, zero-add}
+use Rattle.std.specs.List.{list_any}
 use Rattle.std.proofs.lemmas.List.Folds.{list_any_at}
 use Rattle.std.proofs.lemmas.List.FromFn.{get_or-range_with_len, length-range_with_len}
 use Rattle.rb_base.specs.Counting.{numbers}
@@ -13,22 +12,20 @@ use Rattle.rb_rules.specs.declared.record.SlotLine.{SlotLine}
 use Rattle.rb_rules.specs.declared.sense.Sense.{Sense}
 use Rattle.rb_rules.specs.declared.role.Role.{Role}
 use Rattle.rb_rules.specs.declared.role.Role.TheVariants.{Schedule, Data, DiagBiu, DiagRmu, Sync}
-use Rattle.rb_rules.specs.Book.{of_kind, Row, line_in}
+use Rattle.rb_rules.specs.Book.{of_kind, line_in}
 use Rattle.rb_rules.specs.Goodness.{Scenario, is_good}
-use Rattle.rb_rules.specs.Headline.{lines_of}
 use Rattle.rb_rules.specs.Hearing.{port_at}
-use Rattle.rb_rules.specs.Moments.{before_stage, before_slot, after_slot, IsComplete}
+use Rattle.rb_rules.specs.Moments.{before_slot, after_slot}
 use Rattle.rb_rules.specs.NodeState.{NodeState}
-use Rattle.rb_rules.specs.NodeSteps.{close}
 use Rattle.rb_rules.specs.Ports.{PortState, HandIn, delivered_to}
-use Rattle.rb_rules.specs.Rounds.{Moment, Result, port_after, ports_after, after_window, results_of, moment, window_in, sent_in, close_on, go_through}
+use Rattle.rb_rules.specs.Rounds.{Moment, Result, port_after, ports_after, after_window, moment, sent_in, close_on, go_through}
 use Rattle.rb_rules.specs.Slots.{Sender, sender_kind, role_of}
 use Rattle.rb_rules.specs.SyncStage.{close_sync, sync_outcome_of}
 use Rattle.rb_agree.specs.Histories.{value_in_lines, delivered_in, with_delivery}
 use Rattle.rb_agree.specs.Values.{lines_in}
-use Rattle.rb_agree.proofs.Tests.{true_or_false, or_first, get-some, Present, Passing}
+use Rattle.rb_agree.proofs.Tests.{get-some, Present}
 use Rattle.rb_agree.proofs.Goodnesses.{good_counts}
-use Rattle.rb_agree.proofs.Invariant.{Shared, sender_of, kind_in, IsGoodNode, is_good_now, Agree}
+use Rattle.rb_agree.proofs.Invariant.{Shared, sender_of, kind_in, IsGoodNode, is_good_now}
 use Rattle.rb_agree.proofs.JudgedWindows.{rows_of, row-at}
 use Rattle.rb_agree.proofs.NodeWindows.{Windows, own_window, kept_in, heard_in, sense_in}
 use Rattle.rb_agree.proofs.NextMoments.{next}
@@ -182,6 +179,7 @@ sync-line sc m stage ws i st =
         ∙ ap (λ x. option_map (line_from i) x.closed.delivered)
         (close-sync sc.sizes Biu i (kept_in sc m (sync_slot_of sc.sizes) stage Biu i st) stage (ws.first Biu st) (sense_in sc m (sync_slot_of sc.sizes) stage ws Biu i st))
         ∙ ap (option_map (line_from i)) (nothing-delivered sc.sizes Biu (kept_in sc m (sync_slot_of sc.sizes) stage Biu i st) stage _ (sense_in sc m (sync_slot_of sc.sizes) stage ws Biu i st))
+
     go : (b : Bool)
         → line_in (elim b as (λ _. Result) [
           | true ↦ close_on sc Biu i (kept_in sc m (sync_slot_of sc.sizes) stage Biu i st) (own_window sc m (sync_slot_of sc.sizes) stage ws Biu st) (heard_in sc m (sync_slot_of sc.sizes) stage ws Biu i st)

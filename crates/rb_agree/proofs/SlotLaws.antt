@@ -1,31 +1,28 @@
 -- What good nodes hold before a slot, and whom they accuse after it.
-use Rattle.std.proofs.Common.{◌≡◌, ℕ, zero, suc, ◌+◌, ◌-◌, ◌*◌, ◌<◌, ◌≤◌, ◌==◌, ◌&&◌, nat_lt, not, true, false, List, Option, Some, slice_get, get_or, ◌⊎◌, inl, inr, refl, sym, ◌∙◌, ap, subst, arith, lit<}
+use Rattle.std.proofs.Common.{◌≡◌, ℕ, suc, ◌+◌, ◌-◌, ◌*◌, ◌<◌, ◌≤◌, ◌&&◌, nat_lt, not, true, List, slice_get, inl, inr, sym, ◌∙◌, ap, subst, arith, lit<}
 use Rattle.std.proofs.lemmas.Bool.{cases_lt}
-use Rattle.rb_base.specs.Nodes.{Side, other, has, set_of}
-use Rattle.rb_base.specs.Sizes.{Sizes, sync_slot_of}
+use Rattle.rb_base.specs.Nodes.{Side, other, has}
+use Rattle.rb_base.specs.Sizes.{sync_slot_of}
 use Rattle.rb_base.proofs.Sets.{has-set_of}
-use Rattle.rb_base.specs.declared.values.Heard.{Heard}
-use Rattle.rb_base.specs.declared.values.Heard.TheVariants.{Fault}
 use Rattle.rb_rules.specs.Book.{of_kind}
 use Rattle.rb_rules.specs.Goodness.{Scenario, is_good}
-use Rattle.rb_rules.specs.Headline.{HoldOneSchedule, ConvictNoGoodNode}
+use Rattle.rb_rules.specs.Headline.{HoldOneSchedule}
 use Rattle.rb_rules.specs.Lawful.{IsLawful}
-use Rattle.rb_rules.specs.Moments.{before_stage, before_slot, after_slot, IsRunning, IsComplete, IsSettled, IsGoodBefore, IsGoodAfter}
+use Rattle.rb_rules.specs.Moments.{before_stage, before_slot, after_slot, IsRunning, IsComplete, IsGoodBefore, IsGoodAfter}
 use Rattle.rb_rules.specs.NodeState.{NodeState, trusted_of}
-use Rattle.rb_rules.specs.NodeSteps.{convicted_of}
 use Rattle.rb_rules.specs.Ports.{HandIn}
-use Rattle.rb_rules.specs.Rounds.{Moment, step, windows_in}
+use Rattle.rb_rules.specs.Rounds.{Moment, step}
 use Rattle.rb_rules.specs.Slots.{count_of}
 use Rattle.rb_rules.specs.StandsFor.{SparesAllGood}
 use Rattle.rb_agree.specs.Laws.{TrustAlike, GoodNodesHoldOneSchedule, NoGoodNodeIsAccused, NoGoodNodeIsConvicted}
 use Rattle.rb_agree.proofs.Tests.{and_none}
-use Rattle.rb_agree.proofs.Invariant.{Shared, IsGoodNode, is_good_now, slot_numbered, Holds, Agree}
+use Rattle.rb_agree.proofs.Invariant.{Shared, is_good_now, slot_numbered, Holds}
 use Rattle.rb_agree.proofs.Goodnesses.{good_below_16, slot_last}
 use Rattle.rb_agree.proofs.JudgedWindows.{rows_of, IsPassed, passed}
 use Rattle.rb_agree.proofs.Exchanges.{trusted-either}
 use Rattle.rb_agree.proofs.NodeWindows.{Windows, sync_windows_are}
 use Rattle.rb_agree.proofs.NextMoments.{next}
-use Rattle.rb_agree.proofs.Settings.{Setting, SparesNode, all_spared, after}
+use Rattle.rb_agree.proofs.Settings.{SparesNode, all_spared, after}
 use Rattle.rb_agree.proofs.ThirdStages.{carried_3, none_unlike_3}
 use Rattle.rb_agree.proofs.SyncAgrees.{SyncSetting, stage_setting, leaves, spared, book_sync}
 use Rattle.rb_agree.proofs.Places.{IsPlaced, placed, complete_before, good_before_slot}
@@ -147,8 +144,8 @@ spared-sync sc hands law frame complete me i st h j good =
     let there : is_good_now sc m (other me) j ≡ true = good_at_end sc hands frame e (other me) j good in (
       ap (λ x. has x.far.direct j) (sym from.is) ∙ spared sc hands e.steps m e.shared 2 e.ws e.setting me i j from.st from.was there,
       ap (λ x. has x.far.mismatch j) (sym from.is)
-      ∙ ap (λ x. has x j) (leaves sc hands e.steps m e.shared 2 e.ws e.setting me i from.st from.was).mismatch
-      ∙ (e.setting.agree.nodes me i from.st from.was).spares.mismatch j there,
+          ∙ ap (λ x. has x j) (leaves sc hands e.steps m e.shared 2 e.ws e.setting me i from.st from.was).mismatch
+          ∙ (e.setting.agree.nodes me i from.st from.was).spares.mismatch j there,
     )
 
 pub none_accused : NoGoodNodeIsAccused

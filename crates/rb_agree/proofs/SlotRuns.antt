@@ -1,18 +1,17 @@
 -- A complete slot below the sync slot, stage by stage: all good nodes hold the same through it.
-use Rattle.std.proofs.Common.{◌≡◌, ℕ, zero, suc, ◌+◌, ◌-◌, ◌*◌, ◌<◌, ◌≤◌, true, false, List, Option, Some, slice_get, ◌⊎◌, inl, inr, refl, sym, ◌∙◌, ap, subst, arith}
+use Rattle.std.proofs.Common.{◌≡◌, ℕ, suc, ◌+◌, ◌-◌, ◌*◌, ◌<◌, ◌≤◌, true, List, Some, slice_get, inl, inr, refl, sym, ◌∙◌, ap, arith}
 use Rattle.rb_base.specs.Nodes.{Side}
 use Rattle.rb_base.specs.Sizes.{sync_slot_of}
 use Rattle.rb_rules.specs.Book.{of_kind}
 use Rattle.rb_rules.specs.Goodness.{Scenario, is_good}
 use Rattle.rb_rules.specs.Lawful.{IsLawful}
-use Rattle.rb_rules.specs.Moments.{before_stage, before_slot, after_slot, IsRunning, IsComplete, IsGoodAfter}
+use Rattle.rb_rules.specs.Moments.{before_stage, before_slot, after_slot, IsRunning, IsComplete}
 use Rattle.rb_rules.specs.NodeState.{NodeState}
 use Rattle.rb_rules.specs.Ports.{HandIn}
 use Rattle.rb_rules.specs.Rounds.{Moment, after_window, step, moment, windows_in}
 use Rattle.rb_rules.proofs.RoundStates.{state-after}
 use Rattle.rb_agree.proofs.Tests.{Present, same_some}
-use Rattle.rb_agree.proofs.Goodnesses.{slot_here}
-use Rattle.rb_agree.proofs.Invariant.{Shared, IsGoodNode, is_good_now, slot_numbered, Agree}
+use Rattle.rb_agree.proofs.Invariant.{Shared, IsGoodNode, is_good_now, Agree}
 use Rattle.rb_agree.proofs.NextMoments.{next}
 use Rattle.rb_agree.proofs.Settings.{Setting, good_here, good_state, after}
 use Rattle.rb_agree.proofs.ExactAgrees.{agree_1, agree_2}
