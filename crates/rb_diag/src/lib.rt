@@ -59,9 +59,9 @@ impl<K: Kind> Ballot<K> {
         ensures { result
             ≡ convicted_by self.now.others senders trusted (vector_in self.now.vectors) }
     {
-        let valid = valid_senders(&self.vectors, self.others, senders.bits());
-        let suspects = suspects(&self.vectors, valid, trusted.bits());
-        NodeSet::from_bits(named_by_most(&self.vectors, valid, suspects))
+        let valid = valid_senders(&self.vectors, self.others, senders);
+        let suspects = suspects(&self.vectors, valid, trusted);
+        named_by_most(&self.vectors, valid, suspects)
     }
 }
 
@@ -89,23 +89,27 @@ fn names(voted: Heard, j: u8) -> bool
 }
 
 // Whether the vector of sender i counts.
-fn counts(vectors: &[Heard; 16], others: u8, senders: u16, i: u8) -> bool
+fn counts<S: Copy>(vectors: &[Heard; 16], others: u8, senders: NodeSet<S>, i: u8) -> bool
     requires others { others ≤ 16 }
     requires sender { i < 16 }
     ensures { result ≡ counts others senders (vector_in vectors.now) i }
 {
-    (senders >> i) & 1 == 1 && is_valid(vectors[usize::from(i)], others)
+    senders.has(i) && is_valid(vectors[usize::from(i)], others)
 }
 
 // The senders whose vectors count.
-fn valid_senders(vectors: &[Heard; 16], others: u8, senders: u16) -> u16
+fn valid_senders<S: Copy>(
+    vectors: &[Heard; 16],
+    others: u8,
+    senders: NodeSet<S>,
+) -> NodeSet<S>
     requires { others ≤ 16 }
     ensures { result ≡ set_of (counts others senders (vector_in vectors.now)) }
 {
-    let mut valid: u16 = 0;
+    let mut valid = NodeSet::empty();
     for i in 0..16 {
         if counts(vectors, others, senders, i) {
-            valid |= 1 << i;
+            valid.insert(NodeId::of(i));
         }
     }
     valid
@@ -122,11 +126,11 @@ fn mask_of(voted: Heard) -> u32
 }
 
 // The mask of the nodes that the vector of sender i names, where it is one of the senders.
-fn named_by(vectors: &[Heard; 16], senders: u16, i: u8) -> u32
+fn named_by<S: Copy>(vectors: &[Heard; 16], senders: NodeSet<S>, i: u8) -> u32
     requires { i < 16 }
     ensures { (j : ℕ) → has result j ≡ (has senders i && names j (vector_in vectors.now i)) }
 {
-    if (senders >> i) & 1 == 1 {
+    if senders.has(i) {
         mask_of(vectors[usize::from(i)])
     } else {
         0
@@ -134,7 +138,11 @@ fn named_by(vectors: &[Heard; 16], senders: u16, i: u8) -> u32
 }
 
 // The trusted nodes but for those that no sender names, who are most: counting would find nothing against them.
-fn suspects(vectors: &[Heard; 16], senders: u16, trusted: u16) -> u16
+fn suspects<S: Copy, T: Copy>(
+    vectors: &[Heard; 16],
+    senders: NodeSet<S>,
+    trusted: NodeSet<T>,
+) -> NodeSet<T>
     ensures { (j : ℕ) → (has result j && most_against senders (vector_in vectors.now) j)
         ≡ (has trusted j && most_against senders (vector_in vectors.now) j) }
 {
@@ -142,20 +150,20 @@ fn suspects(vectors: &[Heard; 16], senders: u16, trusted: u16) -> u16
     for i in 0..16 {
         named |= named_by(vectors, senders, i);
     }
-    (u32::from(trusted) & named) as u16
+    NodeSet::from_bits((u32::from(trusted.bits()) & named) as u16)
 }
 
 // Whether sender i is in the set and its vector names node j.
-fn is_against(vectors: &[Heard; 16], senders: u16, i: u8, j: u8) -> bool
+fn is_against<S: Copy>(vectors: &[Heard; 16], senders: NodeSet<S>, i: u8, j: u8) -> bool
     requires sender { i < 16 }
     requires node { j < 16 }
     ensures { result ≡ (has senders i && names j (vector_in vectors.now i)) }
 {
-    (senders >> i) & 1 == 1 && names(vectors[usize::from(i)], j)
+    senders.has(i) && names(vectors[usize::from(i)], j)
 }
 
 // How many of the senders' vectors name node j.
-fn naming(vectors: &[Heard; 16], senders: u16, j: u8) -> u8
+fn naming<S: Copy>(vectors: &[Heard; 16], senders: NodeSet<S>, j: u8) -> u8
     requires { j < 16 }
     ensures value { result ≡ against senders (vector_in vectors.now) j }
     ensures most { result ≤ 16 }
@@ -168,30 +176,39 @@ fn naming(vectors: &[Heard; 16], senders: u16, j: u8) -> u8
 }
 
 // Whether more than half of the senders' vectors name node j.
-fn most_name(vectors: &[Heard; 16], senders: u16, j: u8) -> bool
+fn most_name<S: Copy>(vectors: &[Heard; 16], senders: NodeSet<S>, j: u8) -> bool
     requires { j < 16 }
     ensures { result ≡ most_against senders (vector_in vectors.now) j }
 {
-    (senders.count_ones() as u8) < 2 * naming(vectors, senders, j)
+    senders.count() < 2 * naming(vectors, senders, j)
 }
 
 // Whether node j is trusted until now, and more than half of the senders' vectors name it.
-fn is_convicted(vectors: &[Heard; 16], senders: u16, trusted: u16, j: u8) -> bool
+fn is_convicted<S: Copy, T: Copy>(
+    vectors: &[Heard; 16],
+    senders: NodeSet<S>,
+    trusted: NodeSet<T>,
+    j: u8,
+) -> bool
     requires { j < 16 }
     ensures { result ≡ (has trusted j && most_against senders (vector_in vectors.now) j) }
 {
-    (trusted >> j) & 1 == 1 && most_name(vectors, senders, j)
+    trusted.has(j) && most_name(vectors, senders, j)
 }
 
 // The trusted nodes that more than half of the senders' vectors name.
-fn named_by_most(vectors: &[Heard; 16], senders: u16, trusted: u16) -> u16
+fn named_by_most<S: Copy, T: Copy>(
+    vectors: &[Heard; 16],
+    senders: NodeSet<S>,
+    trusted: NodeSet<T>,
+) -> NodeSet<T>
     ensures { result
         ≡ set_of (λ j. has trusted j && most_against senders (vector_in vectors.now) j) }
 {
-    let mut named: u16 = 0;
+    let mut named = NodeSet::empty();
     for j in 0..16 {
         if is_convicted(vectors, senders, trusted, j) {
-            named |= 1 << j;
+            named.insert(NodeId::of(j));
         }
     }
     named

@@ -7,4 +7,4 @@ use Rattle.rb_diag.proofs.named_by_most.Given as goal
 
 -- those of the nodes so far
 abbrev pub invariant-loop-j : goal.invariant-loop-j
-invariant-loop-j l = l.named ≡ passing_below l.j (λ j. has l.trusted j && most_against l.senders (λ i. get_or l.vectors i Fault) j)
+invariant-loop-j g l = l.named ≡ passing_below l.j (λ j. has l.trusted j && most_against l.senders (λ i. get_or l.vectors i Fault) j)

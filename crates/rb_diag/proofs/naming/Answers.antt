@@ -9,7 +9,7 @@ use Rattle.rb_diag.proofs.Tallies.{counted, count_next, one_if, one_if-le}
 use Rattle.rb_diag.proofs.naming.Goals as goal
 
 pub loop-i-preserved : goal.loop-i-preserved
-loop-i-preserved c =
+loop-i-preserved g c =
     let p : ℕ → Bool = λ i. has c.args.senders i && names c.args.j (get_or c.args.vectors.now i Fault) in
     let adds : c.from-naming.result ≡ one_if (p c.loop-i.i) = c.from-naming.ensures ∙ counted c.is_against.result ∙ ap one_if c.is_against.ensures in
     record {
@@ -19,7 +19,7 @@ loop-i-preserved c =
 
 pub returns-clause-value : goal.returns-clause-value
 unfolding against
-returns-clause-value c =
+returns-clause-value g c =
     let last : c.loop-i.i ≡ 16 = omega arith in
     c.loop-i.invariant.is
     ∙ ap (λ n. count_if (λ i. has c.args.senders i && names c.args.j (get_or c.args.vectors.now i Fault)) (numbers n)) last

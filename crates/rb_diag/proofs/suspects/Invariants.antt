@@ -7,4 +7,4 @@ use Rattle.rb_diag.proofs.suspects.Given as goal
 
 -- no sender so far names a node that isn't in the mask
 abbrev pub invariant-loop-i : goal.invariant-loop-i
-invariant-loop-i l = (j : ℕ) → has l.named j ≡ false → count_if (λ i. has l.senders i && names j (get_or l.vectors i Fault)) (numbers l.i) ≡ 0
+invariant-loop-i g l = (j : ℕ) → has l.named j ≡ false → count_if (λ i. has l.senders i && names j (get_or l.vectors i Fault)) (numbers l.i) ≡ 0

@@ -6,4 +6,4 @@ use Rattle.rb_diag.proofs.valid_senders.Given as goal
 
 -- the senders so far whose vectors count
 abbrev pub invariant-loop-i : goal.invariant-loop-i
-invariant-loop-i l = l.valid ≡ passing_below l.i (counts l.others l.senders (λ i. get_or l.vectors i Fault))
+invariant-loop-i g l = l.valid ≡ passing_below l.i (counts l.others l.senders (λ i. get_or l.vectors i Fault))
