@@ -5,3 +5,8 @@ pub mod TimelyWindows
 pub mod TakenCalls
 pub mod CallSights
 pub mod StageMiddles
+pub mod Synchronous
+pub mod StageCalls
+pub mod TimelyMoments
+pub mod KeptMiddles
+pub mod StageSteps

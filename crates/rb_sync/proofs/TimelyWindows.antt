@@ -140,3 +140,23 @@ timely sc m slot stage c low high sent about = record {
         stamp_to (clock_of sc me i) clock.moves time (st.epoch + c.ws.last me st) (omega (arith, comes.most, about.late me i st here)),
       ))));
 }
+
+-- a window in which no good node sends anything is timely
+pub timely_silent : (sc : Scenario) (m : Moment) (slot stage : ℕ) (c : IsSet sc m slot stage)
+    → ((me : Side) (i : ℕ) (st : NodeState) → IsGoodNode sc m me i st → (s : Sending) → sending sc.sizes sc.plan me i st slot stage (word_at sc m slot i) ≡ Some s → ⊥)
+    → IsTimely sc m
+timely_silent sc m slot stage c silent = record {
+  sent = λ me i st h.
+      subst (λ w. IfSome (sending_in sc m me i st w) (λ s. IsTickOf (span_of st w) s.tick)) (sym (c.ws.are me st))
+      (if_some (λ s. IsTickOf (span_of st (own_window sc m slot stage c.ws me st)) s.tick) (sending sc.sizes sc.plan me i st slot stage (word_at sc m slot i))
+      (λ s is. absurd (silent me i st (good_in sc m slot stage c me i st h) s is)));
+  heard = λ me i j st source h k.
+      let here : IsGoodNode sc m me i st = good_in sc m slot stage c me i st h in
+      let there : IsGoodNode sc m (other me) j source = good_in sc m slot stage c (other me) j source k in
+      let good : is_good sc (other me) j m.frame slot ≡ true = good_here sc m slot stage c (other me) j source there in
+      let IsIn : Coming → Type 0 = λ x. IsTickOf (span_of st (own_window sc m slot stage c.ws me st)) (stamp_of (clock_of sc me i) x.time) in
+      subst (λ w. All (λ x. IsTickOf (span_of st w) (stamp_of (clock_of sc me i) x.time)) (heard_at sc me i st w (sent_in sc m) j)) (sym (c.ws.are me st))
+      (subst (All IsIn) (sym (heard_good sc m slot stage c.ws me i j st source (c.frames me i st here) there.there good))
+      (all_option (coming_of sc me i j st.frame) IsIn (sending sc.sizes sc.plan (other me) j source slot stage (word_at sc m slot j))
+      (λ s is. absurd (silent (other me) j source there s is))));
+}
