@@ -10,3 +10,6 @@ pub mod StageCalls
 pub mod TimelyMoments
 pub mod KeptMiddles
 pub mod StageSteps
+pub mod SyncSteps
+pub mod LaterStages
+pub mod LastStage

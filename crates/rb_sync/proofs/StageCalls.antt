@@ -139,7 +139,7 @@ after-middle sc law m me i st h k first last own low high n tick knows at =
       omega (arith, e, knows.own_window),
     )
 
-pub second_calls : (sc : Scenario) → IsLawful sc → (m : Moment) (s : Shared) (low : ℕ) → Synchronous sc m s low → 3 * sync_slot_of sc.sizes + 1 ≤ m.window
+pub second_calls : (sc : Scenario) → IsLawful sc → (m : Moment) (s : Shared) (low : ℕ) → Synchronous sc m s low → m.window ≡ 3 * sync_slot_of sc.sizes + 1
     → CallWell sc m Rmu 2 (f0_of sc.sizes sc.plan + sc.plan.l) (f0_of sc.sizes sc.plan + sc.plan.l + sc.plan.v) (from_2 sc low) (to_2 sc low)
 second_calls sc law m s low sync late = record {
   between = λ j st tick h at. (is j st tick h at).0;
@@ -156,7 +156,7 @@ second_calls sc law m s low sync late = record {
         after-middle sc law m Rmu j st h st.k1 (f0_of sc.sizes sc.plan) (f0_of sc.sizes sc.plan + sc.plan.l) (f0_of sc.sizes sc.plan + sc.plan.v)
         (heard_from sc (from_1 sc low)) (heard_to sc (to_1 sc low)) sc.plan.l tick (sync.first late j st h) at
 
-pub third_calls : (sc : Scenario) → IsLawful sc → (m : Moment) (s : Shared) (low : ℕ) → Synchronous sc m s low → 3 * sync_slot_of sc.sizes + 2 ≤ m.window
+pub third_calls : (sc : Scenario) → IsLawful sc → (m : Moment) (s : Shared) (low : ℕ) → Synchronous sc m s low → m.window ≡ 3 * sync_slot_of sc.sizes + 2
     → CallWell sc m Biu 3 (f0_of sc.sizes sc.plan + sc.plan.l + sc.plan.v) (f0_of sc.sizes sc.plan + sc.plan.l + sc.plan.v + sc.plan.z) (from_3 sc low) (to_3 sc low)
 third_calls sc law m s low sync late = record {
   between = λ j st tick h at. (is j st tick h at).0;

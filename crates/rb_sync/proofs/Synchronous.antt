@@ -108,10 +108,10 @@ KnowNext sc m = (later : ℕ) × ((me : Side) (i : ℕ) (st : NodeState) → IsG
 -- all good nodes are near each other
 pub record Synchronous (sc : Scenario) (m : Moment) (s : Shared) (low : ℕ) : Type 0 where
   pub begun : (me : Side) (i : ℕ) (st : NodeState) → IsGoodNode sc m me i st → IsBetween low (low + sc.plan.p) (time_of (clock_of sc me i) st.epoch)
-  pub first : 3 * sync_slot_of sc.sizes + 1 ≤ m.window → KnowFirst sc m low
-  pub first_near : 3 * sync_slot_of sc.sizes + 1 ≤ m.window → NoneUnlike sc m s Biu m.book.stages → KeepNear sc m Rmu first_kept (near_1 sc.plan)
-  pub second : 3 * sync_slot_of sc.sizes + 2 ≤ m.window → KnowSecond sc m low
-  pub second_near : 3 * sync_slot_of sc.sizes + 2 ≤ m.window → (side : Side) → NoneUnlike sc m s side m.book.stages → KeepNear sc m Biu second_kept (near_2 sc.plan)
+  pub first : m.window ≡ 3 * sync_slot_of sc.sizes + 1 → KnowFirst sc m low
+  pub first_near : m.window ≡ 3 * sync_slot_of sc.sizes + 1 → NoneUnlike sc m s Biu m.book.stages → KeepNear sc m Rmu first_kept (near_1 sc.plan)
+  pub second : m.window ≡ 3 * sync_slot_of sc.sizes + 2 → KnowSecond sc m low
+  pub second_near : m.window ≡ 3 * sync_slot_of sc.sizes + 2 → (side : Side) → NoneUnlike sc m s side m.book.stages → KeepNear sc m Biu second_kept (near_2 sc.plan)
   pub third : 3 * sync_slot_of sc.sizes + 3 ≤ m.window → KnowNext sc m
 
 -- ---- offsets

@@ -64,7 +64,7 @@ pub record IsStage (sc : Scenario) (hands : List HandIn) (n : ℕ) (m : Moment) 
 abbrev pub windows : (sc : Scenario) (hands : List HandIn) (n : ℕ) (m : Moment) (s : Shared) (q : ℕ) → IsStage sc hands n m s q → Windows sc m (sync_slot_of sc.sizes) (q + 1)
 windows sc hands n m s q c = sync_windows_are sc m q c.small c.at
 
-pub is_set : (sc : Scenario) (hands : List HandIn) (n : ℕ) (m : Moment) (s : Shared) (q : ℕ) → IsStage sc hands n m s q → IsSet sc m (sync_slot_of sc.sizes) (q + 1)
+abbrev pub is_set : (sc : Scenario) (hands : List HandIn) (n : ℕ) (m : Moment) (s : Shared) (q : ℕ) → IsStage sc hands n m s q → IsSet sc m (sync_slot_of sc.sizes) (q + 1)
 is_set sc hands n m s q c = record {
   law = c.law;
   ws = sync_windows_are sc m q c.small c.at;

@@ -165,10 +165,10 @@ timely_moment sc hands n m s low law agree sync inside =
     in_sync (suc zero) small at =
         let c : IsStage sc hands n m s 1 = stage-of sc hands n m s 1 law agree (lit< tt) at in
         timely-stage sc hands n m s 1 c Rmu (f0_of sc.sizes sc.plan + sc.plan.l) sc.plan.v (from_2 sc low) (to_2 sc low) refl law.plan.v.0
-        (second_at sc m (is_set sc hands n m s 1 c).ws at) (second_calls sc law m s low sync (omega arith)) (second_about sc m (is_set sc hands n m s 1 c) at low sync.begun)
+        (second_at sc m (is_set sc hands n m s 1 c).ws at) (second_calls sc law m s low sync at) (second_about sc m (is_set sc hands n m s 1 c) at low sync.begun)
     in_sync (suc (suc zero)) small at =
         let c : IsStage sc hands n m s 2 = stage-of sc hands n m s 2 law agree (lit< tt) at in
         timely-stage sc hands n m s 2 c Biu (f0_of sc.sizes sc.plan + sc.plan.l + sc.plan.v) sc.plan.z (from_3 sc low) (to_3 sc low) refl law.plan.z.0
-        (third_at sc m (is_set sc hands n m s 2 c).ws at) (third_calls sc law m s low sync (omega arith)) (third_about sc m (is_set sc hands n m s 2 c) at low sync.begun)
+        (third_at sc m (is_set sc hands n m s 2 c).ws at) (third_calls sc law m s low sync at) (third_about sc m (is_set sc hands n m s 2 c) at low sync.begun)
     in_sync (suc (suc (suc zero))) small at = timely-tail sc hands n m s law agree at
     in_sync (suc (suc (suc (suc q)))) small at = absurd (omega arith)
