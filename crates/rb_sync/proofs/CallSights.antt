@@ -1,45 +1,42 @@
 -- A stage of the sync slot as it is judged: of whom a good node takes something is seen, and of a source that is not asymmetric
 -- good nodes take what comes to them at near times.
-use Rattle.std.proofs.Common.{◌≡◌, ℕ, zero, suc, ◌+◌, ◌-◌, ◌*◌, ◌≤◌, ◌<◌, ◌&&◌, not, nat_le, Bool, true, false, List, [], ◌∷◌, map, Option, Some, None, is_some, slice_get, get_or, refl, sym, ◌∙◌, ap, subst, arith, inl, inr, zero-add}
+use Rattle.std.proofs.Common.{◌≡◌, ℕ, zero, suc, ◌+◌, ◌-◌, ◌*◌, ◌≤◌, ◌<◌, not, nat_le, true, false, List, [], ◌∷◌, map, Option, Some, None, is_some, get_or, refl, sym, ◌∙◌, ap, subst, arith, inl, inr, zero-add}
 use Rattle.std.specs.Prelude.{⊤, All, filter}
 use Rattle.std.specs.List.{list_any}
 use Rattle.std.proofs.lemmas.Bool.{and_parts, leb-true}
-use Rattle.std.proofs.lemmas.List.Elements.{All-filter, All-head, All-map}
+use Rattle.std.proofs.lemmas.List.Elements.{All-filter, All-map}
 use Rattle.std.proofs.lemmas.List.FromFn.{get_or-map-range_with_len}
 use Rattle.rb_base.specs.Nodes.{Side, other, has}
 use Rattle.rb_base.specs.Sizes.{sync_slot_of}
 use Rattle.rb_base.specs.declared.values.Place.{Place}
 use Rattle.rb_base.specs.declared.values.See.TheVariants.{Nothing}
-use Rattle.rb_rules.specs.declared.say.Say.{Say}
 use Rattle.rb_rules.specs.declared.sense.Sense.{Sense}
-use Rattle.rb_rules.specs.Book.{of_kind, judged_of}
+use Rattle.rb_rules.specs.Book.{judged_of}
 use Rattle.rb_rules.specs.Clock.{IsStamp, Timeline, stamp_of, time_of}
 use Rattle.rb_rules.specs.ExactStage.{each_node}
 use Rattle.rb_rules.specs.Goodness.{Scenario, clock_of, is_good}
-use Rattle.rb_rules.specs.Hearing.{Coming, Span, coming_said, is_said, judged_see, said_by, sole_time, span_of}
-use Rattle.rb_rules.specs.Judging.{JudgedStage, are_alike, is_asymmetric, is_benign, is_something, was_taken, was_unlike}
+use Rattle.rb_rules.specs.Hearing.{Span, coming_said, is_said, judged_see, said_by, sole_time}
+use Rattle.rb_rules.specs.Judging.{JudgedStage, are_alike, is_asymmetric, is_something, was_taken, was_unlike}
 use Rattle.rb_rules.specs.Lawful.{IsLawful, IsSayOf}
 use Rattle.rb_rules.specs.NodeState.{NodeState}
 use Rattle.rb_rules.specs.NodeSteps.{close}
 use Rattle.rb_rules.specs.Plan.{shortest_of}
 use Rattle.rb_rules.specs.Ports.{HandIn}
 use Rattle.rb_rules.specs.Rounds.{Moment}
-use Rattle.rb_rules.specs.Sense.{stamp_in}
-use Rattle.rb_rules.specs.Standing.{taken_of}
-use Rattle.rb_rules.specs.SyncStage.{close_sync, expects_call, see_time, sync_outcome_of}
+use Rattle.rb_rules.specs.SyncStage.{close_sync, see_time, sync_outcome_of}
 use Rattle.rb_rules.proofs.Middles.{AreNear}
 use Rattle.rb_rules.proofs.Stamps.{stamp_of-is}
-use Rattle.rb_agree.proofs.ExactWindows.{keeping-is, sent_by, with_sent}
+use Rattle.rb_agree.proofs.ExactWindows.{keeping-is}
 use Rattle.rb_agree.proofs.Exchanges.{far-held}
 use Rattle.rb_agree.proofs.Goodnesses.{good_below_16}
-use Rattle.rb_agree.proofs.Invariant.{Agree, Holds, IsGoodNode, Shared, is_good_now, slot_numbered}
+use Rattle.rb_agree.proofs.Invariant.{IsGoodNode, Shared}
 use Rattle.rb_agree.proofs.JudgedWindows.{rows_of, sight-is, taken_in_stage, unlike_in_stage}
-use Rattle.rb_agree.proofs.NodeWindows.{HasTick, Windows, from-faulty, heard_in, kept_in, own_window, sense_in, sync_tick, sync_windows_are, word_at}
+use Rattle.rb_agree.proofs.NodeWindows.{HasTick, Windows, heard_in, kept_in, sense_in, sync_tick, sync_windows_are, word_at}
 use Rattle.rb_agree.proofs.StageVotes.{IsSeen}
 use Rattle.rb_agree.proofs.SyncWindows.{close-sync}
 use Rattle.rb_agree.proofs.Tests.{or_first, or_neither_first, true_or_false}
 use Rattle.rb_sync.proofs.PlanNumbers.{drift_of}
-use Rattle.rb_sync.proofs.TakenCalls.{IsStage, IsTaken, is_set, taken_from, took, windows}
+use Rattle.rb_sync.proofs.TakenCalls.{IsStage, is_set, taken_from, took, windows}
 use Rattle.rb_sync.proofs.TimelyWindows.{good_here}
 use Rattle.rb_sync.proofs.Times.{Steady, steady}
 

@@ -1,5 +1,5 @@
 -- What a window of the sync slot, or the tail, leaves of the middles that a node keeps.
-use Rattle.std.proofs.Common.{◌≡◌, ℕ, ◌+◌, ◌≤◌, ◌<◌, ◌&&◌, nat_le, true, false, Bool, Option, Some, None, unwrap_or, refl, sym, ◌∙◌, ap, subst, arith, inl, inr}
+use Rattle.std.proofs.Common.{◌≡◌, ℕ, ◌+◌, ◌≤◌, ◌&&◌, nat_le, true, false, Bool, Option, Some, None, unwrap_or, refl, sym, ◌∙◌, ap, subst, arith, inl, inr}
 use Rattle.std.proofs.lemmas.Bool.Decides.{nat_tests}
 use Rattle.rb_base.specs.Nodes.{Side}
 use Rattle.rb_base.specs.Nodes.Side.{Biu, Rmu}
@@ -10,7 +10,7 @@ use Rattle.rb_rules.specs.ExactStage.{each_node, present}
 use Rattle.rb_rules.specs.Goodness.{Scenario, is_good}
 use Rattle.rb_rules.specs.Middle.{middle_of}
 use Rattle.rb_rules.specs.NodeState.{NodeState}
-use Rattle.rb_rules.specs.Rounds.{Moment, Result, close_on, go_through, sent_in, window_in}
+use Rattle.rb_rules.specs.Rounds.{Moment, Result, close_on, go_through, sent_in}
 use Rattle.rb_rules.specs.Sense.{stamp_in}
 use Rattle.rb_rules.specs.Standing.{taken_of}
 use Rattle.rb_rules.specs.SyncStage.{close_sync, expects_call, middle_after, sync_closing_of, sync_outcome_of}

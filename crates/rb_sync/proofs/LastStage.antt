@@ -1,6 +1,6 @@
 -- The third stage of the sync slot: where it passes, each good node knows when its next frame begins, near the others. And the tail.
-use Rattle.std.proofs.Common.{◌≡◌, ℕ, ◌+◌, ◌-◌, ◌*◌, ◌≤◌, ◌<◌, min, max, true, List, Option, Some, None, option_map, refl, sym, ◌∙◌, ap, subst, arith}
-use Rattle.rb_base.specs.Nodes.{Side, other}
+use Rattle.std.proofs.Common.{◌≡◌, ℕ, ◌+◌, ◌-◌, ◌*◌, ◌≤◌, ◌<◌, min, max, true, List, Some, option_map, refl, sym, ◌∙◌, ap, arith}
+use Rattle.rb_base.specs.Nodes.{Side}
 use Rattle.rb_base.specs.Nodes.Side.{Biu, Rmu}
 use Rattle.rb_base.specs.Sizes.{sync_slot_of}
 use Rattle.rb_rules.specs.declared.plan.Plan.{Plan}
@@ -9,29 +9,27 @@ use Rattle.rb_rules.specs.Clock.{time_of}
 use Rattle.rb_rules.specs.Goodness.{Scenario, clock_of, is_good}
 use Rattle.rb_rules.specs.Lawful.{IsLawful}
 use Rattle.rb_rules.specs.NodeState.{NodeState}
-use Rattle.rb_rules.specs.Plan.{f0_of, shortest_of, tail_start_of}
+use Rattle.rb_rules.specs.Plan.{f0_of, shortest_of}
 use Rattle.rb_rules.specs.Ports.{HandIn}
 use Rattle.rb_rules.specs.Rounds.{Moment, after_window}
-use Rattle.rb_rules.specs.StandsFor.{FrameTakes}
 use Rattle.rb_rules.specs.SyncStage.{new_epoch_of}
-use Rattle.rb_rules.proofs.Middles.{AreNear, IsBetween}
+use Rattle.rb_rules.proofs.Middles.{IsBetween}
 use Rattle.rb_agree.proofs.Goodnesses.{slot_last}
 use Rattle.rb_agree.proofs.Invariant.{Agree, IsGoodNode, Shared}
 use Rattle.rb_agree.proofs.JudgedWindows.{rows_of}
 use Rattle.rb_agree.proofs.NextMoments.{CameFrom, came_from, next}
 use Rattle.rb_agree.proofs.NodeWindows.{tail_windows}
 use Rattle.rb_agree.proofs.Settings.{after}
-use Rattle.rb_agree.proofs.SyncAgrees.{book_tail}
-use Rattle.rb_sync.proofs.CallSights.{place_of, stages_with}
-use Rattle.rb_sync.proofs.KeptMiddles.{Keeps, Leaves, keeps, tail_leaves}
+use Rattle.rb_sync.proofs.CallSights.{place_of}
+use Rattle.rb_sync.proofs.KeptMiddles.{Leaves, keeps, tail_leaves}
 use Rattle.rb_sync.proofs.LaterStages.{calls_near}
 use Rattle.rb_sync.proofs.PlanNumbers.{Fits, drift_of, eps_of, third_late}
 use Rattle.rb_sync.proofs.StageCalls.{clock_now, third_about, third_at, third_calls}
-use Rattle.rb_sync.proofs.StageMiddles.{CallBetween, IsHeardStage, NoneUnlike, tick_of, ws_of}
+use Rattle.rb_sync.proofs.StageMiddles.{CallBetween, IsHeardStage, NoneUnlike, ws_of}
 use Rattle.rb_sync.proofs.StageSteps.{CallNear, StageMiddle, closer, near_calls, stage_middle}
 use Rattle.rb_sync.proofs.SyncSteps.{IsPassedStage, begun_next, epoch_after, f0_some, kept_found, last_plus, none_before, some_more, tick_some}
-use Rattle.rb_sync.proofs.Synchronous.{KnowNext, KnowsEpoch, KnowsMiddle, Synchronous, from_3, heard_from, heard_to, near_2, near_3, second_kept, ticks_on, to_3}
-use Rattle.rb_sync.proofs.TakenCalls.{IsStage, is_set}
+use Rattle.rb_sync.proofs.Synchronous.{KnowNext, KnowsEpoch, Synchronous, from_3, heard_from, heard_to, near_2, near_3, second_kept, ticks_on, to_3}
+use Rattle.rb_sync.proofs.TakenCalls.{is_set}
 use Rattle.rb_sync.proofs.TimelyWindows.{good_here}
 use Rattle.rb_sync.proofs.Times.{Steady, lawful_fits, plan_fits}
 
@@ -198,22 +196,25 @@ near_tail sc hands n m s low agree at sync = record {
   first_near = λ later. absurd (omega arith);
   second = λ later. absurd (omega arith);
   second_near = λ later. absurd (omega arith);
-  third = λ late. (known.0, λ me i now h.
-      let from : CameFrom sc m me i now = came_from sc hands n m s agree me i now h in
-      let k : KnowsEpoch sc me i from.st known.0 = known.1 me i from.st from.was in
-      let good : is_good sc me i m.frame (sync_slot_of sc.sizes) ≡ true = ap (is_good sc me i m.frame) (sym (slot_last sc.sizes m.window 3 at)) ∙ from.was.good in
-      let left : Leaves from.st (after sc m me i from.st) = tail_leaves sc m (tail_windows sc m at) me i from.st good in
-      let e : now.epoch ≡ from.st.epoch = ap (λ x. x.epoch) (sym from.is) ∙ epoch_after sc m me i from.st in
-      let next_is : new_epoch_of sc.plan me now ≡ new_epoch_of sc.plan me from.st = ap (new_epoch_of sc.plan me) (sym from.is) ∙ same-epoch sc.plan me from.st (after sc m me i from.st) left in
-      record {
-        takes = record {
-          epoch = k.takes.epoch;
-          known = next_is ∙ k.takes.known;
-          least = omega (arith, e, k.takes.least);
-          most = omega (arith, e, k.takes.most);
-        };
-        between = k.between;
-      });
+  third = λ late. (
+    known.0,
+    λ me i now h.
+        let from : CameFrom sc m me i now = came_from sc hands n m s agree me i now h in
+        let k : KnowsEpoch sc me i from.st known.0 = known.1 me i from.st from.was in
+        let good : is_good sc me i m.frame (sync_slot_of sc.sizes) ≡ true = ap (is_good sc me i m.frame) (sym (slot_last sc.sizes m.window 3 at)) ∙ from.was.good in
+        let left : Leaves from.st (after sc m me i from.st) = tail_leaves sc m (tail_windows sc m at) me i from.st good in
+        let e : now.epoch ≡ from.st.epoch = ap (λ x. x.epoch) (sym from.is) ∙ epoch_after sc m me i from.st in
+        let next_is : new_epoch_of sc.plan me now ≡ new_epoch_of sc.plan me from.st = ap (new_epoch_of sc.plan me) (sym from.is) ∙ same-epoch sc.plan me from.st (after sc m me i from.st) left in
+        record {
+          takes = record {
+            epoch = k.takes.epoch;
+            known = next_is ∙ k.takes.known;
+            least = omega (arith, e, k.takes.least);
+            most = omega (arith, e, k.takes.most);
+          };
+          between = k.between;
+        },
+  );
 }
   where
     known : KnowNext sc m

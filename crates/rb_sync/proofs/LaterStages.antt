@@ -1,41 +1,32 @@
 -- The second and the third stage of the sync slot, and the tail: good nodes stay near, and after the third each knows when its next
 -- frame begins, near the others.
-use Rattle.std.proofs.Common.{◌≡◌, ℕ, ◌+◌, ◌-◌, ◌*◌, ◌≤◌, ◌<◌, min, max, true, List, Option, Some, None, option_map, refl, sym, ◌∙◌, ap, subst, arith}
-use Rattle.rb_base.specs.Nodes.{Side, other}
+use Rattle.std.proofs.Common.{◌≡◌, ℕ, ◌+◌, ◌-◌, ◌*◌, ◌≤◌, List, Option, Some, option_map, refl, sym, ◌∙◌, ap, subst, arith}
+use Rattle.rb_base.specs.Nodes.{Side}
 use Rattle.rb_base.specs.Nodes.Side.{Biu, Rmu}
 use Rattle.rb_base.specs.Sizes.{sync_slot_of}
-use Rattle.rb_rules.specs.declared.plan.Plan.{Plan}
 use Rattle.rb_rules.specs.Book.{judged_of}
 use Rattle.rb_rules.specs.Clock.{time_of}
 use Rattle.rb_rules.specs.Goodness.{Scenario, clock_of}
-use Rattle.rb_rules.specs.Judging.{JudgedStage}
 use Rattle.rb_rules.specs.Lawful.{IsLawful}
 use Rattle.rb_rules.specs.NodeState.{NodeState}
-use Rattle.rb_rules.specs.Plan.{f0_of, shortest_of, tail_start_of}
+use Rattle.rb_rules.specs.Plan.{f0_of, shortest_of}
 use Rattle.rb_rules.specs.Ports.{HandIn}
 use Rattle.rb_rules.specs.Rounds.{Moment, after_window}
-use Rattle.rb_rules.specs.StandsFor.{FrameTakes}
-use Rattle.rb_rules.specs.SyncStage.{call_tick_of, new_epoch_of}
+use Rattle.rb_rules.specs.SyncStage.{call_tick_of}
 use Rattle.rb_rules.proofs.Middles.{AreNear, IsBetween}
-use Rattle.rb_agree.proofs.Goodnesses.{slot_last}
-use Rattle.rb_agree.proofs.Invariant.{Agree, IsGoodNode, Shared}
+use Rattle.rb_agree.proofs.Invariant.{IsGoodNode, Shared}
 use Rattle.rb_agree.proofs.JudgedWindows.{rows_of}
 use Rattle.rb_agree.proofs.NextMoments.{CameFrom, came_from, next}
-use Rattle.rb_agree.proofs.NodeWindows.{tail_windows}
-use Rattle.rb_agree.proofs.Settings.{after}
-use Rattle.rb_agree.proofs.SyncAgrees.{book_tail}
 use Rattle.rb_agree.proofs.Tests.{same_some}
 use Rattle.rb_sync.proofs.CallSights.{place_of, stages_with}
-use Rattle.rb_sync.proofs.KeptMiddles.{Keeps, Leaves, keeps, tail_leaves}
 use Rattle.rb_sync.proofs.PlanNumbers.{drift_of, eps_of, third_own}
-use Rattle.rb_sync.proofs.StageCalls.{Begun, clock_now, second_about, second_at, second_calls, third_about, third_at, third_calls}
-use Rattle.rb_sync.proofs.StageMiddles.{CallBetween, IsHeardStage, NoneUnlike, middles_of_alike, tick_of, ws_of}
+use Rattle.rb_sync.proofs.StageCalls.{clock_now, second_about, second_at, second_calls}
+use Rattle.rb_sync.proofs.StageMiddles.{IsHeardStage, NoneUnlike, middles_of_alike, tick_of, ws_of}
 use Rattle.rb_sync.proofs.StageSteps.{CallNear, StageMiddle, closer, near_calls, stage_middle}
-use Rattle.rb_sync.proofs.SyncSteps.{IsPassedStage, begun_next, epoch_after, f0_some, kept_found, kept_middle, last_plus, none_before, some_more, tick_some, up_to_delay}
-use Rattle.rb_sync.proofs.Synchronous.{KeepNear, KnowNext, KnowsEpoch, KnowsMiddle, Synchronous, first_kept, from_2, from_3, heard_from, heard_to, near_1, near_2, near_3, near_on, second_kept, ticks_on, to_2, to_3}
-use Rattle.rb_sync.proofs.TakenCalls.{IsStage, is_set}
-use Rattle.rb_sync.proofs.TimelyWindows.{good_here}
-use Rattle.rb_sync.proofs.Times.{Steady, lawful_fits, plan_fits}
+use Rattle.rb_sync.proofs.SyncSteps.{IsPassedStage, begun_next, epoch_after, f0_some, kept_found, kept_middle, last_plus, none_before, some_more, up_to_delay}
+use Rattle.rb_sync.proofs.Synchronous.{KeepNear, Synchronous, first_kept, from_2, near_1, near_2, near_on, to_2}
+use Rattle.rb_sync.proofs.TakenCalls.{is_set}
+use Rattle.rb_sync.proofs.Times.{lawful_fits, plan_fits}
 
 -- ---- calls some ticks after middles that are near
 

@@ -13,3 +13,5 @@ pub mod StageSteps
 pub mod SyncSteps
 pub mod LaterStages
 pub mod LastStage
+pub mod Synchrony
+pub mod SyncLaws

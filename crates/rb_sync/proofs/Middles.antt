@@ -1,13 +1,13 @@
 -- The middle of what is taken of the nodes: it lies between bounds of the good ones' stamps, and of two nodes that take alike the
 -- middles are near.
-use Rattle.std.proofs.Common.{◌≡◌, ℕ, zero, suc, ◌+◌, ◌*◌, ◌<◌, ◌≤◌, Bool, true, false, cond, not, ◌&&◌, ◌||◌, List, [], ◌∷◌, length, map, nat_lt, nat_le, Option, Some, None, is_some, option_map, refl, sym, ◌∙◌, ap, subst, arith, ◌⊎◌, inl, inr}
+use Rattle.std.proofs.Common.{◌≡◌, ℕ, zero, suc, ◌+◌, ◌<◌, ◌≤◌, Bool, true, false, cond, not, ◌&&◌, ◌||◌, List, [], ◌∷◌, length, map, nat_lt, nat_le, Option, Some, None, is_some, refl, sym, ◌∙◌, ap, subst, arith, ◌⊎◌, inl, inr}
 use Rattle.std.specs.Prelude.{⊤}
 use Rattle.std.specs.List.{AllZip, cons_option, range_with_len}
 use Rattle.std.proofs.lemmas.Bool.{cases_lt, leb-true, lt-ltb}
 use Rattle.rb_base.specs.Counting.{count_if, numbers}
 use Rattle.rb_base.proofs.Counts.{count_if-le, count_if-le_two}
 use Rattle.rb_rules.specs.ExactStage.{present}
-use Rattle.rb_rules.specs.Middle.{below, up_to, IsMiddle, middle_of}
+use Rattle.rb_rules.specs.Middle.{IsMiddle, middle_of}
 use Rattle.rb_rules.proofs.Middles.{AreNear, IsBetween, IsMonotone, has_middle, middle_is, middle-map, middles_near}
 use Rattle.rb_rules.proofs.Votes.{length_present}
 
@@ -82,7 +82,7 @@ middle_within f good low high m js has more is =
           split,
           counted_present (λ x. nat_lt x m) f js,
           count_if-le good (λ j. passes (λ x. nat_lt x m) (f j))
-          (λ j g. ap (passes (λ x. nat_lt x m)) (has j g).is ∙ lt-ltb (has j g).stamp m (omega (arith, less, (has j g).between.most))) js,
+              (λ j g. ap (passes (λ x. nat_lt x m)) (has j g).is ∙ lt-ltb (has j g).stamp m (omega (arith, less, (has j g).between.most))) js,
         ))
         | inr most ↦ most
       ];

@@ -1,33 +1,25 @@
 -- When good nodes send in a window, by what holds of them before it, and that the windows of all lie about those times.
-use Rattle.std.proofs.Common.{◌≡◌, ℕ, ◌+◌, ◌-◌, ◌*◌, ◌/◌, ◌%◌, ◌≤◌, ◌<◌, ◌==◌, true, false, List, Option, Some, None, option_map, refl, sym, ◌∙◌, ap, subst, arith, inl, inr}
-use Rattle.std.proofs.lemmas.Bool.{cases_lt}
-use Rattle.std.proofs.lemmas.Bool.Decides.{nat_tests}
-use Rattle.std.proofs.Math.Nat.{mul-le-mul_right}
-use Rattle.rb_base.specs.Nodes.{Side, other}
+use Rattle.std.proofs.Common.{◌≡◌, ℕ, ◌+◌, ◌-◌, ◌*◌, ◌/◌, ◌%◌, ◌≤◌, ◌<◌, Option, Some, option_map, sym, ◌∙◌, ap, arith}
+use Rattle.rb_base.specs.Nodes.{Side}
 use Rattle.rb_base.specs.Nodes.Side.{Biu, Rmu}
-use Rattle.rb_base.specs.Sizes.{IsShape, Sizes, sync_slot_of}
-use Rattle.rb_rules.specs.declared.plan.Plan.{Plan}
-use Rattle.rb_rules.specs.declared.plan.Window.{Window}
-use Rattle.rb_rules.specs.Clock.{Timeline, time_of}
+use Rattle.rb_base.specs.Sizes.{sync_slot_of}
+use Rattle.rb_rules.specs.Clock.{time_of}
 use Rattle.rb_rules.specs.Goodness.{Scenario, clock_of}
-use Rattle.rb_rules.specs.Hearing.{Sending, sending, span_of, tail_at, window_numbered}
+use Rattle.rb_rules.specs.Hearing.{window_numbered}
 use Rattle.rb_rules.specs.Lawful.{IsLawful}
 use Rattle.rb_rules.specs.NodeState.{NodeState}
 use Rattle.rb_rules.specs.Plan.{f0_of, shortest_of}
-use Rattle.rb_rules.specs.Ports.{HandIn}
-use Rattle.rb_rules.specs.Rounds.{IsTickOf, IsTimely, Moment, window_in, windows_in}
-use Rattle.rb_rules.specs.SyncStage.{call_tick_of, send_tick_of}
-use Rattle.rb_rules.specs.Windows.{exact_window, send_offset_of, window_of}
+use Rattle.rb_rules.specs.Rounds.{Moment, window_in}
+use Rattle.rb_rules.specs.SyncStage.{call_tick_of}
+use Rattle.rb_rules.specs.Windows.{window_of}
 use Rattle.rb_rules.proofs.Middles.{IsBetween}
 use Rattle.rb_rules.proofs.WindowNumbers.{exact-numbered, sync-numbered}
-use Rattle.rb_agree.proofs.Goodnesses.{slot_here, slot_last}
-use Rattle.rb_agree.proofs.Invariant.{Agree, IsGoodNode, Shared}
-use Rattle.rb_agree.proofs.NodeWindows.{Windows, exact_windows, own_window, sync_windows_are, tail_windows, word_at}
+use Rattle.rb_agree.proofs.Invariant.{IsGoodNode, Shared}
+use Rattle.rb_agree.proofs.NodeWindows.{Windows}
 use Rattle.rb_sync.proofs.PlanNumbers.{drift_of, exact_early, exact_late, second_early, second_late, third_early, third_late}
 use Rattle.rb_sync.proofs.StageMiddles.{CallBetween, tick_of}
 use Rattle.rb_sync.proofs.Synchronous.{KnowsMiddle, Synchronous, at_offset, from_1, from_2, from_3, heard_from, heard_to, ticks_on, to_1, to_2, to_3}
-use Rattle.rb_sync.proofs.TakenCalls.{IsStage, call_sent, is_set}
-use Rattle.rb_sync.proofs.TimelyWindows.{IsSent, IsSentBetween, IsSet, LieAbout, good_here, sent_parts, timely}
+use Rattle.rb_sync.proofs.TimelyWindows.{IsSet, LieAbout, good_here}
 use Rattle.rb_sync.proofs.Times.{Steady, lawful_fits, plan_fits, steady}
 
 -- ---- windows by their offsets

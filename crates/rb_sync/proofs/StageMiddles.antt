@@ -1,6 +1,6 @@
 -- A stage of the sync slot that passes: the middle that a good node keeps lies between bounds of the good calls, and where no source
 -- is asymmetric the middles of good nodes are near.
-use Rattle.std.proofs.Common.{◌≡◌, ℕ, zero, suc, ◌+◌, ◌-◌, ◌*◌, ◌≤◌, ◌<◌, ◌&&◌, not, Bool, true, false, List, [], ◌∷◌, Option, Some, None, is_some, slice_get, refl, sym, ◌∙◌, ap, subst, arith, inl, inr}
+use Rattle.std.proofs.Common.{◌≡◌, ℕ, ◌+◌, ◌≤◌, ◌<◌, ◌&&◌, not, Bool, true, false, List, [], ◌∷◌, Option, Some, None, is_some, slice_get, refl, sym, ◌∙◌, ap, subst, arith, inl, inr}
 use Rattle.std.specs.Prelude.{All}
 use Rattle.std.proofs.lemmas.List.Elements.{All-head}
 use Rattle.rb_base.specs.Counting.{count_if, numbers}
@@ -22,12 +22,12 @@ use Rattle.rb_rules.specs.Rounds.{Moment}
 use Rattle.rb_rules.specs.Slots.{listens}
 use Rattle.rb_rules.specs.SyncStage.{call_tick_of}
 use Rattle.rb_rules.proofs.Drift.{times_rise_to}
-use Rattle.rb_rules.proofs.Middles.{AreNear, IsBetween, IsMonotone}
+use Rattle.rb_rules.proofs.Middles.{AreNear, IsBetween}
 use Rattle.rb_rules.proofs.Stamps.{stamp_of-is, stamps_rise}
 use Rattle.rb_agree.proofs.ExactWindows.{other_twice}
 use Rattle.rb_agree.proofs.Exchanges.{far-held}
-use Rattle.rb_agree.proofs.Goodnesses.{good_below_16, slot_last}
-use Rattle.rb_agree.proofs.Invariant.{Agree, Holds, IsGoodNode, Shared, is_good_now, slot_numbered}
+use Rattle.rb_agree.proofs.Goodnesses.{slot_last}
+use Rattle.rb_agree.proofs.Invariant.{IsGoodNode, Shared, is_good_now}
 use Rattle.rb_agree.proofs.NodeWindows.{Windows, from-faulty, heard_in, own_window}
 use Rattle.rb_agree.proofs.Numbers.{how_many, how_many-le}
 use Rattle.rb_agree.proofs.Premises.{Premise, is_active, is_sound}

@@ -1,9 +1,8 @@
 -- A stage of the sync slot that passes, at one good node: the middle that it keeps is a tick of the window, and the next call is one
 -- of the next window.
-use Rattle.std.proofs.Common.{◌≡◌, ℕ, zero, suc, ◌+◌, ◌-◌, ◌*◌, ◌≤◌, ◌<◌, min, max, true, false, List, [], ◌∷◌, ◌||◌, Option, Some, None, option_map, option_and_then, unwrap_or, slice_get, refl, sym, ◌∙◌, ap, subst, arith, inl, inr}
+use Rattle.std.proofs.Common.{◌≡◌, ℕ, ◌+◌, ◌-◌, ◌*◌, ◌≤◌, ◌<◌, true, List, Some, option_and_then, unwrap_or, slice_get, refl, sym, ◌∙◌, ap, subst, arith}
 use Rattle.rb_base.specs.Nodes.{Side, other}
 use Rattle.rb_base.specs.Sizes.{sync_slot_of}
-use Rattle.rb_rules.specs.declared.role.Role.TheVariants.{Sync}
 use Rattle.rb_rules.specs.Book.{of_kind}
 use Rattle.rb_rules.specs.Clock.{time_of}
 use Rattle.rb_rules.specs.ExactStage.{each_node, present}
@@ -20,11 +19,11 @@ use Rattle.rb_agree.proofs.Invariant.{IsGoodNode, Shared, is_good_now, slot_numb
 use Rattle.rb_agree.proofs.NodeWindows.{Windows}
 use Rattle.rb_agree.proofs.Tests.{same_some}
 use Rattle.rb_sync.proofs.Middles.{HasLeast, least_of}
-use Rattle.rb_sync.proofs.PlanNumbers.{drift_of, eps_of}
+use Rattle.rb_sync.proofs.PlanNumbers.{drift_of}
 use Rattle.rb_sync.proofs.StageCalls.{Begun, IsAt, clock_now}
 use Rattle.rb_sync.proofs.StageMiddles.{CallBetween, HearsMiddle, IsCaller, IsHeardStage, Late, all_late, caller, hears_middle, tick_of, ws_of}
 use Rattle.rb_sync.proofs.Synchronous.{at_offset, heard_from, heard_to}
-use Rattle.rb_sync.proofs.TakenCalls.{is_set, took}
+use Rattle.rb_sync.proofs.TakenCalls.{took}
 use Rattle.rb_sync.proofs.TimelyWindows.{LieAbout}
 use Rattle.rb_sync.proofs.Times.{Steady, tick_le}
 

@@ -1,43 +1,38 @@
 -- From one window to the next of its frame good nodes stay near.
-use Rattle.std.proofs.Common.{◌≡◌, ℕ, zero, suc, ◌+◌, ◌-◌, ◌*◌, ◌≤◌, ◌<◌, min, max, true, false, List, [], ◌∷◌, ◌||◌, Option, Some, None, option_map, slice_get, refl, sym, ◌∙◌, ap, subst, arith, inl, inr, lit<}
+use Rattle.std.proofs.Common.{◌≡◌, ℕ, zero, suc, ◌+◌, ◌-◌, ◌*◌, ◌≤◌, ◌<◌, List, ◌∷◌, Option, Some, refl, sym, ◌∙◌, ap, subst, arith}
 use Rattle.std.specs.List.{list_any}
-use Rattle.std.proofs.Math.Nat.{mul-le-mul_left}
-use Rattle.rb_base.specs.Nodes.{Side, other}
+use Rattle.rb_base.specs.Nodes.{Side}
 use Rattle.rb_base.specs.Nodes.Side.{Biu, Rmu}
-use Rattle.rb_base.specs.Sizes.{IsShape, Sizes, sync_slot_of}
-use Rattle.rb_rules.specs.declared.plan.Plan.{Plan}
-use Rattle.rb_rules.specs.Book.{judged_of}
+use Rattle.rb_base.specs.Sizes.{sync_slot_of}
 use Rattle.rb_rules.specs.Clock.{time_of}
 use Rattle.rb_rules.specs.Goodness.{Scenario, clock_of, is_good}
-use Rattle.rb_rules.specs.Judging.{JudgedStage, is_asymmetric, was_unlike}
+use Rattle.rb_rules.specs.Judging.{JudgedStage, was_unlike}
 use Rattle.rb_rules.specs.Lawful.{IsLawful}
 use Rattle.rb_rules.specs.NodeState.{NodeState}
-use Rattle.rb_rules.specs.Plan.{f0_of, shortest_of, tail_start_of}
+use Rattle.rb_rules.specs.Plan.{f0_of, shortest_of}
 use Rattle.rb_rules.specs.Ports.{HandIn}
 use Rattle.rb_rules.specs.Rounds.{Moment, after_window, sent_in, window_in}
-use Rattle.rb_rules.specs.StandsFor.{FrameTakes}
-use Rattle.rb_rules.specs.SyncStage.{call_tick_of, new_epoch_of}
 use Rattle.rb_rules.proofs.Middles.{AreNear, IsBetween}
 use Rattle.rb_rules.proofs.RoundStates.{through-stays}
 use Rattle.rb_agree.proofs.Goodnesses.{slot_last}
-use Rattle.rb_agree.proofs.Invariant.{Agree, IsGoodNode, Shared, is_good_now, slot_numbered}
+use Rattle.rb_agree.proofs.Invariant.{Agree, IsGoodNode, Shared}
 use Rattle.rb_agree.proofs.JudgedWindows.{IsPassed, premise_after, rows_of}
 use Rattle.rb_agree.proofs.NextMoments.{CameFrom, came_from, next}
-use Rattle.rb_agree.proofs.NodeWindows.{HasTick, Windows, sync_tick, sync_windows_are, tail_windows}
+use Rattle.rb_agree.proofs.NodeWindows.{HasTick, Windows, sync_tick, sync_windows_are}
 use Rattle.rb_agree.proofs.Premises.{Premise}
 use Rattle.rb_agree.proofs.Settings.{after}
-use Rattle.rb_agree.proofs.SyncAgrees.{book_sync, book_tail}
+use Rattle.rb_agree.proofs.SyncAgrees.{book_sync}
 use Rattle.rb_agree.proofs.Tests.{or_neither_second, same_some}
 use Rattle.rb_sync.proofs.CallSights.{stages_with}
-use Rattle.rb_sync.proofs.KeptMiddles.{Keeps, Leaves, keeps, keeps_found, tail_leaves}
-use Rattle.rb_sync.proofs.PlanNumbers.{drift_of, eps_of, second_own, third_own}
-use Rattle.rb_sync.proofs.StageCalls.{Begun, CallWell, clock_now, first_about, first_at, first_calls, second_about, second_at, second_calls, third_about, third_at, third_calls}
-use Rattle.rb_sync.proofs.StageMiddles.{CallBetween, IsHeardStage, NoneUnlike, middles_of_alike, tick_of, ws_of}
-use Rattle.rb_sync.proofs.StageSteps.{CallNear, StageMiddle, closer, near_calls, stage_middle}
-use Rattle.rb_sync.proofs.Synchronous.{KeepNear, KnowFirst, KnowNext, KnowSecond, KnowsEpoch, KnowsMiddle, Synchronous, first_kept, from_1, from_2, from_3, heard_from, heard_to, near_1, near_2, near_3, near_on, second_kept, ticks_on, to_1, to_2, to_3}
-use Rattle.rb_sync.proofs.TakenCalls.{IsStage, is_set, windows}
+use Rattle.rb_sync.proofs.KeptMiddles.{Keeps, keeps_found}
+use Rattle.rb_sync.proofs.PlanNumbers.{drift_of, second_own}
+use Rattle.rb_sync.proofs.StageCalls.{Begun, first_about, first_at, first_calls}
+use Rattle.rb_sync.proofs.StageMiddles.{IsHeardStage, NoneUnlike, middles_of_alike, tick_of, ws_of}
+use Rattle.rb_sync.proofs.StageSteps.{StageMiddle, stage_middle}
+use Rattle.rb_sync.proofs.Synchronous.{KnowsMiddle, Synchronous, from_1, heard_from, heard_to, near_1, to_1}
+use Rattle.rb_sync.proofs.TakenCalls.{IsStage, is_set}
 use Rattle.rb_sync.proofs.TimelyWindows.{good_here}
-use Rattle.rb_sync.proofs.Times.{Steady, lawful_fits, plan_fits}
+use Rattle.rb_sync.proofs.Times.{lawful_fits, plan_fits}
 
 -- ---- any window
 

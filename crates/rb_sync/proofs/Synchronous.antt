@@ -1,25 +1,21 @@
 -- How near good nodes are before each window of a run that has met no breach: how near they began the frame, and in the sync slot
 -- how near the middles are that they keep.
-use Rattle.std.proofs.Common.{◌≡◌, ℕ, ◌+◌, ◌-◌, ◌*◌, ◌≤◌, ◌<◌, true, List, Option, Some, None, option_map, unwrap_or, refl, sym, ◌∙◌, ap, subst, arith, lit<}
+use Rattle.std.proofs.Common.{◌≡◌, ℕ, ◌+◌, ◌*◌, ◌≤◌, ◌<◌, Option, Some, ap, arith}
 use Rattle.rb_base.specs.Nodes.{Side}
 use Rattle.rb_base.specs.Nodes.Side.{Biu, Rmu}
-use Rattle.rb_base.specs.Sizes.{IsShape, Sizes, sync_slot_of}
+use Rattle.rb_base.specs.Sizes.{sync_slot_of}
 use Rattle.rb_rules.specs.declared.plan.Plan.{Plan}
 use Rattle.rb_rules.specs.Clock.{Timeline, time_of}
 use Rattle.rb_rules.specs.Goodness.{Scenario, clock_of}
-use Rattle.rb_rules.specs.Judging.{JudgedStage}
-use Rattle.rb_rules.specs.Lawful.{IsLawful}
 use Rattle.rb_rules.specs.NodeState.{NodeState}
 use Rattle.rb_rules.specs.Plan.{f0_of, shortest_of}
-use Rattle.rb_rules.specs.Ports.{HandIn}
 use Rattle.rb_rules.specs.Rounds.{Moment}
 use Rattle.rb_rules.specs.StandsFor.{FrameTakes}
-use Rattle.rb_rules.specs.SyncStage.{call_tick_of}
 use Rattle.rb_rules.proofs.Middles.{AreNear, IsBetween}
 use Rattle.rb_agree.proofs.Invariant.{IsGoodNode, Shared}
-use Rattle.rb_sync.proofs.PlanNumbers.{drift_of, eps_of, exact_early, exact_late, second_early, second_late, second_own, third_early, third_late, third_own}
+use Rattle.rb_sync.proofs.PlanNumbers.{drift_of, eps_of}
 use Rattle.rb_sync.proofs.StageMiddles.{NoneUnlike, tick_of}
-use Rattle.rb_sync.proofs.Times.{Steady, lawful_fits, plan_fits, steady}
+use Rattle.rb_sync.proofs.Times.{Steady, steady}
 
 -- ---- the times of the calls, where the frame's first ticks come from `low` on
 

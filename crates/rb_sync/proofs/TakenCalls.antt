@@ -1,55 +1,36 @@
 -- A stage of the sync slot: what a good node takes of each source, and what it shows of that.
-use Rattle.std.proofs.Common.{◌≡◌, ℕ, zero, suc, ◌+◌, ◌-◌, ◌*◌, ◌%◌, ◌≤◌, ◌<◌, ◌==◌, ◌&&◌, not, Bool, true, false, List, [], ◌∷◌, map, Option, Some, None, is_some, slice_get, get_or, if◌then◌else◌, refl, sym, ◌∙◌, ap, subst, arith, inl, inr, zero-add}
-use Rattle.std.specs.Prelude.{⊤, All, filter, nat_le, option_to_list, option_map}
-use Rattle.std.specs.List.{list_any}
-use Rattle.std.proofs.lemmas.Bool.{and_parts}
+use Rattle.std.proofs.Common.{◌≡◌, ℕ, ◌+◌, ◌*◌, ◌%◌, ◌<◌, ◌==◌, ◌&&◌, Bool, true, false, List, [], ◌∷◌, map, Option, Some, None, if◌then◌else◌, refl, sym, ◌∙◌, ap, arith}
+use Rattle.std.specs.Prelude.{option_to_list, option_map}
 use Rattle.std.proofs.lemmas.Bool.Decides.{nat_tests}
-use Rattle.std.proofs.lemmas.List.Elements.{All-filter, All-head, All-map}
-use Rattle.std.proofs.lemmas.List.FromFn.{get_or-map-range_with_len}
-use Rattle.rb_base.specs.Counting.{numbers}
 use Rattle.rb_base.specs.Nodes.{Side, other, has}
 use Rattle.rb_base.specs.Sizes.{Sizes, sync_slot_of}
-use Rattle.rb_base.specs.declared.values.Place.{Place}
-use Rattle.rb_base.specs.declared.values.See.{See}
-use Rattle.rb_base.specs.declared.values.See.TheVariants.{Nothing, Time}
 use Rattle.rb_rules.specs.declared.message.Message.{Message}
 use Rattle.rb_rules.specs.declared.plan.Plan.{Plan}
 use Rattle.rb_rules.specs.declared.role.Role.TheVariants.{Sync}
-use Rattle.rb_rules.specs.declared.say.Say.{Say}
 use Rattle.rb_rules.specs.declared.sense.Expect.{Expect}
 use Rattle.rb_rules.specs.declared.sense.Sense.{Sense}
 use Rattle.rb_rules.specs.declared.sense.Sense.TheVariants.{One, Bad}
-use Rattle.rb_rules.specs.Book.{of_kind, judged_of}
-use Rattle.rb_rules.specs.Clock.{Timeline, stamp_of, time_of}
-use Rattle.rb_rules.specs.ExactStage.{at_source, each_node}
+use Rattle.rb_rules.specs.Clock.{Timeline, stamp_of}
 use Rattle.rb_rules.specs.Goodness.{Scenario, clock_of, is_good}
-use Rattle.rb_rules.specs.Hearing.{Coming, Sending, Span, arrival_of, coming_of, coming_said, is_said, judged_see, said_by, sending, sole_time, span_of}
-use Rattle.rb_rules.specs.Judging.{JudgedStage, are_alike, is_asymmetric, is_benign, is_something, was_taken, was_unlike}
+use Rattle.rb_rules.specs.Hearing.{Coming, Sending, arrival_of, coming_of, sending}
 use Rattle.rb_rules.specs.Lawful.{IsLawful}
 use Rattle.rb_rules.specs.NodeState.{NodeState}
-use Rattle.rb_rules.specs.NodeSteps.{close, expect_of, message_said}
-use Rattle.rb_rules.specs.Plan.{shortest_of}
+use Rattle.rb_rules.specs.NodeSteps.{expect_of, message_said}
 use Rattle.rb_rules.specs.Ports.{HandIn}
 use Rattle.rb_rules.specs.Rounds.{Moment}
 use Rattle.rb_rules.specs.Sense.{sense_of, sense_of_one, stamp_in, suits}
 use Rattle.rb_rules.specs.Slots.{listens}
-use Rattle.rb_rules.specs.Spelling.{IsMessage, message_in, spelling_of}
-use Rattle.rb_rules.specs.Standing.{Standing, is_eligible, taken_of}
-use Rattle.rb_rules.specs.SyncStage.{call_of, call_tick_of, calls, close_sync, expects_call, see_time, send_tick_of, sync_outcome_of}
-use Rattle.rb_rules.proofs.Middles.{AreNear}
+use Rattle.rb_rules.specs.Spelling.{IsMessage, message_in}
+use Rattle.rb_rules.specs.Standing.{is_eligible, taken_of}
+use Rattle.rb_rules.specs.SyncStage.{call_of, call_tick_of, calls, expects_call, send_tick_of}
 use Rattle.rb_rules.proofs.RoundStates.{keeping-stays}
 use Rattle.rb_rules.proofs.Senses.{spelled_is_one}
-use Rattle.rb_agree.proofs.ExactWindows.{keeping-is, other_twice, sent_by, with_sent}
+use Rattle.rb_agree.proofs.ExactWindows.{other_twice}
 use Rattle.rb_agree.proofs.Exchanges.{far-held}
-use Rattle.rb_agree.proofs.Goodnesses.{few_slots, good_below_16, slot_last}
-use Rattle.rb_agree.proofs.Invariant.{Agree, Holds, IsGoodNode, Shared, is_good_now, slot_numbered}
-use Rattle.rb_agree.proofs.JudgedWindows.{rows_of, sight-is, taken_in_stage, unlike_in_stage}
-use Rattle.rb_agree.proofs.NodeWindows.{Windows, from-faulty, heard_in, kept_in, own_window, sense_in, sync_tick, sync_windows_are, word_at}
-use Rattle.rb_agree.proofs.SyncWindows.{close-sync}
-use Rattle.rb_agree.proofs.Tests.{or_first, or_neither_first, true_or_false}
-use Rattle.rb_sync.proofs.PlanNumbers.{drift_of}
-use Rattle.rb_sync.proofs.Times.{Steady, steady}
-use Rattle.rb_sync.proofs.TimelyWindows.{IsSent, IsSet, good_here, heard_good, sent_parts}
+use Rattle.rb_agree.proofs.Goodnesses.{few_slots, slot_last}
+use Rattle.rb_agree.proofs.Invariant.{Agree, Holds, IsGoodNode, Shared}
+use Rattle.rb_agree.proofs.NodeWindows.{Windows, heard_in, kept_in, sense_in, sync_windows_are, word_at}
+use Rattle.rb_sync.proofs.TimelyWindows.{IsSent, IsSet, heard_good, sent_parts}
 
 same-number : (n : ℕ) → (n == n) ≡ true
 same-number n = grind (arith, nat_tests)
@@ -154,7 +135,6 @@ pub takes_call : (sc : Scenario) (hands : List HandIn) (n : ℕ) (m : Moment) (s
     → listens me Sync (q + 1) ≡ true → IsGoodNode sc m me i st → IsGoodNode sc m (other me) j source
     → call_tick_of sc.sizes sc.plan source (q + 1) ≡ Some tick
     → IsCallTaken sc m q (windows sc hands n m s q c) me i st j tick
-
 takes_call sc hands n m s q c me i j st source tick listening here there at =
     let slot : ℕ = sync_slot_of sc.sizes in
     let ws : Windows sc m slot (q + 1) = sync_windows_are sc m q c.small c.at in

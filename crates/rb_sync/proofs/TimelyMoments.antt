@@ -1,35 +1,32 @@
 -- Where good nodes are near each other before a window, the window is timely.
-use Rattle.std.proofs.Common.{◌≡◌, ℕ, zero, suc, ◌+◌, ◌-◌, ◌*◌, ◌/◌, ◌%◌, ◌≤◌, ◌<◌, ◌==◌, true, false, List, Option, Some, None, refl, sym, ◌∙◌, ap, subst, arith, inl, inr, lit<}
+use Rattle.std.proofs.Common.{◌≡◌, ℕ, zero, suc, ◌+◌, ◌-◌, ◌*◌, ◌/◌, ◌%◌, ◌≤◌, ◌<◌, ◌==◌, true, false, List, Some, refl, sym, ◌∙◌, ap, subst, arith, inl, inr, lit<}
 use Rattle.std.proofs.lemmas.Bool.{cases_lt}
 use Rattle.std.proofs.lemmas.Bool.Decides.{nat_tests}
 use Rattle.std.proofs.Math.Nat.{mul-le-mul_right}
 use Rattle.rb_base.specs.Nodes.{Side, other}
 use Rattle.rb_base.specs.Nodes.Side.{Biu, Rmu}
-use Rattle.rb_base.specs.Sizes.{IsShape, Sizes, sync_slot_of}
-use Rattle.rb_rules.specs.declared.plan.Plan.{Plan}
+use Rattle.rb_base.specs.Sizes.{sync_slot_of}
 use Rattle.rb_rules.specs.declared.role.Role.TheVariants.{Sync}
-use Rattle.rb_rules.specs.Clock.{Timeline, time_of}
 use Rattle.rb_rules.specs.Goodness.{Scenario, clock_of}
-use Rattle.rb_rules.specs.Hearing.{Sending, sending, span_of}
+use Rattle.rb_rules.specs.Hearing.{Sending, sending}
 use Rattle.rb_rules.specs.Lawful.{IsLawful}
 use Rattle.rb_rules.specs.NodeState.{NodeState}
 use Rattle.rb_rules.specs.Plan.{f0_of, shortest_of}
 use Rattle.rb_rules.specs.Ports.{HandIn}
-use Rattle.rb_rules.specs.Rounds.{IsTickOf, IsTimely, Moment, windows_in}
+use Rattle.rb_rules.specs.Rounds.{IsTimely, Moment, windows_in}
 use Rattle.rb_rules.specs.Slots.{listens}
-use Rattle.rb_rules.specs.SyncStage.{call_tick_of, send_tick_of}
+use Rattle.rb_rules.specs.SyncStage.{send_tick_of}
 use Rattle.rb_rules.specs.Windows.{send_offset_of}
-use Rattle.rb_rules.proofs.Middles.{IsBetween}
 use Rattle.rb_agree.proofs.Goodnesses.{slot_here, slot_last}
-use Rattle.rb_agree.proofs.Invariant.{Agree, IsGoodNode, Shared}
-use Rattle.rb_agree.proofs.NodeWindows.{Windows, exact_windows, own_window, tail_windows, word_at}
+use Rattle.rb_agree.proofs.Invariant.{Agree, Shared}
+use Rattle.rb_agree.proofs.NodeWindows.{exact_windows, tail_windows, word_at}
 use Rattle.rb_sync.proofs.PlanNumbers.{drift_of, exact_early, exact_late}
 use Rattle.rb_sync.proofs.StageMiddles.{tick_of}
 use Rattle.rb_sync.proofs.StageCalls.{Begun, CallWell, IsAt, clock_now, exact_at, first_about, first_at, first_calls, lie_about, same_tick, second_about, second_at, second_calls, third_about, third_at, third_calls}
 use Rattle.rb_sync.proofs.Synchronous.{Synchronous, at_offset, from_1, from_2, from_3, to_1, to_2, to_3}
 use Rattle.rb_sync.proofs.TakenCalls.{IsStage, call_sent, is_set}
-use Rattle.rb_sync.proofs.TimelyWindows.{IsSent, IsSentBetween, IsSet, LieAbout, sent_parts, timely, timely_silent}
-use Rattle.rb_sync.proofs.Times.{Steady, lawful_fits, plan_fits}
+use Rattle.rb_sync.proofs.TimelyWindows.{IsSent, IsSet, LieAbout, sent_parts, timely, timely_silent}
+use Rattle.rb_sync.proofs.Times.{lawful_fits, plan_fits}
 
 -- ---- below the sync slot
 

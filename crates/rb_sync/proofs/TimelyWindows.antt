@@ -1,14 +1,13 @@
 -- When a window is timely: where what good nodes send in it is sent at their own ticks of it, and between two times about which
 -- the windows of all good nodes lie.
-use Rattle.std.proofs.Common.{◌≡◌, ℕ, ◌+◌, ◌≤◌, ◌<◌, Bool, true, false, List, [], ◌∷◌, Option, Some, None, slice_get, option_map, option_and_then, refl, sym, ◌∙◌, ap, subst, arith}
+use Rattle.std.proofs.Common.{◌≡◌, ℕ, ◌+◌, ◌≤◌, true, List, [], Option, Some, None, slice_get, option_map, option_and_then, refl, sym, ◌∙◌, ap, subst, arith}
 use Rattle.std.specs.Prelude.{All, IfSome, option_to_list}
 use Rattle.std.proofs.lemmas.List.Elements.{All-cons, All-nil}
 use Rattle.rb_base.specs.Nodes.{Side, other}
-use Rattle.rb_base.specs.Sizes.{Sizes, sync_slot_of}
+use Rattle.rb_base.specs.Sizes.{Sizes}
 use Rattle.rb_base.specs.declared.values.Place.{Place}
 use Rattle.rb_rules.specs.declared.message.Message.{Message}
 use Rattle.rb_rules.specs.declared.plan.Plan.{Plan}
-use Rattle.rb_rules.specs.declared.plan.Window.{Window}
 use Rattle.rb_rules.specs.Book.{of_kind}
 use Rattle.rb_rules.specs.Clock.{stamp_of, time_of}
 use Rattle.rb_rules.specs.ExactStage.{at_source}
@@ -19,10 +18,9 @@ use Rattle.rb_rules.specs.Links.{delay_of, name_of}
 use Rattle.rb_rules.specs.NodeState.{NodeState}
 use Rattle.rb_rules.specs.NodeSteps.{message_said}
 use Rattle.rb_rules.specs.Plan.{shortest_of}
-use Rattle.rb_rules.specs.Rounds.{IsGoodIn, IsTickOf, IsTimely, Moment, heard_at, sending_in, sent_in, window_in}
+use Rattle.rb_rules.specs.Rounds.{IsGoodIn, IsTickOf, IsTimely, Moment, heard_at, sending_in, sent_in}
 use Rattle.rb_rules.specs.SyncStage.{send_tick_of}
 use Rattle.rb_rules.proofs.Middles.{IsBetween}
-use Rattle.rb_agree.proofs.Goodnesses.{good_counts}
 use Rattle.rb_agree.proofs.Invariant.{IsGoodNode, slot_numbered}
 use Rattle.rb_agree.proofs.NodeWindows.{Windows, heard_in, own_window, sent-at, word_at}
 use Rattle.rb_sync.proofs.PlanNumbers.{drift_of}

@@ -1,5 +1,5 @@
 -- The clocks of good nodes, stamps of times, and how long messages are on their way.
-use Rattle.std.proofs.Common.{◌≡◌, ℕ, zero, suc, ◌+◌, ◌*◌, ◌-◌, ◌<◌, ◌≤◌, Bool, true, false, List, [], ◌∷◌, length, get_or, inl, inr, if◌then◌else◌, refl, subst, arith}
+use Rattle.std.proofs.Common.{◌≡◌, ℕ, zero, suc, ◌+◌, ◌*◌, ◌<◌, ◌≤◌, Bool, true, false, List, [], ◌∷◌, length, inl, inr, if◌then◌else◌, subst, arith}
 use Rattle.std.specs.Prelude.{All}
 use Rattle.std.proofs.lemmas.Bool.{cases_lt}
 use Rattle.std.proofs.lemmas.List.Elements.{All-head, All-tail}
@@ -12,11 +12,11 @@ use Rattle.rb_rules.specs.declared.link.Rule.{Rule}
 use Rattle.rb_rules.specs.declared.plan.Plan.{Plan}
 use Rattle.rb_rules.specs.Clock.{Timeline, IsStamp, stamp_of, time_of}
 use Rattle.rb_rules.specs.Goodness.{Scenario, clock_of, clock_place, is_good}
-use Rattle.rb_rules.specs.Lawful.{IsDelay, IsLawful, IsRuleOf}
+use Rattle.rb_rules.specs.Lawful.{IsDelay, IsLawful}
 use Rattle.rb_rules.specs.Links.{applies, delay_after, delay_of}
 use Rattle.rb_rules.specs.Plan.{f0_of, longest_of, shortest_of}
 use Rattle.rb_rules.specs.Slots.{count_of}
-use Rattle.rb_rules.proofs.Drift.{HasLengths, drift, has_lengths, stamp_near, times_rise_strictly, times_rise_to}
+use Rattle.rb_rules.proofs.Drift.{HasLengths, drift, has_lengths, stamp_near, times_rise_strictly}
 use Rattle.rb_rules.proofs.Stamps.{Moves, stamp_of-is, stamp_le}
 use Rattle.rb_agree.proofs.Goodnesses.{good_counts}
 use Rattle.rb_sync.proofs.PlanNumbers.{Fits, drift_of, fits}
