@@ -1,28 +1,26 @@
 -- What good nodes hold of the abstract bus before each window, and that the windows in which no slot ends keep it.
-use Rattle.std.proofs.Common.{◌≡◌, ℕ, zero, suc, ◌+◌, ◌-◌, ◌*◌, ◌/◌, ◌<◌, ◌≤◌, ◌==◌, ◌&&◌, nat_lt, Bool, true, false, if◌then◌else◌, List, [], ◌∷◌, ◌++◌, length, map, take, get_or, Option, Some, None, slice_get, slice_set, length-set, refl, sym, ◌∙◌, ap, subst, arith, inl, inr}
+use Rattle.std.proofs.Common.{◌≡◌, ℕ, zero, suc, ◌+◌, ◌<◌, ◌≤◌, ◌==◌, ◌&&◌, Bool, true, false, if◌then◌else◌, List, [], ◌∷◌, ◌++◌, length, take, get_or, slice_set, length-set, refl, sym, ◌∙◌, ap, subst, arith, inl, inr}
 use Rattle.std.proofs.lemmas.Bool.{cases_lt}
 use Rattle.std.proofs.lemmas.Bool.Decides.{nat_tests}
-use Rattle.rb_base.specs.Counting.{numbers}
-use Rattle.rb_base.specs.Nodes.{Side, other, has}
+use Rattle.rb_base.specs.Nodes.{Side}
 use Rattle.rb_base.specs.Nodes.Side.{Biu, Rmu}
 use Rattle.rb_base.specs.Sizes.{Sizes, sync_slot_of}
 use Rattle.rb_base.specs.declared.values.Heard.{Heard}
 use Rattle.rb_base.specs.declared.values.Heard.TheVariants.{Fault}
 use Rattle.rb_rules.specs.AbstractBus.{AbstractBus, bus_after_slot, sender_on, trusted_on}
-use Rattle.rb_rules.specs.Book.{of_kind}
 use Rattle.rb_rules.specs.Clock.{time_of}
 use Rattle.rb_rules.specs.ExactStage.{owners_after, votes_in}
-use Rattle.rb_rules.specs.Goodness.{Scenario, clock_of, is_good}
+use Rattle.rb_rules.specs.Goodness.{Scenario, clock_of}
 use Rattle.rb_rules.specs.NodeState.{NodeState, sender_at, trusted_of}
 use Rattle.rb_rules.specs.Owners.{owners_of}
 use Rattle.rb_rules.specs.Ports.{HandIn}
 use Rattle.rb_rules.specs.Rounds.{Moment, after_window, sent_in, window_in}
-use Rattle.rb_rules.specs.Slots.{Sender, has_third_stage, role_of, same_side, sender_in}
+use Rattle.rb_rules.specs.Slots.{has_third_stage, role_of, same_side, sender_in}
 use Rattle.rb_rules.specs.StandsFor.{votes_on}
 use Rattle.rb_rules.proofs.Middles.{IsBetween}
-use Rattle.rb_rules.proofs.RoundStates.{Stays, through-stays}
-use Rattle.rb_agree.proofs.Exchanges.{sender-held, trusted-either}
-use Rattle.rb_agree.proofs.Invariant.{Agree, Holds, IsGoodNode, Shared, is_good_now, sender_of, slot_numbered}
+use Rattle.rb_rules.proofs.RoundStates.{through-stays}
+use Rattle.rb_agree.proofs.Exchanges.{trusted-either}
+use Rattle.rb_agree.proofs.Invariant.{Agree, IsGoodNode, Shared, slot_numbered}
 use Rattle.rb_agree.proofs.JudgedWindows.{stays-trusted}
 use Rattle.rb_agree.proofs.NextMoments.{CameFrom, came_from, next}
 use Rattle.rb_agree.proofs.NodeWindows.{Windows}

@@ -1,19 +1,16 @@
 -- In every moment of a run that has not ended the bus stands at the moment's slot, and all good nodes hold what it holds.
-use Rattle.std.proofs.Common.{◌≡◌, ℕ, zero, suc, ◌+◌, ◌-◌, ◌*◌, ◌/◌, ◌%◌, ◌<◌, ◌≤◌, min, true, false, List, refl, sym, ◌∙◌, ap, subst, arith, inl, inr, lit<}
+use Rattle.std.proofs.Common.{◌≡◌, ℕ, zero, suc, ◌+◌, ◌-◌, ◌*◌, ◌/◌, ◌%◌, ◌<◌, ◌≤◌, min, false, List, refl, sym, ◌∙◌, ap, subst, arith, inl, inr}
 use Rattle.std.proofs.lemmas.Bool.{cases_lt}
-use Rattle.rb_base.specs.Nodes.{Side}
-use Rattle.rb_base.specs.Sizes.{Sizes, sync_slot_of}
-use Rattle.rb_base.specs.declared.values.Heard.{Heard}
+use Rattle.rb_base.specs.Sizes.{sync_slot_of}
 use Rattle.rb_rules.specs.AbstractBus.{AbstractBus, bus_after_frame, bus_after_slot, first_bus}
 use Rattle.rb_rules.specs.Goodness.{Scenario}
 use Rattle.rb_rules.specs.Lawful.{IsLawful}
 use Rattle.rb_rules.specs.Moments.{IsRunning, before_slot}
 use Rattle.rb_rules.specs.Plan.{shortest_of, tail_start_of}
 use Rattle.rb_rules.specs.Ports.{HandIn}
-use Rattle.rb_rules.specs.Rounds.{Moment, begin_frame, first_moment, moment, next_frame, step, windows_in}
+use Rattle.rb_rules.specs.Rounds.{Moment, begin_frame, first_moment, moment, next_frame, windows_in}
 use Rattle.rb_rules.specs.StandsFor.{steps_to}
 use Rattle.rb_agree.proofs.Agreement.{exact-setting, running_before, step_is}
-use Rattle.rb_agree.proofs.FrameTurns.{AtEnd}
 use Rattle.rb_agree.proofs.Goodnesses.{slot_here, slot_last}
 use Rattle.rb_agree.proofs.Invariant.{Agree, Shared, slot_numbered}
 use Rattle.rb_agree.proofs.JudgedWindows.{IsPassed, passed, rows_of}
@@ -21,11 +18,11 @@ use Rattle.rb_agree.proofs.NextMoments.{next}
 use Rattle.rb_agree.proofs.NodeWindows.{sync_windows_are, tail_windows}
 use Rattle.rb_agree.proofs.Settings.{Setting, after}
 use Rattle.rb_agree.proofs.SlotRuns.{next-frame, next-window}
-use Rattle.rb_agree.proofs.SyncAgrees.{SyncSetting, book_sync, stage_setting, tail_setting}
+use Rattle.rb_agree.proofs.SyncAgrees.{book_sync, stage_setting, tail_setting}
 use Rattle.rb_sync.proofs.Synchronous.{Synchronous}
 use Rattle.rb_sync.proofs.Synchrony.{IsSynchronous, synchrony}
 use Rattle.rb_bus.proofs.BusNodes.{IsBusAt, IsKept, bus_kept, kept_exact, kept_sync}
-use Rattle.rb_bus.proofs.BusRun.{bus_next, bus_of, first-is, frame-next, low_in, next-is, slot-next, value_in}
+use Rattle.rb_bus.proofs.BusRun.{bus_next, bus_of, first-is, frame-next, next-is, slot-next}
 use Rattle.rb_bus.proofs.FrameSteps.{IsBegin, IsFrameEnd, bus_first, bus_then, bus_turned}
 use Rattle.rb_bus.proofs.Lows.{low_of}
 use Rattle.rb_bus.proofs.SlotSteps.{IsSlotEnd, bus_after, slot-is, value-is, value_of}
@@ -65,6 +62,11 @@ next-bus sc hands m slot below at =
 pub slot-end : (sc : Scenario) (hands : List HandIn) (n : ℕ) (m : Moment) (s : Shared) (slot : ℕ) → Setting sc hands n m s slot 2 → Stands sc hands m → next sc m ≡ moment sc hands (suc n)
     → IsSlotEnd sc hands n m s slot (bus_at sc hands m)
 slot-end sc hands n m s slot c at is = record { setting = c; bus = at; next_is = is }
+
+pub same-setting : (sc : Scenario) (hands : List HandIn) (n : ℕ) (m : Moment) (s : Shared) (slot : ℕ) (c : Setting sc hands n m s slot 2) (at : Stands sc hands m) (is : next sc m ≡ moment sc hands (suc n))
+    → (slot-end sc hands n m s slot c at is).setting ≡ c
+unfolding slot-end
+same-setting sc hands n m s slot c at is = refl
 
 -- the bus's next state
 pub slot-bus : (sc : Scenario) (hands : List HandIn) (n : ℕ) (m : Moment) (s : Shared) (slot : ℕ) (c : IsSlotEnd sc hands n m s slot (bus_at sc hands m))

@@ -1,6 +1,6 @@
 -- A frame begins: the bus stands at it, with the first time of the good nodes that begin it, and with the nodes that these trust.
-use Rattle.std.proofs.Common.{◌≡◌, ℕ, zero, suc, ◌+◌, ◌-◌, ◌*◌, ◌/◌, ◌<◌, ◌≤◌, nat_lt, min, Bool, true, false, if◌then◌else◌, List, [], ◌∷◌, length, get_or, Option, Some, None, slice_get, refl, sym, ◌∙◌, ap, subst, arith, inl, inr}
-use Rattle.rb_base.specs.Nodes.{Side, other, has, set_of}
+use Rattle.std.proofs.Common.{◌≡◌, ℕ, suc, ◌+◌, ◌*◌, ◌<◌, ◌≤◌, true, false, if◌then◌else◌, List, [], get_or, Some, None, slice_get, refl, sym, ◌∙◌, ap, arith, inl, inr}
+use Rattle.rb_base.specs.Nodes.{Side, other, has}
 use Rattle.rb_base.specs.Nodes.Side.{Biu, Rmu}
 use Rattle.rb_base.specs.Sizes.{Sizes, sync_slot_of}
 use Rattle.rb_base.specs.declared.values.Heard.TheVariants.{Fault}
@@ -15,8 +15,8 @@ use Rattle.rb_rules.specs.NodeState.{NodeState, first_state, trusted_of}
 use Rattle.rb_rules.specs.NodeSteps.{turn_if_known}
 use Rattle.rb_rules.specs.Plan.{shortest_of, tail_start_of}
 use Rattle.rb_rules.specs.Ports.{HandIn}
-use Rattle.rb_rules.specs.Rounds.{Moment, begin_frame, first_moment, moment, next_frame, windows_in}
-use Rattle.rb_rules.specs.Slots.{count_of, first_diagnosis_of, has_third_stage, same_side}
+use Rattle.rb_rules.specs.Rounds.{Moment, begin_frame, first_moment, next_frame}
+use Rattle.rb_rules.specs.Slots.{count_of, has_third_stage, same_side}
 use Rattle.rb_rules.specs.Standing.{without}
 use Rattle.rb_rules.specs.SyncStage.{new_epoch_of}
 use Rattle.rb_rules.proofs.Drift.{times_rise_to}
@@ -29,7 +29,7 @@ use Rattle.rb_agree.proofs.Goodnesses.{good_counts, slot_last}
 use Rattle.rb_agree.proofs.Invariant.{Agree, Holds, IsGoodNode, Shared, is_good_now, slot_numbered}
 use Rattle.rb_agree.proofs.Settings.{good_state}
 use Rattle.rb_agree.proofs.Tests.{Present, same_some}
-use Rattle.rb_agree.proofs.Vectors.{convicted_same, vector_role, vector_slot, vector_slot-lt, vector_slot-role}
+use Rattle.rb_agree.proofs.Vectors.{convicted_same, vector_slot, vector_slot-lt, vector_slot-role}
 use Rattle.rb_sync.proofs.PlanNumbers.{drift_of}
 use Rattle.rb_sync.proofs.StageCalls.{Begun, clock_now}
 use Rattle.rb_sync.proofs.Synchronous.{KnowNext, KnowsEpoch}

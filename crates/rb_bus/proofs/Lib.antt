@@ -5,3 +5,5 @@ pub mod BusNodes
 pub mod SlotSteps
 pub mod FrameSteps
 pub mod BusStands
+pub mod BusSteps
+pub mod RoundsStand

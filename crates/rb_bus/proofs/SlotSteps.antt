@@ -1,15 +1,14 @@
 -- A slot that ends: the bus makes its step, and all good nodes hold what it holds afterwards.
-use Rattle.std.proofs.Common.{◌≡◌, ℕ, suc, ◌+◌, ◌-◌, ◌*◌, ◌/◌, ◌<◌, ◌≤◌, ◌==◌, nat_lt, Bool, true, false, if◌then◌else◌, List, [], ◌∷◌, ◌++◌, length, get_or, Option, Some, None, option_map, unwrap_or, slice_get, refl, sym, ◌∙◌, ap, subst, arith, inl, inr}
+use Rattle.std.proofs.Common.{◌≡◌, ℕ, suc, ◌+◌, ◌-◌, ◌*◌, ◌<◌, ◌≤◌, Bool, true, false, if◌then◌else◌, List, get_or, option_map, unwrap_or, slice_get, refl, sym, ◌∙◌, ap, subst, arith}
 use Rattle.rb_base.specs.Nodes.{Side, other, has}
 use Rattle.rb_base.specs.Nodes.Side.{Biu, Rmu}
-use Rattle.rb_base.specs.Sizes.{Sizes, sync_slot_of}
+use Rattle.rb_base.specs.Sizes.{sync_slot_of}
 use Rattle.rb_base.specs.declared.values.Heard.{Heard}
 use Rattle.rb_base.specs.declared.values.Heard.TheVariants.{Word, Fault}
 use Rattle.rb_rules.specs.declared.role.Role.{Role}
 use Rattle.rb_rules.specs.declared.role.Role.TheVariants.{Schedule, Data, DiagBiu, DiagRmu, Sync}
-use Rattle.rb_rules.specs.AbstractBus.{AbstractBus, IsOfGood, MayHave, SlotStep, SparesGood, bus_after_slot, sender_on}
+use Rattle.rb_rules.specs.AbstractBus.{AbstractBus, IsOfGood, MayHave, SlotStep, bus_after_slot, sender_on}
 use Rattle.rb_rules.specs.Book.{of_kind}
-use Rattle.rb_rules.specs.Conviction.{is_valid, names}
 use Rattle.rb_rules.specs.ExactStage.{own_value}
 use Rattle.rb_rules.specs.Goodness.{Scenario, is_good}
 use Rattle.rb_rules.specs.Hearing.{word_for}
@@ -17,13 +16,12 @@ use Rattle.rb_rules.specs.Moments.{IsRunning, after_slot, before_slot, offered_i
 use Rattle.rb_rules.specs.NodeState.{NodeState, sender_at}
 use Rattle.rb_rules.specs.Ports.{HandIn}
 use Rattle.rb_rules.specs.Rounds.{Moment, after_window, moment, windows_in}
-use Rattle.rb_rules.specs.Slots.{Sender, count_of, has_third_stage, if_owned, if_trusted, role_of, same_side, sender_in, sender_kind}
+use Rattle.rb_rules.specs.Slots.{Sender, has_third_stage, if_trusted, role_of, same_side, sender_in, sender_kind}
 use Rattle.rb_rules.specs.Slots.Sender.{EachTrusted, Nobody, Node}
-use Rattle.rb_rules.specs.StandsFor.{votes_on}
 use Rattle.rb_rules.proofs.RoundStates.{state-after}
 use Rattle.rb_agree.proofs.Exchanges.{sender-held}
 use Rattle.rb_agree.proofs.Goodnesses.{good_below_16, slot_here}
-use Rattle.rb_agree.proofs.Invariant.{Agree, Holds, HasVoted, IsGoodNode, IsOwn, IsVector, Shared, is_diagnosis, is_good_now, kind_in, sender_of, slot_numbered}
+use Rattle.rb_agree.proofs.Invariant.{HasVoted, IsGoodNode, IsOwn, IsVector, Shared, is_diagnosis, is_good_now, kind_in, sender_of, slot_numbered}
 use Rattle.rb_agree.proofs.NextMoments.{CameFrom, came_from, next}
 use Rattle.rb_agree.proofs.Places.{IsPlaced, placed, running_earlier}
 use Rattle.rb_agree.proofs.SecondStages.{GoodOne, some_good}
@@ -75,7 +73,7 @@ value-is sc hands n m s slot b c =
 
 -- ---- what the value may be
 
-sender-here : (sc : Scenario) (hands : List HandIn) (n : ℕ) (m : Moment) (s : Shared) (slot : ℕ) (b : AbstractBus) → IsSlotEnd sc hands n m s slot b
+pub sender-here : (sc : Scenario) (hands : List HandIn) (n : ℕ) (m : Moment) (s : Shared) (slot : ℕ) (b : AbstractBus) → IsSlotEnd sc hands n m s slot b
     → sender_of sc.sizes s slot ≡ sender_on sc.sizes b
 sender-here sc hands n m s slot b c =
     let one : GoodOne sc m Biu = some_good sc hands n m s slot 2 c.setting Biu in
@@ -155,9 +153,10 @@ may-have sc hands n m s slot b c =
         let own : IsOwn sc hands m slot p (value_of sc hands n m s slot b c) = v.is_value.own p (sender-here sc hands n m s slot b c ∙ is) (good kind p ∙ there) in
         let st : Present (slice_get (of_kind kind (before_slot sc hands m.frame slot).nodes) p) = begun-with sc hands n m s slot b c kind p there in
         of-good sc hands m b slot p (value_of sc hands n m s slot b c) (role_of sc.sizes slot) c.bus.frame at good
-        (ap (λ k. sender_in b.bius b.rmus b.owners (role_of sc.sizes k)) (sym at) ∙ is) st.value (own.said st.value st.is)
-        (λ e. subst (λ x. IsVector sc m x (value_of sc hands n m s slot b c)) (ap (λ r. other (sender_kind r)) e) (own.vector (ap is_diagnosis e)),
-        λ e. subst (λ x. IsVector sc m x (value_of sc hands n m s slot b c)) (ap (λ r. other (sender_kind r)) e) (own.vector (ap is_diagnosis e)))
+        (ap (λ k. sender_in b.bius b.rmus b.owners (role_of sc.sizes k)) (sym at) ∙ is) st.value (own.said st.value st.is) (
+          λ e. subst (λ x. IsVector sc m x (value_of sc hands n m s slot b c)) (ap (λ r. other (sender_kind r)) e) (own.vector (ap is_diagnosis e)),
+          λ e. subst (λ x. IsVector sc m x (value_of sc hands n m s slot b c)) (ap (λ r. other (sender_kind r)) e) (own.vector (ap is_diagnosis e)),
+        )
     go EachTrusted is = tt
 
 -- ---- the step
