@@ -29,6 +29,7 @@ use Rattle.rb_agree.proofs.SecondStages.{vote_of}
 use Rattle.rb_agree.proofs.Settings.{Closed, Setting, after, closes}
 use Rattle.rb_agree.proofs.SyncAgrees.{SyncSetting, leaves}
 use Rattle.rb_agree.proofs.ThirdStages.{held_3, other_votes_kept, voted}
+use Rattle.rb_sync.proofs.SyncSteps.{epoch_after}
 use Rattle.rb_bus.proofs.BusRun.{earlier-value, last-value, length-more}
 
 -- what a good node holds of the bus
@@ -56,9 +57,6 @@ pub record IsKept (sc : Scenario) (slot : ℕ) (me : Side) (st now : NodeState) 
 
 pub still-trusted : (sc : Scenario) (m : Moment) (me : Side) (i : ℕ) (st : NodeState) (kind : Side) → trusted_of kind me (after sc m me i st) ≡ trusted_of kind me st
 still-trusted sc m me i st kind = stays-trusted kind me st (after sc m me i st) (through-stays sc m (sent_in sc m) me i st (window_in sc m me st))
-
-pub still-epoch : (sc : Scenario) (m : Moment) (me : Side) (i : ℕ) (st : NodeState) → (after sc m me i st).epoch ≡ st.epoch
-still-epoch sc m me i st = (through-stays sc m (sent_in sc m) me i st (window_in sc m me st)).epoch
 
 holds-kept : (sc : Scenario) (b : AbstractBus) (me : Side) (i : ℕ) (st now : NodeState) → IsKept sc b.slot me st now → HoldsBus sc b me i st → HoldsBus sc b me i now
 holds-kept sc b me i st now k h = record {
@@ -95,7 +93,7 @@ kept_exact sc hands n m s slot q c early me i st here = record {
   owners = owners-are sc hands n m s slot q c me i st here
       ∙ ap (λ b. if b && (slot + 1 == sc.sizes.bius) then owners_of sc.sizes (trusted_of me Biu st) (take sc.sizes.bius (after sc m me i st).votes) else st.owners) (not-third q early);
   votes = λ t lt. other_votes_kept sc hands n m s slot q c me i st (after sc m me i st) t here refl lt;
-  epoch = still-epoch sc m me i st;
+  epoch = epoch_after sc m me i st;
 }
   where
     not-third : (q : ℕ) → q < 2 → (q + 1 == 3) ≡ false
@@ -109,7 +107,7 @@ kept_sync sc hands n m s q slot ws c me i st here =
       trusted = still-trusted sc m me i st;
       owners = left.owners;
       votes = λ t lt. ap (λ v. get_or v t Fault) left.votes;
-      epoch = still-epoch sc m me i st;
+      epoch = epoch_after sc m me i st;
     }
 
 -- ---- the window in which a slot ends
@@ -171,7 +169,7 @@ holds_after sc hands n m s slot c b at is me i st here = record {
   owners = owners-are sc hands n m s slot 2 c me i st here ∙ by_test (slot + 1 == sc.sizes.bius) refl
       ∙ ap (λ k. if k + 1 == sc.sizes.bius then owners_of sc.sizes b.bius (b.values ++ (voted sc hands n m s slot c).value ∷ []) else b.owners) (sym is);
   votes = λ t lt votes. votes-after sc hands n m s slot c b at is me i st here t (let e : b.slot ≡ slot = is in omega arith) votes;
-  begun = subst (λ e. IsBetween b.low (b.low + sc.plan.p) (time_of (clock_of sc me i) e)) (sym (still-epoch sc m me i st)) h.begun;
+  begun = subst (λ e. IsBetween b.low (b.low + sc.plan.p) (time_of (clock_of sc me i) e)) (sym (epoch_after sc m me i st)) h.begun;
 }
   where
     h : HoldsBus sc b me i st

@@ -79,10 +79,10 @@ pub next-is : (sc : Scenario) (hands : List HandIn) (n : ℕ) → bus_of sc hand
 unfolding bus_of
 next-is sc hands n = refl
 
-less-true : (a b : ℕ) → a < b → nat_lt a b ≡ true
+pub less-true : (a b : ℕ) → a < b → nat_lt a b ≡ true
 less-true a b h = grind (arith, nat_tests)
 
-less-false : (a b : ℕ) → b ≤ a → nat_lt a b ≡ false
+pub less-false : (a b : ℕ) → b ≤ a → nat_lt a b ≡ false
 less-false a b h = grind (arith, nat_tests)
 
 -- a slot below the sync slot

@@ -1,7 +1,6 @@
 -- By the places of a run: what the bus holds before a slot, and its steps.
 use Rattle.std.proofs.Common.{◌≡◌, ℕ, zero, suc, ◌+◌, ◌-◌, ◌*◌, ◌/◌, ◌<◌, ◌≤◌, nat_lt, min, Bool, true, false, List, sym, ◌∙◌, ap, subst, arith, inl, inr}
 use Rattle.std.proofs.lemmas.Bool.{cases_lt, cases_order}
-use Rattle.std.proofs.lemmas.Bool.Decides.{nat_tests}
 use Rattle.std.proofs.Math.Nat.{mul-le-mul_right}
 use Rattle.rb_base.specs.Sizes.{Sizes, sync_slot_of}
 use Rattle.rb_base.specs.declared.values.Heard.{Heard}
@@ -20,7 +19,7 @@ use Rattle.rb_agree.proofs.Places.{IsPlaced, complete_before, placed, running_ea
 use Rattle.rb_agree.proofs.SlotRuns.{IsSlot, next-frame, next-window, slot_runs, third_frame}
 use Rattle.rb_sync.proofs.Synchrony.{IsSynchronous, synchrony}
 use Rattle.rb_bus.proofs.BusNodes.{IsBusAt}
-use Rattle.rb_bus.proofs.BusRun.{bus_next, bus_of, first-is, next-is}
+use Rattle.rb_bus.proofs.BusRun.{bus_next, bus_of, first-is, less-false, less-true, next-is}
 use Rattle.rb_bus.proofs.BusStands.{Stands, bus_at, frame-bus, frame-end, frame-moment, same-setting, slot-bus, slot-end, stands}
 use Rattle.rb_bus.proofs.FrameSteps.{IsFrameEnd, bus_then, frame-step}
 use Rattle.rb_bus.proofs.SlotSteps.{IsSlotEnd, slot-step, value_of}
@@ -80,12 +79,6 @@ slot_ends sc hands law frame slot below complete =
 
     at-window : (window : ℕ) → window ≡ 3 * slot + 2 → slot_numbered sc.sizes window ≡ slot
     at-window window e = omega arith
-
-less-true : (a b : ℕ) → a < b → nat_lt a b ≡ true
-less-true a b h = grind (arith, nat_tests)
-
-less-false : (a b : ℕ) → b ≤ a → nat_lt a b ≡ false
-less-false a b h = grind (arith, nat_tests)
 
 step-below : (sc : Scenario) (offered : ℕ → ℕ → ℕ → ℕ) (b after : AbstractBus) → b.slot < sync_slot_of sc.sizes
     → (value : Heard) → SlotStep sc (offered b.frame b.slot) value b after → IsStep sc offered b after

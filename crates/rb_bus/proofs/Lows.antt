@@ -10,6 +10,7 @@ use Rattle.rb_rules.specs.Goodness.{Scenario, clock_of, is_good}
 use Rattle.rb_rules.specs.NodeState.{NodeState}
 use Rattle.rb_rules.specs.Rounds.{Moment}
 use Rattle.rb_agree.proofs.Goodnesses.{good_below_16}
+use Rattle.rb_sync.proofs.Middles.{last_or_before}
 
 -- ---- the least of some times
 
@@ -27,9 +28,6 @@ least_time good time (suc n) = if good n then Some (least_with (time n) (least_t
 abbrev pub IsLeast : (ℕ → Bool) → (ℕ → ℕ) → ℕ → Option ℕ → Type 0
 IsLeast good time n None = (i : ℕ) → i < n → good i ≡ false
 IsLeast good time n (Some t) = ((i : ℕ) → i < n → good i ≡ true → t ≤ time i) × ((k : ℕ) × (good k ≡ true) × (time k ≡ t))
-
-last_or_before : (i n : ℕ) → i < suc n → (i < n) ⊎ (i ≡ n)
-last_or_before i n lt = elim (cases_lt i n) [ inl before ↦ inl before | inr ge ↦ inr (omega arith) ]
 
 one_less : (good : ℕ → Bool) (time : ℕ → ℕ) (n : ℕ) (o : Option ℕ) → good n ≡ true → IsLeast good time n o → IsLeast good time (suc n) (Some (least_with (time n) o))
 unfolding least_with

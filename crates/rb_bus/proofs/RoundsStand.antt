@@ -1,7 +1,6 @@
 -- The rounds of a lawful scenario stand for a run of the abstract bus.
 use Rattle.std.proofs.Common.{◌≡◌, ℕ, zero, suc, ◌+◌, ◌-◌, ◌*◌, ◌<◌, ◌≤◌, nat_lt, true, false, List, get_or, slice_get, refl, sym, ◌∙◌, ap, subst, arith, inl, inr}
 use Rattle.std.proofs.lemmas.Bool.{cases_lt}
-use Rattle.std.proofs.lemmas.Bool.Decides.{nat_tests}
 use Rattle.rb_base.specs.Nodes.{Side, has}
 use Rattle.rb_base.specs.Nodes.Side.{Biu, Rmu}
 use Rattle.rb_base.specs.Sizes.{Sizes, sync_slot_of}
@@ -42,7 +41,7 @@ use Rattle.rb_sync.proofs.SyncLaws.{turning}
 use Rattle.rb_sync.proofs.Synchronous.{at_offset}
 use Rattle.rb_sync.proofs.Times.{lawful_fits}
 use Rattle.rb_bus.proofs.BusNodes.{HoldsBus, IsBusAt}
-use Rattle.rb_bus.proofs.BusRun.{bus_of, first-is, frame-next, last-value, low_in, next-is}
+use Rattle.rb_bus.proofs.BusRun.{bus_of, first-is, frame-next, last-value, less-false, low_in, next-is}
 use Rattle.rb_bus.proofs.BusSteps.{EndsSlot, run_to_frame, run_to_slot, slot_ends, stands_before}
 use Rattle.rb_bus.proofs.Lows.{IsFirstTime, begins_at, low_is}
 use Rattle.rb_bus.proofs.SlotSteps.{sender-here, value_of}
@@ -113,6 +112,9 @@ good-trusted sc hands frame slot x kind j good =
 
 -- ---- the begin of a frame
 
+plus-one : (n : ℕ) → n + 1 ≡ suc n
+plus-one n = omega arith
+
 -- the first time of a frame is that of the rounds
 record HasLow (sc : Scenario) (hands : List HandIn) (frame : ℕ) : Type 0 where
   otherwise : ℕ
@@ -137,9 +139,6 @@ has-low sc hands law (suc frame) reached =
   where
     index : (f s : ℕ) → suc f * (s + 1) + 0 ≡ suc (f * (s + 1) + s)
     index f s = omega arith
-
-    plus-one : (f : ℕ) → f + 1 ≡ suc f
-    plus-one f = omega arith
 
 frame-low : (sc : Scenario) (hands : List HandIn) (frame : ℕ) → Before sc hands frame 0 → HasLow sc hands frame → (me : Side) (i : ℕ) (st : NodeState) → IsGoodBefore sc hands frame 0 me i st
     → IsLow sc hands frame (bus_to sc hands frame 0).low
@@ -169,9 +168,6 @@ frame-agrees sc hands law frame reached =
     }
 
 -- ---- a slot
-
-plus-one : (n : ℕ) → n + 1 ≡ suc n
-plus-one n = omega arith
 
 -- the bus after a slot below the sync slot has its value
 record AfterSlot (sc : Scenario) (hands : List HandIn) (frame slot : ℕ) : Type 0 where
@@ -221,9 +217,6 @@ data-lines sc frame slot (Data n) EachTrusted value h = refl
 data-lines sc frame slot (DiagBiu i) sender value h = cc
 data-lines sc frame slot (DiagRmu i) sender value h = cc
 data-lines sc frame slot Sync sender value h = cc
-
-less-false : (a b : ℕ) → b ≤ a → nat_lt a b ≡ false
-less-false a b h = grind (arith, nat_tests)
 
 last-role : (sizes : Sizes) (slot : ℕ) → sync_slot_of sizes ≤ slot → role_of sizes slot ≡ Sync
 last-role sizes slot late =

@@ -23,11 +23,11 @@ use Rattle.rb_agree.proofs.Settings.{after}
 use Rattle.rb_sync.proofs.CallSights.{place_of}
 use Rattle.rb_sync.proofs.KeptMiddles.{Leaves, keeps, tail_leaves}
 use Rattle.rb_sync.proofs.LaterStages.{calls_near}
-use Rattle.rb_sync.proofs.PlanNumbers.{Fits, drift_of, eps_of, third_late}
+use Rattle.rb_sync.proofs.PlanNumbers.{Fits, drift_of, eps_of, last_plus, third_late}
 use Rattle.rb_sync.proofs.StageCalls.{clock_now, third_about, third_at, third_calls}
 use Rattle.rb_sync.proofs.StageMiddles.{CallBetween, IsHeardStage, NoneUnlike, ws_of}
 use Rattle.rb_sync.proofs.StageSteps.{CallNear, StageMiddle, closer, near_calls, stage_middle}
-use Rattle.rb_sync.proofs.SyncSteps.{IsPassedStage, begun_next, epoch_after, f0_some, kept_found, last_plus, none_before, some_more, tick_some}
+use Rattle.rb_sync.proofs.SyncSteps.{IsPassedStage, begun_next, epoch_after, f0_some, kept_found, none_before, some_more, tick_some}
 use Rattle.rb_sync.proofs.Synchronous.{KnowNext, KnowsEpoch, Synchronous, from_3, heard_from, heard_to, near_2, near_3, second_kept, ticks_on, to_3}
 use Rattle.rb_sync.proofs.TakenCalls.{is_set}
 use Rattle.rb_sync.proofs.TimelyWindows.{good_here}

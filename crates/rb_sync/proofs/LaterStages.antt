@@ -19,11 +19,11 @@ use Rattle.rb_agree.proofs.JudgedWindows.{rows_of}
 use Rattle.rb_agree.proofs.NextMoments.{CameFrom, came_from, next}
 use Rattle.rb_agree.proofs.Tests.{same_some}
 use Rattle.rb_sync.proofs.CallSights.{place_of, stages_with}
-use Rattle.rb_sync.proofs.PlanNumbers.{drift_of, eps_of, third_own}
+use Rattle.rb_sync.proofs.PlanNumbers.{drift_of, eps_of, last_plus, third_own}
 use Rattle.rb_sync.proofs.StageCalls.{clock_now, second_about, second_at, second_calls}
 use Rattle.rb_sync.proofs.StageMiddles.{IsHeardStage, NoneUnlike, middles_of_alike, tick_of, ws_of}
 use Rattle.rb_sync.proofs.StageSteps.{CallNear, StageMiddle, closer, near_calls, stage_middle}
-use Rattle.rb_sync.proofs.SyncSteps.{IsPassedStage, begun_next, epoch_after, f0_some, kept_found, kept_middle, last_plus, none_before, some_more, up_to_delay}
+use Rattle.rb_sync.proofs.SyncSteps.{IsPassedStage, begun_next, epoch_after, f0_some, kept_found, kept_middle, none_before, some_more, up_to_delay}
 use Rattle.rb_sync.proofs.Synchronous.{KeepNear, Synchronous, first_kept, from_2, near_1, near_2, near_on, to_2}
 use Rattle.rb_sync.proofs.TakenCalls.{is_set}
 use Rattle.rb_sync.proofs.Times.{lawful_fits, plan_fits}

@@ -107,6 +107,13 @@ fits sizes plan is feasible =
       next_ba = subst (λ g. 2 * eps_of plan + 2 * g + drift_in plan (plan.l + plan.v + plan.z) + (plan.dmax + g) ≤ plan.p + plan.dmin) e four.yw;
     }
 
+pub le_trans : (a b c : ℕ) → a ≤ b → b ≤ c → a ≤ c
+le_trans a b c h k = omega arith
+
+-- the offset after a window's last one
+pub last_plus : (first ticks : ℕ) → 1 ≤ ticks → first + ticks - 1 + 1 ≡ first + ticks
+last_plus first ticks some = omega arith
+
 -- The windows below the sync slot, and its stage 1: the window that begins at offset a ends at offset o, and its messages are sent
 -- at offset a + h.
 

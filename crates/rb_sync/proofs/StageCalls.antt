@@ -16,7 +16,7 @@ use Rattle.rb_rules.proofs.Middles.{IsBetween}
 use Rattle.rb_rules.proofs.WindowNumbers.{exact-numbered, sync-numbered}
 use Rattle.rb_agree.proofs.Invariant.{IsGoodNode, Shared}
 use Rattle.rb_agree.proofs.NodeWindows.{Windows}
-use Rattle.rb_sync.proofs.PlanNumbers.{drift_of, exact_early, exact_late, second_early, second_late, third_early, third_late}
+use Rattle.rb_sync.proofs.PlanNumbers.{drift_of, exact_early, exact_late, last_plus, le_trans, second_early, second_late, third_early, third_late}
 use Rattle.rb_sync.proofs.StageMiddles.{CallBetween, tick_of}
 use Rattle.rb_sync.proofs.Synchronous.{KnowsMiddle, Synchronous, at_offset, from_1, from_2, from_3, heard_from, heard_to, ticks_on, to_1, to_2, to_3}
 use Rattle.rb_sync.proofs.TimelyWindows.{IsSet, LieAbout, good_here}
@@ -74,18 +74,15 @@ lie_about sc m slot stage c first ticks at start from to begun early late = reco
       let time : IsBetween (start + first * shortest_of sc.plan) (start + sc.plan.p + first * tick_of sc.plan) (time_of (clock_of sc me i) (st.epoch + c.ws.first me st)) =
       at_offset (shortest_of sc.plan) (drift_of sc.plan) (clock_of sc me i) clock start sc.plan.p st.epoch first (st.epoch + c.ws.first me st)
       (ap (λ o. st.epoch + o) (at.first_is me st)) (begun me i st h) in
-      le-trans (time_of (clock_of sc me i) (st.epoch + c.ws.first me st)) (start + sc.plan.p + first * tick_of sc.plan) (from + sc.plan.dmin) time.most early;
+      le_trans (time_of (clock_of sc me i) (st.epoch + c.ws.first me st)) (start + sc.plan.p + first * tick_of sc.plan) (from + sc.plan.dmin) time.most early;
   late = λ me i st h.
       let clock : Steady (shortest_of sc.plan) (drift_of sc.plan) (clock_of sc me i) = steady sc c.law me i m.frame slot (good_here sc m slot stage c me i st h) in
       let time : IsBetween (start + (first + ticks - 1) * shortest_of sc.plan) (start + sc.plan.p + (first + ticks - 1) * tick_of sc.plan)
       (time_of (clock_of sc me i) (st.epoch + c.ws.last me st)) =
       at_offset (shortest_of sc.plan) (drift_of sc.plan) (clock_of sc me i) clock start sc.plan.p st.epoch (first + ticks - 1) (st.epoch + c.ws.last me st)
       (ap (λ o. st.epoch + o) (at.last_is me st)) (begun me i st h) in
-      le-trans (to + sc.plan.dmax) (start + (first + ticks - 1) * shortest_of sc.plan) (time_of (clock_of sc me i) (st.epoch + c.ws.last me st)) late time.least;
+      le_trans (to + sc.plan.dmax) (start + (first + ticks - 1) * shortest_of sc.plan) (time_of (clock_of sc me i) (st.epoch + c.ws.last me st)) late time.least;
 }
-  where
-    le-trans : (a b c : ℕ) → a ≤ b → b ≤ c → a ≤ c
-    le-trans a b c h k = omega arith
 
 -- ---- calls
 
@@ -166,8 +163,6 @@ third_calls sc law m s low sync late = record {
         (f0_of sc.sizes sc.plan + sc.plan.l + sc.plan.z) (heard_from sc (from_2 sc low)) (heard_to sc (to_2 sc low)) sc.plan.v tick (sync.second late j st h) at
 
 -- the windows of the stages lie about them
-last-of : (first ticks : ℕ) → 1 ≤ ticks → first + ticks - 1 + 1 ≡ first + ticks
-last-of first ticks some = omega arith
 
 pub first_about : (sc : Scenario) (m : Moment) (c : IsSet sc m (sync_slot_of sc.sizes) 1) → m.window ≡ 3 * sync_slot_of sc.sizes + 0 → (low : ℕ) → Begun sc m low
     → LieAbout sc m (sync_slot_of sc.sizes) 1 c.ws (from_1 sc low) (to_1 sc low)
@@ -177,7 +172,7 @@ first_about sc m c at low begun =
     lie_about sc m (sync_slot_of sc.sizes) 1 c f sc.plan.l (first_at sc m c.ws at) low (from_1 sc low) (to_1 sc low) begun
     (exact_early low sc.plan.p f f sc.plan.h (shortest_of sc.plan) (drift_of sc.plan) sc.plan.dmin (omega arith) fit.before_1)
     (exact_late low sc.plan.p f f sc.plan.h sc.plan.l (f + sc.plan.l - 1) (shortest_of sc.plan) (drift_of sc.plan) sc.plan.dmax (omega arith)
-    (last-of f sc.plan.l c.law.plan.l.0) fit.after_1)
+    (last_plus f sc.plan.l c.law.plan.l.0) fit.after_1)
 
 pub second_about : (sc : Scenario) (m : Moment) (c : IsSet sc m (sync_slot_of sc.sizes) 2) → m.window ≡ 3 * sync_slot_of sc.sizes + 1 → (low : ℕ) → Begun sc m low
     → LieAbout sc m (sync_slot_of sc.sizes) 2 c.ws (from_2 sc low) (to_2 sc low)
@@ -187,7 +182,7 @@ second_about sc m c at low begun =
     lie_about sc m (sync_slot_of sc.sizes) 2 c (f + sc.plan.l) sc.plan.v (second_at sc m c.ws at) low (from_2 sc low) (to_2 sc low) begun
     (second_early low sc.plan.p f sc.plan.h sc.plan.l (shortest_of sc.plan) (drift_of sc.plan) sc.plan.dmin fit.before_2)
     (second_late low sc.plan.p f sc.plan.h sc.plan.l sc.plan.v (f + sc.plan.l + sc.plan.v - 1) (shortest_of sc.plan) (drift_of sc.plan) sc.plan.dmax
-    (last-of (f + sc.plan.l) sc.plan.v c.law.plan.v.0) fit.after_2)
+    (last_plus (f + sc.plan.l) sc.plan.v c.law.plan.v.0) fit.after_2)
 
 pub third_about : (sc : Scenario) (m : Moment) (c : IsSet sc m (sync_slot_of sc.sizes) 3) → m.window ≡ 3 * sync_slot_of sc.sizes + 2 → (low : ℕ) → Begun sc m low
     → LieAbout sc m (sync_slot_of sc.sizes) 3 c.ws (from_3 sc low) (to_3 sc low)
@@ -197,4 +192,4 @@ third_about sc m c at low begun =
     lie_about sc m (sync_slot_of sc.sizes) 3 c (f + sc.plan.l + sc.plan.v) sc.plan.z (third_at sc m c.ws at) low (from_3 sc low) (to_3 sc low) begun
     (third_early low sc.plan.p f sc.plan.h sc.plan.l sc.plan.v (shortest_of sc.plan) (drift_of sc.plan) sc.plan.dmin fit.before_3)
     (third_late low sc.plan.p f sc.plan.h sc.plan.l sc.plan.v sc.plan.z (f + sc.plan.l + sc.plan.v + sc.plan.z - 1) (shortest_of sc.plan) (drift_of sc.plan) sc.plan.dmax
-    (last-of (f + sc.plan.l + sc.plan.v) sc.plan.z c.law.plan.z.0) fit.after_3)
+    (last_plus (f + sc.plan.l + sc.plan.v) sc.plan.z c.law.plan.z.0) fit.after_3)

@@ -19,7 +19,7 @@ use Rattle.rb_agree.proofs.Invariant.{IsGoodNode, Shared, is_good_now, slot_numb
 use Rattle.rb_agree.proofs.NodeWindows.{Windows}
 use Rattle.rb_agree.proofs.Tests.{same_some}
 use Rattle.rb_sync.proofs.Middles.{HasLeast, least_of}
-use Rattle.rb_sync.proofs.PlanNumbers.{drift_of}
+use Rattle.rb_sync.proofs.PlanNumbers.{drift_of, le_trans}
 use Rattle.rb_sync.proofs.StageCalls.{Begun, IsAt, clock_now}
 use Rattle.rb_sync.proofs.StageMiddles.{CallBetween, HearsMiddle, IsCaller, IsHeardStage, Late, all_late, caller, hears_middle, tick_of, ws_of}
 use Rattle.rb_sync.proofs.Synchronous.{at_offset, heard_from, heard_to}
@@ -55,7 +55,7 @@ stage_middle sc hands n m s q me c start low high first ticks own begun calls ab
     let time : IsBetween (start + (own - 1) * shortest_of sc.plan) (start + sc.plan.p + (own - 1) * tick_of sc.plan) (time_of (clock_of sc me i) (st.epoch + (own - 1))) =
     at_offset (shortest_of sc.plan) (drift_of sc.plan) (clock_of sc me i) clock start sc.plan.p st.epoch (own - 1) (st.epoch + (own - 1)) refl (begun me i st here) in
     let to_own : h.tick ≤ st.epoch + (own - 1) =
-    h.in_time (st.epoch + (own - 1)) (le-trans (high + sc.plan.dmax) (start + (own - 1) * shortest_of sc.plan) (time_of (clock_of sc me i) (st.epoch + (own - 1))) next time.least) in
+    h.in_time (st.epoch + (own - 1)) (le_trans (high + sc.plan.dmax) (start + (own - 1) * shortest_of sc.plan) (time_of (clock_of sc me i) (st.epoch + (own - 1))) next time.least) in
     let positive : 1 ≤ h.tick = omega (arith, from, e, some) in
     record {
       tick = h.tick;
@@ -67,9 +67,6 @@ stage_middle sc hands n m s q me c start low high first ticks own begun calls ab
       between = record { least = h.not_early; most = h.not_late positive };
       late = all_late sc hands n m s q me c low high calls i st here (omega (arith, e, some)) early;
     }
-  where
-    le-trans : (a b c : ℕ) → a ≤ b → b ≤ c → a ≤ c
-    le-trans a b c h k = omega arith
 
 -- bounds of the calls that are closer still hold of the middle
 pub closer : (sc : Scenario) (hands : List HandIn) (n : ℕ) (m : Moment) (s : Shared) (q : ℕ) (me : Side) (c : IsHeardStage sc hands n m s q me) (first last own low high least most : ℕ)

@@ -25,7 +25,7 @@ use Rattle.rb_agree.proofs.SyncAgrees.{book_sync}
 use Rattle.rb_agree.proofs.Tests.{or_neither_second, same_some}
 use Rattle.rb_sync.proofs.CallSights.{stages_with}
 use Rattle.rb_sync.proofs.KeptMiddles.{Keeps, keeps_found}
-use Rattle.rb_sync.proofs.PlanNumbers.{drift_of, second_own}
+use Rattle.rb_sync.proofs.PlanNumbers.{drift_of, last_plus, second_own}
 use Rattle.rb_sync.proofs.StageCalls.{Begun, first_about, first_at, first_calls}
 use Rattle.rb_sync.proofs.StageMiddles.{IsHeardStage, NoneUnlike, middles_of_alike, tick_of, ws_of}
 use Rattle.rb_sync.proofs.StageSteps.{StageMiddle, stage_middle}
@@ -105,9 +105,6 @@ f0-some bius rmus slots zero some some_l = absurd (omega arith)
 
 pub f0_some : (sc : Scenario) → IsLawful sc → 1 ≤ f0_of sc.sizes sc.plan
 f0_some sc law = f0-some sc.sizes.bius sc.sizes.rmus sc.sizes.data_slots sc.plan.l law.sizes.some_biu law.plan.l.0
-
-pub last_plus : (f v : ℕ) → 1 ≤ v → f + v - 1 + 1 ≡ f + v
-last_plus f v some = omega arith
 
 pub some_more : (f v : ℕ) → 1 ≤ f → 1 ≤ f + v
 some_more f v h = omega arith

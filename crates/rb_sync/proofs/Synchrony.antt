@@ -3,7 +3,6 @@ use Rattle.std.proofs.Common.{◌≡◌, ℕ, zero, suc, ◌+◌, ◌-◌, ◌*�
 use Rattle.std.proofs.lemmas.Bool.{cases_lt}
 use Rattle.std.proofs.lemmas.Bool.Decides.{nat_tests}
 use Rattle.rb_base.specs.Nodes.{Side}
-use Rattle.rb_base.specs.Nodes.Side.{Biu, Rmu}
 use Rattle.rb_base.specs.Sizes.{Sizes, sync_slot_of}
 use Rattle.rb_rules.specs.declared.plan.Plan.{Plan}
 use Rattle.rb_rules.specs.Book.{each_of, of_kind}
@@ -36,6 +35,7 @@ use Rattle.rb_sync.proofs.StageCalls.{Begun}
 use Rattle.rb_sync.proofs.SyncSteps.{IsPassedStage, near_exact, near_first, passed_stage}
 use Rattle.rb_sync.proofs.Synchronous.{KnowNext, KnowsEpoch, Synchronous}
 use Rattle.rb_sync.proofs.TakenCalls.{IsStage}
+use Rattle.rb_sync.proofs.Times.{place_within}
 
 -- ---- the first frame
 
@@ -44,10 +44,6 @@ less-true a b h = grind (arith, nat_tests)
 
 lt-from : (a b : ℕ) → nat_lt a b ≡ true → a < b
 lt-from a b h = grind (arith, nat_tests)
-
-place-within : (sizes : Sizes) (side : Side) (i n : ℕ) → n ≡ sizes.bius + sizes.rmus → i < count_of side sizes → clock_place sizes side i < n
-place-within sizes Biu i n e h = omega arith
-place-within sizes Rmu i n e h = omega arith
 
 -- the clocks start at most p apart
 starts : (sc : Scenario) → IsLawful sc → HasLeast (λ k. nat_lt k (length sc.clocks)) (λ k. (get_or sc.clocks k (record { start = 0; segments = [] })).start) sc.plan.p (length sc.clocks)
@@ -64,7 +60,7 @@ begun-first sc hands law me i st h =
     let made : slice_get (of_kind me (each_of sc.sizes (λ me i. first_state sc.sizes me))) i ≡ Some (first_state sc.sizes me) =
     get-made sc.sizes (λ me i. first_state sc.sizes me) me i counted in
     let same : first_state sc.sizes me ≡ st = same_some (first_state sc.sizes me) st (sym made ∙ h.there) in
-    let within : clock_place sc.sizes me i < length sc.clocks = place-within sc.sizes me i (length sc.clocks) law.one_clock_each counted in
+    let within : clock_place sc.sizes me i < length sc.clocks = place_within sc.sizes me i (length sc.clocks) law.one_clock_each counted in
     subst (λ st. IsBetween (starts sc law).least ((starts sc law).least + sc.plan.p) (time_of (clock_of sc me i) st.epoch)) same
     ((starts sc law).at (clock_place sc.sizes me i) within (less-true (clock_place sc.sizes me i) (length sc.clocks) within))
 

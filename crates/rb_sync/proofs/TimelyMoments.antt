@@ -20,7 +20,7 @@ use Rattle.rb_rules.specs.Windows.{send_offset_of}
 use Rattle.rb_agree.proofs.Goodnesses.{slot_here, slot_last}
 use Rattle.rb_agree.proofs.Invariant.{Agree, Shared}
 use Rattle.rb_agree.proofs.NodeWindows.{exact_windows, tail_windows, word_at}
-use Rattle.rb_sync.proofs.PlanNumbers.{drift_of, exact_early, exact_late}
+use Rattle.rb_sync.proofs.PlanNumbers.{drift_of, exact_early, exact_late, last_plus}
 use Rattle.rb_sync.proofs.StageMiddles.{tick_of}
 use Rattle.rb_sync.proofs.StageCalls.{Begun, CallWell, IsAt, clock_now, exact_at, first_about, first_at, first_calls, lie_about, same_tick, second_about, second_at, second_calls, third_about, third_at, third_calls}
 use Rattle.rb_sync.proofs.Synchronous.{Synchronous, at_offset, from_1, from_2, from_3, to_1, to_2, to_3}
@@ -56,7 +56,7 @@ timely_exact sc hands n m s slot q low law agree begun below small at =
           (exact-tick sc m slot q me i st (word_at sc m slot i) sent below at is) (begun me i st h);
     }) (lie_about sc m slot (q + 1) c a sc.plan.l where_at low from to begun
     (exact_early low sc.plan.p a f sc.plan.h (shortest_of sc.plan) (drift_of sc.plan) sc.plan.dmin a_le fit.before_1)
-    (exact_late low sc.plan.p a f sc.plan.h sc.plan.l (a + sc.plan.l - 1) (shortest_of sc.plan) (drift_of sc.plan) sc.plan.dmax a_le (last-of a sc.plan.l law.plan.l.0) fit.after_1))
+    (exact_late low sc.plan.p a f sc.plan.h sc.plan.l (a + sc.plan.l - 1) (shortest_of sc.plan) (drift_of sc.plan) sc.plan.dmax a_le (last_plus a sc.plan.l law.plan.l.0) fit.after_1))
   where
     a : ℕ
     a = m.window * sc.plan.l
@@ -86,9 +86,6 @@ timely_exact sc hands n m s slot q low law agree begun below small at =
 
     a_le : m.window * sc.plan.l ≤ f0_of sc.sizes sc.plan
     a_le = mul-le-mul_right sc.plan.l (omega arith)
-
-    last-of : (first ticks : ℕ) → 1 ≤ ticks → first + ticks - 1 + 1 ≡ first + ticks
-    last-of first ticks some = omega arith
 
     within : (e a h l tick first last : ℕ) → tick ≡ e + (a + h) → h < l → first ≡ a → last ≡ a + l - 1 → (e + first ≤ tick) × (tick ≤ e + last)
     within e a h l tick first last is less x y = (omega arith, omega arith)

@@ -46,9 +46,9 @@ steady-clock plan f clock fit lengths =
     }
 
 -- there is a clock for each node
-place-within : (sizes : Sizes) (side : Side) (i n : ℕ) → n ≡ sizes.bius + sizes.rmus → i < count_of side sizes → clock_place sizes side i < n
-place-within sizes Biu i n e h = omega arith
-place-within sizes Rmu i n e h = omega arith
+pub place_within : (sizes : Sizes) (side : Side) (i n : ℕ) → n ≡ sizes.bius + sizes.rmus → i < count_of side sizes → clock_place sizes side i < n
+place_within sizes Biu i n e h = omega arith
+place_within sizes Rmu i n e h = omega arith
 
 -- a scenario's plan in numbers
 abbrev pub plan_fits : Scenario → Type 0
@@ -64,7 +64,7 @@ steady sc law me i frame slot good =
     steady-clock sc.plan (f0_of sc.sizes sc.plan) (clock_of sc me i) (lawful_fits sc law)
     (has_lengths (shortest_of sc.plan) (longest_of sc.plan) (clock_of sc me i)
     (law.clocks (clock_place sc.sizes me i) (record { start = 0; segments = [] })
-    (place-within sc.sizes me i (length sc.clocks) law.one_clock_each (good_counts sc me i frame slot good))))
+    (place_within sc.sizes me i (length sc.clocks) law.one_clock_each (good_counts sc me i frame slot good))))
 
 -- ---- ticks and stamps
 
