@@ -1,34 +1,32 @@
 -- For the law that events are rounds: in every moment of a run that has not ended the calls of good nodes are ticks of their own
 -- windows, their next frames begin after all windows of this one, and no frame begins late.
-use Rattle.std.proofs.Common.{◌≡◌, ℕ, zero, suc, ◌+◌, ◌-◌, ◌*◌, ◌/◌, ◌≤◌, ◌<◌, ◌&&◌, nat_lt, max, Bool, true, false, List, Option, Some, None, is_some, slice_get, refl, sym, ◌∙◌, ap, subst, arith, inl, inr, lit<}
+use Rattle.std.proofs.Common.{◌≡◌, ℕ, zero, suc, ◌+◌, ◌-◌, ◌*◌, ◌≤◌, ◌<◌, ◌&&◌, nat_lt, Bool, true, false, List, Option, Some, None, is_some, refl, sym, ◌∙◌, ap, subst, arith, inl, inr, lit<}
 use Rattle.std.proofs.lemmas.Bool.{cases_lt}
 use Rattle.std.proofs.lemmas.Bool.Decides.{nat_tests}
 use Rattle.rb_base.specs.Nodes.{Side}
 use Rattle.rb_base.specs.Nodes.Side.{Biu, Rmu}
 use Rattle.rb_base.specs.Sizes.{Sizes, sync_slot_of}
-use Rattle.rb_rules.specs.declared.plan.Plan.{Plan}
 use Rattle.rb_rules.specs.declared.role.Role.TheVariants.{Sync}
 use Rattle.rb_rules.specs.Goodness.{Scenario, is_good}
 use Rattle.rb_rules.specs.Lawful.{IsLawful}
 use Rattle.rb_rules.specs.Moments.{IsRunning}
 use Rattle.rb_rules.specs.NodeState.{NodeState}
-use Rattle.rb_rules.specs.Plan.{f0_of, tail_start_of}
+use Rattle.rb_rules.specs.Plan.{f0_of}
 use Rattle.rb_rules.specs.Ports.{HandIn}
-use Rattle.rb_rules.specs.Rounds.{Moment, begin_frame, moment, next_frame, step, windows_in}
+use Rattle.rb_rules.specs.Rounds.{Moment, begin_frame, moment, next_frame, windows_in}
 use Rattle.rb_rules.specs.Slots.{listens}
-use Rattle.rb_rules.specs.SyncStage.{new_epoch_of}
 use Rattle.rb_rules.proofs.RoundStates.{Knows, knows}
 use Rattle.rb_agree.proofs.Agreement.{running_before, step_is}
 use Rattle.rb_agree.proofs.Goodnesses.{slot_last}
-use Rattle.rb_agree.proofs.Invariant.{Agree, Holds, IsGoodNode, Shared, slot_numbered}
+use Rattle.rb_agree.proofs.Invariant.{Agree, IsGoodNode, Shared}
 use Rattle.rb_agree.proofs.NextMoments.{CameFrom, came_from, next}
-use Rattle.rb_agree.proofs.NodeWindows.{Windows, sync_windows_are, tail_windows}
+use Rattle.rb_agree.proofs.NodeWindows.{sync_windows_are, tail_windows}
 use Rattle.rb_agree.proofs.Settings.{after}
 use Rattle.rb_agree.proofs.SlotRuns.{next-window}
 use Rattle.rb_agree.proofs.Tests.{same_some}
 use Rattle.rb_sync.proofs.KeptMiddles.{Keeps, Leaves, keeps, tail_leaves}
 use Rattle.rb_sync.proofs.SyncSteps.{epoch_after, tick_some}
-use Rattle.rb_sync.proofs.Synchronous.{KnowNext, KnowsEpoch, KnowsMiddle}
+use Rattle.rb_sync.proofs.Synchronous.{KnowNext, KnowsMiddle}
 use Rattle.rb_sync.proofs.Synchrony.{IsSynchronous, synchrony}
 use Rattle.rb_sync.proofs.TakenCalls.{IsStage}
 

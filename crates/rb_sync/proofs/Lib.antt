@@ -17,3 +17,4 @@ pub mod Synchrony
 pub mod SyncLaws
 pub mod CallTicks
 pub mod EpochTicks
+pub mod NextMessages

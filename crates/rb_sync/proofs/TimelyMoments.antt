@@ -18,7 +18,7 @@ use Rattle.rb_rules.specs.Slots.{listens}
 use Rattle.rb_rules.specs.SyncStage.{send_tick_of}
 use Rattle.rb_rules.specs.Windows.{send_offset_of}
 use Rattle.rb_agree.proofs.Goodnesses.{slot_here, slot_last}
-use Rattle.rb_agree.proofs.Invariant.{Agree, Shared}
+use Rattle.rb_agree.proofs.Invariant.{Agree, IsGoodNode, Shared}
 use Rattle.rb_agree.proofs.NodeWindows.{exact_windows, tail_windows, word_at}
 use Rattle.rb_sync.proofs.PlanNumbers.{drift_of, exact_early, exact_late, last_plus}
 use Rattle.rb_sync.proofs.StageMiddles.{tick_of}
@@ -44,9 +44,13 @@ exact-tick sc m slot q me i st word s below at is =
     let w : 3 * slot + (q + 1) - 1 ≡ m.window = omega arith in
     sym e ∙ ap (λ w. st.epoch + (w * sc.plan.l + sc.plan.h)) w
 
-pub timely_exact : (sc : Scenario) (hands : List HandIn) (n : ℕ) (m : Moment) (s : Shared) (slot q low : ℕ) → IsLawful sc → Agree sc hands n m s → Begun sc m low
+-- all good nodes are in the moment's frame
+abbrev pub AllInFrame : Scenario → Moment → Type 0
+AllInFrame sc m = (me : Side) (i : ℕ) (st : NodeState) → IsGoodNode sc m me i st → st.frame ≡ m.frame
+
+pub timely_exact : (sc : Scenario) (m : Moment) (slot q low : ℕ) → IsLawful sc → AllInFrame sc m → Begun sc m low
     → slot < sync_slot_of sc.sizes → q < 3 → m.window ≡ 3 * slot + q → IsTimely sc m
-timely_exact sc hands n m s slot q low law agree begun below small at =
+timely_exact sc m slot q low law frames begun below small at =
     timely sc m slot (q + 1) c from to (record {
       own = λ me i st h sent is.
           let e : sent.tick ≡ st.epoch + (a + sc.plan.h) = exact-tick sc m slot q me i st (word_at sc m slot i) sent below at is in
@@ -78,7 +82,7 @@ timely_exact sc hands n m s slot q low law agree begun below small at =
       law = law;
       ws = exact_windows sc m slot q below small at;
       slot_is = slot_here sc.sizes m.window slot q below small at;
-      frames = λ me i st h. (agree.nodes me i st h).frame;
+      frames = frames;
     }
 
     where_at : IsAt sc m slot (q + 1) (exact_windows sc m slot q below small at) (m.window * sc.plan.l) sc.plan.l
@@ -99,17 +103,17 @@ only Biu Rmu stage h k = let both : true ≡ false = sym h ∙ k in absurd (cc)
 only Rmu Biu stage h k = let both : true ≡ false = sym h ∙ k in absurd (cc)
 only Rmu Rmu stage h k = refl
 
-timely-stage : (sc : Scenario) (hands : List HandIn) (n : ℕ) (m : Moment) (s : Shared) (q : ℕ) (c : IsStage sc hands n m s q) (kind : Side) (first ticks from to : ℕ)
+pub timely_stage : (sc : Scenario) (m : Moment) (q : ℕ) (c : IsSet sc m (sync_slot_of sc.sizes) (q + 1)) (kind : Side) (first ticks from to : ℕ)
     → listens (other (other kind)) Sync (q + 1) ≡ false → 1 ≤ ticks
-    → IsAt sc m (sync_slot_of sc.sizes) (q + 1) (is_set sc hands n m s q c).ws first ticks → CallWell sc m kind (q + 1) first (first + ticks) from to
-    → LieAbout sc m (sync_slot_of sc.sizes) (q + 1) (is_set sc hands n m s q c).ws from to → IsTimely sc m
-timely-stage sc hands n m s q c kind first ticks from to deaf some at calls about =
-    timely sc m (sync_slot_of sc.sizes) (q + 1) (is_set sc hands n m s q c) from to (record {
+    → IsAt sc m (sync_slot_of sc.sizes) (q + 1) c.ws first ticks → CallWell sc m kind (q + 1) first (first + ticks) from to
+    → LieAbout sc m (sync_slot_of sc.sizes) (q + 1) c.ws from to → IsTimely sc m
+timely_stage sc m q c kind first ticks from to deaf some at calls about =
+    timely sc m (sync_slot_of sc.sizes) (q + 1) c from to (record {
       own = λ me i st h sent is.
           let sends = call_sent sc.sizes sc.plan me i st (q + 1) (word_at sc m (sync_slot_of sc.sizes) i) sent is in
           let e : kind ≡ me = sym (only kind me (q + 1) sends.1 deaf) in
           let own = subst (λ k. CallWell sc m k (q + 1) first (first + ticks) from to) e calls in
-          within st.epoch first ticks sent.tick ((is_set sc hands n m s q c).ws.first me st) ((is_set sc hands n m s q c).ws.last me st) some (own.own i st sent.tick h sends.0)
+          within st.epoch first ticks sent.tick (c.ws.first me st) (c.ws.last me st) some (own.own i st sent.tick h sends.0)
           (at.first_is me st) (at.last_is me st);
       between = λ me i st h sent is.
           let sends = call_sent sc.sizes sc.plan me i st (q + 1) (word_at sc m (sync_slot_of sc.sizes) i) sent is in
@@ -147,22 +151,22 @@ pub timely_moment : (sc : Scenario) (hands : List HandIn) (n : ℕ) (m : Moment)
     → m.window < windows_in sc.sizes → IsTimely sc m
 timely_moment sc hands n m s low law agree sync inside =
     elim (cases_lt m.window (3 * sync_slot_of sc.sizes)) [
-      | inl exact ↦ timely_exact sc hands n m s (m.window / 3) (m.window % 3) low law agree sync.begun (omega arith) (omega arith) (omega arith)
+      | inl exact ↦ timely_exact sc m (m.window / 3) (m.window % 3) low law (λ me i st h. (agree.nodes me i st h).frame) sync.begun (omega arith) (omega arith) (omega arith)
       | inr late ↦ in_sync (m.window - 3 * sync_slot_of sc.sizes) (omega arith) (omega arith)
     ]
   where
     in_sync : (q : ℕ) → q < 4 → m.window ≡ 3 * sync_slot_of sc.sizes + q → IsTimely sc m
     in_sync zero small at =
         let c : IsStage sc hands n m s 0 = stage-of sc hands n m s 0 law agree (lit< tt) at in
-        timely-stage sc hands n m s 0 c Biu (f0_of sc.sizes sc.plan) sc.plan.l (from_1 sc low) (to_1 sc low) refl law.plan.l.0
+        timely_stage sc m 0 (is_set sc hands n m s 0 c) Biu (f0_of sc.sizes sc.plan) sc.plan.l (from_1 sc low) (to_1 sc low) refl law.plan.l.0
         (first_at sc m (is_set sc hands n m s 0 c).ws at) (first_calls sc law m low sync.begun) (first_about sc m (is_set sc hands n m s 0 c) at low sync.begun)
     in_sync (suc zero) small at =
         let c : IsStage sc hands n m s 1 = stage-of sc hands n m s 1 law agree (lit< tt) at in
-        timely-stage sc hands n m s 1 c Rmu (f0_of sc.sizes sc.plan + sc.plan.l) sc.plan.v (from_2 sc low) (to_2 sc low) refl law.plan.v.0
+        timely_stage sc m 1 (is_set sc hands n m s 1 c) Rmu (f0_of sc.sizes sc.plan + sc.plan.l) sc.plan.v (from_2 sc low) (to_2 sc low) refl law.plan.v.0
         (second_at sc m (is_set sc hands n m s 1 c).ws at) (second_calls sc law m s low sync at) (second_about sc m (is_set sc hands n m s 1 c) at low sync.begun)
     in_sync (suc (suc zero)) small at =
         let c : IsStage sc hands n m s 2 = stage-of sc hands n m s 2 law agree (lit< tt) at in
-        timely-stage sc hands n m s 2 c Biu (f0_of sc.sizes sc.plan + sc.plan.l + sc.plan.v) sc.plan.z (from_3 sc low) (to_3 sc low) refl law.plan.z.0
+        timely_stage sc m 2 (is_set sc hands n m s 2 c) Biu (f0_of sc.sizes sc.plan + sc.plan.l + sc.plan.v) sc.plan.z (from_3 sc low) (to_3 sc low) refl law.plan.z.0
         (third_at sc m (is_set sc hands n m s 2 c).ws at) (third_calls sc law m s low sync at) (third_about sc m (is_set sc hands n m s 2 c) at low sync.begun)
     in_sync (suc (suc (suc zero))) small at = timely-tail sc hands n m s law agree at
     in_sync (suc (suc (suc (suc q)))) small at = absurd (omega arith)
