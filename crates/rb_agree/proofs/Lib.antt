@@ -35,3 +35,4 @@ pub mod WidelyAccused
 pub mod PortLists
 pub mod PortSlots
 pub mod PortHistories
+pub mod Promises

@@ -8,7 +8,7 @@ use Rattle.rb_base.specs.declared.values.Heard.{Heard}
 use Rattle.rb_rules.specs.Book.{of_kind}
 use Rattle.rb_rules.specs.Conviction.{is_valid, voted_vector}
 use Rattle.rb_rules.specs.Goodness.{Scenario, is_good}
-use Rattle.rb_rules.specs.Headline.{HoldOneSchedule, ConvictNoGoodNode}
+use Rattle.rb_rules.specs.Headline.{DeliverAlike, DeliverTheWord, HoldOneSchedule, ConvictAlike, ConvictNoGoodNode}
 use Rattle.rb_rules.specs.Hearing.{port_at}
 use Rattle.rb_rules.specs.Judging.{is_benign}
 use Rattle.rb_rules.specs.Lawful.{IsLawful}
@@ -39,6 +39,10 @@ GoodSendersAreHeard =
     → (p : ℕ) (st : NodeState) → IsGoodSender sc hands frame slot p st
     → HasValue sc hands frame slot (value_of_sender sc hands frame slot p st)
 
+-- so all good BIUs deliver one value, and where the owner is good, the word that its application offered
+abbrev pub DeliveriesAreRight : Type 0
+DeliveriesAreRight = (sc : Scenario) (hands : List HandIn) → IsLawful sc → DeliverAlike sc hands × DeliverTheWord sc hands
+
 -- all good nodes trust the same nodes of each kind, in each complete slot and at the begin of each frame
 abbrev pub TrustAlike : Scenario → List HandIn → Type 0
 TrustAlike sc hands =
@@ -47,9 +51,14 @@ TrustAlike sc hands =
     → IsGoodBefore sc hands frame slot me i mine → IsGoodBefore sc hands frame slot you j yours
     → (kind : Side) → trusted_of kind me mine ≡ trusted_of kind you yours
 
--- they hold one schedule and trust the same nodes
+-- they hold one schedule, trust the same nodes, and so hold the same ones convicted
+pub record HoldTheSame (sc : Scenario) (hands : List HandIn) : Type 0 where
+  pub schedules : HoldOneSchedule sc hands
+  pub trusted : TrustAlike sc hands
+  pub convicted : ConvictAlike sc hands
+
 abbrev pub GoodNodesHoldOneSchedule : Type 0
-GoodNodesHoldOneSchedule = (sc : Scenario) (hands : List HandIn) → IsLawful sc → HoldOneSchedule sc hands × TrustAlike sc hands
+GoodNodesHoldOneSchedule = (sc : Scenario) (hands : List HandIn) → IsLawful sc → HoldTheSame sc hands
 
 -- Accusation and conviction.
 
