@@ -20,8 +20,8 @@ use Rattle.rb_agree.specs.Values.{lines_in, HasValue, IsGoodSender, value_of_sen
 use Rattle.rb_agree.specs.Laws.{GoodNodesAgree, GoodSendersAreHeard}
 use Rattle.rb_agree.proofs.Invariant.{sender_of, kind_in, IsGoodNode, is_good_now, IsOwn, HasVoted}
 use Rattle.rb_agree.proofs.Exchanges.{sender-held}
-use Rattle.rb_agree.proofs.Settings.{after}
-use Rattle.rb_agree.proofs.SecondStages.{vote_of, vote-held, voters-vote}
+use Rattle.rb_agree.proofs.Settings.{after, good_here}
+use Rattle.rb_agree.proofs.SecondStages.{GoodOne, some_good, vote_of, vote-held, voters-vote}
 use Rattle.rb_agree.proofs.ThirdStages.{voted, held_3}
 use Rattle.rb_agree.proofs.NextMoments.{next}
 use Rattle.rb_agree.proofs.SlotRuns.{IsSlot, slot_runs, good_in_stage, StateFrom, state_from, second_frame, third_frame, next-slot-good}
@@ -77,7 +77,13 @@ has_value sc hands frame slot r =
     let v : HasVoted sc hands m3 r.shared slot = voted sc hands steps m3 r.shared slot r.third in
     let good : (me : Side) (i : ℕ) → is_good sc me i frame slot ≡ true → is_good_now sc m3 me i ≡ true =
     λ me i g. good_in_stage sc hands steps m3 r.shared frame slot 2 r.third (third_frame sc hands frame slot r) me i g in
+    let one : GoodOne sc m3 (kind_in sc.sizes slot) = some_good sc hands steps m3 r.shared slot 2 r.third (kind_in sc.sizes slot) in
     record {
+      some_voter = (one.index, (one.st, record {
+        good = ap (λ f. is_good sc (kind_in sc.sizes slot) one.index f slot) (sym (third_frame sc hands frame slot r))
+            ∙ sym (good_here sc hands steps m3 r.shared slot 2 r.third (kind_in sc.sizes slot) one.index) ∙ one.here.good;
+        state = ap (λ m. slice_get (of_kind (kind_in sc.sizes slot) m.nodes) one.index) (sym r.after_second) ∙ one.here.there;
+      }));
       voters = λ i st h.
           v.held i st (record {
             there = ap (λ m. slice_get (of_kind (kind_in sc.sizes slot) m.nodes) i) r.after_second ∙ h.state;
