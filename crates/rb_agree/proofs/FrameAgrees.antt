@@ -102,6 +102,10 @@ pub next-trusted : (sizes : Sizes) (s : Shared) (kind : Side) → (shared_next s
 unfolding shared_next
 next-trusted sizes s kind = refl
 
+pub next-owners : (sizes : Sizes) (s : Shared) → (shared_next sizes s).owners ≡ []
+unfolding shared_next
+next-owners sizes s = refl
+
 -- who is trusted afterwards was trusted before
 trusted-before : (trusted convicted j : ℕ) → has (without trusted convicted) j ≡ true → has trusted j ≡ true
 trusted-before trusted convicted j h =
@@ -212,6 +216,22 @@ first-inside sc kind j h =
           has_above (set_of (λ i. nat_lt i (count_of kind sc.sizes))) j (set_of-lt (λ i. nat_lt i (count_of kind sc.sizes))) above in
           let both : true ≡ false = sym h ∙ none in absurd (cc)
     ]
+
+pub first-shared-trusted : (sc : Scenario) (kind : Side) → (first_shared sc).trusted kind ≡ set_of (λ i. nat_lt i (count_of kind sc.sizes))
+unfolding first_shared
+first-shared-trusted sc kind = refl
+
+pub first-shared-owners : (sc : Scenario) → (first_shared sc).owners ≡ []
+unfolding first_shared
+first-shared-owners sc = refl
+
+pub begin-frame : (sc : Scenario) (hands : List HandIn) → (first_moment sc hands).frame ≡ 0
+unfolding begin_frame
+begin-frame sc hands = refl
+
+pub begin-window : (sc : Scenario) (hands : List HandIn) → (first_moment sc hands).window ≡ 0
+unfolding begin_frame
+begin-window sc hands = refl
 
 pub agree_first : (sc : Scenario) (hands : List HandIn) → IsLawful sc → Agree sc hands 0 (first_moment sc hands) (first_shared sc)
 unfolding begin_frame first_shared

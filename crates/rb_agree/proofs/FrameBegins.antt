@@ -63,7 +63,7 @@ pub record IsTurn (sc : Scenario) (hands : List HandIn) (frame : ℕ) : Type 0 w
   pub turn : next_frame sc hands (next sc (after_slot sc hands frame (sync_slot_of sc.sizes))) ≡ before_slot sc hands (suc frame) 0
   pub running : IsRunning (before_slot sc hands (suc frame) 0)
 
-turn-index : (frame s : ℕ) → suc (suc (frame * (3 * s + 4 + 1) + 3 * s + 4 - 1)) ≡ suc frame * (3 * s + 4 + 1) + 3 * 0 + 1 - 1
+pub turn-index : (frame s : ℕ) → suc (suc (frame * (3 * s + 4 + 1) + 3 * s + 4 - 1)) ≡ suc frame * (3 * s + 4 + 1) + 3 * 0 + 1 - 1
 turn-index frame s = omega arith
 
 pub frame_turns : (sc : Scenario) (hands : List HandIn) → IsLawful sc → (frame : ℕ) → IsComplete sc hands frame (sync_slot_of sc.sizes) → IsTurn sc hands frame

@@ -36,3 +36,5 @@ pub mod PortLists
 pub mod PortSlots
 pub mod PortHistories
 pub mod Promises
+pub mod SharedBuses
+pub mod BusRuns

@@ -1,3 +1,4 @@
 pub mod Values
 pub mod Histories
+pub mod BusValues
 pub mod Laws
