@@ -38,3 +38,4 @@ pub mod PortHistories
 pub mod Promises
 pub mod SharedBuses
 pub mod BusRuns
+pub mod BusLaws

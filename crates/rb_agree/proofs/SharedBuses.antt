@@ -56,7 +56,7 @@ get-front [] v t h = absurd (omega arith)
 get-front (x ∷ xs) v zero h = refl
 get-front (x ∷ xs) v (suc t) h = get-front xs v t (omega arith)
 
-get-last : (xs : List Heard) (v : Heard) (t : ℕ) → t ≡ length xs → get_or (xs ++ v ∷ []) t Fault ≡ v
+pub get-last : (xs : List Heard) (v : Heard) (t : ℕ) → t ≡ length xs → get_or (xs ++ v ∷ []) t Fault ≡ v
 get-last [] v zero h = refl
 get-last [] v (suc t) h = absurd (omega arith)
 get-last (x ∷ xs) v zero h = absurd (omega arith)

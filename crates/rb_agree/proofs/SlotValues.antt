@@ -47,6 +47,17 @@ votes_for sc hands frame slot r i st here =
     } in
     sym (vote-held sc hands (suc r.steps) m2 r.shared slot 1 r.second k i st now here refl (voters-vote (role_of sc.sizes slot))) ∙ v.held i now voter
 
+-- what is delivered in the slot
+pub slot-lines : (sc : Scenario) (hands : List HandIn) (frame slot : ℕ) (r : IsSlot sc hands frame slot)
+    → (next sc (next sc (before_slot sc hands frame slot))).book.lines
+    ≡ lines_in sc frame slot (owner_sending (role_of sc.sizes slot) (sender_of sc.sizes r.shared slot)) (value_of_slot sc hands frame slot r)
+slot-lines sc hands frame slot r =
+    let m2 : Moment = next sc (before_slot sc hands frame slot) in
+    let value : Heard = value_of_slot sc hands frame slot r in
+    lines_after_2 sc hands (suc r.steps) m2 r.shared slot r.second
+    ∙ lines_2 sc hands (suc r.steps) m2 r.shared slot r.second value (λ i st good. votes_for sc hands frame slot r i st good)
+    ∙ ap (λ f. lines_in sc f slot (owner_sending (role_of sc.sizes slot) (sender_of sc.sizes r.shared slot)) value) (second_frame sc hands frame slot r)
+
 has-record : (sc : Scenario) (hands : List HandIn) (frame slot : ℕ) (r : IsSlot sc hands frame slot) (me : Side) (i : ℕ) (st : NodeState) → IsGoodBefore sc hands frame slot me i st
     → HasRecord sc hands frame slot (lines_in sc frame slot (owner_at sc.sizes st slot) (value_of_slot sc hands frame slot r))
 has-record sc hands frame slot r me i st h =
@@ -58,10 +69,7 @@ has-record sc hands frame slot r me i st h =
     let owner : owner_at sc.sizes st slot ≡ owner_sending (role_of sc.sizes slot) (sender_of sc.sizes r.shared slot) =
     owner-held sc m1 r.shared me st slot (r.first.agree.nodes me i st here) in
     let lines : m3.book.lines ≡ lines_in sc frame slot (owner_at sc.sizes st slot) value =
-    lines_after_2 sc hands (suc r.steps) m2 r.shared slot r.second
-    ∙ lines_2 sc hands (suc r.steps) m2 r.shared slot r.second value (λ i st good. votes_for sc hands frame slot r i st good)
-    ∙ ap (λ f. lines_in sc f slot (owner_sending (role_of sc.sizes slot) (sender_of sc.sizes r.shared slot)) value) (second_frame sc hands frame slot r)
-    ∙ ap (λ o. lines_in sc frame slot o value) (sym owner) in
+    slot-lines sc hands frame slot r ∙ ap (λ o. lines_in sc frame slot o value) (sym owner) in
     let before : m3.book.given ≡ m1.book.given =
     given_before sc hands (suc r.steps) m2 r.shared slot 1 r.second (omega arith) ∙ given_before sc hands r.steps m1 r.shared slot 0 r.first (omega arith) in
     ap (λ m. m.book.given) (sym r.after_third)

@@ -62,3 +62,14 @@ pub record IsBusSlot (sc : Scenario) (hands : List HandIn) (frame slot : ℕ) (b
   pub step : SlotStep sc (offered_in sc hands frame slot) (value_in_rounds sc hands frame slot) bus next
   pub votes : (me : Side) (i : ℕ) (st : NodeState) → IsGoodAfter sc hands frame slot me i st → HoldsVote sc slot next me st
   pub deliveries : DeliversOn sc hands frame slot bus next
+
+-- the rounds make a run of the bus, but for its times: what good nodes hold is what the bus holds, each slot is a step of it, and
+-- so is the begin of each frame
+pub record StepsTheBus (sc : Scenario) (hands : List HandIn) (low : ℕ → ℕ) : Type 0 where
+  pub before : (frame slot : ℕ) → slot ≤ sync_slot_of sc.sizes → IsSettled sc hands frame slot
+      → IsBusBefore sc hands frame slot (bus_before sc hands low frame slot)
+  pub slots : (frame slot : ℕ) → slot < sync_slot_of sc.sizes → IsComplete sc hands frame slot
+      → IsBusSlot sc hands frame slot (bus_before sc hands low frame slot) (bus_then sc hands low frame slot)
+  pub frames : (frame : ℕ) → IsComplete sc hands frame (sync_slot_of sc.sizes)
+      → bus_then sc hands low frame (sync_slot_of sc.sizes)
+      ≡ bus_after_frame sc.sizes (low (frame + 1)) (bus_before sc hands low frame (sync_slot_of sc.sizes))

@@ -19,6 +19,7 @@ use Rattle.rb_rules.specs.Ports.{HandIn}
 use Rattle.rb_rules.specs.Slots.{count_of, first_diagnosis_of}
 use Rattle.rb_rules.specs.Standing.{Standing}
 use Rattle.rb_rules.specs.StandsFor.{SparesAllGood}
+use Rattle.rb_agree.specs.BusValues.{StepsTheBus}
 use Rattle.rb_agree.specs.Histories.{port_through, port_begun, AreAlike}
 use Rattle.rb_agree.specs.Values.{HasValue, IsGoodSender, value_of_sender}
 
@@ -124,3 +125,9 @@ PortsHoldOneState =
     → (frame slot : ℕ) → slot ≤ sync_slot_of sc.sizes → IsComplete sc hands frame slot
     → (i j : ℕ) → is_good sc Biu i frame slot ≡ true → is_good sc Biu j frame slot ≡ true → AreAlike sc hands i j
     → port_at sc (after_slot sc hands frame slot).ports i ≡ port_at sc (after_slot sc hands frame slot).ports j
+
+-- The abstract bus.
+
+-- whatever the times are at which frames begin
+abbrev pub RoundsStepTheBus : Type 0
+RoundsStepTheBus = (sc : Scenario) (hands : List HandIn) → IsLawful sc → (low : ℕ → ℕ) → StepsTheBus sc hands low

@@ -2,7 +2,7 @@
 //! law is the contract of a function that does nothing.
 #![tactic(auto)]
 
-ghost use Rattle.rb_agree.specs.Laws.{AccusedByAllIsConvicted, DeliveriesAreRight, GoodNodesAgree, GoodNodesHoldOneSchedule, GoodSendersAreHeard, NoGoodNodeIsAccused, NoGoodNodeIsConvicted, PortsFollowTheBus, PortsHoldOneState, UnheardNodesHaveNoVector};
+ghost use Rattle.rb_agree.specs.Laws.{AccusedByAllIsConvicted, DeliveriesAreRight, GoodNodesAgree, GoodNodesHoldOneSchedule, GoodSendersAreHeard, NoGoodNodeIsAccused, NoGoodNodeIsConvicted, PortsFollowTheBus, PortsHoldOneState, RoundsStepTheBus, UnheardNodesHaveNoVector};
 
 /// The good nodes that vote on a slot hold one vote, and each good BIU delivers that in an owned data slot.
 pub fn good_nodes_agree()
@@ -52,4 +52,9 @@ pub fn ports_follow_the_bus()
 /// Good BIUs with one application, one first word and equal hand-ins have equal ports.
 pub fn ports_hold_one_state()
     ensures { PortsHoldOneState }
+{}
+
+/// What good nodes hold is what the abstract bus holds, each slot is a step of it, and so is the begin of each frame. Of its times nothing is said.
+pub fn rounds_step_the_bus()
+    ensures { RoundsStepTheBus }
 {}
