@@ -17,7 +17,7 @@ use Rattle.rb_rules.specs.Rounds.{Moment, moment, first_moment, step, next_frame
 use Rattle.rb_rules.specs.StandsFor.{steps_to}
 use Rattle.rb_agree.specs.BusValues.{first_passing, value_in_rounds, bus_goes, bus_in_rounds, bus_before}
 use Rattle.rb_agree.specs.Values.{kind_in, vote_on}
-use Rattle.rb_agree.proofs.Tests.{passes_at, get-some, Present}
+use Rattle.rb_agree.proofs.Tests.{passes_at, get-some, Present, less_false, less_true}
 use Rattle.rb_agree.proofs.Goodnesses.{good_below_16}
 use Rattle.rb_agree.proofs.Invariant.{Shared, IsGoodNode, is_good_now, Agree}
 use Rattle.rb_agree.proofs.ExactAgrees.{with_value, agree_3}
@@ -156,12 +156,6 @@ held_frame sc hands law frame low bus h complete =
 
 -- The run of the bus.
 
-less-true : (a b : ℕ) → a < b → nat_lt a b ≡ true
-less-true a b h = grind (arith, nat_tests)
-
-less-false : (a b : ℕ) → b ≤ a → nat_lt a b ≡ false
-less-false a b h = grind (arith, nat_tests)
-
 goes : (sc : Scenario) (hands : List HandIn) (low : ℕ → ℕ) (bus : AbstractBus) → Bool → AbstractBus
 goes sc hands low bus b =
     elim b [
@@ -173,7 +167,7 @@ goes-slot : (sc : Scenario) (hands : List HandIn) (low : ℕ → ℕ) (frame slo
     → bus_goes sc hands low bus ≡ bus_after_slot sc.sizes (value_in_rounds sc hands frame slot) bus
 unfolding goes
 goes-slot sc hands low frame slot bus f s below =
-    ap (goes sc hands low bus) (ap (λ k. nat_lt k (sync_slot_of sc.sizes)) s ∙ less-true slot (sync_slot_of sc.sizes) below)
+    ap (goes sc hands low bus) (ap (λ k. nat_lt k (sync_slot_of sc.sizes)) s ∙ less_true slot (sync_slot_of sc.sizes) below)
     ∙ ap (λ f. bus_after_slot sc.sizes (value_in_rounds sc hands f bus.slot) bus) f ∙ ap (λ k. bus_after_slot sc.sizes (value_in_rounds sc hands frame k) bus) s
 
 goes-frame : (sc : Scenario) (hands : List HandIn) (low : ℕ → ℕ) (frame : ℕ) (bus : AbstractBus) → bus.frame ≡ frame → bus.slot ≡ sync_slot_of sc.sizes
@@ -181,7 +175,7 @@ goes-frame : (sc : Scenario) (hands : List HandIn) (low : ℕ → ℕ) (frame : 
 unfolding goes
 goes-frame sc hands low frame bus f s =
     let one : frame + 1 ≡ suc frame = omega arith in
-    ap (goes sc hands low bus) (ap (λ k. nat_lt k (sync_slot_of sc.sizes)) s ∙ less-false (sync_slot_of sc.sizes) (sync_slot_of sc.sizes) (omega arith))
+    ap (goes sc hands low bus) (ap (λ k. nat_lt k (sync_slot_of sc.sizes)) s ∙ less_false (sync_slot_of sc.sizes) (sync_slot_of sc.sizes) (omega arith))
     ∙ ap (λ f. bus_after_frame sc.sizes (low (f + 1)) bus) f ∙ ap (λ f. bus_after_frame sc.sizes (low f) bus) one
 
 -- the bus after the step of a slot

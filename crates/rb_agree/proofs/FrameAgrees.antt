@@ -23,16 +23,13 @@ use Rattle.rb_rules.proofs.RoundStates.{Knows, knows-none, state-turned}
 use Rattle.rb_rules.proofs.WindowNumbers.{length-each, get-made}
 use Rattle.std.proofs.lemmas.List.FromFn.{length-map-range_with_len}
 use Rattle.std.proofs.lemmas.List.{length-replicate}
-use Rattle.rb_agree.proofs.Tests.{Present, same_some, and_first, and_both, not_so}
+use Rattle.rb_agree.proofs.Tests.{Present, same_some, and_first, and_both, not_so, less_from, less_true}
 use Rattle.rb_agree.proofs.Goodnesses.{good_before, good_counts, good_below_16}
 use Rattle.rb_agree.proofs.Invariant.{Shared, IsGoodNode, is_good_now, slot_numbered, Holds, Agree}
 use Rattle.rb_agree.proofs.Settings.{good_state}
 use Rattle.rb_agree.proofs.FrameTurns.{AtEnd, convicted_all, convicted_held, good_not_convicted}
 
 -- What a turn makes of a node.
-
-less-true : (a b : ℕ) → a < b → nat_lt a b ≡ true
-less-true a b h = grind (arith, nat_tests)
 
 map-some : (f : ℕ → ℕ) (o : Option ℕ) → is_some (option_map f o) ≡ is_some o
 map-some f None = refl
@@ -41,9 +38,9 @@ map-some f (Some x) = refl
 -- at the end of a frame a node knows its next epoch
 epoch-known : (sizes : Sizes) (plan : Plan) (me : Side) (st : NodeState) → Knows sizes me (windows_in sizes) st → is_some (new_epoch_of plan me st) ≡ true
 epoch-known sizes plan Biu st h =
-    map-some (λ k2. k2 + plan.v + plan.z + plan.c) st.k2 ∙ h.k2 ∙ less-true (3 * sync_slot_of sizes + 2 - 1) (windows_in sizes) (omega arith)
+    map-some (λ k2. k2 + plan.v + plan.z + plan.c) st.k2 ∙ h.k2 ∙ less_true (3 * sync_slot_of sizes + 2 - 1) (windows_in sizes) (omega arith)
 epoch-known sizes plan Rmu st h =
-    map-some (λ k3. k3 + plan.z) st.k3 ∙ h.k3 ∙ less-true (3 * sync_slot_of sizes + 3 - 1) (windows_in sizes) (omega arith)
+    map-some (λ k3. k3 + plan.z) st.k3 ∙ h.k3 ∙ less_true (3 * sync_slot_of sizes + 3 - 1) (windows_in sizes) (omega arith)
 
 -- what a node is after its turn
 pub record IsTurned (sizes : Sizes) (probation : ℕ) (me : Side) (st now : NodeState) : Type 0 where
@@ -194,9 +191,6 @@ agree_frame sc hands n m s e is = record {
 pub first_shared : Scenario → Shared
 first_shared sc = record { trusted = λ kind. set_of (λ i. nat_lt i (count_of kind sc.sizes)); owners = []; values = λ t. Fault }
 
-lt-from : (a b : ℕ) → nat_lt a b ≡ true → a < b
-lt-from a b h = grind (arith, nat_tests)
-
 first-trusted : (sizes : Sizes) (kind me : Side) → trusted_of kind me (first_state sizes me) ≡ set_of (λ i. nat_lt i (count_of kind sizes))
 first-trusted sizes Biu Biu = refl
 first-trusted sizes Biu Rmu = refl
@@ -210,7 +204,7 @@ counts-made sizes make Rmu = length-map-range_with_len (make Rmu) 0 sizes.rmus
 first-inside : (sc : Scenario) (kind : Side) (j : ℕ) → has (set_of (λ i. nat_lt i (count_of kind sc.sizes))) j ≡ true → j < count_of kind sc.sizes
 first-inside sc kind j h =
     elim (cases_lt j 16) [
-      | inl below ↦ lt-from j (count_of kind sc.sizes) (sym (has-set_of j (λ i. nat_lt i (count_of kind sc.sizes)) below) ∙ h)
+      | inl below ↦ less_from j (count_of kind sc.sizes) (sym (has-set_of j (λ i. nat_lt i (count_of kind sc.sizes)) below) ∙ h)
       | inr above ↦
           let none : has (set_of (λ i. nat_lt i (count_of kind sc.sizes))) j ≡ false =
           has_above (set_of (λ i. nat_lt i (count_of kind sc.sizes))) j (set_of-lt (λ i. nat_lt i (count_of kind sc.sizes))) above in
@@ -255,7 +249,7 @@ agree_first sc hands law = record {
       });
   trusted = λ kind j good.
       has-set_of j (λ i. nat_lt i (count_of kind sc.sizes)) (good_below_16 sc law.sizes kind j 0 (slot_numbered sc.sizes 0) good)
-      ∙ less-true j (count_of kind sc.sizes) (good_counts sc kind j 0 (slot_numbered sc.sizes 0) good);
+      ∙ less_true j (count_of kind sc.sizes) (good_counts sc kind j 0 (slot_numbered sc.sizes 0) good);
   inside = first-inside sc;
   owned = λ k p h. cc;
   finished = λ t lt done. absurd (omega arith);

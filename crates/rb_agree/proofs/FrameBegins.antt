@@ -14,6 +14,7 @@ use Rattle.rb_agree.proofs.NextMoments.{next}
 use Rattle.rb_agree.proofs.Places.{IsPlaced, placed, complete_before}
 use Rattle.rb_agree.proofs.SlotRuns.{stage_next, next-frame, next-window}
 use Rattle.rb_agree.proofs.SyncAgrees.{book_tail}
+use Rattle.rb_agree.proofs.Tests.{less_false, less_true}
 
 -- a step after which the run goes on is not its end
 not-over : (sc : Scenario) (hands : List HandIn) (m : Moment) → IsRunning (step sc hands m) → (m.frame == sc.frames) ≡ false
@@ -27,11 +28,8 @@ not-over sc hands m running = go (m.frame == sc.frames) (nat_lt m.window (window
 -- such a step is a window, or a turn
 window-step : (sc : Scenario) (hands : List HandIn) (m : Moment) → (m.frame == sc.frames) ≡ false → m.window < windows_in sc.sizes → step sc hands m ≡ next sc m
 unfolding step
-window-step sc hands m over below = go (m.frame == sc.frames) (nat_lt m.window (windows_in sc.sizes)) over (less-true m.window (windows_in sc.sizes) below)
+window-step sc hands m over below = go (m.frame == sc.frames) (nat_lt m.window (windows_in sc.sizes)) over (less_true m.window (windows_in sc.sizes) below)
   where
-    less-true : (a b : ℕ) → a < b → nat_lt a b ≡ true
-    less-true a b h = grind (arith, nat_tests)
-
     go : (over in_frame : Bool) → over ≡ false → in_frame ≡ true → stepped sc hands m over in_frame ≡ next sc m
     go true in_frame p q = cc
     go false true p q = refl
@@ -39,11 +37,8 @@ window-step sc hands m over below = go (m.frame == sc.frames) (nat_lt m.window (
 
 turn-step : (sc : Scenario) (hands : List HandIn) (m : Moment) → (m.frame == sc.frames) ≡ false → windows_in sc.sizes ≤ m.window → step sc hands m ≡ next_frame sc hands m
 unfolding step
-turn-step sc hands m over full = go (m.frame == sc.frames) (nat_lt m.window (windows_in sc.sizes)) over (less-false m.window (windows_in sc.sizes) full)
+turn-step sc hands m over full = go (m.frame == sc.frames) (nat_lt m.window (windows_in sc.sizes)) over (less_false m.window (windows_in sc.sizes) full)
   where
-    less-false : (a b : ℕ) → b ≤ a → nat_lt a b ≡ false
-    less-false a b h = grind (arith, nat_tests)
-
     go : (over in_frame : Bool) → over ≡ false → in_frame ≡ false → stepped sc hands m over in_frame ≡ next_frame sc hands m
     go true in_frame p q = cc
     go false true p q = cc

@@ -27,7 +27,7 @@ use Rattle.rb_rules.specs.Standing.{Standing, taken_of, is_unlike}
 use Rattle.rb_rules.proofs.ExactStages.{idle_expects_nobody, vote_over_nothing}
 use Rattle.rb_rules.proofs.Senses.{IsCarried}
 use Rattle.rb_rules.proofs.Votes.{same_vote}
-use Rattle.rb_agree.proofs.Tests.{true_or_false, and_first, and_second, Present, Passing, same_some, or_neither_second}
+use Rattle.rb_agree.proofs.Tests.{true_or_false, and_first, and_second, Present, Passing, same_some, or_neither_second, equal_from}
 use Rattle.rb_agree.proofs.Numbers.{one_of_many}
 use Rattle.rb_agree.proofs.Premises.{Premise, is_sound}
 use Rattle.rb_agree.proofs.Goodnesses.{few_nodes, exact_role, single_sender}
@@ -312,12 +312,8 @@ sender-is : (me : Side) (i : ℕ) (role : Role) (sender : Sender) → is_sender 
 sender-is me i role Nobody h = cc
 sender-is me i role EachTrusted h = cc
 sender-is me i role (Node p) h =
-    let same : i ≡ p = equal-from i p (and_second (same_side me (sender_kind role)) (i == p) h) in
+    let same : i ≡ p = equal_from i p (and_second (same_side me (sender_kind role)) (i == p) h) in
     (ap (λ k. Node k) (sym same), same_side-is me (sender_kind role) (and_first (same_side me (sender_kind role)) (i == p) h))
-  where
-    equal-from : (a b : ℕ) → (a == b) ≡ true → a ≡ b
-    equal-from a b h = grind (arith, nat_tests)
-
 pub none_unlike_2 : (sc : Scenario) (hands : List HandIn) (n : ℕ) (m : Moment) (s : Shared) (slot : ℕ) (c : Setting sc hands n m s slot 1) → NoneUnlike sc hands n m s slot 1 c
 none_unlike_2 sc hands n m s slot c me i j st source here there value reference =
     let role : Role = role_of sc.sizes slot in

@@ -20,6 +20,7 @@ use Rattle.rb_agree.proofs.FrameTurns.{convicted_all}
 use Rattle.rb_agree.proofs.Invariant.{Shared, sender_of}
 use Rattle.rb_agree.proofs.Schedules.{take-are}
 use Rattle.rb_agree.proofs.Vectors.{vector_slot, vector_slot-lt, convicted_same}
+use Rattle.rb_agree.proofs.Tests.{equal_from}
 
 -- the bus holds what all good nodes do before a slot
 pub record IsBusOf (s : Shared) (frame slot : ℕ) (bus : AbstractBus) : Type 0 where
@@ -95,14 +96,12 @@ bus-slot sc s frame slot bus value b = record {
     same-kind : (kind : Side) → trusted_on kind bus ≡ trusted_on kind (bus_after_slot sc.sizes value bus)
     same-kind Biu = refl
     same-kind Rmu = refl
-    equal-from : (a b : ℕ) → (a == b) ≡ true → a ≡ b
-    equal-from a b h = grind (arith, nat_tests)
     go : (e : Bool) → (slot + 1 == sc.sizes.bius) ≡ e
         → (if e then owners_of sc.sizes (s.trusted Biu) (map (with_value sc s slot value).values (numbers sc.sizes.bius)) else s.owners)
         ≡ (if e then owners_of sc.sizes bus.bius (bus.values ++ value ∷ []) else bus.owners)
     go false h = b.owners
     go true h =
-        let full : slot + 1 ≡ sc.sizes.bius = equal-from (slot + 1) sc.sizes.bius h in
+        let full : slot + 1 ≡ sc.sizes.bius = equal_from (slot + 1) sc.sizes.bius h in
         let all : List Heard = bus.values ++ value ∷ [] in
         let long : length all ≡ sc.sizes.bius = length-append bus.values (value ∷ []) ∙ ap (λ n. n + 1) b.long ∙ full in
         let votes : map (with_value sc s slot value).values (numbers sc.sizes.bius) ≡ all =
