@@ -40,11 +40,11 @@ use Rattle.rb_agree.proofs.BusRuns.{IsHeld, as_placed, held_at, value-read, bus-
 
 -- Before a slot.
 
-bus-before : (sc : Scenario) (hands : List HandIn) → IsLawful sc → (low : ℕ → ℕ) (frame slot : ℕ) → slot ≤ sync_slot_of sc.sizes → IsSettled sc hands frame slot
+pub bus-before : (sc : Scenario) (hands : List HandIn) → IsLawful sc → (low : ℕ → ℕ) (frame slot : ℕ) → slot ≤ sync_slot_of sc.sizes → IsSettled sc hands frame slot
     → IsBusBefore sc hands frame slot (bus_before sc hands low frame slot)
 bus-before sc hands law low frame slot le settled =
-    let h : IsHeld sc hands frame slot (bus_before sc hands low frame slot) = held_at sc hands law low frame slot le (settled_before sc hands law frame slot settled) in
-    let p : IsPlaced sc hands frame slot 1 = as_placed sc hands frame slot (bus_before sc hands low frame slot) h in
+    let h : IsHeld sc hands (low frame) frame slot (bus_before sc hands low frame slot) = held_at sc hands law low frame slot le (settled_before sc hands law frame slot settled) in
+    let p : IsPlaced sc hands frame slot 1 = as_placed sc hands (low frame) frame slot (bus_before sc hands low frame slot) h in
     let m : Moment = before_slot sc hands frame slot in
     record {
       frame_is = h.bus_is.frame_is;
@@ -139,13 +139,13 @@ lines-on sc frame slot (DiagBiu i) sender value h = cc
 lines-on sc frame slot (DiagRmu i) sender value h = cc
 lines-on sc frame slot Sync sender value h = cc
 
-bus-slot-step : (sc : Scenario) (hands : List HandIn) → IsLawful sc → (low : ℕ → ℕ) (frame slot : ℕ) → slot < sync_slot_of sc.sizes → IsComplete sc hands frame slot
+pub bus-slot-step : (sc : Scenario) (hands : List HandIn) → IsLawful sc → (low : ℕ → ℕ) (frame slot : ℕ) → slot < sync_slot_of sc.sizes → IsComplete sc hands frame slot
     → IsBusSlot sc hands frame slot (bus_before sc hands low frame slot) (bus_then sc hands low frame slot)
 bus-slot-step sc hands law low frame slot below complete =
     let bus : AbstractBus = bus_before sc hands low frame slot in
     let value : Heard = value_in_rounds sc hands frame slot in
-    let h : IsHeld sc hands frame slot bus = held_at sc hands law low frame slot (omega arith) (complete_before sc hands frame slot 1 (omega arith) complete) in
-    let p : IsPlaced sc hands frame slot 1 = as_placed sc hands frame slot bus h in
+    let h : IsHeld sc hands (low frame) frame slot bus = held_at sc hands law low frame slot (omega arith) (complete_before sc hands frame slot 1 (omega arith) complete) in
+    let p : IsPlaced sc hands frame slot 1 = as_placed sc hands (low frame) frame slot bus h in
     let r : IsSlot sc hands frame slot = slot_runs_from sc hands law frame slot below complete p in
     let b : IsBusOf r.shared frame slot bus = subst (λ s. IsBusOf s frame slot bus) (sym (slot_runs-shared sc hands law frame slot below complete p)) h.bus_is in
     let read : value ≡ value_of_slot sc hands frame slot r = value-read sc hands law frame slot r in
@@ -166,11 +166,11 @@ bus-slot-step sc hands law low frame slot below complete =
     index : (a slot : ℕ) → a + slot + 1 ≡ a + suc slot
     index a slot = omega arith
 
-bus-frame-step : (sc : Scenario) (hands : List HandIn) → IsLawful sc → (low : ℕ → ℕ) (frame : ℕ) → IsComplete sc hands frame (sync_slot_of sc.sizes)
+pub bus-frame-step : (sc : Scenario) (hands : List HandIn) → IsLawful sc → (low : ℕ → ℕ) (frame : ℕ) → IsComplete sc hands frame (sync_slot_of sc.sizes)
     → bus_then sc hands low frame (sync_slot_of sc.sizes) ≡ bus_after_frame sc.sizes (low (frame + 1)) (bus_before sc hands low frame (sync_slot_of sc.sizes))
 bus-frame-step sc hands law low frame complete =
     let s : ℕ = sync_slot_of sc.sizes in
-    let h : IsHeld sc hands frame s (bus_before sc hands low frame s) = held_at sc hands law low frame s (omega arith) (complete_before sc hands frame s 1 (omega arith) complete) in
+    let h : IsHeld sc hands (low frame) frame s (bus_before sc hands low frame s) = held_at sc hands law low frame s (omega arith) (complete_before sc hands frame s 1 (omega arith) complete) in
     let one : suc frame ≡ frame + 1 = omega arith in
     ap (bus_in_rounds sc hands low) (index frame s) ∙ bus-over-frame sc hands low frame h ∙ ap (λ f. bus_after_frame sc.sizes (low f) (bus_before sc hands low frame s)) one
   where

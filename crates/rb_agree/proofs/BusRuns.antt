@@ -64,23 +64,24 @@ value-read sc hands law frame slot r =
 
 -- What is held before a slot.
 
-pub record IsHeld (sc : Scenario) (hands : List HandIn) (frame slot : ℕ) (bus : AbstractBus) : Type 0 where
+pub record IsHeld (sc : Scenario) (hands : List HandIn) (low frame slot : ℕ) (bus : AbstractBus) : Type 0 where
   pub shared : Shared
   pub steps : ℕ
   pub agree : Agree sc hands steps (before_slot sc hands frame slot) shared
   pub frame_is : (before_slot sc hands frame slot).frame ≡ frame
   pub window_is : (before_slot sc hands frame slot).window ≡ 3 * slot + (1 - 1)
   pub bus_is : IsBusOf shared frame slot bus
+  pub low_is : bus.low ≡ low
 
-abbrev pub as_placed : (sc : Scenario) (hands : List HandIn) (frame slot : ℕ) (bus : AbstractBus) → IsHeld sc hands frame slot bus → IsPlaced sc hands frame slot 1
-as_placed sc hands frame slot bus h = record { shared = h.shared; steps = h.steps; agree = h.agree; frame_is = h.frame_is; window_is = h.window_is }
+abbrev pub as_placed : (sc : Scenario) (hands : List HandIn) (low frame slot : ℕ) (bus : AbstractBus) → IsHeld sc hands low frame slot bus → IsPlaced sc hands frame slot 1
+as_placed sc hands low frame slot bus h = record { shared = h.shared; steps = h.steps; agree = h.agree; frame_is = h.frame_is; window_is = h.window_is }
 
 -- over a slot
-pub held_slot : (sc : Scenario) (hands : List HandIn) (law : IsLawful sc) (frame slot : ℕ) (bus : AbstractBus) (h : IsHeld sc hands frame slot bus)
+pub held_slot : (sc : Scenario) (hands : List HandIn) (law : IsLawful sc) (low frame slot : ℕ) (bus : AbstractBus) (h : IsHeld sc hands low frame slot bus)
     → (below : slot < sync_slot_of sc.sizes) (complete : IsComplete sc hands frame slot)
-    → IsHeld sc hands frame (suc slot) (bus_after_slot sc.sizes (value_in_rounds sc hands frame slot) bus)
-held_slot sc hands law frame slot bus h below complete =
-    let p : IsPlaced sc hands frame slot 1 = as_placed sc hands frame slot bus h in
+    → IsHeld sc hands low frame (suc slot) (bus_after_slot sc.sizes (value_in_rounds sc hands frame slot) bus)
+held_slot sc hands law low frame slot bus h below complete =
+    let p : IsPlaced sc hands frame slot 1 = as_placed sc hands low frame slot bus h in
     let r : IsSlot sc hands frame slot = slot_runs_from sc hands law frame slot below complete p in
     let m3 : Moment = next sc (next sc (before_slot sc hands frame slot)) in
     let value : Heard = value_of_slot sc hands frame slot r in
@@ -97,6 +98,7 @@ held_slot sc hands law frame slot bus h below complete =
       window_is = ap (λ m. m.window) (sym onward) ∙ next-window sc m3 ∙ ap (λ w. w + 1) at ∙ three slot;
       bus_is = subst (λ v. IsBusOf (with_value sc r.shared slot value) frame (suc slot) (bus_after_slot sc.sizes v bus)) (sym (value-read sc hands law frame slot r))
           (subst (λ k. IsBusOf (with_value sc r.shared slot value) frame k (bus_after_slot sc.sizes value bus)) one (bus-slot sc r.shared frame slot bus value held));
+      low_is = h.low_is;
     }
   where
     three : (slot : ℕ) → 3 * slot + 2 + 1 ≡ 3 * suc slot + (1 - 1)
@@ -121,9 +123,9 @@ agree-stage sc hands law frame q n s small complete agree =
     plus q = omega arith
 
 -- over the end of a frame
-pub held_frame : (sc : Scenario) (hands : List HandIn) (law : IsLawful sc) (frame low : ℕ) (bus : AbstractBus) → IsHeld sc hands frame (sync_slot_of sc.sizes) bus
-    → IsComplete sc hands frame (sync_slot_of sc.sizes) → IsHeld sc hands (suc frame) 0 (bus_after_frame sc.sizes low bus)
-held_frame sc hands law frame low bus h complete =
+pub held_frame : (sc : Scenario) (hands : List HandIn) (law : IsLawful sc) (frame now low : ℕ) (bus : AbstractBus) → IsHeld sc hands now frame (sync_slot_of sc.sizes) bus
+    → IsComplete sc hands frame (sync_slot_of sc.sizes) → IsHeld sc hands low (suc frame) 0 (bus_after_frame sc.sizes low bus)
+held_frame sc hands law frame now low bus h complete =
     let slot : ℕ = sync_slot_of sc.sizes in
     let a : Moment = after_slot sc hands frame slot in
     let t : IsTurn sc hands frame = frame_turns sc hands law frame complete in
@@ -149,6 +151,7 @@ held_frame sc hands law frame low bus h complete =
       frame_is = p.frame_is;
       window_is = p.window_is;
       bus_is = subst (λ f. IsBusOf (shared_next sc.sizes h.shared) f 0 (bus_after_frame sc.sizes low bus)) one (bus-frame sc h.shared frame bus low h.agree.inside h.bus_is);
+      low_is = refl;
     }
   where
     four : (a : ℕ) → a + 3 + 1 ≡ a + 4
@@ -179,7 +182,7 @@ goes-frame sc hands low frame bus f s =
     ∙ ap (λ f. bus_after_frame sc.sizes (low (f + 1)) bus) f ∙ ap (λ f. bus_after_frame sc.sizes (low f) bus) one
 
 -- the bus after the step of a slot
-pub bus-over-slot : (sc : Scenario) (hands : List HandIn) (low : ℕ → ℕ) (frame slot : ℕ) → IsHeld sc hands frame slot (bus_before sc hands low frame slot) → slot < sync_slot_of sc.sizes
+pub bus-over-slot : (sc : Scenario) (hands : List HandIn) (low : ℕ → ℕ) (frame slot : ℕ) → IsHeld sc hands (low frame) frame slot (bus_before sc hands low frame slot) → slot < sync_slot_of sc.sizes
     → bus_before sc hands low frame (suc slot) ≡ bus_after_slot sc.sizes (value_in_rounds sc hands frame slot) (bus_before sc hands low frame slot)
 bus-over-slot sc hands low frame slot h below =
     let e : steps_to sc.sizes frame (suc slot) ≡ suc (steps_to sc.sizes frame slot) = index (frame * (sync_slot_of sc.sizes + 1)) slot in
@@ -188,7 +191,7 @@ bus-over-slot sc hands low frame slot h below =
     index : (a slot : ℕ) → a + suc slot ≡ suc (a + slot)
     index a slot = omega arith
 
-pub bus-over-frame : (sc : Scenario) (hands : List HandIn) (low : ℕ → ℕ) (frame : ℕ) → IsHeld sc hands frame (sync_slot_of sc.sizes) (bus_before sc hands low frame (sync_slot_of sc.sizes))
+pub bus-over-frame : (sc : Scenario) (hands : List HandIn) (low : ℕ → ℕ) (frame : ℕ) → IsHeld sc hands (low frame) frame (sync_slot_of sc.sizes) (bus_before sc hands low frame (sync_slot_of sc.sizes))
     → bus_before sc hands low (suc frame) 0 ≡ bus_after_frame sc.sizes (low (suc frame)) (bus_before sc hands low frame (sync_slot_of sc.sizes))
 bus-over-frame sc hands low frame h =
     let s : ℕ = sync_slot_of sc.sizes in
@@ -199,17 +202,17 @@ bus-over-frame sc hands low frame h =
     index f s = omega arith
 
 -- through the slots of a frame
-held-through : (sc : Scenario) (hands : List HandIn) (law : IsLawful sc) (low : ℕ → ℕ) (frame : ℕ) → IsHeld sc hands frame 0 (bus_before sc hands low frame 0)
-    → (slot : ℕ) → slot ≤ sync_slot_of sc.sizes → IsRunning (before_slot sc hands frame slot) → IsHeld sc hands frame slot (bus_before sc hands low frame slot)
+held-through : (sc : Scenario) (hands : List HandIn) (law : IsLawful sc) (low : ℕ → ℕ) (frame : ℕ) → IsHeld sc hands (low frame) frame 0 (bus_before sc hands low frame 0)
+    → (slot : ℕ) → slot ≤ sync_slot_of sc.sizes → IsRunning (before_slot sc hands frame slot) → IsHeld sc hands (low frame) frame slot (bus_before sc hands low frame slot)
 held-through sc hands law low frame begun zero le running = begun
 held-through sc hands law low frame begun (suc slot) le running =
     let complete : IsComplete sc hands frame slot = ap (λ m. m.book.ended) (sym (slot-follows sc hands frame slot)) ∙ running in
-    let h : IsHeld sc hands frame slot (bus_before sc hands low frame slot) =
+    let h : IsHeld sc hands (low frame) frame slot (bus_before sc hands low frame slot) =
     held-through sc hands law low frame begun slot (omega arith) (complete_before sc hands frame slot 1 (omega arith) complete) in
-    subst (IsHeld sc hands frame (suc slot)) (sym (bus-over-slot sc hands low frame slot h (omega arith)))
-    (held_slot sc hands law frame slot (bus_before sc hands low frame slot) h (omega arith) complete)
+    subst (IsHeld sc hands (low frame) frame (suc slot)) (sym (bus-over-slot sc hands low frame slot h (omega arith)))
+    (held_slot sc hands law (low frame) frame slot (bus_before sc hands low frame slot) h (omega arith) complete)
 
-first-held : (sc : Scenario) (hands : List HandIn) (law : IsLawful sc) (low : ℕ → ℕ) → IsHeld sc hands 0 0 (bus_before sc hands low 0 0)
+first-held : (sc : Scenario) (hands : List HandIn) (law : IsLawful sc) (low : ℕ → ℕ) → IsHeld sc hands (low 0) 0 0 (bus_before sc hands low 0 0)
 first-held sc hands law low =
     let e : 0 * (windows_in sc.sizes + 1) + 3 * 0 + 1 - 1 ≡ 0 = omega arith in
     let k : steps_to sc.sizes 0 0 ≡ 0 = omega arith in
@@ -222,19 +225,20 @@ first-held sc hands law low =
       frame_is = ap (λ m. m.frame) is ∙ begin-frame sc hands;
       window_is = ap (λ m. m.window) is ∙ begin-window sc hands;
       bus_is = subst (IsBusOf (first_shared sc) 0 0) (ap (bus_in_rounds sc hands low) (sym k)) (bus-first sc (low 0));
+      low_is = ap (λ x. (bus_in_rounds sc hands low x).low) k;
     }
 
-held-begun : (sc : Scenario) (hands : List HandIn) (law : IsLawful sc) (low : ℕ → ℕ) (frame : ℕ) → IsRunning (before_slot sc hands frame 0) → IsHeld sc hands frame 0 (bus_before sc hands low frame 0)
+held-begun : (sc : Scenario) (hands : List HandIn) (law : IsLawful sc) (low : ℕ → ℕ) (frame : ℕ) → IsRunning (before_slot sc hands frame 0) → IsHeld sc hands (low frame) frame 0 (bus_before sc hands low frame 0)
 held-begun sc hands law low zero running = first-held sc hands law low
 held-begun sc hands law low (suc frame) running =
     let s : ℕ = sync_slot_of sc.sizes in
     let complete : IsComplete sc hands frame s =
     running_earlier sc hands (frame * (windows_in sc.sizes + 1) + 3 * s + 4 - 1) (suc frame * (windows_in sc.sizes + 1) + 3 * 0 + 1 - 1) (later frame s) running in
-    let begun : IsHeld sc hands frame 0 (bus_before sc hands low frame 0) =
+    let begun : IsHeld sc hands (low frame) frame 0 (bus_before sc hands low frame 0) =
     held-begun sc hands law low frame (running_earlier sc hands (frame * (windows_in sc.sizes + 1) + 3 * 0 + 1 - 1) (frame * (windows_in sc.sizes + 1) + 3 * s + 4 - 1) (begins (frame * (windows_in sc.sizes + 1)) s) complete) in
-    let h : IsHeld sc hands frame s (bus_before sc hands low frame s) =
+    let h : IsHeld sc hands (low frame) frame s (bus_before sc hands low frame s) =
     held-through sc hands law low frame begun s (omega arith) (complete_before sc hands frame s 1 (omega arith) complete) in
-    subst (IsHeld sc hands (suc frame) 0) (sym (bus-over-frame sc hands low frame h)) (held_frame sc hands law frame (low (suc frame)) (bus_before sc hands low frame s) h complete)
+    subst (IsHeld sc hands (low (suc frame)) (suc frame) 0) (sym (bus-over-frame sc hands low frame h)) (held_frame sc hands law frame (low frame) (low (suc frame)) (bus_before sc hands low frame s) h complete)
   where
     later : (f s : ℕ) → f * (3 * s + 4 + 1) + 3 * s + 4 - 1 ≤ suc f * (3 * s + 4 + 1) + 3 * 0 + 1 - 1
     later f s = omega arith
@@ -243,7 +247,7 @@ held-begun sc hands law low (suc frame) running =
 
 -- before each slot before the first breach
 pub held_at : (sc : Scenario) (hands : List HandIn) (law : IsLawful sc) (low : ℕ → ℕ) (frame slot : ℕ) → slot ≤ sync_slot_of sc.sizes → IsRunning (before_slot sc hands frame slot)
-    → IsHeld sc hands frame slot (bus_before sc hands low frame slot)
+    → IsHeld sc hands (low frame) frame slot (bus_before sc hands low frame slot)
 held_at sc hands law low frame slot le running =
     held-through sc hands law low frame
     (held-begun sc hands law low frame (running_earlier sc hands (frame * (windows_in sc.sizes + 1) + 3 * 0 + 1 - 1) (frame * (windows_in sc.sizes + 1) + 3 * slot + 1 - 1) (begins (frame * (windows_in sc.sizes + 1)) slot) running))

@@ -91,7 +91,7 @@ unfolding begin_frame with_frame
 first-open sc hands = refl
 
 -- where a frame begins that is reached, the run goes on
-reached : (sc : Scenario) (hands : List HandIn) → IsLawful sc → (frame : ℕ) → IsReached sc hands frame → IsRunning (before_slot sc hands frame 0)
+pub reached : (sc : Scenario) (hands : List HandIn) → IsLawful sc → (frame : ℕ) → IsReached sc hands frame → IsRunning (before_slot sc hands frame 0)
 reached sc hands law zero h =
     let e : 0 * (windows_in sc.sizes + 1) + 3 * 0 + 1 - 1 ≡ 0 = omega arith in
     ap (λ n. (moment sc hands n).book.ended) e ∙ first-open sc hands

@@ -39,3 +39,4 @@ pub mod Promises
 pub mod SharedBuses
 pub mod BusRuns
 pub mod BusLaws
+pub mod BusStands

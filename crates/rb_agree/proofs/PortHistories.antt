@@ -153,7 +153,7 @@ turn-port sc hands law frame i complete count =
     plus a = omega arith
 
 -- a frame with a complete slot is reached
-reached_from : (sc : Scenario) (hands : List HandIn) (frame slot : ℕ) → IsComplete sc hands frame slot → IsReached sc hands frame
+pub reached_from : (sc : Scenario) (hands : List HandIn) (frame slot : ℕ) → IsComplete sc hands frame slot → IsReached sc hands frame
 reached_from sc hands zero slot complete = tt
 reached_from sc hands (suc f) slot complete =
     running_earlier sc hands (f * (windows_in sc.sizes + 1) + 3 * sync_slot_of sc.sizes + 4 - 1) (suc f * (windows_in sc.sizes + 1) + 3 * slot + 4 - 1)

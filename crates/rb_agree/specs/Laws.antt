@@ -18,9 +18,10 @@ use Rattle.rb_rules.specs.NodeSteps.{convicted_of}
 use Rattle.rb_rules.specs.Ports.{HandIn}
 use Rattle.rb_rules.specs.Slots.{count_of, first_diagnosis_of}
 use Rattle.rb_rules.specs.Standing.{Standing}
-use Rattle.rb_rules.specs.StandsFor.{SparesAllGood}
+use Rattle.rb_rules.specs.StandsFor.{SparesAllGood, StandsFor}
 use Rattle.rb_agree.specs.BusValues.{StepsTheBus}
 use Rattle.rb_agree.specs.Histories.{port_through, port_begun, AreAlike}
+use Rattle.rb_agree.specs.Times.{KeepsTime}
 use Rattle.rb_agree.specs.Values.{HasValue, IsGoodSender, value_of_sender}
 
 -- Agreement.
@@ -131,3 +132,8 @@ PortsHoldOneState =
 -- whatever the times are at which frames begin
 abbrev pub RoundsStepTheBus : Type 0
 RoundsStepTheBus = (sc : Scenario) (hands : List HandIn) → IsLawful sc → (low : ℕ → ℕ) → StepsTheBus sc hands low
+
+-- where times are kept, the rounds stand for a run of the bus
+abbrev pub TimeIsAllThatIsLeft : Type 0
+TimeIsAllThatIsLeft =
+    (sc : Scenario) (hands : List HandIn) → IsLawful sc → (low : ℕ → ℕ) → KeepsTime sc hands low → StandsFor sc hands

@@ -2,7 +2,7 @@
 //! law is the contract of a function that does nothing.
 #![tactic(auto)]
 
-ghost use Rattle.rb_agree.specs.Laws.{AccusedByAllIsConvicted, DeliveriesAreRight, GoodNodesAgree, GoodNodesHoldOneSchedule, GoodSendersAreHeard, NoGoodNodeIsAccused, NoGoodNodeIsConvicted, PortsFollowTheBus, PortsHoldOneState, RoundsStepTheBus, UnheardNodesHaveNoVector};
+ghost use Rattle.rb_agree.specs.Laws.{AccusedByAllIsConvicted, DeliveriesAreRight, GoodNodesAgree, GoodNodesHoldOneSchedule, GoodSendersAreHeard, NoGoodNodeIsAccused, NoGoodNodeIsConvicted, PortsFollowTheBus, PortsHoldOneState, RoundsStepTheBus, TimeIsAllThatIsLeft, UnheardNodesHaveNoVector};
 
 /// The good nodes that vote on a slot hold one vote, and each good BIU delivers that in an owned data slot.
 pub fn good_nodes_agree()
@@ -57,4 +57,9 @@ pub fn ports_hold_one_state()
 /// What good nodes hold is what the abstract bus holds, each slot is a step of it, and so is the begin of each frame. Of its times nothing is said.
 pub fn rounds_step_the_bus()
     ensures { RoundsStepTheBus }
+{}
+
+/// Where good nodes begin slots in time, the rounds stand for a run of the abstract bus.
+pub fn time_is_all_that_is_left()
+    ensures { TimeIsAllThatIsLeft }
 {}
