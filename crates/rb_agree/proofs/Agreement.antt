@@ -1,7 +1,6 @@
 -- In every moment of a run that has not ended all good nodes agree.
 use Rattle.std.proofs.Common.{◌≡◌, ℕ, zero, suc, ◌+◌, ◌-◌, ◌*◌, ◌/◌, ◌%◌, ◌<◌, ◌≤◌, ◌==◌, nat_lt, Bool, true, false, List, [], ◌∷◌, ◌++◌, ◌⊎◌, inl, inr, refl, sym, ◌∙◌, ap, subst, arith}
 use Rattle.std.proofs.lemmas.Bool.{cases_lt}
-use Rattle.std.proofs.lemmas.Bool.Decides.{nat_tests}
 use Rattle.rb_base.specs.Sizes.{sync_slot_of}
 use Rattle.rb_rules.specs.Book.{Book, with_end}
 use Rattle.rb_rules.specs.Book.Record.{Ended}
@@ -44,6 +43,7 @@ stepped-is : (sc : Scenario) (hands : List HandIn) (m : Moment) (over in_frame :
 stepped-is sc hands m true in_frame e h = let both : true ≡ false = sym (ended-end m.book) ∙ h in cc
 stepped-is sc hands m false true e h = inl (less_from m.window (windows_in sc.sizes) e, refl)
 stepped-is sc hands m false false e h = inr (not_less_from m.window (windows_in sc.sizes) e, refl)
+
 pub step_is : (sc : Scenario) (hands : List HandIn) (m : Moment) → (step sc hands m).book.ended ≡ false → IsStep sc hands m
 unfolding step
 step_is sc hands m h = stepped-is sc hands m (m.frame == sc.frames) (nat_lt m.window (windows_in sc.sizes)) refl h

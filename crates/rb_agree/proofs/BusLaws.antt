@@ -1,31 +1,30 @@
 -- What good nodes hold is what the abstract bus holds, and each slot is a step of it.
-use Rattle.std.proofs.Common.{◌≡◌, ℕ, zero, suc, ◌+◌, ◌-◌, ◌*◌, ◌<◌, ◌≤◌, ◌==◌, nat_lt, Bool, true, false, List, [], ◌∷◌, ◌++◌, length, Option, Some, None, slice_get, get_or, if◌then◌else◌, ◌⊎◌, inl, inr, refl, sym, ◌∙◌, ap, subst, arith}
+use Rattle.std.proofs.Common.{◌≡◌, ℕ, suc, ◌+◌, ◌-◌, ◌*◌, ◌<◌, ◌≤◌, Bool, true, false, List, slice_get, get_or, if◌then◌else◌, refl, sym, ◌∙◌, ap, subst, arith}
 use Rattle.rb_base.specs.Nodes.{Side, other, has}
 use Rattle.rb_base.specs.Nodes.Side.{Biu, Rmu}
-use Rattle.rb_base.specs.Sizes.{Sizes, sync_slot_of}
+use Rattle.rb_base.specs.Sizes.{sync_slot_of}
 use Rattle.rb_base.specs.declared.values.Heard.{Heard}
 use Rattle.rb_base.specs.declared.values.Heard.TheVariants.{Word, Fault}
-use Rattle.rb_rules.specs.declared.record.SlotLine.{SlotLine}
 use Rattle.rb_rules.specs.declared.role.Role.{Role}
 use Rattle.rb_rules.specs.declared.role.Role.TheVariants.{Schedule, Data, DiagBiu, DiagRmu, Sync}
-use Rattle.rb_rules.specs.AbstractBus.{AbstractBus, trusted_on, sender_on, SparesGood, IsOfGood, MayHave, bus_after_slot, bus_after_frame, SlotStep}
+use Rattle.rb_rules.specs.AbstractBus.{AbstractBus, sender_on, IsOfGood, MayHave, bus_after_slot, bus_after_frame}
 use Rattle.rb_rules.specs.Book.{of_kind}
 use Rattle.rb_rules.specs.ExactStage.{own_value}
 use Rattle.rb_rules.specs.Goodness.{Scenario, is_good}
 use Rattle.rb_rules.specs.Hearing.{word_for}
 use Rattle.rb_rules.specs.Lawful.{IsLawful}
-use Rattle.rb_rules.specs.Moments.{before_stage, before_slot, after_slot, IsComplete, IsSettled, IsGoodBefore, IsGoodAfter, offered_in}
+use Rattle.rb_rules.specs.Moments.{before_slot, IsComplete, IsSettled, offered_in}
 use Rattle.rb_rules.specs.NodeState.{NodeState}
 use Rattle.rb_rules.specs.Ports.{HandIn}
 use Rattle.rb_rules.specs.Rounds.{Moment}
 use Rattle.rb_rules.specs.Slots.{Sender, has_third_stage, sender_kind, if_trusted, role_of, sender_in}
 use Rattle.rb_rules.specs.Slots.Sender.{Nobody, Node, EachTrusted}
-use Rattle.rb_rules.specs.StandsFor.{steps_to, value_on, HoldsVote, lines_on, DeliversOn}
-use Rattle.rb_agree.specs.BusValues.{value_in_rounds, bus_in_rounds, bus_before, bus_then, IsBusBefore, IsBusSlot, StepsTheBus}
+use Rattle.rb_rules.specs.StandsFor.{value_on, lines_on}
+use Rattle.rb_agree.specs.BusValues.{value_in_rounds, bus_in_rounds, bus_before, bus_then, IsBusBefore, IsBusSlot}
 use Rattle.rb_agree.specs.Laws.{RoundsStepTheBus}
 use Rattle.rb_agree.specs.Values.{kind_in, lines_in}
 use Rattle.rb_agree.proofs.Tests.{Present}
-use Rattle.rb_agree.proofs.Invariant.{Shared, sender_of, IsGoodNode, is_good_now, slot_numbered, is_diagnosis, IsVector, IsOwn, HasVoted, Holds}
+use Rattle.rb_agree.proofs.Invariant.{sender_of, is_good_now, slot_numbered, is_diagnosis, IsVector, IsOwn, HasVoted, Holds}
 use Rattle.rb_agree.proofs.Senders.{same_node}
 use Rattle.rb_agree.proofs.Settings.{good_state}
 use Rattle.rb_agree.proofs.ThirdStages.{voted}
@@ -97,6 +96,7 @@ may-have sc hands frame slot bus r b value is =
   where
     sender-is : sender_of sc.sizes r.shared slot ≡ sender_in bus.bius bus.rmus bus.owners (role_of sc.sizes slot)
     sender-is = bus-sender sc.sizes r.shared frame slot bus b ∙ ap (λ k. sender_in bus.bius bus.rmus bus.owners (role_of sc.sizes k)) b.slot_is
+
     go : (sender : Sender) → sender_in bus.bius bus.rmus bus.owners (role_of sc.sizes slot) ≡ sender
         → MayHave sc bus (offered_in sc hands frame slot) (role_of sc.sizes slot) sender value
     go EachTrusted e = tt

@@ -1,17 +1,16 @@
 -- The rounds make a run of the abstract bus: in each slot that is settled all good nodes hold what it holds.
-use Rattle.std.proofs.Common.{◌≡◌, ℕ, zero, suc, ◌+◌, ◌-◌, ◌*◌, ◌<◌, ◌≤◌, ◌==◌, ◌||◌, nat_lt, Bool, true, false, List, [], ◌∷◌, length, Option, Some, None, slice_get, get_or, if◌then◌else◌, lit<, ◌⊎◌, inl, inr, refl, sym, ◌∙◌, ap, subst, arith}
+use Rattle.std.proofs.Common.{◌≡◌, ℕ, zero, suc, ◌+◌, ◌-◌, ◌*◌, ◌<◌, ◌≤◌, ◌||◌, nat_lt, Bool, true, false, List, [], ◌∷◌, Some, slice_get, if◌then◌else◌, lit<, refl, sym, ◌∙◌, ap, subst, arith}
 use Rattle.std.specs.List.{list_any}
-use Rattle.std.proofs.lemmas.Bool.Decides.{nat_tests}
 use Rattle.rb_base.specs.Counting.{numbers}
-use Rattle.rb_base.specs.Nodes.{Side, has}
-use Rattle.rb_base.specs.Sizes.{Sizes, sync_slot_of}
+use Rattle.rb_base.specs.Nodes.{Side}
+use Rattle.rb_base.specs.Sizes.{sync_slot_of}
 use Rattle.rb_base.specs.declared.values.Heard.{Heard}
-use Rattle.rb_rules.specs.AbstractBus.{AbstractBus, first_bus, bus_after_slot, bus_after_frame}
+use Rattle.rb_rules.specs.AbstractBus.{AbstractBus, bus_after_slot, bus_after_frame}
 use Rattle.rb_rules.specs.Book.{of_kind}
 use Rattle.rb_rules.specs.Goodness.{Scenario, is_good}
 use Rattle.rb_rules.specs.Lawful.{IsLawful}
 use Rattle.rb_rules.specs.Moments.{before_stage, before_slot, after_slot, IsRunning, IsComplete}
-use Rattle.rb_rules.specs.NodeState.{NodeState, first_state}
+use Rattle.rb_rules.specs.NodeState.{first_state}
 use Rattle.rb_rules.specs.Ports.{HandIn}
 use Rattle.rb_rules.specs.Rounds.{Moment, moment, first_moment, step, next_frame, windows_in}
 use Rattle.rb_rules.specs.StandsFor.{steps_to}
@@ -19,7 +18,7 @@ use Rattle.rb_agree.specs.BusValues.{first_passing, value_in_rounds, bus_goes, b
 use Rattle.rb_agree.specs.Values.{kind_in, vote_on}
 use Rattle.rb_agree.proofs.Tests.{passes_at, get-some, Present, less_false, less_true}
 use Rattle.rb_agree.proofs.Goodnesses.{good_below_16}
-use Rattle.rb_agree.proofs.Invariant.{Shared, IsGoodNode, is_good_now, Agree}
+use Rattle.rb_agree.proofs.Invariant.{Shared, is_good_now, Agree}
 use Rattle.rb_agree.proofs.ExactAgrees.{with_value, agree_3}
 use Rattle.rb_agree.proofs.FrameAgrees.{first_shared, shared_next, begin-frame, begin-window, agree_first, agree_frame}
 use Rattle.rb_agree.proofs.FrameTurns.{AtEnd}
@@ -27,7 +26,6 @@ use Rattle.rb_agree.proofs.JudgedWindows.{rows_of, IsPassed, passed}
 use Rattle.rb_agree.proofs.NextMoments.{next}
 use Rattle.rb_agree.proofs.NodeWindows.{sync_windows_are, tail_windows}
 use Rattle.rb_agree.proofs.Settings.{good_state}
-use Rattle.rb_agree.proofs.SecondStages.{GoodOne, some_good}
 use Rattle.rb_agree.proofs.SyncAgrees.{agree_sync, book_sync, stage_setting, tail_setting}
 use Rattle.rb_agree.proofs.Places.{IsPlaced, placed, complete_before, running_earlier}
 use Rattle.rb_agree.proofs.SlotRuns.{IsSlot, slot_runs_from, slot_runs-shared, good_in_stage, stage_next, next-frame, next-window, third_frame}
@@ -242,6 +240,7 @@ held-begun sc hands law low (suc frame) running =
   where
     later : (f s : ℕ) → f * (3 * s + 4 + 1) + 3 * s + 4 - 1 ≤ suc f * (3 * s + 4 + 1) + 3 * 0 + 1 - 1
     later f s = omega arith
+
     begins : (a s : ℕ) → a + 3 * 0 + 1 - 1 ≤ a + 3 * s + 4 - 1
     begins a s = omega arith
 

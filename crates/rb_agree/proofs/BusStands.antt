@@ -1,25 +1,24 @@
 -- Where times are kept, the rounds stand for a run of the abstract bus.
-use Rattle.std.proofs.Common.{◌≡◌, ℕ, zero, suc, ◌+◌, ◌-◌, ◌*◌, ◌<◌, ◌≤◌, ◌==◌, nat_lt, max, Bool, true, false, List, Option, Some, slice_get, ◌⊎◌, inl, inr, refl, sym, ◌∙◌, ap, subst, arith}
+use Rattle.std.proofs.Common.{◌≡◌, ℕ, zero, suc, ◌+◌, ◌*◌, ◌<◌, ◌≤◌, nat_lt, Bool, true, false, List, inl, inr, refl, sym, ◌∙◌, ap, subst, arith}
 use Rattle.std.proofs.lemmas.Bool.{cases_lt}
 use Rattle.rb_base.specs.Nodes.{Side, has}
 use Rattle.rb_base.specs.Nodes.Side.{Biu, Rmu}
 use Rattle.rb_base.specs.Sizes.{Sizes, sync_slot_of}
 use Rattle.rb_base.specs.declared.values.Heard.{Heard}
-use Rattle.rb_rules.specs.AbstractBus.{AbstractBus, trusted_on, SlotStep, FrameStep, IsStep, IsRun, bus_after_frame, first_bus}
+use Rattle.rb_rules.specs.AbstractBus.{AbstractBus, trusted_on, SlotStep, FrameStep, IsStep, IsRun, bus_after_frame}
 use Rattle.rb_rules.specs.Goodness.{Scenario, is_good}
 use Rattle.rb_rules.specs.Lawful.{IsLawful}
-use Rattle.rb_rules.specs.Moments.{before_slot, after_slot, IsRunning, IsComplete, IsReached, BeginsFrame, IsSettled, IsGoodBefore, IsGoodAfter, time_in_frame, offered_in}
+use Rattle.rb_rules.specs.Moments.{before_slot, IsRunning, IsComplete, IsReached, IsSettled, IsGoodBefore, IsGoodAfter, time_in_frame, offered_in}
 use Rattle.rb_rules.specs.NodeState.{NodeState}
 use Rattle.rb_rules.specs.Plan.{shortest_of, longest_of, tail_start_of}
 use Rattle.rb_rules.specs.Ports.{HandIn}
-use Rattle.rb_rules.specs.Rounds.{windows_in}
 use Rattle.rb_rules.specs.Slots.{has_third_stage, first_diagnosis_of, role_of}
-use Rattle.rb_rules.specs.StandsFor.{steps_to, IsInBand, HoldsVote, SparesAllGood, FrameTakes, AgreesBefore, AgreesAfter, SlotAgrees, DeliversOn, IsLow, FrameAgrees, StandsFor}
+use Rattle.rb_rules.specs.StandsFor.{steps_to, IsInBand, AgreesBefore, AgreesAfter, SlotAgrees, DeliversOn, IsLow, FrameAgrees}
 use Rattle.rb_agree.specs.BusValues.{value_in_rounds, bus_in_rounds, bus_before, bus_then, IsBusBefore, IsBusSlot}
 use Rattle.rb_agree.specs.Laws.{TimeIsAllThatIsLeft}
 use Rattle.rb_agree.specs.Times.{IsInTime, KeepsTime}
 use Rattle.rb_agree.proofs.Tests.{less_true, less_false}
-use Rattle.rb_agree.proofs.Places.{complete_before, running_earlier}
+use Rattle.rb_agree.proofs.Places.{complete_before}
 use Rattle.rb_agree.proofs.FrameBegins.{settled_before, reached}
 use Rattle.rb_agree.proofs.SlotLaws.{none_accused}
 use Rattle.rb_agree.proofs.PortHistories.{slot-follows, reached_from}
@@ -43,9 +42,10 @@ slot-step sc hands law low frame slot below complete =
     let x : IsBusSlot sc hands frame slot bus (bus_then sc hands low frame slot) = bus-slot-step sc hands law low frame slot below complete in
     let at : offered_in sc hands bus.frame bus.slot ≡ offered_in sc hands frame slot =
     ap (λ f. offered_in sc hands f bus.slot) b.frame_is ∙ ap (offered_in sc hands frame) b.slot_is in
-    step-by sc (offered_in sc hands) bus (bus_then sc hands low frame slot) true (ap (λ k. nat_lt k (sync_slot_of sc.sizes)) b.slot_is ∙ less_true slot (sync_slot_of sc.sizes) below)
-    (value_in_rounds sc hands frame slot,
-    subst (λ (o : ℕ → ℕ). SlotStep sc o (value_in_rounds sc hands frame slot) bus (bus_then sc hands low frame slot)) (sym at) x.step)
+    step-by sc (offered_in sc hands) bus (bus_then sc hands low frame slot) true (ap (λ k. nat_lt k (sync_slot_of sc.sizes)) b.slot_is ∙ less_true slot (sync_slot_of sc.sizes) below) (
+      value_in_rounds sc hands frame slot,
+      subst (λ (o : ℕ → ℕ). SlotStep sc o (value_in_rounds sc hands frame slot) bus (bus_then sc hands low frame slot)) (sym at) x.step,
+    )
 
 frame-step : (sc : Scenario) (hands : List HandIn) → IsLawful sc → (low : ℕ → ℕ) → KeepsTime sc hands low → (frame : ℕ) → IsComplete sc hands frame (sync_slot_of sc.sizes)
     → IsStep sc (offered_in sc hands) (bus_before sc hands low frame (sync_slot_of sc.sizes)) (bus_then sc hands low frame (sync_slot_of sc.sizes))
@@ -70,6 +70,7 @@ frame-step sc hands law low times frame complete =
   where
     index : (f s : ℕ) → f * (s + 1) + s + 1 ≡ suc f * (s + 1) + 0
     index f s = omega arith
+
     on_time : (a b c d t : ℕ) → a ≡ c → b ≡ d → c + t ≤ d → a + t ≤ b
     on_time a b c d t p q h = omega arith
 
@@ -101,6 +102,7 @@ through sc hands law low frame begun (suc slot) le running =
   where
     one : (a : ℕ) → a + 1 ≡ suc a
     one a = omega arith
+
     index : (a slot : ℕ) → suc (a + slot) ≡ a + suc slot
     index a slot = omega arith
 
@@ -120,6 +122,7 @@ begun sc hands law low times (suc frame) complete =
   where
     one : (a : ℕ) → a + 1 ≡ suc a
     one a = omega arith
+
     index : (f s : ℕ) → suc (f * (s + 1) + s) ≡ suc f * (s + 1) + 0
     index f s = omega arith
 

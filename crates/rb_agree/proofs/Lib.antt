@@ -40,3 +40,4 @@ pub mod SharedBuses
 pub mod BusRuns
 pub mod BusLaws
 pub mod BusStands
+pub mod Skews

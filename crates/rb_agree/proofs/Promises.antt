@@ -1,29 +1,28 @@
 -- What follows for those who use the bus: one value for all, the owner's word, one schedule, the same convicted nodes.
-use Rattle.std.proofs.Common.{◌≡◌, ℕ, ◌+◌, ◌<◌, ◌≤◌, ◌&&◌, nat_lt, not, true, List, [], Option, Some, None, slice_get, refl, sym, ◌∙◌, ap, subst, arith}
-use Rattle.rb_base.specs.Nodes.{Side, has, set_of}
+use Rattle.std.proofs.Common.{◌≡◌, ℕ, ◌&&◌, nat_lt, not, true, List, Option, Some, None, slice_get, refl, sym, ◌∙◌, ap, subst}
+use Rattle.rb_base.specs.Nodes.{has, set_of}
 use Rattle.rb_base.specs.Nodes.Side.{Biu}
-use Rattle.rb_base.specs.Sizes.{sync_slot_of}
 use Rattle.rb_base.specs.declared.values.Heard.{Heard}
 use Rattle.rb_base.specs.declared.values.Heard.TheVariants.{Word}
 use Rattle.rb_rules.specs.declared.role.Role.{Role}
 use Rattle.rb_rules.specs.declared.role.Role.TheVariants.{Schedule, Data, DiagBiu, DiagRmu, Sync}
 use Rattle.rb_rules.specs.Book.{of_kind}
 use Rattle.rb_rules.specs.ExactStage.{own_value}
-use Rattle.rb_rules.specs.Goodness.{Scenario, is_good}
+use Rattle.rb_rules.specs.Goodness.{Scenario}
 use Rattle.rb_rules.specs.Headline.{lines_of, HasRecord, DeliversOneValue, DeliverAlike, DeliverTheWord, ConvictAlike}
-use Rattle.rb_rules.specs.Hearing.{port_at, word_for}
+use Rattle.rb_rules.specs.Hearing.{word_for}
 use Rattle.rb_rules.specs.Lawful.{IsLawful}
-use Rattle.rb_rules.specs.Moments.{before_slot, IsComplete, IsGoodBefore, offered_in}
-use Rattle.rb_rules.specs.NodeState.{NodeState, trusted_of, sender_at}
-use Rattle.rb_rules.specs.NodeSteps.{owner_at, convicted_of}
-use Rattle.rb_rules.specs.Ports.{HandIn, PortState, offered_at}
+use Rattle.rb_rules.specs.Moments.{before_slot, IsGoodBefore, offered_in}
+use Rattle.rb_rules.specs.NodeState.{sender_at}
+use Rattle.rb_rules.specs.NodeSteps.{owner_at}
+use Rattle.rb_rules.specs.Ports.{HandIn}
 use Rattle.rb_rules.specs.Rounds.{Moment}
 use Rattle.rb_rules.specs.Slots.{Sender, sender_kind, role_of, count_of}
 use Rattle.rb_rules.specs.Slots.Sender.{Nobody, Node, EachTrusted}
-use Rattle.rb_agree.specs.Values.{lines_in, HasValue, IsGoodSender}
+use Rattle.rb_agree.specs.Values.{lines_in, IsGoodSender}
 use Rattle.rb_agree.specs.Laws.{DeliveriesAreRight, GoodNodesHoldOneSchedule}
 use Rattle.rb_agree.proofs.Tests.{Present}
-use Rattle.rb_agree.proofs.Invariant.{Shared, sender_of, IsGoodNode, is_good_now, Holds}
+use Rattle.rb_agree.proofs.Invariant.{sender_of, IsGoodNode, is_good_now}
 use Rattle.rb_agree.proofs.Deliveries.{owner_sending, owner-held}
 use Rattle.rb_agree.proofs.Exchanges.{sender-held, trusted-either}
 use Rattle.rb_agree.proofs.Settings.{good_state}
@@ -36,7 +35,7 @@ one-value : (sc : Scenario) (hands : List HandIn) (frame slot : ℕ) (owner : Op
 one-value sc hands frame slot None value h = h
 one-value sc hands frame slot (Some owner) value h = (value, h)
 
-deliver-alike : (sc : Scenario) (hands : List HandIn) → IsLawful sc → DeliverAlike sc hands
+pub deliver-alike : (sc : Scenario) (hands : List HandIn) → IsLawful sc → DeliverAlike sc hands
 deliver-alike sc hands law frame slot below complete me i st h =
     let r : IsSlot sc hands frame slot = slot_runs sc hands law frame slot below complete in
     one-value sc hands frame slot (owner_at sc.sizes st slot) (value_of_slot sc hands frame slot r) ((has_value sc hands frame slot r).record_is me i st h)
@@ -51,7 +50,7 @@ owner-sends (DiagBiu i) sender owner h = cc
 owner-sends (DiagRmu i) sender owner h = cc
 owner-sends Sync sender owner h = cc
 
-deliver-word : (sc : Scenario) (hands : List HandIn) → IsLawful sc → DeliverTheWord sc hands
+pub deliver-word : (sc : Scenario) (hands : List HandIn) → IsLawful sc → DeliverTheWord sc hands
 deliver-word sc hands law frame slot below complete me i st h owner owns good =
     let r : IsSlot sc hands frame slot = slot_runs sc hands law frame slot below complete in
     let m : Moment = before_slot sc hands frame slot in
@@ -78,7 +77,7 @@ pub deliveries_are_right : DeliveriesAreRight
 deliveries_are_right sc hands law = (deliver-alike sc hands law, deliver-word sc hands law)
 
 -- all good nodes hold the same nodes convicted
-convict-alike : (sc : Scenario) (hands : List HandIn) → IsLawful sc → ConvictAlike sc hands
+pub convict-alike : (sc : Scenario) (hands : List HandIn) → IsLawful sc → ConvictAlike sc hands
 convict-alike sc hands law frame slot le settled me you i j mine yours h k kind =
     let convicted : ℕ → ℕ = λ trusted. set_of (λ j. nat_lt j (count_of kind sc.sizes) && not (has trusted j)) in
     ap convicted (trusted-either me kind mine) ∙ ap convicted (trust-alike sc hands law frame slot le settled me you i j mine yours h k kind)

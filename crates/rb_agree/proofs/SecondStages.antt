@@ -2,7 +2,6 @@
 use Rattle.std.proofs.Common.{◌≡◌, ℕ, ◌+◌, ◌*◌, ◌<◌, ◌==◌, ◌&&◌, ◌||◌, not, nat_lt, Bool, true, false, List, [], ◌∷◌, length, map, inl, inr, Option, Some, None, is_some, unwrap_or, slice_get, slice_set, get_or, if◌then◌else◌, refl, sym, ◌∙◌, ap, subst, arith}
 use Rattle.std.specs.Prelude.{IfSome}
 use Rattle.std.specs.List.{list_any, cons_option}
-use Rattle.std.proofs.lemmas.Bool.Decides.{nat_tests}
 use Rattle.std.proofs.lemmas.List.{get_or-set_same}
 use Rattle.rb_base.specs.Counting.{numbers}
 use Rattle.rb_base.specs.Nodes.{Side, other, has}
@@ -314,6 +313,7 @@ sender-is me i role EachTrusted h = cc
 sender-is me i role (Node p) h =
     let same : i ≡ p = equal_from i p (and_second (same_side me (sender_kind role)) (i == p) h) in
     (ap (λ k. Node k) (sym same), same_side-is me (sender_kind role) (and_first (same_side me (sender_kind role)) (i == p) h))
+
 pub none_unlike_2 : (sc : Scenario) (hands : List HandIn) (n : ℕ) (m : Moment) (s : Shared) (slot : ℕ) (c : Setting sc hands n m s slot 1) → NoneUnlike sc hands n m s slot 1 c
 none_unlike_2 sc hands n m s slot c me i j st source here there value reference =
     let role : Role = role_of sc.sizes slot in

@@ -1,7 +1,6 @@
 -- What all good nodes hold in common is what the abstract bus holds.
-use Rattle.std.proofs.Common.{◌≡◌, ℕ, zero, suc, ◌+◌, ◌<◌, ◌≤◌, ◌==◌, nat_lt, Bool, true, false, List, [], ◌∷◌, ◌++◌, length, length-append, map, take, Option, Some, None, get_or, if◌then◌else◌, ◌⊎◌, inl, inr, refl, sym, ◌∙◌, ap, subst, arith}
+use Rattle.std.proofs.Common.{◌≡◌, ℕ, zero, suc, ◌+◌, ◌<◌, ◌==◌, nat_lt, Bool, true, false, List, [], ◌∷◌, ◌++◌, length, length-append, map, take, get_or, if◌then◌else◌, inl, inr, refl, sym, ◌∙◌, ap, subst, arith}
 use Rattle.std.proofs.lemmas.Bool.{cases_lt}
-use Rattle.std.proofs.lemmas.Bool.Decides.{nat_tests}
 use Rattle.rb_base.specs.Counting.{numbers}
 use Rattle.rb_base.specs.Nodes.{Side, other, has, set_of}
 use Rattle.rb_base.specs.Nodes.Side.{Biu, Rmu}
@@ -96,6 +95,7 @@ bus-slot sc s frame slot bus value b = record {
     same-kind : (kind : Side) → trusted_on kind bus ≡ trusted_on kind (bus_after_slot sc.sizes value bus)
     same-kind Biu = refl
     same-kind Rmu = refl
+
     go : (e : Bool) → (slot + 1 == sc.sizes.bius) ≡ e
         → (if e then owners_of sc.sizes (s.trusted Biu) (map (with_value sc s slot value).values (numbers sc.sizes.bius)) else s.owners)
         ≡ (if e then owners_of sc.sizes bus.bius (bus.values ++ value ∷ []) else bus.owners)
@@ -125,6 +125,7 @@ bus-frame sc s frame bus low inside b = record {
     same-kind : (kind : Side) → without (trusted_on kind bus) (convicted_on sc.sizes kind bus) ≡ trusted_on kind (bus_after_frame sc.sizes low bus)
     same-kind Biu = refl
     same-kind Rmu = refl
+
     convicted : (kind : Side) → convicted_all sc.sizes s kind ≡ convicted_on sc.sizes kind bus
     convicted kind =
         let from : Side = other kind in

@@ -87,11 +87,17 @@ has_value sc hands frame slot r =
     λ me i g. good_in_stage sc hands steps m3 r.shared frame slot 2 r.third (third_frame sc hands frame slot r) me i g in
     let one : GoodOne sc m3 (kind_in sc.sizes slot) = some_good sc hands steps m3 r.shared slot 2 r.third (kind_in sc.sizes slot) in
     record {
-      some_voter = (one.index, (one.st, record {
-        good = ap (λ f. is_good sc (kind_in sc.sizes slot) one.index f slot) (sym (third_frame sc hands frame slot r))
-            ∙ sym (good_here sc hands steps m3 r.shared slot 2 r.third (kind_in sc.sizes slot) one.index) ∙ one.here.good;
-        state = ap (λ m. slice_get (of_kind (kind_in sc.sizes slot) m.nodes) one.index) (sym r.after_second) ∙ one.here.there;
-      }));
+      some_voter = (
+        one.index,
+        (
+          one.st,
+          record {
+            good = ap (λ f. is_good sc (kind_in sc.sizes slot) one.index f slot) (sym (third_frame sc hands frame slot r))
+                ∙ sym (good_here sc hands steps m3 r.shared slot 2 r.third (kind_in sc.sizes slot) one.index) ∙ one.here.good;
+            state = ap (λ m. slice_get (of_kind (kind_in sc.sizes slot) m.nodes) one.index) (sym r.after_second) ∙ one.here.there;
+          },
+        ),
+      );
       voters = λ i st h.
           v.held i st (record {
             there = ap (λ m. slice_get (of_kind (kind_in sc.sizes slot) m.nodes) i) r.after_second ∙ h.state;

@@ -1,6 +1,5 @@
 -- The vectors of a frame: their slots, and whom they convict.
-use Rattle.std.proofs.Common.{◌≡◌, ℕ, ◌+◌, ◌-◌, ◌*◌, ◌<◌, ◌≤◌, ◌&&◌, nat_lt, not, Bool, true, false, refl, sym, ◌∙◌, ap, arith}
-use Rattle.std.proofs.lemmas.Bool.Decides.{nat_tests}
+use Rattle.std.proofs.Common.{◌≡◌, ℕ, ◌+◌, ◌-◌, ◌*◌, ◌<◌, ◌&&◌, nat_lt, not, Bool, true, false, refl, sym, ◌∙◌, ap, arith}
 use Rattle.rb_base.specs.Counting.{count_if, numbers}
 use Rattle.rb_base.specs.Nodes.{Side, has, size}
 use Rattle.rb_base.specs.Nodes.Side.{Biu, Rmu}

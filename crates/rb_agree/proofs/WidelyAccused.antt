@@ -1,6 +1,5 @@
 -- Whoever is accused by all nodes of the other kind that are good at a frame's end is convicted there.
 use Rattle.std.proofs.Common.{◌≡◌, ℕ, zero, suc, ◌+◌, ◌-◌, ◌*◌, ◌<◌, ◌≤◌, ◌&&◌, ◌||◌, nat_lt, not, true, false, List, Some, slice_get, inl, inr, refl, sym, ◌∙◌, ap, subst, arith}
-use Rattle.std.proofs.lemmas.Bool.Decides.{nat_tests}
 use Rattle.rb_base.specs.Nodes.{Side, other, has}
 use Rattle.rb_base.specs.Nodes.Side.{Biu, Rmu}
 use Rattle.rb_base.specs.Sizes.{sync_slot_of}
@@ -22,7 +21,7 @@ use Rattle.rb_rules.proofs.RoundStates.{Stays, stays-refl, stays-trans, through-
 use Rattle.rb_agree.specs.Laws.{Accuses, IsAccusedByAll, AccusedByAllIsConvicted}
 use Rattle.rb_agree.proofs.Tests.{true_or_false, and_both, and_none, not_so, Present, less_true}
 use Rattle.rb_agree.proofs.Goodnesses.{good_earlier, few_nodes, slot_last}
-use Rattle.rb_agree.proofs.Invariant.{Shared, IsGoodNode, is_good_now, slot_numbered, IsOwn, Holds, Agree}
+use Rattle.rb_agree.proofs.Invariant.{Shared, IsGoodNode, is_good_now, slot_numbered, IsOwn, Holds}
 use Rattle.rb_agree.proofs.ExactWindows.{other_twice}
 use Rattle.rb_agree.proofs.Exchanges.{trusted-either, far-trusted}
 use Rattle.rb_agree.proofs.JudgedWindows.{stays-trusted}
@@ -176,14 +175,19 @@ trusts-then sc hands law frame slot lt complete e p me i st there good =
   where
     n : ℕ
     n = frame * (windows_in sc.sizes + 1) + 3 * slot + 1 - 1
+
     k : ℕ
     k = 3 * sync_slot_of sc.sizes + 4 - 3 * slot
+
     index : (a slot s : ℕ) → slot < s → a + 3 * slot + 1 - 1 + (3 * s + 4 - 3 * slot) ≡ suc (a + 3 * s + 4 - 1)
     index a slot s lt = omega arith
+
     reached : moment sc hands (n + k) ≡ next sc (after_slot sc hands frame (sync_slot_of sc.sizes))
     reached = ap (moment sc hands) (index (frame * (windows_in sc.sizes + 1)) slot (sync_slot_of sc.sizes) lt) ∙ sym e.at_end.agree.is
+
     within : (window : ℕ) → window ≡ 3 * slot + (1 - 1) → window + (3 * sync_slot_of sc.sizes + 4 - 3 * slot) ≤ windows_in sc.sizes
     within window at = omega arith
+
     stay : HasStayed sc hands n k me i st
     stay = stays_on sc hands n k me i st (ap (λ m. m.book.ended) reached ∙ end-runs sc hands law frame complete) (within (before_slot sc hands frame slot).window p.window_is) there
 
@@ -199,26 +203,36 @@ vector-names sc hands law frame complete e accused j t all i trusts good =
   where
     from : Side
     from = other accused
+
     b : Moment
     b = next sc (after_slot sc hands frame (sync_slot_of sc.sizes))
+
     slot : ℕ
     slot = vector_slot sc.sizes from i
+
     count : i < count_of from sc.sizes
     count = e.at_end.agree.inside from i trusts
+
     lt : slot < sync_slot_of sc.sizes
     lt = vector_slot-lt sc.sizes from i count
+
     last : is_good sc from i frame (sync_slot_of sc.sizes) ≡ true
     last =
         ap (λ f. is_good sc from i f (sync_slot_of sc.sizes)) (sym e.frame_is) ∙ ap (is_good sc from i b.frame) (sym (slot_last sc.sizes b.window 4 e.at_end.at)) ∙ good
+
     p : IsPlaced sc hands frame slot 1
     p = begins sc hands law frame slot lt complete
+
     st : Present (slice_get (of_kind from (before_slot sc hands frame slot).nodes) i)
     st = state-then sc hands law frame slot lt p from i last
+
     trusted : has st.value.far.trusted j ≡ true
     trusted =
         ap (λ x. has x j) (trusts-then sc hands law frame slot lt complete e p from i st.value st.is good) ∙ ap (λ x. has (e.shared.trusted x) j) (other_twice accused) ∙ t
+
     small : j < 16
     small = omega (arith, e.at_end.agree.inside accused j t, few_nodes sc.sizes law.sizes accused)
+
     v : VectorOf sc hands b e.shared from i
     v = vector_end sc hands (end_steps sc frame) b e.shared e.at_end from i trusts
 

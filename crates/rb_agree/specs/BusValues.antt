@@ -10,7 +10,7 @@ use Rattle.rb_rules.specs.Goodness.{Scenario, is_good}
 use Rattle.rb_rules.specs.Moments.{before_stage, IsComplete, IsSettled, IsGoodBefore, IsGoodAfter, offered_in}
 use Rattle.rb_rules.specs.NodeState.{NodeState, first_state}
 use Rattle.rb_rules.specs.Ports.{HandIn}
-use Rattle.rb_rules.specs.StandsFor.{steps_to, HoldsTrusted, HoldsOwners, HoldsVote, SparesAllGood, DeliversOn}
+use Rattle.rb_rules.specs.StandsFor.{steps_to, HoldsTrusted, HoldsOwners, HoldsVote, DeliversOn}
 use Rattle.rb_agree.specs.Values.{kind_in, vote_on}
 
 -- the first number that passes

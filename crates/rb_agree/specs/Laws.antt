@@ -8,7 +8,7 @@ use Rattle.rb_base.specs.declared.values.Heard.{Heard}
 use Rattle.rb_rules.specs.Book.{of_kind}
 use Rattle.rb_rules.specs.Conviction.{is_valid, voted_vector}
 use Rattle.rb_rules.specs.Goodness.{Scenario, is_good}
-use Rattle.rb_rules.specs.Headline.{DeliverAlike, DeliverTheWord, HoldOneSchedule, ConvictAlike, ConvictNoGoodNode}
+use Rattle.rb_rules.specs.Headline.{DeliverAlike, DeliverTheWord, HoldOneSchedule, ConvictAlike, ConvictNoGoodNode, Headline}
 use Rattle.rb_rules.specs.Hearing.{port_at}
 use Rattle.rb_rules.specs.Judging.{is_benign}
 use Rattle.rb_rules.specs.Lawful.{IsLawful}
@@ -137,3 +137,8 @@ RoundsStepTheBus = (sc : Scenario) (hands : List HandIn) → IsLawful sc → (lo
 abbrev pub TimeIsAllThatIsLeft : Type 0
 TimeIsAllThatIsLeft =
     (sc : Scenario) (hands : List HandIn) → IsLawful sc → (low : ℕ → ℕ) → KeepsTime sc hands low → StandsFor sc hands
+
+-- and all that the bus promises holds
+abbrev pub TimeKeepsThePromise : Type 0
+TimeKeepsThePromise =
+    (sc : Scenario) (hands : List HandIn) → IsLawful sc → (low : ℕ → ℕ) → KeepsTime sc hands low → Headline sc hands

@@ -2,7 +2,7 @@
 //! law is the contract of a function that does nothing.
 #![tactic(auto)]
 
-ghost use Rattle.rb_agree.specs.Laws.{AccusedByAllIsConvicted, DeliveriesAreRight, GoodNodesAgree, GoodNodesHoldOneSchedule, GoodSendersAreHeard, NoGoodNodeIsAccused, NoGoodNodeIsConvicted, PortsFollowTheBus, PortsHoldOneState, RoundsStepTheBus, TimeIsAllThatIsLeft, UnheardNodesHaveNoVector};
+ghost use Rattle.rb_agree.specs.Laws.{AccusedByAllIsConvicted, DeliveriesAreRight, GoodNodesAgree, GoodNodesHoldOneSchedule, GoodSendersAreHeard, NoGoodNodeIsAccused, NoGoodNodeIsConvicted, PortsFollowTheBus, PortsHoldOneState, RoundsStepTheBus, TimeIsAllThatIsLeft, TimeKeepsThePromise, UnheardNodesHaveNoVector};
 
 /// The good nodes that vote on a slot hold one vote, and each good BIU delivers that in an owned data slot.
 pub fn good_nodes_agree()
@@ -62,4 +62,9 @@ pub fn rounds_step_the_bus()
 /// Where good nodes begin slots in time, the rounds stand for a run of the abstract bus.
 pub fn time_is_all_that_is_left()
     ensures { TimeIsAllThatIsLeft }
+{}
+
+/// Then all that the bus promises holds.
+pub fn time_keeps_the_promise()
+    ensures { TimeKeepsThePromise }
 {}
