@@ -2,20 +2,19 @@
 use Rattle.std.proofs.Common.{◌≡◌, ℕ, zero, suc, ◌+◌, ◌-◌, ◌*◌, ◌/◌, ◌%◌, ◌<◌, ◌≤◌, ◌==◌, nat_lt, Bool, true, false, List, [], ◌∷◌, ◌++◌, ◌⊎◌, inl, inr, refl, sym, ◌∙◌, ap, subst, arith}
 use Rattle.std.proofs.lemmas.Bool.{cases_lt}
 use Rattle.std.proofs.lemmas.Bool.Decides.{nat_tests}
-use Rattle.rb_base.specs.Sizes.{Sizes, sync_slot_of}
+use Rattle.rb_base.specs.Sizes.{sync_slot_of}
 use Rattle.rb_rules.specs.Book.{Book, with_end}
 use Rattle.rb_rules.specs.Book.Record.{Ended}
 use Rattle.rb_rules.specs.Goodness.{Scenario}
 use Rattle.rb_rules.specs.Lawful.{IsLawful}
 use Rattle.rb_rules.specs.Moments.{IsRunning}
 use Rattle.rb_rules.specs.Ports.{HandIn}
-use Rattle.rb_rules.specs.Rounds.{Moment, first_moment, next_frame, step, moment, windows_in}
-use Rattle.rb_rules.proofs.Books.{GoesOn, step-on, stepped, moments-on}
+use Rattle.rb_rules.specs.Rounds.{Moment, next_frame, step, moment, windows_in}
+use Rattle.rb_rules.proofs.Books.{step-on, stepped}
 use Rattle.rb_agree.proofs.Tests.{so_not}
 use Rattle.rb_agree.proofs.Invariant.{Shared, Agree}
 use Rattle.rb_agree.proofs.ExactAgrees.{with_value, agree_1, agree_2, agree_3}
 use Rattle.rb_agree.proofs.FrameAgrees.{first_shared, shared_next, agree_first, agree_frame}
-use Rattle.rb_agree.proofs.FrameTurns.{AtEnd}
 use Rattle.rb_agree.proofs.JudgedWindows.{rows_of, IsPassed, passed}
 use Rattle.rb_agree.proofs.NodeWindows.{sync_windows_are, tail_windows}
 use Rattle.rb_agree.proofs.NextMoments.{next, book_exact}

@@ -1,10 +1,8 @@
 -- Whatever is taken in a lawful scenario has four bytes, also what nodes say that are not good.
-use Rattle.std.proofs.Common.{◌≡◌, ℕ, zero, suc, ◌+◌, ◌<◌, ◌≤◌, ◌^◌, ◌%◌, ◌&&◌, min, Bool, true, false, cond, List, [], ◌∷◌, map, filter, Option, Some, None, is_some, slice_get, get_or, if◌then◌else◌, refl, sym, ◌∙◌, ap, subst, arith, ◌⊎◌, inl, inr, slice_index}
+use Rattle.std.proofs.Common.{◌≡◌, ℕ, ◌+◌, ◌<◌, ◌≤◌, ◌^◌, ◌&&◌, Bool, true, false, cond, List, [], ◌∷◌, map, filter, Option, Some, None, slice_get, if◌then◌else◌, refl, sym, ◌∙◌, ap, subst, arith, inl, inr}
 use Rattle.std.specs.Prelude.{IfSome, All}
 use Rattle.std.proofs.lemmas.List.Elements.{All-head, All-tail}
-use Rattle.rb_base.specs.Nodes.{Side, other, has}
-use Rattle.rb_base.specs.Sizes.{Sizes, sync_slot_of}
-use Rattle.rb_base.specs.declared.values.Heard.{Heard}
+use Rattle.rb_base.specs.Nodes.{Side, other}
 use Rattle.rb_base.specs.declared.values.Place.{Place}
 use Rattle.rb_rules.specs.declared.message.Message.{Message}
 use Rattle.rb_rules.specs.declared.message.Tag.{Tag}
@@ -18,15 +16,14 @@ use Rattle.rb_rules.specs.declared.sense.Sense.{Sense}
 use Rattle.rb_rules.specs.declared.sense.Sense.TheVariants.{One, Bad}
 use Rattle.rb_rules.specs.Book.{of_kind}
 use Rattle.rb_rules.specs.Clock.{Timeline}
-use Rattle.rb_rules.specs.ExactStage.{says}
 use Rattle.rb_rules.specs.Goodness.{Scenario, is_good, clock_of}
 use Rattle.rb_rules.specs.Hearing.{Coming, Span, span_of, message_at, bytes_of, is_said, coming_said, said_by, arrival_of}
-use Rattle.rb_rules.specs.Lawful.{IsLawful, IsContent, IsSayOf}
+use Rattle.rb_rules.specs.Lawful.{IsContent, IsSayOf}
 use Rattle.rb_rules.specs.NodeState.{NodeState}
 use Rattle.rb_rules.specs.NodeSteps.{expect_of}
 use Rattle.rb_rules.specs.Ports.{HandIn}
 use Rattle.rb_rules.specs.Rounds.{Moment, sent_in}
-use Rattle.rb_rules.specs.Sense.{Arrival, suits, sense_of, sense_of_one, value_of, value_in}
+use Rattle.rb_rules.specs.Sense.{suits, sense_of, sense_of_one, value_of, value_in}
 use Rattle.rb_rules.specs.Spelling.{IsMessage, HasValue, AreBytes, spelling_of, message_in}
 use Rattle.rb_rules.specs.Standing.{Standing, is_eligible, taken_of}
 use Rattle.rb_rules.proofs.Senses.{IsCarried}
@@ -34,7 +31,7 @@ use Rattle.rb_rules.proofs.Spellings.{read_back, only_so}
 use Rattle.rb_agree.proofs.Tests.{true_or_false, Present, same_some}
 use Rattle.rb_agree.proofs.Invariant.{Shared, IsGoodNode, is_good_now}
 use Rattle.rb_agree.proofs.Goodnesses.{few_slots}
-use Rattle.rb_agree.proofs.NodeWindows.{Windows, word_at, kept_in, own_window, heard_in, sense_in, from-faulty}
+use Rattle.rb_agree.proofs.NodeWindows.{Windows, kept_in, own_window, heard_in, sense_in, from-faulty}
 use Rattle.rb_agree.proofs.ExactWindows.{expected_at}
 use Rattle.rb_agree.proofs.Exchanges.{IsHeard}
 use Rattle.rb_agree.proofs.Speaking.{get-all}

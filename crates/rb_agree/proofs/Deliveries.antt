@@ -1,26 +1,21 @@
 -- What the BIUs deliver in a slot, and the record of it.
-use Rattle.std.proofs.Common.{◌≡◌, ℕ, zero, suc, ◌+◌, ◌*◌, ◌<◌, ◌≤◌, ◌==◌, ◌&&◌, nat_lt, nat_le, Bool, true, false, List, [], ◌∷◌, ◌++◌, length, map, filter, filter_map, Option, Some, None, option_map, slice_get, get_or, cond, if◌then◌else◌, refl, sym, ◌∙◌, ap, subst, arith, ◌⊎◌, inl, inr}
+use Rattle.std.proofs.Common.{◌≡◌, ℕ, suc, ◌+◌, ◌<◌, ◌==◌, ◌&&◌, nat_lt, nat_le, Bool, true, false, List, [], ◌∷◌, ◌++◌, length, map, filter, filter_map, Option, Some, None, option_map, slice_get, cond, if◌then◌else◌, refl, sym, ◌∙◌, ap, subst, arith, inl, inr}
 use Rattle.std.specs.List.{range_with_len, cons_option}
 use Rattle.std.proofs.lemmas.Bool.Decides.{nat_tests}
 use Rattle.std.proofs.lemmas.List.{append-nil}
-use Rattle.rb_base.specs.Counting.{numbers}
-use Rattle.rb_base.specs.Nodes.{Side, other, has}
+use Rattle.rb_base.specs.Nodes.{Side}
 use Rattle.rb_base.specs.Nodes.Side.{Biu, Rmu}
-use Rattle.rb_base.specs.Sizes.{Sizes, sync_slot_of}
+use Rattle.rb_base.specs.Sizes.{sync_slot_of}
 use Rattle.rb_base.specs.declared.values.Delivery.{Delivery}
 use Rattle.rb_base.specs.declared.values.Heard.{Heard}
-use Rattle.rb_base.specs.declared.values.Place.{Place}
-use Rattle.rb_rules.specs.declared.closing.Closed.{Closed}
-use Rattle.rb_rules.specs.declared.plan.Window.{Window}
 use Rattle.rb_rules.specs.declared.record.SlotLine.{SlotLine}
 use Rattle.rb_rules.specs.declared.role.Role.{Role}
 use Rattle.rb_rules.specs.declared.role.Role.TheVariants.{Schedule, Data, DiagBiu, DiagRmu, Sync}
-use Rattle.rb_rules.specs.Book.{of_kind, Row, Record, line_in, slot_records}
+use Rattle.rb_rules.specs.Book.{of_kind, Row, line_in}
 use Rattle.rb_rules.specs.Book.Record.{Slot}
-use Rattle.rb_rules.specs.ExactStage.{Outcome, delivery_of}
-use Rattle.rb_rules.specs.Goodness.{Scenario, is_good, clock_of}
-use Rattle.rb_rules.specs.Headline.{lines_of}
-use Rattle.rb_rules.specs.Hearing.{Coming, arrival_of, close_window, row_of}
+use Rattle.rb_rules.specs.ExactStage.{delivery_of}
+use Rattle.rb_rules.specs.Goodness.{Scenario, is_good}
+use Rattle.rb_rules.specs.Hearing.{row_of}
 use Rattle.rb_rules.specs.NodeState.{NodeState}
 use Rattle.rb_rules.specs.NodeSteps.{owner_for, owner_at, close}
 use Rattle.rb_rules.specs.Ports.{HandIn}
@@ -30,7 +25,7 @@ use Rattle.rb_rules.specs.Slots.Sender.{Nobody, Node, EachTrusted}
 use Rattle.rb_rules.proofs.WindowNumbers.{length-each}
 use Rattle.rb_agree.specs.Values.{lines_in}
 use Rattle.rb_agree.proofs.Tests.{true_or_false, same_some}
-use Rattle.rb_agree.proofs.Invariant.{Shared, sender_of, kind_in, IsGoodNode, is_good_now, Holds, Agree}
+use Rattle.rb_agree.proofs.Invariant.{Shared, sender_of, kind_in, IsGoodNode, Holds}
 use Rattle.rb_agree.proofs.JudgedWindows.{rows_of, row-at}
 use Rattle.rb_agree.proofs.NodeWindows.{Windows, own_window, kept_in, heard_in, sense_in, goes}
 use Rattle.rb_agree.proofs.Exchanges.{sender-held, closes_exactly}
@@ -54,7 +49,7 @@ abbrev pub delivery_from : NodeState → ℕ → Heard → ℕ → Delivery
 delivery_from st slot value p = record { frame = st.frame; slot = slot; sender = p; value = value }
 
 -- a BIU delivers the vote of stage 2, where there is an owner
-delivery-2 : (st : NodeState) (slot : ℕ) (role : Role) (sender : Sender) (voted : Heard)
+pub delivery-2 : (st : NodeState) (slot : ℕ) (role : Role) (sender : Sender) (voted : Heard)
     → delivery_of Biu st slot role sender 2 voted ≡ option_map (delivery_from st slot voted) (owner_sending role sender)
 delivery-2 st slot (Schedule i) sender voted = refl
 delivery-2 st slot (Data n) Nobody voted = refl
@@ -84,6 +79,7 @@ owner-held sc m s me st slot h = go (role_of sc.sizes slot)
     by_owner : (n : ℕ) (o : Option ℕ) → o ≡ owner_sending (Data n) (if_owned o)
     by_owner n None = refl
     by_owner n (Some p) = refl
+
     go : (role : Role) → owner_for st role ≡ owner_sending role (sender_in (s.trusted Biu) (s.trusted Rmu) s.owners role)
     go (Schedule i) = refl
     go (Data n) = ap (λ o. slice_get o n) h.owners ∙ by_owner n (slice_get s.owners n)
@@ -96,7 +92,7 @@ owner-held sc m s me st slot h = go (role_of sc.sizes slot)
 abbrev pub line_from : ℕ → Delivery → SlotLine
 line_from i d = record { receiver = i; sender = d.sender; value = d.value }
 
-line-closed : (sc : Scenario) (m : Moment) (slot stage : ℕ) (ws : Windows sc m slot stage) (me : Side) (i : ℕ) (st : NodeState)
+pub line-closed : (sc : Scenario) (m : Moment) (slot stage : ℕ) (ws : Windows sc m slot stage) (me : Side) (i : ℕ) (st : NodeState)
     → line_in (close_on sc me i (kept_in sc m slot stage me i st) (own_window sc m slot stage ws me st) (heard_in sc m slot stage ws me i st)).row
     ≡ option_map (line_from i) (close sc.sizes me i (kept_in sc m slot stage me i st) slot stage (ws.first me st) (sense_in sc m slot stage ws me i st)).closed.delivered
 unfolding close_on row_of
@@ -137,7 +133,7 @@ line-good sc hands n m s slot q c me i st here =
 
 -- The lines of all.
 
-none-delivered : (f : Option Row → Option SlotLine) (xs : List (Option Row)) → ((i : ℕ) (x : Option Row) → slice_get xs i ≡ Some x → f x ≡ None) → filter_map f xs ≡ []
+pub none-delivered : (f : Option Row → Option SlotLine) (xs : List (Option Row)) → ((i : ℕ) (x : Option Row) → slice_get xs i ≡ Some x → f x ≡ None) → filter_map f xs ≡ []
 none-delivered f [] none = refl
 none-delivered f (x ∷ xs) none =
     ap (λ o. cons_option o (filter_map f xs)) (none 0 x refl) ∙ none-delivered f xs (λ i y h. none (suc i) y h)
@@ -158,7 +154,7 @@ some-delivered f good make from (x ∷ xs) each =
     go false rest = refl
 
 -- the rows of the BIUs, one by one
-row-of : (sc : Scenario) (m : Moment) (slot stage : ℕ) (ws : Windows sc m slot stage) (P : ℕ → Option SlotLine → Type 0)
+pub row-of : (sc : Scenario) (m : Moment) (slot stage : ℕ) (ws : Windows sc m slot stage) (P : ℕ → Option SlotLine → Type 0)
     → ((i : ℕ) (st : NodeState) → slice_get (of_kind Biu m.nodes) i ≡ Some st → P i (line_in (row_after sc m Biu i st)))
     → (i : ℕ) (x : Option Row) → slice_get (of_kind Biu (rows_of sc m)) i ≡ Some x → P i (line_in x)
 row-of sc m slot stage ws P each i x h = go (slice_get (of_kind Biu m.nodes) i) refl (sym (row-at sc m Biu i) ∙ h)
@@ -185,14 +181,17 @@ lines_2 sc hands n m s slot c value votes = go (owner_sending (role_of sc.sizes 
     biu_kind (DiagBiu i) sender p h = cc
     biu_kind (DiagRmu i) sender p h = cc
     biu_kind Sync sender p h = cc
+
     line : (o : Option ℕ) → owner_sending (role_of sc.sizes slot) (sender_of sc.sizes s slot) ≡ o → (i : ℕ) (st : NodeState) → IsGoodNode sc m Biu i st
         → line_in (row_after sc m Biu i st) ≡ option_map (line_from i) (option_map (delivery_from st slot (vote_of sc hands n m s slot 1 c Biu i st)) o)
     line o e i st here =
         line-good sc hands n m s slot 1 c Biu i st here
         ∙ ap (option_map (line_from i)) (delivery-2 st slot (role_of sc.sizes slot) (sender_of sc.sizes s slot) (vote_of sc hands n m s slot 1 c Biu i st)
         ∙ ap (option_map (delivery_from st slot (vote_of sc hands n m s slot 1 c Biu i st))) e)
+
     faulty_line : (i : ℕ) (st : NodeState) → is_good sc Biu i m.frame slot ≡ false → line_in (row_after sc m Biu i st) ≡ None
     faulty_line i st faulty = ap line_in (row-faulty sc m slot 2 (windows sc hands n m s slot 1 c) Biu i st faulty)
+
     go : (o : Option ℕ) → owner_sending (role_of sc.sizes slot) (sender_of sc.sizes s slot) ≡ o
         → filter_map line_in (of_kind Biu (rows_of sc m)) ≡ lines_in sc m.frame slot o value
     go None e =

@@ -1,27 +1,23 @@
 -- From one window below the sync slot to the next: all good nodes still agree.
-use Rattle.std.proofs.Common.{◌≡◌, ℕ, zero, suc, ◌+◌, ◌*◌, ◌<◌, ◌≤◌, ◌==◌, ◌&&◌, ◌⊎◌, inl, inr, Bool, true, false, List, [], ◌∷◌, length, map, take, Option, Some, None, slice_get, slice_set, get_or, if◌then◌else◌, refl, sym, ◌∙◌, ap, subst, arith}
+use Rattle.std.proofs.Common.{◌≡◌, ℕ, suc, ◌+◌, ◌*◌, ◌<◌, ◌≤◌, ◌==◌, ◌&&◌, inl, inr, Bool, true, false, List, length, map, take, Some, None, slice_set, if◌then◌else◌, refl, sym, ◌∙◌, ap, subst, arith}
 use Rattle.std.proofs.lemmas.Bool.{cases_lt}
 use Rattle.std.proofs.lemmas.Bool.Decides.{nat_tests}
 use Rattle.std.proofs.Math.ListN.{set, length-set}
 use Rattle.rb_base.specs.Counting.{numbers}
 use Rattle.rb_base.specs.Nodes.{Side, other, has}
 use Rattle.rb_base.specs.Nodes.Side.{Biu, Rmu}
-use Rattle.rb_base.specs.Sizes.{Sizes, sync_slot_of}
+use Rattle.rb_base.specs.Sizes.{sync_slot_of}
 use Rattle.rb_base.specs.declared.values.Heard.{Heard}
-use Rattle.rb_base.specs.declared.values.Heard.TheVariants.{Fault}
-use Rattle.rb_rules.specs.declared.role.Role.TheVariants.{Schedule}
-use Rattle.rb_rules.specs.ExactStage.{votes_in, votes_after, owners_after}
+use Rattle.rb_rules.specs.ExactStage.{votes_in, owners_after}
 use Rattle.rb_rules.specs.Goodness.{Scenario, is_good}
 use Rattle.rb_rules.specs.Lawful.{IsLawful}
 use Rattle.rb_rules.specs.NodeState.{NodeState, trusted_of}
 use Rattle.rb_rules.specs.Owners.{owners_of}
 use Rattle.rb_rules.specs.Ports.{HandIn}
-use Rattle.rb_rules.specs.Rounds.{Moment, moment, sent_in, window_in, after_window, results_of, windows_in}
-use Rattle.rb_rules.specs.Slots.{Sender, same_side, has_third_stage, role_of, sender_in}
-use Rattle.rb_rules.specs.StandsFor.{votes_on}
+use Rattle.rb_rules.specs.Rounds.{Moment, moment, sent_in, window_in, after_window, windows_in}
+use Rattle.rb_rules.specs.Slots.{same_side, has_third_stage, role_of, sender_in}
 use Rattle.rb_rules.proofs.RoundStates.{Knows, HasTicks, through-stays, numbered-knows}
-use Rattle.rb_agree.proofs.Invariant.{Shared, sender_of, kind_in, IsGoodNode, is_good_now, slot_numbered, SparesGood, IsOwn, IsValue, IsFinished, HasRelays, HasVoted, Holds, Agree}
-use Rattle.rb_agree.proofs.Exchanges.{far-held}
+use Rattle.rb_agree.proofs.Invariant.{Shared, sender_of, IsGoodNode, is_good_now, IsFinished, HasRelays, HasVoted, Holds, Agree}
 use Rattle.rb_agree.proofs.JudgedWindows.{stays-trusted}
 use Rattle.rb_agree.proofs.NodeWindows.{Windows}
 use Rattle.rb_agree.proofs.Schedules.{AllIn, owners_are_trusted, take-are, schedule_role, same_requester}
@@ -224,6 +220,7 @@ owners-after sc hands n m s slot c me i now h =
   where
     requester : (slot t bius : ℕ) → (slot + 1 == bius) ≡ true → t < bius → t ≤ slot
     requester slot t bius e lt = grind (arith, nat_tests)
+
     go : (from : CameFrom sc m me i now) → (b : Bool) → (slot + 1 == sc.sizes.bius) ≡ b
         → (if true && b then owners_of sc.sizes (trusted_of me Biu from.st) (take sc.sizes.bius now.votes) else from.st.owners)
         ≡ (if b then owners_of sc.sizes (s.trusted Biu) (map (with_value sc s slot (voted sc hands n m s slot c).value).values (numbers sc.sizes.bius)) else s.owners)

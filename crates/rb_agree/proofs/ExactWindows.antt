@@ -1,19 +1,17 @@
 -- A window below the sync slot at one good node: what it takes of a good source is what that one says, and what its close makes.
-use Rattle.std.proofs.Common.{◌≡◌, ℕ, zero, suc, ◌+◌, ◌*◌, ◌<◌, ◌≤◌, ◌==◌, ◌&&◌, ◌||◌, ◌^◌, ◌⊎◌, inl, inr, not, Bool, true, false, List, [], ◌∷◌, map, Option, Some, None, is_some, option_map, slice_get, slice_set, unwrap_or, get_or, if◌then◌else◌, refl, sym, ◌∙◌, ap, subst, arith}
-use Rattle.std.proofs.lemmas.Bool.Decides.{nat_tests}
+use Rattle.std.proofs.Common.{◌≡◌, ℕ, zero, suc, ◌+◌, ◌<◌, ◌==◌, ◌&&◌, Bool, true, false, map, Option, Some, None, is_some, if◌then◌else◌, refl, sym, ◌∙◌, ap, subst, arith}
 use Rattle.rb_base.specs.Nodes.{Side, other, has}
 use Rattle.rb_base.specs.Nodes.Side.{Biu, Rmu}
-use Rattle.rb_base.specs.Sizes.{Sizes, sync_slot_of}
+use Rattle.rb_base.specs.Sizes.{Sizes}
 use Rattle.rb_base.specs.declared.values.Heard.{Heard}
-use Rattle.rb_base.specs.declared.values.Heard.TheVariants.{Fault}
 use Rattle.rb_rules.specs.declared.closing.Closing.{Closing}
 use Rattle.rb_rules.specs.declared.role.Role.{Role}
 use Rattle.rb_rules.specs.declared.sense.Sense.{Sense}
-use Rattle.rb_rules.specs.declared.sense.Sense.TheVariants.{Silent, One}
-use Rattle.rb_rules.specs.ExactStage.{Outcome, own_value, is_sender, value_said, says_of, says, message_of, keep_sent, at_source, closing_of, taken_of_sender, reference_value, compare_with, votes_after, owners_after, delivery_of, see_value, close_exact, outcome_of}
+use Rattle.rb_rules.specs.declared.sense.Sense.TheVariants.{Silent}
+use Rattle.rb_rules.specs.ExactStage.{Outcome, own_value, value_said, says_of, says, message_of, keep_sent, at_source, closing_of, taken_of_sender, reference_value, compare_with, votes_after, owners_after, delivery_of, see_value, close_exact, outcome_of}
 use Rattle.rb_rules.specs.NodeState.{NodeState, sender_at}
-use Rattle.rb_rules.specs.Sense.{is_one, is_silent, value_in}
-use Rattle.rb_rules.specs.Slots.{Sender, same_side, sender_kind, has_third_stage, listens, expects_of, expects, role_of}
+use Rattle.rb_rules.specs.Sense.{value_in}
+use Rattle.rb_rules.specs.Slots.{Sender, same_side, sender_kind, listens, expects_of, expects, role_of}
 use Rattle.rb_rules.specs.Slots.Sender.{Nobody, Node, EachTrusted}
 use Rattle.rb_rules.specs.Standing.{Standing, is_eligible, taken_of, does_wrong, has_evidence, with_evidence, is_unlike}
 use Rattle.rb_rules.proofs.Senses.{value_is_in}
@@ -60,6 +58,7 @@ expects_who_speaks me role (Node p) trusted j source slot q word small single t 
     one : (b c : Bool) (x : Option Heard) → c ≡ true → is_some x ≡ true → b ≡ is_some (if c && b then x else None)
     one true c x h some = rw (h, some) refl
     one false c x h some = rw h refl
+
     go : (q : ℕ) → q < 3 → (a : Bool) → listens me role (q + 1) ≡ a
         → (a && expects_of (Node p) trusted (q + 1) j) ≡ is_some (if a then value_said (other me) j source slot role (Node p) (q + 1) word else None)
     go q small false h = refl
@@ -146,11 +145,22 @@ pub exact_close : (sizes : Sizes) (me : Side) (i : ℕ) (st : NodeState) (sent :
     → ExactClose sizes me i st sent slot stage sense (close_exact sizes me i (with_sent st sent) slot stage sense)
 unfolding close_exact outcome_of
 exact_close sizes Biu i st sent slot stage sense = record {
-  far = refl; sent_after = refl; got = refl; votes = refl; owners = refl; sees = refl;
+  far = refl;
+  sent_after = refl;
+  got = refl;
+  votes = refl;
+  owners = refl;
+  sees = refl;
   delivered = delivery-sent Biu st sent slot (role_of sizes slot) (sender_at sizes Biu st slot) stage (closing_at sizes Biu st slot stage sense).voted;
 }
 exact_close sizes Rmu i st sent slot stage sense = record {
-  far = refl; sent_after = refl; got = refl; votes = refl; owners = refl; sees = refl; delivered = refl;
+  far = refl;
+  sent_after = refl;
+  got = refl;
+  votes = refl;
+  owners = refl;
+  sees = refl;
+  delivered = refl;
 }
 
 -- Whom a close spares.

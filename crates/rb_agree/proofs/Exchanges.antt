@@ -1,6 +1,6 @@
 -- What good nodes exchange in a window below the sync slot: a good receiver takes of a good source just what that one says, and
 -- what it takes of any source is seen.
-use Rattle.std.proofs.Common.{◌≡◌, ℕ, zero, suc, ◌+◌, ◌*◌, ◌<◌, ◌≤◌, ◌^◌, ◌==◌, ◌&&◌, ◌||◌, ◌⊎◌, inl, inr, not, Bool, true, false, List, [], ◌∷◌, map, Option, Some, None, is_some, option_map, slice_get, get_or, if◌then◌else◌, refl, sym, ◌∙◌, ap, subst, arith}
+use Rattle.std.proofs.Common.{◌≡◌, ℕ, zero, suc, ◌+◌, ◌<◌, ◌≤◌, ◌^◌, ◌==◌, ◌&&◌, inl, inr, not, Bool, true, false, List, [], ◌∷◌, map, Option, Some, None, is_some, option_map, slice_get, get_or, if◌then◌else◌, refl, sym, ◌∙◌, ap, subst, arith}
 use Rattle.std.specs.Prelude.{IfSome}
 use Rattle.std.specs.List.{list_any}
 use Rattle.std.proofs.lemmas.Bool.Decides.{nat_tests}
@@ -9,15 +9,13 @@ use Rattle.rb_base.specs.Nodes.Side.{Biu, Rmu}
 use Rattle.rb_base.specs.Sizes.{Sizes, IsShape, sync_slot_of}
 use Rattle.rb_base.specs.declared.values.Heard.{Heard}
 use Rattle.rb_base.specs.declared.values.Place.{Place}
-use Rattle.rb_base.specs.declared.values.See.{See}
 use Rattle.rb_base.specs.declared.values.See.TheVariants.{Nothing}
 use Rattle.rb_rules.specs.declared.sense.Sense.{Sense}
 use Rattle.rb_rules.specs.Book.{of_kind, judged_of}
-use Rattle.rb_rules.specs.ExactStage.{Outcome, says_of, says, message_of, at_source, see_value, close_exact}
+use Rattle.rb_rules.specs.ExactStage.{Outcome, says_of, says, message_of, see_value, close_exact}
 use Rattle.rb_rules.specs.Goodness.{Scenario, is_good}
 use Rattle.rb_rules.specs.Hearing.{sole_time, judged_see}
 use Rattle.rb_rules.specs.Judging.{JudgedStage, are_alike, is_something, was_taken, was_unlike, is_asymmetric, is_benign}
-use Rattle.rb_rules.specs.Lawful.{IsLawful}
 use Rattle.rb_rules.specs.NodeState.{NodeState, trusted_of, sender_at}
 use Rattle.rb_rules.specs.NodeSteps.{close}
 use Rattle.rb_rules.specs.Rounds.{Moment}
@@ -29,22 +27,22 @@ use Rattle.rb_rules.specs.Windows.{send_offset_of}
 use Rattle.rb_rules.proofs.RoundStates.{keeping-stays}
 use Rattle.rb_rules.proofs.Senses.{IsCarried, value_suits, value_is_message}
 use Rattle.rb_rules.proofs.Votes.{taken_at}
-use Rattle.rb_agree.proofs.Tests.{true_or_false, and_first, and_second, and_both, or_first, or_neither_first, not_so, so_not}
+use Rattle.rb_agree.proofs.Tests.{true_or_false, or_first, or_neither_first}
 use Rattle.rb_agree.proofs.NodeWindows.{Windows, word_at, kept_in, heard_in, sense_in, good_is_silent, good_is_heard}
 use Rattle.rb_agree.proofs.ExactWindows.{IsSingle, expects_who_speaks, expected_at, take_at, closing_at, IsSenseOf, takes_what_is_said, does_right, sent_by, with_sent, keeping-is, ExactClose, exact_close}
 use Rattle.rb_agree.proofs.JudgedWindows.{rows_of, sight-is, taken_in_stage, unlike_in_stage, alike_values, some_is_something, judged_value}
-use Rattle.rb_agree.proofs.Invariant.{Shared, sender_of, SparesGood, Holds}
+use Rattle.rb_agree.proofs.Invariant.{Shared, sender_of, Holds}
 use Rattle.rb_agree.proofs.Goodnesses.{few_slots, exact_role, single_sender}
 
 -- What all good nodes hold.
 
-trusted-either : (a b : Side) (st : NodeState) → trusted_of a b st ≡ trusted_of b a st
+pub trusted-either : (a b : Side) (st : NodeState) → trusted_of a b st ≡ trusted_of b a st
 trusted-either Biu Biu st = refl
 trusted-either Biu Rmu st = refl
 trusted-either Rmu Biu st = refl
 trusted-either Rmu Rmu st = refl
 
-far-trusted : (me : Side) (st : NodeState) → st.far.trusted ≡ trusted_of (other me) me st
+pub far-trusted : (me : Side) (st : NodeState) → st.far.trusted ≡ trusted_of (other me) me st
 far-trusted Biu st = refl
 far-trusted Rmu st = refl
 

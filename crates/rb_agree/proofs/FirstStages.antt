@@ -1,41 +1,39 @@
 -- Stage 1 of a slot: after it the good nodes of the other kind have what they relay.
-use Rattle.std.proofs.Common.{◌≡◌, ℕ, zero, suc, ◌+◌, ◌-◌, ◌*◌, ◌<◌, ◌≤◌, ◌^◌, ◌==◌, ◌&&◌, ◌||◌, not, nat_lt, bit_and, Bool, true, false, List, [], ◌∷◌, length, map, ◌⊎◌, inl, inr, Option, Some, None, is_some, slice_get, get_or, if◌then◌else◌, refl, sym, ◌∙◌, ap, subst, arith}
+use Rattle.std.proofs.Common.{◌≡◌, ℕ, zero, suc, ◌+◌, ◌-◌, ◌*◌, ◌<◌, ◌≤◌, ◌^◌, ◌&&◌, ◌||◌, nat_lt, bit_and, Bool, true, false, List, [], ◌∷◌, length, inl, inr, Option, Some, None, is_some, slice_get, get_or, if◌then◌else◌, refl, sym, ◌∙◌, ap, subst, arith}
 use Rattle.std.specs.Prelude.{IfSome}
 use Rattle.std.proofs.lemmas.Bool.{cases_lt}
 use Rattle.std.proofs.lemmas.Bool.Decides.{nat_tests}
 use Rattle.std.proofs.lemmas.List.FromFn.{length-map-range_with_len}
 use Rattle.rb_base.specs.Nodes.{Side, other, has, set_of}
-use Rattle.rb_base.specs.Sizes.{Sizes, sync_slot_of}
 use Rattle.std.proofs.lemmas.Nat.{and_le_l, and_le_r}
 use Rattle.std.proofs.Math.Pow.{pow_mono}
 use Rattle.rb_base.proofs.Sets.{has-set_of, has-and, same_set, first_is, lt_true}
 use Rattle.rb_base.specs.declared.values.Heard.{Heard}
-use Rattle.rb_base.specs.declared.values.Heard.TheVariants.{Word, Fault}
+use Rattle.rb_base.specs.declared.values.Heard.TheVariants.{Word}
 use Rattle.rb_rules.specs.declared.role.Role.{Role}
 use Rattle.rb_rules.specs.declared.role.Role.TheVariants.{Schedule, Data, DiagBiu, DiagRmu, Sync}
 use Rattle.rb_rules.specs.declared.sense.Sense.{Sense}
 use Rattle.rb_rules.specs.Book.{of_kind}
-use Rattle.rb_rules.specs.Conviction.{is_valid, names}
 use Rattle.rb_rules.specs.ExactStage.{own_value, says, at_source, closing_of, taken_of_sender}
-use Rattle.rb_rules.specs.Goodness.{Scenario, is_good}
+use Rattle.rb_rules.specs.Goodness.{Scenario}
 use Rattle.rb_rules.specs.Hearing.{word_for}
 use Rattle.rb_rules.specs.Judging.{is_asymmetric, is_benign}
-use Rattle.rb_rules.specs.NodeState.{NodeState, sender_at}
+use Rattle.rb_rules.specs.NodeState.{NodeState}
 use Rattle.rb_rules.specs.Ports.{HandIn}
-use Rattle.rb_rules.specs.Rounds.{Moment, moment, windows_in, after_window, results_of}
+use Rattle.rb_rules.specs.Rounds.{Moment, moment, windows_in, after_window}
 use Rattle.rb_rules.specs.Sense.{value_in}
-use Rattle.rb_rules.specs.Slots.{Sender, sender_kind, count_of, role_of}
+use Rattle.rb_rules.specs.Slots.{Sender, count_of, role_of}
 use Rattle.rb_rules.specs.Slots.Sender.{Nobody, Node, EachTrusted}
 use Rattle.rb_rules.specs.Standing.{Standing, taken_of, vector_of}
 use Rattle.rb_rules.specs.Moments.{before_slot}
 use Rattle.rb_rules.proofs.Senses.{IsCarried}
 use Rattle.rb_rules.proofs.Votes.{taken_at}
-use Rattle.rb_agree.proofs.Tests.{true_or_false, and_first, and_none, or_neither, Present, present_if, same_some}
+use Rattle.rb_agree.proofs.Tests.{and_first, and_none, or_neither, Present, same_some}
 use Rattle.rb_agree.proofs.Goodnesses.{good_below_16, few_nodes}
-use Rattle.rb_agree.proofs.Invariant.{Shared, sender_of, kind_in, IsGoodNode, is_good_now, slot_numbered, is_diagnosis, IsVector, IsOwn, GoodSent, HasRelays, Holds, Agree}
-use Rattle.rb_agree.proofs.ExactWindows.{other_twice, take_at, expected_at, closing_at, sent_by}
+use Rattle.rb_agree.proofs.Invariant.{Shared, sender_of, kind_in, IsGoodNode, is_good_now, slot_numbered, is_diagnosis, IsVector, GoodSent, HasRelays, Holds}
+use Rattle.rb_agree.proofs.ExactWindows.{other_twice, expected_at, closing_at}
 use Rattle.rb_agree.proofs.Exchanges.{IsHeard, sender-held, far-held}
-use Rattle.rb_agree.proofs.NodeWindows.{Windows, sense_in, word_at}
+use Rattle.rb_agree.proofs.NodeWindows.{sense_in, word_at}
 use Rattle.rb_agree.proofs.StageVotes.{IsSeen}
 use Rattle.rb_agree.proofs.Speaking.{says_own, only-fits, own_is_said, word_fits, vector_fits, own_fits}
 use Rattle.rb_agree.proofs.Settings.{Setting, windows, stages_with, good_state, AllCarried, all_heard, all_seen, all_alike, taken, after, Closed, closes}

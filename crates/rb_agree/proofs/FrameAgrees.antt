@@ -1,33 +1,31 @@
 -- Over the end of a frame all good nodes agree, and at the run's begin.
-use Rattle.std.proofs.Common.{◌≡◌, ℕ, zero, suc, ◌+◌, ◌-◌, ◌*◌, ◌<◌, ◌≤◌, ◌==◌, ◌&&◌, nat_lt, not, Bool, true, false, List, [], length, map, replicate, ◌⊎◌, inl, inr, Option, Some, None, is_some, option_map, slice_get, get_or, refl, sym, ◌∙◌, ap, subst, arith}
+use Rattle.std.proofs.Common.{◌≡◌, ℕ, suc, ◌+◌, ◌-◌, ◌*◌, ◌<◌, ◌&&◌, nat_lt, not, true, false, List, [], length, inl, inr, Option, Some, None, is_some, option_map, slice_get, refl, sym, ◌∙◌, ap, subst, arith}
 use Rattle.std.proofs.lemmas.Bool.{cases_lt}
 use Rattle.std.proofs.lemmas.Bool.Decides.{nat_tests}
 use Rattle.rb_base.specs.Nodes.{Side, other, has, set_of}
 use Rattle.rb_base.specs.Nodes.Side.{Biu, Rmu}
 use Rattle.rb_base.specs.Sizes.{Sizes, sync_slot_of}
 use Rattle.rb_base.proofs.Sets.{has-set_of, has_above, has_none, set_of-lt}
-use Rattle.rb_base.specs.declared.values.Heard.{Heard}
 use Rattle.rb_base.specs.declared.values.Heard.TheVariants.{Fault}
 use Rattle.rb_rules.specs.declared.plan.Plan.{Plan}
-use Rattle.rb_rules.specs.declared.role.Role.TheVariants.{Sync}
 use Rattle.rb_rules.specs.Book.{of_kind, each_of}
 use Rattle.rb_rules.specs.Conviction.{convicted_at, turn}
-use Rattle.rb_rules.specs.Goodness.{Scenario, is_good}
+use Rattle.rb_rules.specs.Goodness.{Scenario}
 use Rattle.rb_rules.specs.Lawful.{IsLawful}
 use Rattle.rb_rules.specs.NodeState.{NodeState, first_state, trusted_of}
 use Rattle.rb_rules.specs.NodeSteps.{turn_if_known}
 use Rattle.rb_rules.specs.Ports.{HandIn}
 use Rattle.rb_rules.specs.Rounds.{Moment, moment, begin_frame, next_frame, first_moment, windows_in}
-use Rattle.rb_rules.specs.Slots.{count_of, listens}
+use Rattle.rb_rules.specs.Slots.{count_of}
 use Rattle.rb_rules.specs.Standing.{Standing, lapses, standing_at_end, without}
 use Rattle.rb_rules.specs.SyncStage.{new_epoch_of}
 use Rattle.rb_rules.proofs.RoundStates.{Knows, knows-none, state-turned}
 use Rattle.rb_rules.proofs.WindowNumbers.{length-each, get-made}
 use Rattle.std.proofs.lemmas.List.FromFn.{length-map-range_with_len}
 use Rattle.std.proofs.lemmas.List.{length-replicate}
-use Rattle.rb_agree.proofs.Tests.{Present, present_if, same_some, and_first, and_both, not_so, true_or_false}
-use Rattle.rb_agree.proofs.Goodnesses.{good_before, good_counts, good_below_16, few_nodes}
-use Rattle.rb_agree.proofs.Invariant.{Shared, IsGoodNode, is_good_now, slot_numbered, SparesGood, Holds, Agree}
+use Rattle.rb_agree.proofs.Tests.{Present, same_some, and_first, and_both, not_so}
+use Rattle.rb_agree.proofs.Goodnesses.{good_before, good_counts, good_below_16}
+use Rattle.rb_agree.proofs.Invariant.{Shared, IsGoodNode, is_good_now, slot_numbered, Holds, Agree}
 use Rattle.rb_agree.proofs.Settings.{good_state}
 use Rattle.rb_agree.proofs.FrameTurns.{AtEnd, convicted_all, convicted_held, good_not_convicted}
 
@@ -100,6 +98,10 @@ shared_next sizes s = record {
   values = λ t. Fault;
 }
 
+pub next-trusted : (sizes : Sizes) (s : Shared) (kind : Side) → (shared_next sizes s).trusted kind ≡ without (s.trusted kind) (convicted_all sizes s kind)
+unfolding shared_next
+next-trusted sizes s kind = refl
+
 -- who is trusted afterwards was trusted before
 trusted-before : (trusted convicted j : ℕ) → has (without trusted convicted) j ≡ true → has trusted j ≡ true
 trusted-before trusted convicted j h =
@@ -134,7 +136,7 @@ turned_from sc hands n m s agree me i now h =
       is = same_some (turn_if_known sc.sizes sc.plan me old.value) now (sym (state-turned sc hands m me i old.value old.is) ∙ h.there);
     }
 
-holds-turned : (sc : Scenario) (hands : List HandIn) (n : ℕ) (m : Moment) (s : Shared) → AtEnd sc hands n m s
+pub holds-turned : (sc : Scenario) (hands : List HandIn) (n : ℕ) (m : Moment) (s : Shared) → AtEnd sc hands n m s
     → (me : Side) (i : ℕ) (now : NodeState) → IsGoodNode sc (next_frame sc hands m) me i now → Holds sc (next_frame sc hands m) (shared_next sc.sizes s) me now
 unfolding begin_frame shared_next
 holds-turned sc hands n m s e me i now h =

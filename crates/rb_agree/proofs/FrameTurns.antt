@@ -1,16 +1,11 @@
 -- The end of a frame: all good nodes convict the same nodes, and no good one.
-use Rattle.std.proofs.Common.{◌≡◌, ℕ, zero, suc, ◌+◌, ◌*◌, ◌<◌, ◌≤◌, ◌==◌, ◌&&◌, ◌||◌, nat_lt, not, Bool, true, false, List, [], length, map, replicate, ◌⊎◌, inl, inr, Option, Some, None, is_some, option_map, slice_get, get_or, if◌then◌else◌, refl, sym, ◌∙◌, ap, subst, arith}
-use Rattle.std.proofs.lemmas.Bool.{cases_lt}
-use Rattle.std.proofs.lemmas.Bool.Decides.{nat_tests}
+use Rattle.std.proofs.Common.{◌≡◌, ℕ, ◌+◌, ◌*◌, ◌<◌, ◌≤◌, ◌&&◌, not, Bool, true, false, List, if◌then◌else◌, refl, sym, ◌∙◌, ap, subst, arith}
 use Rattle.rb_base.specs.Counting.{count_if, numbers}
-use Rattle.rb_base.specs.Nodes.{Side, other, has, set_of}
+use Rattle.rb_base.specs.Nodes.{Side, other, has}
 use Rattle.rb_base.specs.Nodes.Side.{Biu, Rmu}
 use Rattle.rb_base.specs.Sizes.{Sizes, sync_slot_of}
-use Rattle.rb_base.proofs.Sets.{has-set_of, has_above, set_of-lt}
 use Rattle.rb_base.specs.declared.values.Heard.{Heard}
-use Rattle.rb_base.specs.declared.values.Heard.TheVariants.{Word, Fault}
-use Rattle.rb_rules.specs.declared.role.Role.{Role}
-use Rattle.rb_rules.specs.Book.{of_kind}
+use Rattle.rb_base.specs.declared.values.Heard.TheVariants.{Fault}
 use Rattle.rb_rules.specs.Conviction.{is_valid, names, naming, sparing, convicted_by, voted_vector, convicted_at}
 use Rattle.rb_rules.specs.Goodness.{Scenario, is_good}
 use Rattle.rb_rules.specs.Judging.{is_benign}
@@ -18,16 +13,16 @@ use Rattle.rb_rules.specs.Lawful.{IsLawful}
 use Rattle.rb_rules.specs.NodeState.{NodeState, trusted_of}
 use Rattle.rb_rules.specs.Ports.{HandIn}
 use Rattle.rb_rules.specs.Rounds.{Moment, windows_in}
-use Rattle.rb_rules.specs.Slots.{Sender, same_side, sender_kind, has_third_stage, count_of, first_diagnosis_of, role_of, if_trusted, sender_in}
-use Rattle.rb_rules.specs.Slots.Sender.{Nobody, Node}
-use Rattle.rb_rules.specs.StandsFor.{votes_on}
+use Rattle.rb_rules.specs.Slots.{same_side, sender_kind, has_third_stage, count_of, role_of, sender_in}
+use Rattle.rb_rules.specs.Slots.Sender.{Node}
 use Rattle.rb_rules.proofs.Convictions.{named_is_convicted, spared_is_not_convicted}
-use Rattle.rb_agree.proofs.Tests.{true_or_false, and_first, and_second, and_both, not_so, not_true, so_not}
+use Rattle.rb_agree.proofs.Tests.{and_first, and_second, and_both, not_so, so_not}
 use Rattle.rb_agree.proofs.Numbers.{how_many, how_many-le}
 use Rattle.rb_agree.proofs.Premises.{Premise, is_active, is_sound}
-use Rattle.rb_agree.proofs.Goodnesses.{good_below_16, good_earlier, good_before, few_nodes, slot_last}
+use Rattle.rb_agree.proofs.Goodnesses.{good_below_16, few_nodes, slot_last}
 use Rattle.rb_agree.proofs.Invariant.{Shared, sender_of, kind_in, IsGoodNode, is_good_now, slot_numbered, is_diagnosis, IsVector, IsOwn, IsFinished, Holds, Agree}
 use Rattle.rb_agree.proofs.ExactWindows.{other_twice}
+use Rattle.rb_agree.proofs.Exchanges.{trusted-either}
 use Rattle.rb_agree.proofs.StageVotes.{how_many-count}
 use Rattle.rb_agree.proofs.Vectors.{vector_slot, vector_role, vector_slot-role, vector_slot-lt, convicted_same}
 
@@ -44,19 +39,19 @@ convicted_all sizes s accused =
 
 -- Vectors.
 
-role-votes : (kind : Side) (i : ℕ) (me : Side) → (if has_third_stage (vector_role kind i) then true else same_side me Biu) ≡ true
+pub role-votes : (kind : Side) (i : ℕ) (me : Side) → (if has_third_stage (vector_role kind i) then true else same_side me Biu) ≡ true
 role-votes Biu i me = refl
 role-votes Rmu i me = refl
 
-role-kind : (kind : Side) (i : ℕ) → sender_kind (vector_role kind i) ≡ kind
+pub role-kind : (kind : Side) (i : ℕ) → sender_kind (vector_role kind i) ≡ kind
 role-kind Biu i = refl
 role-kind Rmu i = refl
 
-role-diagnosis : (kind : Side) (i : ℕ) → is_diagnosis (vector_role kind i) ≡ true
+pub role-diagnosis : (kind : Side) (i : ℕ) → is_diagnosis (vector_role kind i) ≡ true
 role-diagnosis Biu i = refl
 role-diagnosis Rmu i = refl
 
-role-sender : (trusted : Side → ℕ) (owners : List ℕ) (kind : Side) (i : ℕ) → has (trusted kind) i ≡ true → sender_in (trusted Biu) (trusted Rmu) owners (vector_role kind i) ≡ Node i
+pub role-sender : (trusted : Side → ℕ) (owners : List ℕ) (kind : Side) (i : ℕ) → has (trusted kind) i ≡ true → sender_in (trusted Biu) (trusted Rmu) owners (vector_role kind i) ≡ Node i
 role-sender trusted owners Biu i t = rw t refl
 role-sender trusted owners Rmu i t = rw t refl
 
@@ -93,18 +88,12 @@ vector_at sc hands n m s agree kind i done t =
 end-done : (sc : Scenario) (hands : List HandIn) (n : ℕ) (m : Moment) (s : Shared) → AtEnd sc hands n m s → (slot : ℕ) → slot < sync_slot_of sc.sizes → 3 * slot + 3 ≤ m.window
 end-done sc hands n m s e slot lt = let at : m.window ≡ windows_in sc.sizes = e.at in omega arith
 
-vector-end : (sc : Scenario) (hands : List HandIn) (n : ℕ) (m : Moment) (s : Shared) → AtEnd sc hands n m s → (kind : Side) (i : ℕ) → has (s.trusted kind) i ≡ true → VectorOf sc hands m s kind i
-vector-end sc hands n m s e kind i t =
+pub vector_end : (sc : Scenario) (hands : List HandIn) (n : ℕ) (m : Moment) (s : Shared) → AtEnd sc hands n m s → (kind : Side) (i : ℕ) → has (s.trusted kind) i ≡ true → VectorOf sc hands m s kind i
+vector_end sc hands n m s e kind i t =
     vector_at sc hands n m s e.agree kind i
     (end-done sc hands n m s e (vector_slot sc.sizes kind i) (vector_slot-lt sc.sizes kind i (e.agree.inside kind i t))) t
 
 -- Whom a good node convicts.
-
-trusted-either : (a b : Side) (st : NodeState) → trusted_of a b st ≡ trusted_of b a st
-trusted-either Biu Biu st = refl
-trusted-either Biu Rmu st = refl
-trusted-either Rmu Biu st = refl
-trusted-either Rmu Rmu st = refl
 
 pub convicted_held : (sc : Scenario) (hands : List HandIn) (n : ℕ) (m : Moment) (s : Shared) → AtEnd sc hands n m s → (me : Side) (i : ℕ) (st : NodeState) → IsGoodNode sc m me i st
     → (accused : Side) → convicted_at sc.sizes me st accused ≡ convicted_all sc.sizes s accused
@@ -116,7 +105,7 @@ convicted_held sc hands n m s e me i st here accused =
     ∙ ap (λ t. convicted_by count (s.trusted from) t (voted_vector sc.sizes from st)) (trusted-either me accused st ∙ holds.trusted accused)
     ∙ convicted_same count (s.trusted from) (s.trusted accused) (voted_vector sc.sizes from st) (λ j. s.values (vector_slot sc.sizes from j))
     (λ j below t.
-    let v : VectorOf sc hands m s from j = vector-end sc hands n m s e from j t in
+    let v : VectorOf sc hands m s from j = vector_end sc hands n m s e from j t in
     let role : role_of sc.sizes (vector_slot sc.sizes from j) ≡ vector_role from j = vector_slot-role sc.sizes from j (e.agree.inside from j t) in
     v.finished.held me i st here (ap (λ r. if has_third_stage r then true else same_side me Biu) role ∙ role-votes from j me))
 
@@ -150,7 +139,7 @@ valid-active : (sc : Scenario) (hands : List HandIn) (n : ℕ) (m : Moment) (s :
     → has (s.trusted kind) i ≡ true → is_valid others (s.values (vector_slot sc.sizes kind i)) ≡ true → is_good_now sc m kind i ≡ false
     → is_active sc kind m.frame (sync_slot_of sc.sizes) s.trusted m.book.stages i ≡ true
 valid-active sc hands n m s e kind others i t valid faulty =
-    let v : VectorOf sc hands m s kind i = vector-end sc hands n m s e kind i t in
+    let v : VectorOf sc hands m s kind i = vector_end sc hands n m s e kind i t in
     let not_good : is_good sc kind i m.frame (sync_slot_of sc.sizes) ≡ false = sym (good-last sc hands n m s e kind i) ∙ faulty in
     and_both (has (s.trusted kind) i && not (is_good sc kind i m.frame (sync_slot_of sc.sizes))) (not (is_benign kind m.book.stages i))
     (and_both (has (s.trusted kind) i) (not (is_good sc kind i m.frame (sync_slot_of sc.sizes))) t (not_so (is_good sc kind i m.frame (sync_slot_of sc.sizes)) not_good))
@@ -176,7 +165,7 @@ few_pass sc hands n m s e kind others test none =
 -- and one that each good node's valid vector passes by at least as many
 many_pass : (sc : Scenario) (hands : List HandIn) (n : ℕ) (m : Moment) (s : Shared) (e : AtEnd sc hands n m s) (kind : Side) (others : ℕ) (test : Heard → Bool)
     → ((i : ℕ) → has (s.trusted kind) i ≡ true → is_good_now sc m kind i ≡ true
-        → (is_valid others (s.values (vector_slot sc.sizes kind i)) ≡ true) × (test (s.values (vector_slot sc.sizes kind i)) ≡ true))
+    → (is_valid others (s.values (vector_slot sc.sizes kind i)) ≡ true) × (test (s.values (vector_slot sc.sizes kind i)) ≡ true))
     → how_many (is_sound sc kind m.frame (sync_slot_of sc.sizes) s.trusted)
     ≤ count_if (λ i. has (s.trusted kind) i && is_valid others (s.values (vector_slot sc.sizes kind i)) && test (s.values (vector_slot sc.sizes kind i))) (numbers 16)
 many_pass sc hands n m s e kind others test all =
@@ -194,7 +183,7 @@ many_pass sc hands n m s e kind others test all =
 far-vector : (sc : Scenario) (hands : List HandIn) (n : ℕ) (m : Moment) (s : Shared) (e : AtEnd sc hands n m s) (accused : Side) (i : ℕ)
     → has (s.trusted (other accused)) i ≡ true → is_good_now sc m (other accused) i ≡ true → IsVector sc m accused (s.values (vector_slot sc.sizes (other accused) i))
 far-vector sc hands n m s e accused i t good =
-    subst (λ k. IsVector sc m k (s.values (vector_slot sc.sizes (other accused) i))) (other_twice accused) ((vector-end sc hands n m s e (other accused) i t).good good)
+    subst (λ k. IsVector sc m k (s.values (vector_slot sc.sizes (other accused) i))) (other_twice accused) ((vector_end sc hands n m s e (other accused) i t).good good)
 
 -- no good node is convicted
 pub good_not_convicted : (sc : Scenario) (hands : List HandIn) (n : ℕ) (m : Moment) (s : Shared) → AtEnd sc hands n m s → (accused : Side) (j : ℕ)

@@ -1,14 +1,14 @@
 -- Good nodes: which there are, and that none becomes good again. The slot of a window, and what a slot is for.
-use Rattle.std.proofs.Common.{◌≡◌, ℕ, zero, suc, ◌+◌, ◌-◌, ◌*◌, ◌/◌, ◌<◌, ◌≤◌, ◌==◌, ◌&&◌, nat_lt, min, Bool, true, false, Option, Some, None, get_or, slice_get, if◌then◌else◌, List, refl, sym, ◌∙◌, ap, arith}
+use Rattle.std.proofs.Common.{◌≡◌, ℕ, ◌+◌, ◌-◌, ◌*◌, ◌<◌, ◌≤◌, nat_lt, Bool, true, false, Option, Some, None, get_or, slice_get, if◌then◌else◌, List, refl, arith}
 use Rattle.std.proofs.lemmas.Bool.Decides.{nat_tests}
-use Rattle.rb_base.specs.Nodes.{Side, other, has}
+use Rattle.rb_base.specs.Nodes.{Side, has}
 use Rattle.rb_base.specs.Nodes.Side.{Biu, Rmu}
 use Rattle.rb_base.specs.Sizes.{Sizes, IsShape, sync_slot_of}
 use Rattle.rb_rules.specs.declared.role.Role.{Role}
 use Rattle.rb_rules.specs.declared.role.Role.TheVariants.{Schedule, Data, DiagBiu, DiagRmu, Sync}
 use Rattle.rb_rules.specs.Goodness.{Scenario, onsets_of, is_before, is_good}
-use Rattle.rb_rules.specs.Slots.{Sender, count_of, first_diagnosis_of, role_of, if_trusted, if_owned, sender_in}
-use Rattle.rb_rules.specs.Slots.Sender.{Nobody, Node, EachTrusted}
+use Rattle.rb_rules.specs.Slots.{count_of, first_diagnosis_of, role_of, if_trusted, if_owned, sender_in}
+use Rattle.rb_rules.specs.Slots.Sender.{Nobody, Node}
 use Rattle.rb_agree.proofs.Tests.{and_first, and_second, and_both}
 use Rattle.rb_agree.proofs.ExactWindows.{IsSingle}
 use Rattle.rb_agree.proofs.Invariant.{slot_numbered}

@@ -1,36 +1,32 @@
 -- A window as it is judged: whom the good nodes trust there, what each sees of each source, and what a verdict says that gives no
 -- cause.
-use Rattle.std.proofs.Common.{◌≡◌, ℕ, zero, suc, ◌+◌, ◌<◌, ◌≤◌, ◌&&◌, ◌||◌, ◌⊎◌, inl, inr, not, nat_le, Bool, true, false, List, [], ◌∷◌, ◌++◌, length, map, Option, Some, None, is_some, option_map, slice_get, get_or, refl, sym, ◌∙◌, ap, subst, arith}
-use Rattle.std.specs.List.{list_any, cons_option}
+use Rattle.std.proofs.Common.{◌≡◌, ℕ, zero, suc, ◌<◌, ◌≤◌, ◌&&◌, ◌⊎◌, inl, inr, not, nat_le, Bool, true, false, List, [], ◌∷◌, ◌++◌, Option, Some, None, is_some, option_map, slice_get, get_or, refl, sym, ◌∙◌, ap, subst, arith}
+use Rattle.std.specs.List.{list_any}
 use Rattle.std.proofs.lemmas.Bool.Decides.{nat_tests}
 use Rattle.std.proofs.lemmas.List.FromFn.{get_or-map-range_with_len}
 use Rattle.std.proofs.Common.{zero-add}
 use Rattle.rb_base.specs.Counting.{numbers}
-use Rattle.rb_base.specs.Nodes.{Side, other, has, set_of, size}
+use Rattle.rb_base.specs.Nodes.{Side, other, has}
 use Rattle.rb_base.specs.Nodes.Side.{Biu, Rmu}
-use Rattle.rb_base.specs.Sizes.{Sizes}
 use Rattle.rb_base.proofs.Sets.{has-set_of, has_none}
 use Rattle.rb_base.specs.declared.values.Heard.{Heard}
 use Rattle.rb_base.specs.declared.values.Place.{Place}
-use Rattle.rb_base.specs.declared.values.See.{See}
-use Rattle.rb_base.specs.declared.values.See.TheVariants.{Nothing, Value, Time}
+use Rattle.rb_base.specs.declared.values.See.TheVariants.{Nothing}
 use Rattle.rb_rules.specs.declared.cause.Cause.{Cause}
 use Rattle.rb_rules.specs.declared.closing.Closed.{Closed}
 use Rattle.rb_rules.specs.declared.plan.Window.{Window}
 use Rattle.rb_rules.specs.Book.{Each, of_kind, in_order, map_each, Row, Book, trusted_in, trusted_by, see_in, judged_of, after_verdict, with_stage}
 use Rattle.rb_rules.specs.ExactStage.{present, see_value}
-use Rattle.rb_rules.specs.Goodness.{Scenario, is_good, good_at}
-use Rattle.rb_rules.specs.Hearing.{Coming, close_window, arrival_of, sole_time, judged_see, row_of}
-use Rattle.rb_rules.specs.Goodness.{clock_of}
-use Rattle.rb_rules.specs.Judging.{JudgedStage, are_alike, is_something, was_taken, was_unlike, trusted_now, good_now, is_asymmetric, is_benign, verdict_of}
-use Rattle.rb_rules.specs.Majority.{same_heard}
+use Rattle.rb_rules.specs.Goodness.{Scenario, is_good}
+use Rattle.rb_rules.specs.Hearing.{Coming, sole_time, judged_see, row_of}
+use Rattle.rb_rules.specs.Judging.{JudgedStage, are_alike, is_something, was_taken, was_unlike, verdict_of}
 use Rattle.rb_rules.specs.NodeState.{NodeState, trusted_of}
 use Rattle.rb_rules.specs.NodeSteps.{close}
 use Rattle.rb_rules.specs.Rounds.{Moment, Result, window_in, sent_in, close_on, go_through, results_of}
 use Rattle.rb_rules.proofs.Majorities.{same_heard-is}
 use Rattle.rb_rules.proofs.RoundStates.{Stays, through-stays}
 use Rattle.rb_rules.proofs.WindowNumbers.{get-each}
-use Rattle.rb_agree.proofs.Tests.{true_or_false, and_both, and_none, and_first, or_first, or_second, not_so, not_true, so_not, passes_at, get-some, same_some, Passing}
+use Rattle.rb_agree.proofs.Tests.{and_both, and_first, not_so, passes_at, get-some, same_some, Passing}
 use Rattle.rb_agree.proofs.Numbers.{how_many, one_of_many}
 use Rattle.rb_agree.proofs.Premises.{Premise, premise_holds}
 use Rattle.rb_agree.proofs.ExactWindows.{other_twice}
@@ -131,6 +127,7 @@ first_row_trusts sc m slot stage ws trusted all r rs h kind =
         ∙ ap (λ r. trusted_of kind me r.state) (sym e)
         ∙ stays-trusted kind me st _ (through-stays sc m (sent_in sc m) me i st (window_in sc m me st))
         ∙ all me i st is both.0 kind
+
     of_row : (me : Side) (i : ℕ) (x : Row) (o : Option NodeState) → slice_get (of_kind me m.nodes) i ≡ o
         → option_map (λ st. (go_through sc m (sent_in sc m) me i st (window_in sc m me st)).row) o ≡ Some (Some x) → trusted_in kind x ≡ trusted kind
     of_row me i x None is told = cc
@@ -150,6 +147,7 @@ passed sc place rows b h = go b.ended (verdict_of (judged_of sc place rows ∷ b
   where
     open_book : Bool → Option Cause → Book
     open_book e v = elim e [ true ↦ b | false ↦ after_verdict sc.sizes place rows (judged_of sc place rows ∷ b.stages) b v ]
+
     go : (e : Bool) (v : Option Cause) → b.ended ≡ e → verdict_of (judged_of sc place rows ∷ b.stages) ≡ v
         → (open_book e v).ended ≡ false → IsPassed sc place rows b
     go true v p q h = cc

@@ -28,3 +28,10 @@ pub mod Places
 pub mod SlotRuns
 pub mod Deliveries
 pub mod SlotValues
+pub mod FrameBegins
+pub mod SlotLaws
+pub mod Convicting
+pub mod WidelyAccused
+pub mod PortLists
+pub mod PortSlots
+pub mod PortHistories

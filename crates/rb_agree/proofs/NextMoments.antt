@@ -1,27 +1,24 @@
 -- The moment after a window: its good nodes were good before, and each became what its close made of it.
-use Rattle.std.proofs.Common.{◌≡◌, ℕ, zero, suc, ◌+◌, ◌*◌, ◌/◌, ◌%◌, ◌<◌, ◌≤◌, ◌&&◌, min, Bool, true, false, List, [], ◌∷◌, ◌++◌, length, map, Option, Some, None, option_map, slice_get, get_or, refl, sym, ◌∙◌, ap, subst, arith}
+use Rattle.std.proofs.Common.{◌≡◌, ℕ, ◌+◌, ◌*◌, ◌/◌, ◌%◌, ◌<◌, true, List, length, map, Some, option_map, slice_get, sym, ◌∙◌, ap, arith}
 use Rattle.std.proofs.lemmas.Option.{slice_get-map}
 use Rattle.std.proofs.lemmas.List.FromFn.{length-map-range_with_len}
 use Rattle.rb_base.specs.Counting.{numbers}
-use Rattle.rb_base.specs.Nodes.{Side, other, has}
+use Rattle.rb_base.specs.Nodes.{Side, other}
 use Rattle.rb_base.specs.Sizes.{Sizes, sync_slot_of}
-use Rattle.rb_base.specs.declared.values.Place.{Place}
 use Rattle.rb_rules.specs.declared.plan.Plan.{Plan}
 use Rattle.rb_rules.specs.declared.plan.Window.{Window}
-use Rattle.rb_rules.specs.Book.{Each, of_kind, map_each, Row, Book, with_stage}
-use Rattle.rb_rules.specs.Goodness.{Scenario, is_good}
-use Rattle.rb_rules.specs.Judging.{JudgedStage}
-use Rattle.rb_rules.specs.NodeState.{NodeState, trusted_of}
+use Rattle.rb_rules.specs.Book.{of_kind, with_stage}
+use Rattle.rb_rules.specs.Goodness.{Scenario}
+use Rattle.rb_rules.specs.NodeState.{NodeState}
 use Rattle.rb_rules.specs.Ports.{HandIn}
 use Rattle.rb_rules.specs.Rounds.{Moment, Result, window_in, sent_in, go_through, results_of, book_after, after_window}
-use Rattle.rb_rules.specs.Slots.{count_of}
-use Rattle.rb_rules.specs.Windows.{window_of, exact_window, sync_windows, windows_of_frame}
-use Rattle.rb_rules.proofs.RoundStates.{Stays, through-stays, state-after}
-use Rattle.rb_rules.proofs.WindowNumbers.{get-front, get-back, get-number, get-each, length-each}
+use Rattle.rb_rules.specs.Windows.{exact_window, sync_windows, windows_of_frame}
+use Rattle.rb_rules.proofs.RoundStates.{state-after}
+use Rattle.rb_rules.proofs.WindowNumbers.{get-front, get-back, get-number, length-each}
 use Rattle.rb_agree.proofs.Tests.{Present, same_some}
-use Rattle.rb_agree.proofs.JudgedWindows.{rows_of, IsPassed, stays-trusted}
+use Rattle.rb_agree.proofs.JudgedWindows.{rows_of}
 use Rattle.rb_base.specs.declared.values.Heard.{Heard}
-use Rattle.rb_agree.proofs.Invariant.{Shared, kind_in, IsGoodNode, is_good_now, slot_numbered, SparesGood, IsVector, IsOwn, Holds, Agree}
+use Rattle.rb_agree.proofs.Invariant.{Shared, kind_in, IsGoodNode, is_good_now, slot_numbered, IsVector, IsOwn, Agree}
 use Rattle.rb_agree.proofs.Goodnesses.{good_earlier, slot_goes_on}
 use Rattle.rb_agree.proofs.Settings.{Setting, stages_with, good_state, after}
 

@@ -1,24 +1,19 @@
 -- The moments of a run by their places.
-use Rattle.std.proofs.Common.{◌≡◌, ℕ, zero, suc, ◌+◌, ◌-◌, ◌*◌, ◌<◌, ◌≤◌, ◌==◌, nat_lt, Bool, true, false, List, Option, Some, None, slice_get, ◌⊎◌, inl, inr, refl, sym, ◌∙◌, ap, subst, arith}
-use Rattle.std.proofs.lemmas.Bool.{cases_order, cases_lt}
-use Rattle.std.proofs.lemmas.Bool.Decides.{nat_tests}
+use Rattle.std.proofs.Common.{◌≡◌, ℕ, ◌+◌, ◌-◌, ◌*◌, ◌<◌, ◌≤◌, true, false, List, inl, inr, sym, ◌∙◌, ap, arith}
+use Rattle.std.proofs.lemmas.Bool.{cases_order}
 use Rattle.std.proofs.Math.Nat.{mul-le-mul_right, add-sub_of_le}
 use Rattle.rb_base.specs.Nodes.{Side}
-use Rattle.rb_base.specs.Sizes.{Sizes, sync_slot_of}
-use Rattle.rb_rules.specs.Book.{of_kind, Book, with_frame}
+use Rattle.rb_base.specs.Sizes.{sync_slot_of}
 use Rattle.rb_rules.specs.Goodness.{Scenario, is_good}
 use Rattle.rb_rules.specs.Lawful.{IsLawful}
-use Rattle.rb_rules.specs.Moments.{before_stage, before_slot, after_slot, IsRunning, IsComplete, IsReached, IsSettled, BeginsFrame, IsGoodBefore, IsGoodAfter}
+use Rattle.rb_rules.specs.Moments.{before_stage, before_slot, IsRunning, IsComplete, IsGoodBefore}
 use Rattle.rb_rules.specs.NodeState.{NodeState}
 use Rattle.rb_rules.specs.Ports.{HandIn}
-use Rattle.rb_rules.specs.Rounds.{Moment, first_moment, begin_frame, next_frame, step, moment, windows_in}
-use Rattle.rb_rules.proofs.Books.{moments-on, stepped}
+use Rattle.rb_rules.specs.Rounds.{moment, windows_in}
+use Rattle.rb_rules.proofs.Books.{moments-on}
 use Rattle.rb_agree.proofs.Tests.{so_not}
-use Rattle.rb_agree.proofs.Goodnesses.{slot_here, slot_last}
-use Rattle.rb_agree.proofs.Invariant.{Shared, IsGoodNode, is_good_now, slot_numbered, Agree}
-use Rattle.rb_agree.proofs.NextMoments.{next}
-use Rattle.rb_agree.proofs.SyncAgrees.{book_tail}
-use Rattle.rb_agree.proofs.Agreement.{IsAgreed, agreement, step_is, running_before, ended-end}
+use Rattle.rb_agree.proofs.Invariant.{Shared, IsGoodNode, slot_numbered, Agree}
+use Rattle.rb_agree.proofs.Agreement.{IsAgreed, agreement}
 
 -- A number of steps is one place.
 

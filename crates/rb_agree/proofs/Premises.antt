@@ -10,7 +10,7 @@ use Rattle.rb_rules.specs.declared.cause.Cause.{Cause}
 use Rattle.rb_rules.specs.declared.cause.Cause.TheVariants.{FewGoodBiu, FewGoodRmu, TwoSided}
 use Rattle.rb_rules.specs.Goodness.{Scenario, is_good, good_at}
 use Rattle.rb_rules.specs.Judging.{JudgedStage, ClassSets, good_now, trusted_now, is_suspect, is_asymmetric, is_benign, classes_of, are_few_good, some_asymmetric, cause_of, verdict_of}
-use Rattle.rb_agree.proofs.Tests.{true_or_false, and_first, and_second, and_both, or_second, or_first, not_so}
+use Rattle.rb_agree.proofs.Tests.{true_or_false, and_both, not_so}
 use Rattle.rb_agree.proofs.Numbers.{how_many, how_many-is}
 
 -- a trusted node that is not good and of which something was taken in the frame

@@ -1,5 +1,5 @@
 -- The schedule: equal votes give equal owners, and each owner is trusted.
-use Rattle.std.proofs.Common.{◌≡◌, ℕ, zero, suc, ◌+◌, ◌<◌, ◌≤◌, ◌==◌, ◌&&◌, nat_lt, Bool, true, false, cond, List, [], ◌∷◌, ◌++◌, length, map, take, filter, Option, Some, None, slice_get, get_or, if◌then◌else◌, refl, sym, ◌∙◌, ap, subst, arith}
+use Rattle.std.proofs.Common.{◌≡◌, ℕ, zero, suc, ◌+◌, ◌<◌, ◌≤◌, ◌&&◌, nat_lt, Bool, true, false, cond, List, [], ◌∷◌, ◌++◌, length, map, take, filter, Some, slice_get, get_or, refl, sym, ◌∙◌, ap, subst, arith}
 use Rattle.std.specs.List.{flat_map, range_with_len}
 use Rattle.std.proofs.lemmas.Bool.Decides.{nat_tests}
 use Rattle.rb_base.specs.Counting.{numbers}
@@ -7,10 +7,9 @@ use Rattle.rb_base.specs.Nodes.{has}
 use Rattle.rb_base.specs.Sizes.{Sizes}
 use Rattle.rb_base.specs.declared.values.Heard.{Heard}
 use Rattle.rb_base.specs.declared.values.Heard.TheVariants.{Fault}
-use Rattle.rb_rules.specs.declared.role.Role.{Role}
-use Rattle.rb_rules.specs.declared.role.Role.TheVariants.{Schedule, Data, DiagBiu, DiagRmu, Sync}
+use Rattle.rb_rules.specs.declared.role.Role.TheVariants.{Schedule}
 use Rattle.rb_rules.specs.Owners.{request_in, owners_in_pass, owners_of}
-use Rattle.rb_rules.specs.Slots.{Sender, first_diagnosis_of, role_of, sender_in}
+use Rattle.rb_rules.specs.Slots.{role_of, sender_in}
 use Rattle.rb_agree.proofs.Tests.{and_first, same_some}
 
 -- each item of a list is so

@@ -1,41 +1,41 @@
 -- Stage 2 of a slot: after it the good nodes of the sender's kind hold one vote.
-use Rattle.std.proofs.Common.{◌≡◌, ℕ, zero, suc, ◌+◌, ◌*◌, ◌<◌, ◌≤◌, ◌^◌, ◌==◌, ◌&&◌, ◌||◌, not, nat_lt, Bool, true, false, List, [], ◌∷◌, length, map, ◌⊎◌, inl, inr, Option, Some, None, is_some, unwrap_or, slice_get, slice_set, get_or, if◌then◌else◌, refl, sym, ◌∙◌, ap, subst, arith}
+use Rattle.std.proofs.Common.{◌≡◌, ℕ, ◌+◌, ◌*◌, ◌<◌, ◌==◌, ◌&&◌, ◌||◌, not, nat_lt, Bool, true, false, List, [], ◌∷◌, length, map, inl, inr, Option, Some, None, is_some, unwrap_or, slice_get, slice_set, get_or, if◌then◌else◌, refl, sym, ◌∙◌, ap, subst, arith}
 use Rattle.std.specs.Prelude.{IfSome}
 use Rattle.std.specs.List.{list_any, cons_option}
 use Rattle.std.proofs.lemmas.Bool.Decides.{nat_tests}
-use Rattle.std.proofs.lemmas.List.{get_or-set_same, get_or-set_other}
+use Rattle.std.proofs.lemmas.List.{get_or-set_same}
 use Rattle.rb_base.specs.Counting.{numbers}
 use Rattle.rb_base.specs.Nodes.{Side, other, has}
 use Rattle.rb_base.specs.Nodes.Side.{Biu, Rmu}
-use Rattle.rb_base.specs.Sizes.{Sizes, sync_slot_of}
+use Rattle.rb_base.specs.Sizes.{sync_slot_of}
 use Rattle.rb_base.specs.declared.values.Heard.{Heard}
-use Rattle.rb_base.specs.declared.values.Heard.TheVariants.{Word, Fault}
+use Rattle.rb_base.specs.declared.values.Heard.TheVariants.{Fault}
 use Rattle.rb_rules.specs.declared.role.Role.{Role}
 use Rattle.rb_rules.specs.declared.sense.Sense.{Sense}
 use Rattle.rb_rules.specs.Book.{of_kind, judged_of}
-use Rattle.rb_rules.specs.ExactStage.{says, present, closing_of, votes_in, votes_after, is_sender}
+use Rattle.rb_rules.specs.ExactStage.{says, present, closing_of, votes_in, is_sender}
 use Rattle.rb_rules.specs.Goodness.{Scenario, is_good}
 use Rattle.rb_rules.specs.Judging.{JudgedStage, was_taken, was_unlike, is_asymmetric, is_benign}
-use Rattle.rb_rules.specs.Majority.{winner_among, majority_of, times}
+use Rattle.rb_rules.specs.Majority.{winner_among, times}
 use Rattle.rb_rules.specs.NodeState.{NodeState, sender_at}
 use Rattle.rb_rules.specs.Ports.{HandIn}
-use Rattle.rb_rules.specs.Rounds.{Moment, after_window, results_of}
+use Rattle.rb_rules.specs.Rounds.{Moment}
 use Rattle.rb_rules.specs.Sense.{value_in}
-use Rattle.rb_rules.specs.Slots.{Sender, same_side, sender_kind, listens, expects, role_of, sender_in}
+use Rattle.rb_rules.specs.Slots.{Sender, same_side, sender_kind, listens, expects, role_of}
 use Rattle.rb_rules.specs.Slots.Sender.{Nobody, Node, EachTrusted}
 use Rattle.rb_rules.specs.Standing.{Standing, taken_of, is_unlike}
 use Rattle.rb_rules.proofs.ExactStages.{idle_expects_nobody, vote_over_nothing}
 use Rattle.rb_rules.proofs.Senses.{IsCarried}
 use Rattle.rb_rules.proofs.Votes.{same_vote}
-use Rattle.rb_agree.proofs.Tests.{true_or_false, and_first, and_second, Present, Passing, same_some, or_neither_second, not_false, not_true}
-use Rattle.rb_agree.proofs.Numbers.{how_many, one_of_many}
+use Rattle.rb_agree.proofs.Tests.{true_or_false, and_first, and_second, Present, Passing, same_some, or_neither_second}
+use Rattle.rb_agree.proofs.Numbers.{one_of_many}
 use Rattle.rb_agree.proofs.Premises.{Premise, is_sound}
-use Rattle.rb_agree.proofs.Goodnesses.{good_below_16, few_nodes, exact_role, single_sender}
-use Rattle.rb_agree.proofs.Invariant.{Shared, sender_of, kind_in, IsGoodNode, is_good_now, slot_numbered, is_diagnosis, IsVector, IsOwn, IsValue, GoodSent, HasRelays, HasVoted, Holds, Agree}
-use Rattle.rb_agree.proofs.ExactWindows.{other_twice, IsSingle, take_at, expected_at, closing_at, sent_by}
-use Rattle.rb_agree.proofs.Exchanges.{IsHeard, sender-held, far-held}
+use Rattle.rb_agree.proofs.Goodnesses.{few_nodes, exact_role, single_sender}
+use Rattle.rb_agree.proofs.Invariant.{Shared, sender_of, kind_in, IsGoodNode, is_good_now, IsOwn, GoodSent, HasRelays, HasVoted}
+use Rattle.rb_agree.proofs.ExactWindows.{other_twice, IsSingle, expected_at, closing_at}
+use Rattle.rb_agree.proofs.Exchanges.{sender-held}
 use Rattle.rb_agree.proofs.NodeWindows.{Windows, sense_in, word_at}
-use Rattle.rb_agree.proofs.StageVotes.{IsSeen, one_voice}
+use Rattle.rb_agree.proofs.StageVotes.{one_voice}
 use Rattle.rb_agree.proofs.Senders.{sender_is_trusted, one_or_other}
 use Rattle.rb_agree.proofs.Speaking.{IsOnly, only-fits, only-alike, says_got, says_nothing, got_is_said, listens_second, voters_listen, same_side-is}
 use Rattle.rb_agree.proofs.Settings.{Setting, windows, stages_with, good_here, good_state, premise, AllCarried, all_heard, all_seen, all_alike, taken, after, Closed, closes, NoneUnlike}
@@ -270,6 +270,7 @@ votes_2 sc hands n m s slot c = go (sender_of sc.sizes s slot) refl
               vote-held sc hands n m s slot 1 c k i from.st now from.was from.is (voters-vote (role_of sc.sizes slot))
               ∙ idle-vote sc hands n m s slot 1 c idle k i from.st from.was;
         }
+
     one : (p : ℕ) → sender_of sc.sizes s slot ≡ Node p → HasVoted sc hands (next sc m) s slot
     one p sender =
         let k : Side = kind_in sc.sizes slot in
@@ -297,6 +298,7 @@ votes_2 sc hands n m s slot c = go (sender_of sc.sizes s slot) refl
               vote-held sc hands n m s slot 1 c k i from.st now from.was from.is (voters-vote (role_of sc.sizes slot))
               ∙ one_vote sc hands n m s slot c p sender i g.index from.st g.st from.was g.here;
         }
+
     go : (sender : Sender) → sender_of sc.sizes s slot ≡ sender → HasVoted sc hands (next sc m) s slot
     go Nobody e = nobody e
     go (Node p) e = one p e

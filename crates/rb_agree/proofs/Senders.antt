@@ -1,11 +1,11 @@
 -- The sender of a slot is a trusted node.
-use Rattle.std.proofs.Common.{◌≡◌, ℕ, Bool, true, false, List, Option, Some, None, slice_get, if◌then◌else◌, refl, sym, ◌∙◌, ap, subst, ◌⊎◌, inl, inr}
+use Rattle.std.proofs.Common.{◌≡◌, ℕ, Bool, true, false, List, Option, Some, None, slice_get, if◌then◌else◌, refl, sym, ◌∙◌, ap, ◌⊎◌, inl, inr}
 use Rattle.rb_base.specs.Nodes.{Side, other, has}
 use Rattle.rb_base.specs.Nodes.Side.{Biu, Rmu}
 use Rattle.rb_rules.specs.declared.role.Role.{Role}
 use Rattle.rb_rules.specs.declared.role.Role.TheVariants.{Schedule, Data, DiagBiu, DiagRmu, Sync}
-use Rattle.rb_rules.specs.Slots.{Sender, sender_kind, if_trusted, if_owned, sender_in}
-use Rattle.rb_rules.specs.Slots.Sender.{Nobody, Node, EachTrusted}
+use Rattle.rb_rules.specs.Slots.{sender_kind, if_trusted, if_owned, sender_in}
+use Rattle.rb_rules.specs.Slots.Sender.{Nobody, Node}
 
 same_node : (a b : ℕ) → Node a ≡ Node b → a ≡ b
 same_node a b h = cc

@@ -1,32 +1,30 @@
 -- A window below the sync slot that is settled without a breach, before which all good nodes agree: what holds of it whatever its
 -- stage.
-use Rattle.std.proofs.Common.{◌≡◌, ℕ, zero, suc, ◌+◌, ◌*◌, ◌<◌, ◌≤◌, ◌==◌, ◌&&◌, not, Bool, true, false, List, [], ◌∷◌, length, Option, Some, None, is_some, slice_get, get_or, if◌then◌else◌, refl, sym, ◌∙◌, ap, subst, arith}
+use Rattle.std.proofs.Common.{◌≡◌, ℕ, zero, suc, ◌+◌, ◌*◌, ◌<◌, true, false, List, [], ◌∷◌, length, Option, Some, is_some, slice_get, refl, sym, ◌∙◌, ap, arith}
 use Rattle.std.specs.Prelude.{IfSome}
 use Rattle.rb_base.specs.Nodes.{Side, other, has}
-use Rattle.rb_base.specs.Sizes.{Sizes, sync_slot_of}
+use Rattle.rb_base.specs.Sizes.{sync_slot_of}
 use Rattle.rb_base.specs.declared.values.Heard.{Heard}
-use Rattle.rb_base.specs.declared.values.Place.{Place}
-use Rattle.rb_rules.specs.declared.role.Role.{Role}
 use Rattle.rb_rules.specs.declared.sense.Sense.{Sense}
 use Rattle.rb_rules.specs.Book.{of_kind, judged_of}
 use Rattle.rb_rules.specs.ExactStage.{Outcome, says, reference_value}
 use Rattle.rb_rules.specs.Goodness.{Scenario, is_good}
-use Rattle.rb_rules.specs.Judging.{JudgedStage, is_asymmetric, is_benign}
+use Rattle.rb_rules.specs.Judging.{JudgedStage, is_asymmetric}
 use Rattle.rb_rules.specs.Lawful.{IsLawful}
-use Rattle.rb_rules.specs.NodeState.{NodeState, trusted_of, sender_at}
+use Rattle.rb_rules.specs.NodeState.{NodeState, sender_at}
 use Rattle.rb_rules.specs.NodeSteps.{close}
 use Rattle.rb_rules.specs.Ports.{HandIn}
 use Rattle.rb_rules.specs.Rounds.{Moment, window_in, sent_in, go_through}
 use Rattle.rb_rules.specs.Slots.{count_of, role_of}
 use Rattle.rb_rules.specs.Standing.{is_unlike}
 use Rattle.rb_rules.proofs.Senses.{IsCarried}
-use Rattle.rb_agree.proofs.Tests.{and_first, Present}
+use Rattle.rb_agree.proofs.Tests.{Present}
 use Rattle.rb_agree.proofs.Premises.{Premise}
-use Rattle.rb_agree.proofs.NodeWindows.{Windows, HasTick, word_at, kept_in, own_window, heard_in, sense_in, exact_windows, exact_tick, goes, state-closed}
+use Rattle.rb_agree.proofs.NodeWindows.{Windows, HasTick, word_at, kept_in, sense_in, exact_windows, exact_tick, goes, state-closed}
 use Rattle.rb_agree.proofs.ExactWindows.{ExactClose, take_at, expected_at, closing_at, sent_by, with_sent, spares_right, spares_alike}
 use Rattle.rb_agree.proofs.JudgedWindows.{rows_of, IsPassed, premise_after}
-use Rattle.rb_agree.proofs.Invariant.{Shared, IsGoodNode, is_good_now, slot_numbered, SparesGood, Holds, Agree}
-use Rattle.rb_agree.proofs.Goodnesses.{good_below_16, good_counts, few_nodes, slot_here}
+use Rattle.rb_agree.proofs.Invariant.{Shared, IsGoodNode, is_good_now, slot_numbered, Holds, Agree}
+use Rattle.rb_agree.proofs.Goodnesses.{good_below_16, good_counts, slot_here}
 use Rattle.rb_agree.proofs.Exchanges.{IsHeard, far-held, good_heard, closes_exactly, taken_is_seen, alike_is_same, taken_is_trusted}
 use Rattle.rb_agree.proofs.StageVotes.{IsSeen}
 

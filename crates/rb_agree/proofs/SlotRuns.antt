@@ -1,18 +1,17 @@
 -- A complete slot below the sync slot, stage by stage: all good nodes hold the same through it.
-use Rattle.std.proofs.Common.{◌≡◌, ℕ, zero, suc, ◌+◌, ◌-◌, ◌*◌, ◌<◌, ◌≤◌, true, false, List, Option, Some, slice_get, ◌⊎◌, inl, inr, refl, sym, ◌∙◌, ap, subst, arith}
+use Rattle.std.proofs.Common.{◌≡◌, ℕ, suc, ◌+◌, ◌-◌, ◌*◌, ◌<◌, ◌≤◌, true, List, Some, slice_get, inl, inr, refl, sym, ◌∙◌, ap, arith}
 use Rattle.rb_base.specs.Nodes.{Side}
 use Rattle.rb_base.specs.Sizes.{sync_slot_of}
 use Rattle.rb_rules.specs.Book.{of_kind}
 use Rattle.rb_rules.specs.Goodness.{Scenario, is_good}
 use Rattle.rb_rules.specs.Lawful.{IsLawful}
-use Rattle.rb_rules.specs.Moments.{before_stage, before_slot, after_slot, IsRunning, IsComplete, IsGoodAfter}
+use Rattle.rb_rules.specs.Moments.{before_stage, before_slot, after_slot, IsRunning, IsComplete}
 use Rattle.rb_rules.specs.NodeState.{NodeState}
 use Rattle.rb_rules.specs.Ports.{HandIn}
 use Rattle.rb_rules.specs.Rounds.{Moment, after_window, step, moment, windows_in}
 use Rattle.rb_rules.proofs.RoundStates.{state-after}
 use Rattle.rb_agree.proofs.Tests.{Present, same_some}
-use Rattle.rb_agree.proofs.Goodnesses.{slot_here}
-use Rattle.rb_agree.proofs.Invariant.{Shared, IsGoodNode, is_good_now, slot_numbered, Agree}
+use Rattle.rb_agree.proofs.Invariant.{Shared, IsGoodNode, is_good_now, Agree}
 use Rattle.rb_agree.proofs.NextMoments.{next}
 use Rattle.rb_agree.proofs.Settings.{Setting, good_here, good_state, after}
 use Rattle.rb_agree.proofs.ExactAgrees.{agree_1, agree_2}
@@ -46,7 +45,7 @@ pub record IsSlot (sc : Scenario) (hands : List HandIn) (frame slot : ℕ) : Typ
   pub after_second : next sc (next sc (before_slot sc hands frame slot)) ≡ before_stage sc hands frame slot 3
   pub after_third : next sc (next sc (next sc (before_slot sc hands frame slot))) ≡ after_slot sc hands frame slot
 
-next-window : (sc : Scenario) (m : Moment) → (next sc m).window ≡ m.window + 1
+pub next-window : (sc : Scenario) (m : Moment) → (next sc m).window ≡ m.window + 1
 unfolding after_window
 next-window sc m = refl
 
@@ -98,7 +97,7 @@ slot_runs sc hands law frame slot below complete =
 
 -- Good nodes of the slot.
 
-next-frame : (sc : Scenario) (m : Moment) → (next sc m).frame ≡ m.frame
+pub next-frame : (sc : Scenario) (m : Moment) → (next sc m).frame ≡ m.frame
 unfolding after_window
 next-frame sc m = refl
 

@@ -1,7 +1,6 @@
 -- Each complete slot below the sync slot has one value, and where its sender is good this is the sender's own.
-use Rattle.std.proofs.Common.{◌≡◌, ℕ, zero, suc, ◌+◌, ◌<◌, ◌≤◌, true, List, [], ◌∷◌, ◌++◌, Option, Some, slice_get, get_or, refl, sym, ◌∙◌, ap, subst, arith}
+use Rattle.std.proofs.Common.{◌≡◌, ℕ, suc, true, List, [], ◌∷◌, ◌++◌, slice_get, refl, sym, ◌∙◌, ap, subst, arith}
 use Rattle.rb_base.specs.Nodes.{Side}
-use Rattle.rb_base.specs.Sizes.{sync_slot_of}
 use Rattle.rb_base.specs.declared.values.Heard.{Heard}
 use Rattle.rb_rules.specs.Book.{of_kind}
 use Rattle.rb_rules.specs.Book.Record.{Slot}
@@ -9,7 +8,7 @@ use Rattle.rb_rules.specs.ExactStage.{own_value}
 use Rattle.rb_rules.specs.Goodness.{Scenario, is_good}
 use Rattle.rb_rules.specs.Headline.{HasRecord}
 use Rattle.rb_rules.specs.Hearing.{word_for}
-use Rattle.rb_rules.specs.Moments.{before_stage, before_slot, after_slot, IsComplete, IsGoodBefore, IsGoodAfter}
+use Rattle.rb_rules.specs.Moments.{before_slot, IsGoodBefore}
 use Rattle.rb_rules.specs.NodeState.{NodeState}
 use Rattle.rb_rules.specs.NodeSteps.{owner_at}
 use Rattle.rb_rules.specs.Ports.{HandIn}
@@ -17,11 +16,11 @@ use Rattle.rb_rules.specs.Rounds.{Moment}
 use Rattle.rb_rules.specs.Slots.{role_of}
 use Rattle.rb_rules.specs.Slots.Sender.{Node}
 use Rattle.rb_rules.proofs.RoundStates.{state-after}
-use Rattle.rb_agree.specs.Values.{IsGoodVoter, lines_in, HasValue, IsGoodSender, value_of_sender}
+use Rattle.rb_agree.specs.Values.{lines_in, HasValue, IsGoodSender, value_of_sender}
 use Rattle.rb_agree.specs.Laws.{GoodNodesAgree, GoodSendersAreHeard}
-use Rattle.rb_agree.proofs.Invariant.{Shared, sender_of, kind_in, IsGoodNode, is_good_now, IsOwn, HasVoted, Holds}
+use Rattle.rb_agree.proofs.Invariant.{sender_of, kind_in, IsGoodNode, is_good_now, IsOwn, HasVoted}
 use Rattle.rb_agree.proofs.Exchanges.{sender-held}
-use Rattle.rb_agree.proofs.Settings.{Setting, after}
+use Rattle.rb_agree.proofs.Settings.{after}
 use Rattle.rb_agree.proofs.SecondStages.{vote_of, vote-held, voters-vote}
 use Rattle.rb_agree.proofs.ThirdStages.{voted, held_3}
 use Rattle.rb_agree.proofs.NextMoments.{next}

@@ -1,7 +1,7 @@
 -- The votes of one stage, under the premise: good nodes that hear one value of all good sources vote for it.
-use Rattle.std.proofs.Common.{◌≡◌, ℕ, ◌+◌, ◌<◌, ◌≤◌, ◌&&◌, not, Bool, true, false, List, Option, Some, None, is_some, refl, sym, ◌∙◌, ap, arith}
+use Rattle.std.proofs.Common.{◌≡◌, ℕ, ◌<◌, ◌≤◌, ◌&&◌, not, Bool, true, false, List, Some, is_some, refl, ◌∙◌, arith}
 use Rattle.rb_base.specs.Counting.{count_if, numbers}
-use Rattle.rb_base.specs.Nodes.{Side, has, set_of, size}
+use Rattle.rb_base.specs.Nodes.{Side, has}
 use Rattle.rb_base.proofs.SetSizes.{size-set_of}
 use Rattle.rb_base.specs.declared.values.Heard.{Heard}
 use Rattle.rb_rules.specs.declared.sense.Sense.{Sense}
@@ -11,7 +11,7 @@ use Rattle.rb_rules.specs.Judging.{JudgedStage, is_benign}
 use Rattle.rb_rules.specs.Sense.{value_in}
 use Rattle.rb_rules.specs.Standing.{Standing, taken_of}
 use Rattle.rb_rules.proofs.Votes.{closing_vote_is}
-use Rattle.rb_agree.proofs.Tests.{true_or_false, and_first, and_second, and_both, not_so}
+use Rattle.rb_agree.proofs.Tests.{and_first, and_second, and_both, not_so}
 use Rattle.rb_agree.proofs.Numbers.{how_many, how_many-is, how_many-le}
 use Rattle.rb_agree.proofs.Premises.{Premise, is_active, is_sound}
 

@@ -1,28 +1,26 @@
 -- From one window of the sync slot to the next, and over the tail: all good nodes still agree.
-use Rattle.std.proofs.Common.{◌≡◌, ℕ, zero, suc, ◌+◌, ◌*◌, ◌<◌, ◌≤◌, ◌==◌, Bool, true, false, List, [], ◌∷◌, length, Option, Some, None, slice_get, get_or, refl, sym, ◌∙◌, ap, subst, arith}
+use Rattle.std.proofs.Common.{◌≡◌, ℕ, suc, ◌+◌, ◌*◌, ◌<◌, ◌≤◌, true, false, List, ◌∷◌, length, slice_get, get_or, sym, ◌∙◌, ap, subst, arith}
 use Rattle.rb_base.specs.Nodes.{Side, other, has}
-use Rattle.rb_base.specs.Sizes.{Sizes, sync_slot_of}
-use Rattle.rb_base.specs.declared.values.Heard.{Heard}
+use Rattle.rb_base.specs.Sizes.{sync_slot_of}
 use Rattle.rb_base.specs.declared.values.Heard.TheVariants.{Fault}
-use Rattle.rb_base.specs.declared.values.Place.{Place}
 use Rattle.rb_rules.specs.Book.{of_kind, judged_of, with_stage}
 use Rattle.rb_rules.specs.Goodness.{Scenario, is_good}
 use Rattle.rb_rules.specs.Judging.{JudgedStage, is_benign}
 use Rattle.rb_rules.specs.Lawful.{IsLawful}
 use Rattle.rb_rules.specs.NodeState.{NodeState, trusted_of}
 use Rattle.rb_rules.specs.Ports.{HandIn}
-use Rattle.rb_rules.specs.Rounds.{Moment, moment, sent_in, window_in, book_after, after_window, results_of, windows_in}
+use Rattle.rb_rules.specs.Rounds.{Moment, moment, sent_in, window_in, book_after, after_window, windows_in}
 use Rattle.rb_rules.specs.Standing.{does_wrong}
 use Rattle.rb_rules.specs.SyncStage.{expects_call}
-use Rattle.rb_rules.specs.Windows.{window_of, windows_of_frame}
+use Rattle.rb_rules.specs.Windows.{windows_of_frame}
 use Rattle.rb_rules.proofs.RoundStates.{Knows, through-stays}
 use Rattle.rb_agree.proofs.Tests.{Present}
 use Rattle.rb_agree.proofs.Premises.{Premise}
 use Rattle.rb_agree.proofs.Goodnesses.{good_below_16, slot_last}
-use Rattle.rb_agree.proofs.Invariant.{Shared, sender_of, kind_in, IsGoodNode, is_good_now, slot_numbered, SparesGood, IsOwn, IsValue, IsFinished, Holds, Agree}
-use Rattle.rb_agree.proofs.ExactAgrees.{has_ticks, knows_next}
+use Rattle.rb_agree.proofs.Invariant.{Shared, kind_in, IsGoodNode, is_good_now, slot_numbered, IsFinished, Holds, Agree}
+use Rattle.rb_agree.proofs.ExactAgrees.{knows_next}
 use Rattle.rb_agree.proofs.JudgedWindows.{rows_of, IsPassed, premise_after, stays-trusted}
-use Rattle.rb_agree.proofs.NodeWindows.{Windows, sense_in, sync_first, sync_ticks, sync_window, sync_windows_are, tail_windows}
+use Rattle.rb_agree.proofs.NodeWindows.{Windows, sense_in, sync_window, sync_windows_are, tail_windows}
 use Rattle.rb_agree.proofs.SecondStages.{benign-before}
 use Rattle.rb_agree.proofs.Settings.{good_state, after}
 use Rattle.rb_agree.proofs.SyncWindows.{HasTicksOf, stage_ticks, tail_ticks, sync_right, IsAfterSync, sync_closes}
@@ -39,17 +37,17 @@ pub record SyncSetting (sc : Scenario) (hands : List HandIn) (n : ℕ) (m : Mome
   pub judged : 2 ≤ q → Premise sc m.frame (sync_slot_of sc.sizes) s.trusted (next sc m).book.stages
 
 -- good nodes are those of the sync slot
-good-here : (sc : Scenario) (hands : List HandIn) (n : ℕ) (m : Moment) (s : Shared) (q : ℕ) (ws : Windows sc m (sync_slot_of sc.sizes) (q + 1)) → SyncSetting sc hands n m s q ws
+pub good-here : (sc : Scenario) (hands : List HandIn) (n : ℕ) (m : Moment) (s : Shared) (q : ℕ) (ws : Windows sc m (sync_slot_of sc.sizes) (q + 1)) → SyncSetting sc hands n m s q ws
     → (me : Side) (i : ℕ) → is_good_now sc m me i ≡ is_good sc me i m.frame (sync_slot_of sc.sizes)
 good-here sc hands n m s q ws c me i = ap (is_good sc me i m.frame) (slot_last sc.sizes m.window q c.at)
 
 -- what the window leaves of a good node
-leaves : (sc : Scenario) (hands : List HandIn) (n : ℕ) (m : Moment) (s : Shared) (q : ℕ) (ws : Windows sc m (sync_slot_of sc.sizes) (q + 1)) → SyncSetting sc hands n m s q ws
+pub leaves : (sc : Scenario) (hands : List HandIn) (n : ℕ) (m : Moment) (s : Shared) (q : ℕ) (ws : Windows sc m (sync_slot_of sc.sizes) (q + 1)) → SyncSetting sc hands n m s q ws
     → (me : Side) (i : ℕ) (st : NodeState) → IsGoodNode sc m me i st → IsAfterSync st (after sc m me i st) (λ j. does_wrong (expects_call me st (q + 1) j) (sense_in sc m (sync_slot_of sc.sizes) (q + 1) ws me i st j))
 leaves sc hands n m s q ws c me i st here =
     sync_closes sc m (q + 1) ws me i st (sym (good-here sc hands n m s q ws c me i) ∙ here.good)
 
-spared : (sc : Scenario) (hands : List HandIn) (n : ℕ) (m : Moment) (s : Shared) (q : ℕ) (ws : Windows sc m (sync_slot_of sc.sizes) (q + 1)) → SyncSetting sc hands n m s q ws
+pub spared : (sc : Scenario) (hands : List HandIn) (n : ℕ) (m : Moment) (s : Shared) (q : ℕ) (ws : Windows sc m (sync_slot_of sc.sizes) (q + 1)) → SyncSetting sc hands n m s q ws
     → (me : Side) (i j : ℕ) (st : NodeState) → IsGoodNode sc m me i st → is_good_now sc m (other me) j ≡ true → has (after sc m me i st).far.direct j ≡ false
 spared sc hands n m s q ws c me i j st here good =
     let there : Present (slice_get (of_kind (other me) m.nodes) j) = good_state sc hands n m s c.agree (other me) j good in

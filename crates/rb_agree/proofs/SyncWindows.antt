@@ -1,29 +1,27 @@
 -- The windows of the sync slot, the tail with them: whoever is good calls where it is expected, and is not accused.
-use Rattle.std.proofs.Common.{◌≡◌, ℕ, zero, suc, ◌+◌, ◌-◌, ◌*◌, ◌<◌, ◌≤◌, ◌^◌, ◌%◌, ◌==◌, ◌&&◌, ◌||◌, nat_lt, nat_le, not, Bool, true, false, List, Option, Some, None, is_some, option_map, slice_get, if◌then◌else◌, refl, sym, ◌∙◌, ap, subst, arith, ◌⊎◌, inl, inr}
+use Rattle.std.proofs.Common.{◌≡◌, ℕ, zero, suc, ◌+◌, ◌-◌, ◌*◌, ◌<◌, ◌≤◌, ◌%◌, ◌==◌, ◌&&◌, nat_lt, nat_le, Bool, true, false, Option, Some, None, is_some, option_map, slice_get, if◌then◌else◌, refl, sym, ◌∙◌, ap, subst, arith, inl, inr}
 use Rattle.std.proofs.lemmas.Bool.Decides.{nat_tests}
 use Rattle.rb_base.specs.Nodes.{Side, other, has}
 use Rattle.rb_base.specs.Nodes.Side.{Biu, Rmu}
 use Rattle.rb_base.specs.Sizes.{Sizes, IsShape, sync_slot_of}
 use Rattle.rb_base.specs.declared.values.Heard.{Heard}
 use Rattle.rb_rules.specs.declared.message.Message.{Message}
-use Rattle.rb_rules.specs.declared.message.Tag.TheVariants as tag
 use Rattle.rb_rules.specs.declared.message.Version.{Version}
 use Rattle.rb_rules.specs.declared.plan.Plan.{Plan}
 use Rattle.rb_rules.specs.declared.role.Role.TheVariants.{Sync}
 use Rattle.rb_rules.specs.declared.sense.Sense.{Sense}
-use Rattle.rb_rules.specs.declared.sense.Sense.TheVariants.{Silent, One}
+use Rattle.rb_rules.specs.declared.sense.Sense.TheVariants.{Silent}
 use Rattle.rb_rules.specs.Book.{of_kind}
 use Rattle.rb_rules.specs.ExactStage.{Outcome, close_exact}
 use Rattle.rb_rules.specs.Goodness.{Scenario, is_good}
-use Rattle.rb_rules.specs.Lawful.{IsLawful}
 use Rattle.rb_rules.specs.NodeState.{NodeState}
 use Rattle.rb_rules.specs.NodeSteps.{expect_of, message_said, close}
 use Rattle.rb_rules.specs.Rounds.{Moment, Result, window_in, sent_in, close_on, go_through}
-use Rattle.rb_rules.specs.Sense.{tag_suits, suits}
+use Rattle.rb_rules.specs.Sense.{suits}
 use Rattle.rb_rules.specs.Slots.{listens}
 use Rattle.rb_rules.specs.Spelling.{IsMessage}
-use Rattle.rb_rules.specs.Standing.{Standing, does_wrong, has_evidence, with_evidence}
-use Rattle.rb_rules.specs.SyncStage.{calls, call_of, expects_call, close_sync, sync_outcome_of, call_tick_of, send_tick_of}
+use Rattle.rb_rules.specs.Standing.{does_wrong, has_evidence}
+use Rattle.rb_rules.specs.SyncStage.{calls, call_of, expects_call, close_sync, sync_outcome_of, call_tick_of}
 use Rattle.rb_rules.proofs.RoundStates.{Knows, keeping-stays}
 use Rattle.rb_rules.proofs.Standings.{right_is_no_evidence, others_stay}
 use Rattle.rb_agree.proofs.Tests.{true_or_false, Present, present_if}
@@ -171,7 +169,7 @@ close-parts sizes me st sent stage first sense = record {
       (right_is_no_evidence st.far (expects_call me st stage) sense j right);
 }
 
-close-sync : (sizes : Sizes) (me : Side) (i : ℕ) (st : NodeState) (stage first : ℕ) (sense : ℕ → Sense)
+pub close-sync : (sizes : Sizes) (me : Side) (i : ℕ) (st : NodeState) (stage first : ℕ) (sense : ℕ → Sense)
     → close sizes me i st (sync_slot_of sizes) stage first sense ≡ close_sync sizes me st stage (st.epoch + first) sense
 close-sync sizes me i st stage first sense = go (sync_slot_of sizes == sync_slot_of sizes) (in-sync sizes)
   where

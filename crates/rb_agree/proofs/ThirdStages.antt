@@ -1,20 +1,18 @@
 -- Stage 3 of a slot: after it the good nodes of the other kind hold the same vote, where they vote. Data slots have none.
-use Rattle.std.proofs.Common.{◌≡◌, ℕ, zero, suc, ◌+◌, ◌*◌, ◌<◌, ◌≤◌, ◌==◌, ◌&&◌, ◌||◌, not, Bool, true, false, List, [], ◌∷◌, length, ◌⊎◌, inl, inr, Option, Some, None, is_some, slice_get, slice_set, get_or, if◌then◌else◌, refl, sym, ◌∙◌, ap, subst, arith}
+use Rattle.std.proofs.Common.{◌≡◌, ℕ, ◌+◌, ◌<◌, ◌&&◌, ◌||◌, Bool, true, false, List, inl, inr, Some, None, slice_set, get_or, if◌then◌else◌, refl, sym, ◌∙◌, ap, subst, arith}
 use Rattle.std.specs.Prelude.{IfSome}
-use Rattle.std.proofs.lemmas.Bool.Decides.{nat_tests}
-use Rattle.std.proofs.lemmas.List.{get_or-set_same, get_or-set_other}
-use Rattle.rb_base.specs.Nodes.{Side, other, has}
+use Rattle.std.proofs.lemmas.List.{get_or-set_other}
+use Rattle.rb_base.specs.Nodes.{Side, other}
 use Rattle.rb_base.specs.Nodes.Side.{Biu, Rmu}
-use Rattle.rb_base.specs.Sizes.{Sizes, sync_slot_of}
 use Rattle.rb_base.specs.declared.values.Heard.{Heard}
 use Rattle.rb_base.specs.declared.values.Heard.TheVariants.{Fault}
 use Rattle.rb_rules.specs.declared.role.Role.{Role}
 use Rattle.rb_rules.specs.declared.role.Role.TheVariants.{Schedule, Data, DiagBiu, DiagRmu, Sync}
-use Rattle.rb_rules.specs.Book.{of_kind, judged_of}
+use Rattle.rb_rules.specs.Book.{judged_of}
 use Rattle.rb_rules.specs.ExactStage.{says, votes_in}
 use Rattle.rb_rules.specs.Goodness.{Scenario}
 use Rattle.rb_rules.specs.Judging.{is_benign}
-use Rattle.rb_rules.specs.NodeState.{NodeState, sender_at}
+use Rattle.rb_rules.specs.NodeState.{NodeState}
 use Rattle.rb_rules.specs.Ports.{HandIn}
 use Rattle.rb_rules.specs.Rounds.{Moment}
 use Rattle.rb_rules.specs.Slots.{Sender, same_side, sender_kind, has_third_stage, listens, role_of}
@@ -24,14 +22,14 @@ use Rattle.rb_rules.specs.StandsFor.{votes_on}
 use Rattle.rb_rules.proofs.Senses.{IsCarried}
 use Rattle.rb_agree.proofs.Tests.{true_or_false, and_first, same_some}
 use Rattle.rb_agree.proofs.Goodnesses.{exact_role, single_sender}
-use Rattle.rb_agree.proofs.Invariant.{Shared, sender_of, kind_in, IsGoodNode, is_good_now, IsOwn, IsValue, IsFinished, HasVoted, Holds, Agree}
+use Rattle.rb_agree.proofs.Invariant.{Shared, sender_of, kind_in, IsGoodNode, IsValue, IsFinished, HasVoted}
 use Rattle.rb_agree.proofs.ExactWindows.{other_twice, IsSingle}
-use Rattle.rb_agree.proofs.Exchanges.{IsHeard, sender-held}
+use Rattle.rb_agree.proofs.Exchanges.{sender-held}
 use Rattle.rb_agree.proofs.JudgedWindows.{rows_of}
 use Rattle.rb_agree.proofs.NodeWindows.{word_at}
 use Rattle.rb_agree.proofs.Senders.{one_or_other}
 use Rattle.rb_agree.proofs.Speaking.{IsOnly, only-fits, only-alike, says_vote, says_nothing, vote_is_said, listens_third, same_side_other, voters_deaf}
-use Rattle.rb_agree.proofs.Settings.{Setting, stages_with, AllCarried, all_heard, after, Closed, closes, NoneUnlike}
+use Rattle.rb_agree.proofs.Settings.{Setting, AllCarried, all_heard, after, Closed, closes, NoneUnlike}
 use Rattle.rb_agree.proofs.SecondStages.{vote_of, vote-held, all_vote, idle-vote, benign-before}
 use Rattle.rb_agree.proofs.NextMoments.{next, was_good, CameFrom, came_from, stages_after, own_next}
 
@@ -102,6 +100,7 @@ none_unlike_3 sc hands n m s slot c me i j st source here there value reference 
     by_test : (b : Bool) (voted : Heard) → (if b then Some voted else None) ≡ Some value → (b ≡ true) × (voted ≡ value)
     by_test true voted h = (refl, same_some voted value h)
     by_test false voted h = cc
+
     third-from : (b t : Bool) → (if b then false else (false || (true && t))) ≡ true → t ≡ true
     third-from true t h = cc
     third-from false t h = h

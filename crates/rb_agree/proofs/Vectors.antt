@@ -1,15 +1,15 @@
 -- The vectors of a frame: their slots, and whom they convict.
-use Rattle.std.proofs.Common.{◌≡◌, ℕ, ◌+◌, ◌-◌, ◌*◌, ◌<◌, ◌≤◌, ◌==◌, ◌&&◌, nat_lt, not, Bool, true, false, List, if◌then◌else◌, refl, sym, ◌∙◌, ap, arith}
+use Rattle.std.proofs.Common.{◌≡◌, ℕ, ◌+◌, ◌-◌, ◌*◌, ◌<◌, ◌≤◌, ◌&&◌, nat_lt, not, Bool, true, false, refl, sym, ◌∙◌, ap, arith}
 use Rattle.std.proofs.lemmas.Bool.Decides.{nat_tests}
 use Rattle.rb_base.specs.Counting.{count_if, numbers}
-use Rattle.rb_base.specs.Nodes.{Side, other, has, set_of, size}
+use Rattle.rb_base.specs.Nodes.{Side, has, size}
 use Rattle.rb_base.specs.Nodes.Side.{Biu, Rmu}
 use Rattle.rb_base.specs.Sizes.{Sizes, sync_slot_of}
 use Rattle.rb_base.proofs.Sets.{same_set_of}
 use Rattle.rb_base.proofs.SetSizes.{size-set_of}
 use Rattle.rb_base.specs.declared.values.Heard.{Heard}
 use Rattle.rb_rules.specs.declared.role.Role.{Role}
-use Rattle.rb_rules.specs.declared.role.Role.TheVariants.{Schedule, Data, DiagBiu, DiagRmu, Sync}
+use Rattle.rb_rules.specs.declared.role.Role.TheVariants.{DiagBiu, DiagRmu}
 use Rattle.rb_rules.specs.Conviction.{is_valid, names, naming, sparing, convicted_by}
 use Rattle.rb_rules.specs.Slots.{count_of, first_diagnosis_of, role_of}
 
@@ -69,11 +69,13 @@ convicted_same others senders trusted v w same =
     three : (a b c d e : Bool) → (a ≡ true → (b && c) ≡ (d && e)) → (a && b && c) ≡ (a && d && e)
     three true b c d e h = h refl
     three false b c d e h = refl
+
     names_it : (j : ℕ) → naming others senders v j ≡ naming others senders w j
     names_it j =
         count_same (λ i. has senders i && is_valid others (v i) && names j (v i)) (λ i. has senders i && is_valid others (w i) && names j (w i))
         (λ i below. three (has senders i) (is_valid others (v i)) (names j (v i)) (is_valid others (w i)) (names j (w i))
         (λ sent. ap (λ x. is_valid others x && names j x) (same i below sent)))
+
     spares : (j : ℕ) → sparing others senders v j ≡ sparing others senders w j
     spares j =
         count_same (λ i. has senders i && is_valid others (v i) && not (names j (v i))) (λ i. has senders i && is_valid others (w i) && not (names j (w i)))

@@ -1,13 +1,15 @@
 -- What holds of every lawful scenario and every list of hand-ins up to the first breach of the premise on faults: in slots that
 -- are complete without one, as are all before them. No clock plays a part in it.
-use Rattle.std.specs.Prelude.{ℕ, ◌≡◌, ◌+◌, ◌<◌, ◌≤◌, ◌||◌, true, false, Some, List, slice_get}
+use Rattle.std.specs.Prelude.{ℕ, suc, ◌≡◌, ◌+◌, ◌<◌, ◌≤◌, ◌||◌, true, false, Some, List, slice_get}
 use Rattle.rb_base.specs.Nodes.{Side, other, has}
+use Rattle.rb_base.specs.Nodes.Side.{Biu}
 use Rattle.rb_base.specs.Sizes.{sync_slot_of}
 use Rattle.rb_base.specs.declared.values.Heard.{Heard}
 use Rattle.rb_rules.specs.Book.{of_kind}
 use Rattle.rb_rules.specs.Conviction.{is_valid, voted_vector}
 use Rattle.rb_rules.specs.Goodness.{Scenario, is_good}
 use Rattle.rb_rules.specs.Headline.{HoldOneSchedule, ConvictNoGoodNode}
+use Rattle.rb_rules.specs.Hearing.{port_at}
 use Rattle.rb_rules.specs.Judging.{is_benign}
 use Rattle.rb_rules.specs.Lawful.{IsLawful}
 use Rattle.rb_rules.specs.Moments.{before_slot, after_slot, IsComplete, IsSettled, IsGoodBefore, IsGoodAfter}
@@ -17,6 +19,7 @@ use Rattle.rb_rules.specs.Ports.{HandIn}
 use Rattle.rb_rules.specs.Slots.{count_of, first_diagnosis_of}
 use Rattle.rb_rules.specs.Standing.{Standing}
 use Rattle.rb_rules.specs.StandsFor.{SparesAllGood}
+use Rattle.rb_agree.specs.Histories.{port_through, port_begun, AreAlike}
 use Rattle.rb_agree.specs.Values.{HasValue, IsGoodSender, value_of_sender}
 
 -- Agreement.
@@ -94,3 +97,21 @@ AccusedByAllIsConvicted =
     → (accused : Side) (j : ℕ) → j < count_of accused sc.sizes → IsAccusedByAll sc hands frame accused j
     → (me : Side) (i : ℕ) (st : NodeState) → IsGoodBefore sc hands (frame + 1) 0 me i st
     → has (convicted_of sc.sizes accused me st) j ≡ true
+
+-- Ports.
+
+-- a good BIU's port is what the bus's values make of it
+abbrev pub PortsFollowTheBus : Type 0
+PortsFollowTheBus =
+    (sc : Scenario) (hands : List HandIn) → IsLawful sc
+    → (frame slot : ℕ) → slot ≤ sync_slot_of sc.sizes → IsComplete sc hands frame slot
+    → (i : ℕ) → is_good sc Biu i frame slot ≡ true
+    → port_at sc (after_slot sc hands frame slot).ports i ≡ port_through sc hands frame (suc slot) (port_begun sc hands i frame)
+
+-- so good BIUs that are alike have equal ports
+abbrev pub PortsHoldOneState : Type 0
+PortsHoldOneState =
+    (sc : Scenario) (hands : List HandIn) → IsLawful sc
+    → (frame slot : ℕ) → slot ≤ sync_slot_of sc.sizes → IsComplete sc hands frame slot
+    → (i j : ℕ) → is_good sc Biu i frame slot ≡ true → is_good sc Biu j frame slot ≡ true → AreAlike sc hands i j
+    → port_at sc (after_slot sc hands frame slot).ports i ≡ port_at sc (after_slot sc hands frame slot).ports j

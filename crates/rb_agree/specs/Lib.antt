@@ -1,2 +1,3 @@
 pub mod Values
+pub mod Histories
 pub mod Laws

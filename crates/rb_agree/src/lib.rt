@@ -2,7 +2,7 @@
 //! law is the contract of a function that does nothing.
 #![tactic(auto)]
 
-ghost use Rattle.rb_agree.specs.Laws.{GoodNodesAgree, GoodSendersAreHeard};
+ghost use Rattle.rb_agree.specs.Laws.{AccusedByAllIsConvicted, GoodNodesAgree, GoodNodesHoldOneSchedule, GoodSendersAreHeard, NoGoodNodeIsAccused, NoGoodNodeIsConvicted, PortsFollowTheBus, PortsHoldOneState, UnheardNodesHaveNoVector};
 
 /// The good nodes that vote on a slot hold one vote, and each good BIU delivers that in an owned data slot.
 pub fn good_nodes_agree()
@@ -12,4 +12,39 @@ pub fn good_nodes_agree()
 /// Where the sender is good, the vote is what it sent: its request, the word that its application offered, its vector.
 pub fn good_senders_are_heard()
     ensures { GoodSendersAreHeard }
+{}
+
+/// From the first data slot on good nodes hold one schedule, and they trust the same nodes, also as a frame begins.
+pub fn good_nodes_hold_one_schedule()
+    ensures { GoodNodesHoldOneSchedule }
+{}
+
+/// No good node accuses a good one, directly or by mismatch.
+pub fn no_good_node_is_accused()
+    ensures { NoGoodNodeIsAccused }
+{}
+
+/// No good node is convicted.
+pub fn no_good_node_is_convicted()
+    ensures { NoGoodNodeIsConvicted }
+{}
+
+/// A node of which no good node took anything in the frame has no valid voted vector.
+pub fn unheard_nodes_have_no_vector()
+    ensures { UnheardNodesHaveNoVector }
+{}
+
+/// Whoever is accused by all nodes of the other kind that are good in the sync slot, when they send their vectors, is convicted at the frame's end; with probation as without.
+pub fn accused_by_all_is_convicted()
+    ensures { AccusedByAllIsConvicted }
+{}
+
+/// A good BIU's port is what the values of the data slots that were not idle make of it, from its first word or its newest hand-in on.
+pub fn ports_follow_the_bus()
+    ensures { PortsFollowTheBus }
+{}
+
+/// Good BIUs with one application, one first word and equal hand-ins have equal ports.
+pub fn ports_hold_one_state()
+    ensures { PortsHoldOneState }
 {}

@@ -1,3 +1,6 @@
+pub mod PlanNumbers
+pub mod StageOrder
+pub mod CloseOrder
 pub mod RoundNodes
 pub mod WorldBooks
 pub mod EventsLaw

@@ -100,11 +100,11 @@ pub record AllStand (sc : Scenario) (m : Moment) : Type 0 where
   pub stands : (me : Side) (i : ℕ) (st : NodeState) → slice_get (of_kind me m.nodes) i ≡ Some st
       → is_good sc me i m.frame (slot_numbered sc.sizes m.window) ≡ true → Stands sc m me st
 
-some-same : {X : Type 0} (a b : X) → Some a ≡ Some b → a ≡ b
+pub some-same : {X : Type 0} (a b : X) → Some a ≡ Some b → a ≡ b
 some-same a b h = cc
 
 -- there is an item at each number below the length
-item-at : {X : Type 0} (xs : List X) (i : ℕ) → i < length xs → (x : X) × (slice_get xs i ≡ Some x)
+pub item-at : {X : Type 0} (xs : List X) (i : ℕ) → i < length xs → (x : X) × (slice_get xs i ≡ Some x)
 item-at [] i h = absurd (omega arith)
 item-at (x ∷ xs) zero h = (x, refl)
 item-at (x ∷ xs) (suc i) h = item-at xs i (omega arith)

@@ -2,6 +2,7 @@
 //! of a function that does nothing.
 #![tactic(none)]
 
+ghost use Rattle.rb_order.specs.Closing.{GoodNodesCloseInOrder};
 ghost use Rattle.rb_order.specs.Laws.{EventsOnlyAdd, HandInsComeLate, QuietTicksCount, RecordsAreOfAllSteps, RoundsOnlyAdd};
 
 /// A run by rounds that stops at its end has all records.
@@ -27,4 +28,11 @@ pub fn hand_ins_come_late()
 /// Quiet ticks are only counted, so that a core may be moved to its next busy tick at once.
 pub fn quiet_ticks_count()
     ensures { QuietTicksCount }
+{}
+
+/// Every good node closes a stage before any good node closes the next stage. So of each stage a world need keep only what was
+/// seen in it last. The tail is no stage: some nodes may be through it, and in the next frame, while others are still in the
+/// last stage. It is enough that the frame's first ticks come at most `p` apart.
+pub fn close_order()
+    ensures { GoodNodesCloseInOrder }
 {}

@@ -4,12 +4,12 @@ use Rattle.std.specs.List.{list_all, list_any}
 use Rattle.toml.specs.Data.{Members}
 use Rattle.rb_rules.specs.Goodness.{Scenario as Told}
 use Rattle.rb_document.specs.Walk.{has_key}
-use Rattle.rb_scenario.specs.Acceptance.{IsAccepted, IsBroken, IsDocument, IsRefused, are_faults_served, first_broken, is_from_start, is_served, scenario_of}
-use Rattle.rb_scenario.specs.Faults.{onsets_of}
+use Rattle.rb_scenario.specs.Acceptance.{IsAccepted, IsBroken, IsDocument, IsRefused, are_faults_served, first_broken, is_from_start, is_served, as_scenario}
+use Rattle.rb_entries.specs.Faults.{onsets_of}
 use Rattle.rb_scenario.specs.Hosts.{words_of}
 use Rattle.rb_scenario.specs.Reading.{scenario_of}
-use Rattle.rb_scenario.specs.declared.refusal.Refusal.{Refusal}
-use Rattle.rb_scenario.specs.declared.refusal.Refusal.TheVariants.{NotToml}
+use Rattle.rb_entries.specs.declared.refusal.Refusal.{Refusal}
+use Rattle.rb_entries.specs.declared.refusal.Refusal.TheVariants.{NotToml}
 use Rattle.rb_scenario.specs.declared.scenario.Scenario.{Scenario}
 
 -- bytes are the text of one document at most
@@ -58,7 +58,7 @@ pub served_has_a_good_rmu : (input : List ℕ) (a : Scenario) → IsAccepted inp
 served_has_a_good_rmu input a accepted built =
     let P : Told → Type 0 = λ sc. is_served (has_key (codes "requests") accepted.document) sc ≡ true in
     some_none a.plan.sizes.rmus a.rmu_onset
-    (one_good _ (scenario_of a) (subst P (sym accepted.says.scenario) (sym accepted.says.served ∙ built)))
+    (one_good _ (as_scenario a) (subst P (sym accepted.says.scenario) (sym accepted.says.served ∙ built)))
 
 many_words : (t : Members) → length (scenario_of t).words ≡ 16
 unfolding words_of

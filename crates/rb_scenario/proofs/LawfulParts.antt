@@ -17,33 +17,36 @@ use Rattle.rb_base.specs.declared.node.NodeName.TheVariants as node
 use Rattle.rb_rules.specs.Clock.{IsClock, Timeline}
 use Rattle.rb_rules.specs.Goodness.{Scenario}
 use Rattle.rb_rules.specs.Links.{name_of}
-use Rattle.rb_rules.specs.Plan.{longest_of, shortest_of}
+use Rattle.rb_rules.specs.Plan.{IsFeasible, longest_of, shortest_of}
 use Rattle.rb_rules.specs.declared.link.Pattern.{Pattern}
 use Rattle.rb_rules.specs.declared.link.Pattern.TheVariants.{One}
 use Rattle.rb_rules.specs.declared.link.Rule.{Rule}
 use Rattle.rb_rules.specs.declared.plan.Plan.{Plan}
 use Rattle.rb_rules.specs.declared.say.Say.{Say}
+use Rattle.rb_rules.specs.Lawful.{HasEach, IsLawful, IsOnsetOf, is_node_good, segments_of_all}
 use Rattle.rb_rules.proofs.Feasibility.{feasible_exactly}
+use Rattle.rb_rules.proofs.Lawfulness.{sends_inside_all}
 use Rattle.rb_document.specs.Names.{node_at, pattern_at}
 use Rattle.rb_document.specs.Values.{has_number, is_range, item_at, may_have_number, number_at, number_or, range_or}
 use Rattle.rb_document.specs.Walk.{absent_or, entries_at, has_key, passes}
-use Rattle.rb_document.proofs.Bounds.{IsBelow, absent_or-bounds, node_at-IsBelow, pair-bounds, passes-bounds}
+use Rattle.rb_document.proofs.Bounds.{absent_or-bounds, passes-bounds}
 use Rattle.rb_document.proofs.Walks.{listed-within}
-use Rattle.rb_scenario.specs.declared.bus.Bus.{Bus}
+use Rattle.rb_entries.specs.declared.bus.Bus.{Bus}
 use Rattle.rb_scenario.specs.Acceptance.{broken_by}
-use Rattle.rb_scenario.specs.Bus.{IsBus}
-use Rattle.rb_scenario.specs.Clocks.{clock_for, clocks_of, is_clock, kind_clocks, timeline_of}
-use Rattle.rb_scenario.specs.Entries.{is_node}
-use Rattle.rb_scenario.specs.Faults.{is_fault, onset_for, onset_of, onsets_of}
+use Rattle.rb_entries.specs.Bus.{IsBus}
+use Rattle.rb_entries.specs.Clocks.{clock_for, clocks_of, is_clock, kind_clocks, timeline_of}
+use Rattle.rb_entries.specs.Entries.{is_node}
+use Rattle.rb_entries.specs.Faults.{is_fault, onset_for, onset_of, onsets_of}
 use Rattle.rb_scenario.specs.Hosts.{app_at, app_in, apps_of, has_lists, request_at, requests_of, word_at, words_of}
-use Rattle.rb_scenario.specs.Lawful.{IsLawful, IsNodeOf, IsOnsetOf, IsRangeIn}
-use Rattle.rb_scenario.specs.Links.{are_apart, is_link, rule_of}
+use Rattle.rb_entries.specs.Links.{are_apart, is_link, rule_of}
 use Rattle.rb_scenario.specs.Reading.{fits_bus, scenario_on}
-use Rattle.rb_scenario.specs.Rules.{is_delay, is_node_good, keep_time, keeps_time, segments_of_all, start_together}
-use Rattle.rb_scenario.specs.Says.{is_say, say_of}
+use Rattle.rb_scenario.specs.Rules.{is_delay, keep_time, start_together}
+use Rattle.rb_entries.specs.Clocks.{keeps_time}
+use Rattle.rb_entries.specs.Says.{is_say, say_of}
 use Rattle.rb_scenario.proofs.Chain.{AllKept, kept_from_none}
-use Rattle.rb_scenario.proofs.EntryParts.{fit_parts, link_parts, say_parts}
-use Rattle.rb_scenario.proofs.Finding.{found_passes}
+use Rattle.rb_entries.proofs.LawfulEntries.{LinkLaw, SayLaw, link_law, say_law}
+use Rattle.rb_scenario.proofs.FitParts.{fit_parts}
+use Rattle.rb_entries.proofs.Finding.{found_passes}
 
 -- what holds of what each number gives holds of all that is made by number
 all_made : {X : Type 0} (P : X → Type 0) (f : ℕ → X) (n : ℕ) → ((i : ℕ) → P (f i)) → All P (map f (numbers n))
@@ -71,21 +74,21 @@ at_most_cond : (b : Bool) (x y n : ℕ) → x ≤ n → y ≤ n → cond b x y �
 at_most_cond true x y n hx hy = hx
 at_most_cond false x y n hx hy = hy
 
-requests_small : (bius : ℕ) (t : Members) → has_lists bius t ≡ true → (length (requests_of bius t) ≡ 16) × All (λ n. n ≤ 64) (requests_of bius t)
+requests_small : (bius : ℕ) (t : Members) → bius ≤ 16 → has_lists bius t ≡ true → HasEach bius (λ n. n ≤ 64) (requests_of bius t)
 unfolding requests_of
-requests_small bius t h = (
-  length-map-range_with_len (request_at bius t) 0 16,
-  all_made (λ n. n ≤ 64) (request_at bius t) 16 (λ i.
+requests_small bius t most h = record {
+  enough = let many = length-map-range_with_len (request_at bius t) 0 16 in omega (arith, many);
+  each = all_made (λ n. n ≤ 64) (request_at bius t) 16 (λ i.
       at_most_cond (has_key (codes "requests") t) _ (cond (nat_lt i bius) 1 0) 64 ((list_parts bius t h).requests i)
-      (at_most_cond (nat_lt i bius) 1 0 64 (omega arith) (omega arith))),
-)
+      (at_most_cond (nat_lt i bius) 1 0 64 (omega arith) (omega arith)));
+}
 
-words_small : (bius : ℕ) (t : Members) → has_lists bius t ≡ true → (length (words_of t) ≡ 16) × All (λ w. w < 2 ^ 32) (words_of t)
+words_small : (bius : ℕ) (t : Members) → bius ≤ 16 → has_lists bius t ≡ true → HasEach bius (λ w. w < 2 ^ 32) (words_of t)
 unfolding words_of
-words_small bius t h = (
-  length-map-range_with_len (word_at t) 0 16,
-  all_made (λ w. w < 2 ^ 32) (word_at t) 16 (λ i. let small = (list_parts bius t h).words i in omega arith),
-)
+words_small bius t most h = record {
+  enough = let many = length-map-range_with_len (word_at t) 0 16 in omega (arith, many);
+  each = all_made (λ w. w < 2 ^ 32) (word_at t) 16 (λ i. let small = (list_parts bius t h).words i in omega arith);
+}
 
 below_3 : (o : Option ℕ) → ((a : ℕ) → o ≡ Some a → a < 3) → unwrap_or o 0 < 3
 below_3 None h = omega arith
@@ -107,12 +110,12 @@ app_in-lt (Some (array d)) a e = cc
 app_in-lt (Some (table d)) a e = cc
 app_in-lt None a e = cc
 
-apps_small : (t : Members) → (length (apps_of t) ≡ 16) × All (λ app. app < 3) (apps_of t)
+apps_small : (bius : ℕ) (t : Members) → bius ≤ 16 → HasEach bius (λ app. app < 3) (apps_of t)
 unfolding apps_of
-apps_small t = (
-  length-map-range_with_len (app_at t) 0 16,
-  all_made (λ app. app < 3) (app_at t) 16 (λ i. below_3 (app_in (item_at (codes "apps") i t)) (λ a e. app_in-lt (item_at (codes "apps") i t) a e)),
-)
+apps_small bius t most = record {
+  enough = let many = length-map-range_with_len (app_at t) 0 16 in omega (arith, many);
+  each = all_made (λ app. app < 3) (app_at t) 16 (λ i. below_3 (app_in (item_at (codes "apps") i t)) (λ a e. app_in-lt (item_at (codes "apps") i t) a e));
+}
 
 -- The clocks.
 starts_early : (bus : Bus) (t : Members) → list_all (is_clock bus.shape) (entries_at (codes "clock") t) ≡ true
@@ -157,63 +160,6 @@ starts_are bound clocks h k d lt j e lt' =
     let close = leb-true ((get_or clocks k d).start - (get_or clocks j e).start) bound inner in
     omega arith
 
--- Ranges.
-range_or-in : (low high : ℕ) (o : Option Data) → low ≤ high → absent_or (is_range low high) o ≡ true → IsRangeIn low high (range_or (low, high) o)
-range_or-in low high None order h = record { least = omega arith; order = order; greatest = omega arith }
-range_or-in low high (Some d) order h = let b = pair-bounds low high d h in record { least = b.0; order = b.1; greatest = b.2 }
-
-range_there-in : (low high : ℕ) (o : Option Data) → passes (is_range low high) o ≡ true → IsRangeIn low high (range_or (0, 0) o)
-range_there-in low high None h = absurd (false≢true h)
-range_there-in low high (Some d) h = let b = pair-bounds low high d h in record { least = b.0; order = b.1; greatest = b.2 }
-
--- The rules on delays.
-record RuleRanges (bus : Bus) (r : Rule) : Type 0 where
-  frames : IsRangeIn 0 (bus.frames - 1) r.frames
-  slots : IsRangeIn 0 (sync_slot_of bus.shape) r.slots
-  stages : IsRangeIn 1 3 r.stages
-
-rule_in : (bus : Bus) (e : Members) → is_link bus e ≡ true → RuleRanges bus (rule_of bus e)
-unfolding rule_of
-rule_in bus e h =
-    let parts = link_parts bus e h in
-    record {
-      frames = range_or-in 0 (bus.frames - 1) (get_member (codes "frames") e) (omega arith) parts.frames;
-      slots = range_or-in 0 (sync_slot_of bus.shape) (get_member (codes "slots") e) (omega arith) parts.slots;
-      stages = range_or-in 1 3 (get_member (codes "stages") e) (omega arith) parts.stages;
-    }
-
--- What is said.
-as_node_of : (sizes : Sizes) (n : NodeName) → IsBelow sizes n → IsNodeOf sizes n
-as_node_of sizes (node.Biu i) h = h
-as_node_of sizes (node.Rmu i) h = h
-
-sayer_in : (sizes : Sizes) (o : Option NodeName) (to : Option Pattern) → ((n : NodeName) → o ≡ Some n → IsBelow sizes n)
-    → are_apart (option_map One o) to ≡ true → IsNodeOf sizes (unwrap_or o (node.Biu 0))
-sayer_in sizes None to h apart = absurd (false≢true apart)
-sayer_in sizes (Some n) to h apart = as_node_of sizes n (h n refl)
-
-record SayRanges (bus : Bus) (s : Say) : Type 0 where
-  frames : IsRangeIn 0 (bus.frames - 1) s.frames
-  slots : IsRangeIn 0 (sync_slot_of bus.shape) s.slots
-  stages : IsRangeIn 1 4 s.stages
-  sayer : IsNodeOf bus.shape s.from
-
-apart_part : (bus : Bus) (e : Members) → is_say bus e ≡ true → are_apart (option_map One (node_at bus.shape (codes "from") e)) (pattern_at bus.shape (codes "to") e) ≡ true
-unfolding is_say
-apart_part bus e h = (and_parts _ _ (and_parts _ _ (and_parts _ _ h).0).0).0
-
-say_in : (bus : Bus) (e : Members) → is_say bus e ≡ true → SayRanges bus (say_of bus e)
-unfolding say_of
-say_in bus e h =
-    let parts = say_parts bus e h in
-    record {
-      frames = range_there-in 0 (bus.frames - 1) (get_member (codes "frames") e) parts.frames;
-      slots = range_there-in 0 (sync_slot_of bus.shape) (get_member (codes "slots") e) parts.slots;
-      stages = range_there-in 1 4 (get_member (codes "stages") e) parts.stages;
-      sayer = sayer_in bus.shape (node_at bus.shape (codes "from") e) (pattern_at bus.shape (codes "to") e)
-          (λ n is. node_at-IsBelow bus.shape (codes "from") e n is) (apart_part bus e h);
-    }
-
 -- The onsets.
 onset_in : (bus : Bus) (t : Members) (sc : Scenario) → sc.frames ≡ bus.frames → sc.sizes ≡ bus.shape → 1 ≤ bus.frames
     → list_all (is_fault bus) (entries_at (codes "fault") t) ≡ true → (name : NodeName) → IsOnsetOf sc (onset_for bus t name)
@@ -232,13 +178,13 @@ onset_in bus t sc frames sizes some h name =
           (omega arith, omega arith)
     ] in go (find p es) refl
 
-onsets_in : (side : Side) (bus : Bus) (t : Members) (sc : Scenario) → sc.frames ≡ bus.frames → sc.sizes ≡ bus.shape → 1 ≤ bus.frames
-    → list_all (is_fault bus) (entries_at (codes "fault") t) ≡ true → (length (onsets_of side bus t) ≡ 16) × All (IsOnsetOf sc) (onsets_of side bus t)
+onsets_in : (side : Side) (nodes : ℕ) (bus : Bus) (t : Members) (sc : Scenario) → nodes ≤ 16 → sc.frames ≡ bus.frames → sc.sizes ≡ bus.shape → 1 ≤ bus.frames
+    → list_all (is_fault bus) (entries_at (codes "fault") t) ≡ true → HasEach nodes (IsOnsetOf sc) (onsets_of side bus t)
 unfolding onsets_of
-onsets_in side bus t sc frames sizes some h = (
-  length-map-range_with_len (λ i. onset_for bus t (name_of side i)) 0 16,
-  all_made (IsOnsetOf sc) (λ i. onset_for bus t (name_of side i)) 16 (λ i. onset_in bus t sc frames sizes some h (name_of side i)),
-)
+onsets_in side nodes bus t sc most frames sizes some h = record {
+  enough = let many = length-map-range_with_len (λ i. onset_for bus t (name_of side i)) 0 16 in omega (arith, many);
+  each = all_made (IsOnsetOf sc) (λ i. onset_for bus t (name_of side i)) 16 (λ i. onset_in bus t sc frames sizes some h (name_of side i));
+}
 
 -- all together
 pub lawful : (bus : Bus) (t : Members) → IsBus bus → fits_bus bus t ≡ true → AllKept (scenario_on bus t) → IsLawful (scenario_on bus t)
@@ -250,37 +196,61 @@ lawful bus t is fits kept =
     let base = and_parts _ _ delays.0 in
     let few2 = and_parts _ _ kept.few in
     let few1 = and_parts _ _ few2.0 in
-    let ruled : All (RuleRanges bus) sc.delays.rules = all_read (RuleRanges bus) (is_link bus) (rule_of bus) (entries_at (codes "link") t) (rule_in bus) parts.links in
-    let said : All (SayRanges bus) sc.says = all_read (SayRanges bus) (is_say bus) (say_of bus) (entries_at (codes "say") t) (say_in bus) parts.says in
+    let feasible : IsFeasible sc.sizes sc.plan = (feasible_exactly sc.sizes sc.plan).0 kept.plan in
+    let inside = sends_inside_all sc.sizes sc.plan is.plan feasible in
+    let ruled : All (LinkLaw bus) sc.delays.rules = all_read (LinkLaw bus) (is_link bus) (rule_of bus) (entries_at (codes "link") t) (link_law bus) parts.links in
+    let said : All (SayLaw bus) sc.says = all_read (SayLaw bus) (is_say bus) (say_of bus) (entries_at (codes "say") t) (say_law bus is.plan inside) parts.says in
     record {
       sizes = is.shape;
       plan = is.plan;
-      feasible = (feasible_exactly sc.sizes sc.plan).0 kept.plan;
+      version = is.version;
+      feasible = feasible;
       frames = is.frames;
-      requests = requests_small bus.shape.bius t parts.lists;
-      words = words_small bus.shape.bius t parts.lists;
-      apps = apps_small t;
+      requests = requests_small bus.shape.bius t is.shape.most_bius parts.lists;
+      words = words_small bus.shape.bius t is.shape.most_bius parts.lists;
+      apps = apps_small bus.shape.bius t is.shape.most_bius;
       one_clock_each = clocks.0;
       clocks = clocks_keep sc.plan sc.clocks clocks.1 kept.clocks;
       starts = starts_are sc.plan.p sc.clocks kept.starts;
-      base_delay = (leb-true sc.plan.dmin sc.delays.base base.0, leb-true sc.delays.base sc.plan.dmax base.1);
+      base_delay = record { least = leb-true sc.plan.dmin sc.delays.base base.0; greatest = leb-true sc.delays.base sc.plan.dmax base.1 };
       rules = λ k d lt.
-          let ranges = ruled k d lt in
+          let law = ruled k d lt in
           let delay = and_parts _ _ (AllPass-from_list_all (λ r. is_delay sc.plan r.delay) sc.delays.rules delays.1 k d lt) in
-          record { frames = ranges.frames; slots = ranges.slots; stages = ranges.stages; least = leb-true _ _ delay.0; greatest = leb-true _ _ delay.1 };
-      biu_onsets = onsets_in Biu bus t sc refl refl is.frames.0 parts.faults;
-      rmu_onsets = onsets_in Rmu bus t sc refl refl is.frames.0 parts.faults;
+          record {
+            from = law.from;
+            to = law.to;
+            unlike_kinds = law.unlike_kinds;
+            frames = law.frames;
+            slots = law.slots;
+            stages = law.stages;
+            delay = record { least = leb-true _ _ delay.0; greatest = leb-true _ _ delay.1 };
+          };
+      biu_onsets = onsets_in Biu bus.shape.bius bus t sc is.shape.most_bius refl refl is.frames.0 parts.faults;
+      rmu_onsets = onsets_in Rmu bus.shape.rmus bus t sc is.shape.most_rmus refl refl is.frames.0 parts.faults;
       says = λ k d lt.
-          let ranges = said k d lt in
+          let law = said k d lt in
           let faulty = AllPass-from_list_all (λ say. not (is_node_good sc say.from say.frames.0 say.slots.0)) sc.says kept.says k d lt in
-          record { frames = ranges.frames; slots = ranges.slots; stages = ranges.stages; sayer = ranges.sayer; faulty = not-true _ faulty };
+          record {
+            from = law.from;
+            faulty = not-true _ faulty;
+            to = law.to;
+            unlike_kinds = law.unlike_kinds;
+            frames = law.frames;
+            slots = law.slots;
+            stages = law.stages;
+            tail = law.tail;
+            offset = law.offset;
+            early = law.early;
+            early_in_sync = law.early_in_sync;
+            content = law.content;
+          };
       few_says = leb-true (length sc.says) 1024 few1.0;
       few_rules = leb-true (length sc.delays.rules) 4096 few1.1;
       few_segments = leb-true (segments_of_all sc.clocks) 4096 few2.1;
     }
 
-pub lawful_result : {X E : Type 0} (shown : X → Scenario) (bus : Bus) (t : Members) (r : Result X E) → IsBus bus → fits_bus bus t ≡ true
-    → IfOk r (λ s. shown s ≡ scenario_on bus t) → IfOk r (λ _. broken_by (scenario_on bus t) ≡ None) → IfOk r (λ s. IsLawful (shown s))
-lawful_result shown bus t (Err e) is fits same unbroken = unbroken
-lawful_result shown bus t (Ok s) is fits same unbroken =
+pub lawful_result : {X E : Type 0} (as_scenario : X → Scenario) (bus : Bus) (t : Members) (r : Result X E) → IsBus bus → fits_bus bus t ≡ true
+    → IfOk r (λ s. as_scenario s ≡ scenario_on bus t) → IfOk r (λ _. broken_by (scenario_on bus t) ≡ None) → IfOk r (λ s. IsLawful (as_scenario s))
+lawful_result as_scenario bus t (Err e) is fits same unbroken = unbroken
+lawful_result as_scenario bus t (Ok s) is fits same unbroken =
     subst IsLawful (sym same) (lawful bus t is fits (kept_from_none (scenario_on bus t) unbroken))

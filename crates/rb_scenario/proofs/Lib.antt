@@ -1,7 +1,4 @@
-pub mod BusParts
-pub mod EntryParts
-pub mod Distinct
-pub mod Finding
+pub mod FitParts
 pub mod Chain
 pub mod First
 pub mod Documents

@@ -7,8 +7,8 @@ use Rattle.rb_rules.specs.Goodness.{Scenario}
 use Rattle.rb_rules.specs.Plan.{first_failing}
 use Rattle.rb_document.specs.Forms.{has_unknown_key, has_wrong_form, lacks_key}
 use Rattle.rb_document.specs.Walk.{has_key}
-use Rattle.rb_scenario.specs.declared.refusal.Refusal.{Refusal}
-use Rattle.rb_scenario.specs.declared.refusal.Refusal.TheVariants.{NotToml, MissingKey, UnknownKey, WrongType, OutOfRange, PlanFails, ClockBounds, DelayBounds, StartApart, SayOfGood, TooMany, NoSuchNode, OutOfMemory}
+use Rattle.rb_entries.specs.declared.refusal.Refusal.{Refusal}
+use Rattle.rb_entries.specs.declared.refusal.Refusal.TheVariants.{NotToml, MissingKey, UnknownKey, WrongType, OutOfRange, PlanFails, ClockBounds, DelayBounds, StartApart, SayOfGood, TooMany, NoSuchNode, OutOfMemory}
 use Rattle.rb_scenario.specs.declared.scenario.Scenario.{Scenario as Accepted}
 use Rattle.rb_scenario.specs.Reading.{is_in_range, scenario_of}
 use Rattle.rb_scenario.specs.Rules.{are_delays, are_few, are_sayers_faulty, keep_time, start_together}
@@ -66,8 +66,8 @@ abbrev pub IsDocument : List ℕ → Members → Type 0
 IsDocument bytes t = IsUtf8 bytes × (parse_document bytes ≡ Some t)
 
 -- the scenario that an accepted one shows
-abbrev pub scenario_of : Accepted → Scenario
-scenario_of a = record {
+abbrev pub as_scenario : Accepted → Scenario
+as_scenario a = record {
   sizes = a.plan.sizes;
   plan = a.plan.plan;
   frames = a.frames;
@@ -84,7 +84,7 @@ scenario_of a = record {
 -- the document breaks no rule, and it says the scenario
 pub record Says (document : Members) (a : Accepted) : Type 0 where
   pub unbroken : first_broken document ≡ None
-  pub scenario : scenario_of a ≡ scenario_of document
+  pub scenario : as_scenario a ≡ scenario_of document
   pub served : a.built ≡ is_served (has_key (codes "requests") document) (scenario_of document)
 
 -- the bytes are the text of a document that says the scenario

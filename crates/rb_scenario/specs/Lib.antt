@@ -1,15 +1,5 @@
-pub mod Bus
 pub mod Hosts
-pub mod Entries
-pub mod Seen
-pub mod Clocks
-pub mod Faults
-pub mod Links
-pub mod Says
-pub mod Outcome
 pub mod Reading
 pub mod Rules
 pub mod Onsets
-pub mod Codes
 pub mod Acceptance
-pub mod Lawful

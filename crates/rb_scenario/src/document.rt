@@ -2,17 +2,17 @@
 ghost use Rattle.std.specs.Prelude.{◌≡◌, ◌⊎◌, Some, None, true, codes, IfErr, IfOk};
 ghost use Rattle.toml.specs.View.{table_view};
 ghost use Rattle.rb_document.specs.Walk.{has_key};
-ghost use Rattle.rb_scenario.specs.Acceptance.{IsAccepted, IsBrokenBy, IsRefused, Says, broken_by, first_broken, is_served, scenario_of};
-ghost use Rattle.rb_scenario.specs.Bus.{IsBus, bus_of};
-ghost use Rattle.rb_scenario.specs.Lawful.{IsLawful};
+ghost use Rattle.rb_scenario.specs.Acceptance.{IsAccepted, IsBrokenBy, IsRefused, Says, broken_by, first_broken, is_served, as_scenario};
+ghost use Rattle.rb_entries.specs.Bus.{IsBus, bus_of};
+ghost use Rattle.rb_rules.specs.Lawful.{IsLawful};
 ghost use Rattle.rb_scenario.specs.Reading.{fits_bus, scenario_of, scenario_on};
 
-use crate::bus::{Bus, bus_in};
-use crate::clocks::clocks_of;
-use crate::faults::onsets_of;
+use rb_entries::bus::{Bus, bus_in};
+use rb_entries::clocks::clocks_of;
+use rb_entries::faults::onsets_of;
 use crate::hosts::{apps_of, requests_of, words_of};
 use crate::reading::{delays_of, fits_bus, sayings_of};
-use crate::refusal::Refusal;
+use rb_entries::refusal::Refusal;
 use crate::rules::{are_few, start_together};
 use crate::scenario::{ClockList, SayList, Scenario};
 use crate::served::is_served;
@@ -28,7 +28,7 @@ use toml::Table;
 pub(crate) fn scenario_on(alloc: Global, bus: &Bus, table: &Table) -> Result<Scenario, Refusal>
     requires bus { IsBus bus.now }
     requires fits { fits_bus bus.now (table_view table.now) ≡ true }
-    ensures scenario { IfOk result (λ s. scenario_of s ≡ scenario_on bus.now (table_view table.now)) }
+    ensures scenario { IfOk result (λ s. as_scenario s ≡ scenario_on bus.now (table_view table.now)) }
     ensures served { IfOk result (λ s. s.built
         ≡ is_served (has_key (codes "requests") (table_view table.now)) (scenario_on bus.now (table_view table.now))) }
     ensures unbroken { IfOk result (λ _. broken_by (scenario_on bus.now (table_view table.now)) ≡ None) }
@@ -118,7 +118,7 @@ fn bus_for(table: &Table) -> Result<Bus, Refusal>
 /// The scenario that a document says, or the first rule that it breaks.
 fn read_table(alloc: Global, table: &Table) -> Result<Scenario, Refusal>
     ensures says { IfOk result (Says (table_view table.now)) }
-    ensures lawful { IfOk result (λ s. IsLawful (scenario_of s)) }
+    ensures lawful { IfOk result (λ s. IsLawful (as_scenario s)) }
     ensures refused { IfErr result (λ e. (e ≡ Refusal.OutOfMemory) ⊎ (first_broken (table_view table.now) ≡ Some e)) }
 {
     match bus_for(table) {
@@ -131,7 +131,7 @@ fn read_table(alloc: Global, table: &Table) -> Result<Scenario, Refusal>
 /// anywhere in the document. Want of memory may come at any time. The rules and the form are this project's own.
 pub fn read(alloc: Global, bytes: &[u8]) -> Result<Scenario, Refusal>
     ensures accepted { IfOk result (IsAccepted bytes.now) }
-    ensures lawful { IfOk result (λ s. IsLawful (scenario_of s)) }
+    ensures lawful { IfOk result (λ s. IsLawful (as_scenario s)) }
     ensures refused { IfErr result (IsRefused bytes.now) }
 {
     let table = match toml::table_from_slice(alloc, bytes) {

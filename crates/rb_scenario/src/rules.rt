@@ -4,7 +4,8 @@ ghost use Rattle.std.specs.List.{list_all};
 ghost use Rattle.rb_base.specs.Sizes.{IsShape};
 ghost use Rattle.rb_rules.specs.Goodness.{is_before};
 ghost use Rattle.rb_scenario.specs.Onsets.{is_good_by};
-ghost use Rattle.rb_scenario.specs.Rules.{are_delays, are_few, is_delay, segments_of_all, start_together};
+ghost use Rattle.rb_scenario.specs.Rules.{are_delays, are_few, is_delay, start_together};
+ghost use Rattle.rb_rules.specs.Lawful.{segments_of_all};
 
 use rb_base::{NodeName, Shape};
 use rb_clock::Clock;

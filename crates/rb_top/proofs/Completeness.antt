@@ -6,8 +6,8 @@ use Rattle.rb_outside.proofs.Known.{gave_within, read_bytes}
 use Rattle.rb_scenario.specs.Acceptance.{IsAccepted, IsRefused}
 use Rattle.rb_scenario.proofs.Documents.{accepted_is_toml, accepted_is_unbroken, served_alike}
 use Rattle.rb_scenario.specs.declared.scenario.Scenario.{Scenario}
-use Rattle.rb_scenario.specs.declared.refusal.Refusal.{Refusal}
-use Rattle.rb_scenario.specs.declared.refusal.Refusal.TheVariants as rule
+use Rattle.rb_entries.specs.declared.refusal.Refusal.{Refusal}
+use Rattle.rb_entries.specs.declared.refusal.Refusal.TheVariants as rule
 use Rattle.rb_top.specs.declared.form.Form.{Form}
 use Rattle.rb_top.specs.declared.form.Form.TheVariants.{Run, Check}
 use Rattle.rb_top.specs.declared.status.Status.{Status}

@@ -6,9 +6,9 @@ use Rattle.rb_outside.specs.Bytes.{AppendsPart, Gave, ReadsToEnd}
 use Rattle.rb_outside.specs.Causes.{Rose}
 use Rattle.rb_report.specs.Report.{refused_text}
 use Rattle.rb_scenario.specs.Acceptance.{IsAccepted, IsRefused}
-use Rattle.rb_scenario.specs.Codes.{code_of, detail_of}
+use Rattle.rb_entries.specs.Codes.{code_of, detail_of}
 use Rattle.rb_scenario.specs.declared.scenario.Scenario.{Scenario}
-use Rattle.rb_scenario.specs.declared.refusal.Refusal.{Refusal}
+use Rattle.rb_entries.specs.declared.refusal.Refusal.{Refusal}
 use Rattle.rb_top.specs.declared.form.Form.{Form}
 use Rattle.rb_top.specs.declared.form.Form.TheVariants.{Run, Check}
 use Rattle.rb_top.specs.declared.status.Status.{Status}

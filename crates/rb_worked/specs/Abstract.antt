@@ -2,7 +2,7 @@
 use Rattle.std.specs.Prelude.{ℕ, zero, suc, ◌+◌, ◌*◌, ◌∷◌, ◌++◌, [], List, replicate}
 use Rattle.rb_base.specs.declared.values.Heard.{Heard}
 use Rattle.rb_base.specs.declared.values.Heard.TheVariants.{Word, Fault}
-use Rattle.rb_rules.specs.AbstractBus.{AbstractBus, first_bus, bus_after_slot, bus_after_frame}
+use Rattle.rb_rules.specs.AbstractBus.{AbstractBus, first_bus, bus_after_slot}
 use Rattle.rb_rules.specs.Goodness.{Scenario}
 use Rattle.rb_rules.specs.NodeState.{NodeState}
 use Rattle.rb_worked.specs.Buses.{ticking}

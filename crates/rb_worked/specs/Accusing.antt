@@ -1,5 +1,5 @@
 -- Nodes that accuse, and frames that end with convictions.
-use Rattle.std.specs.Prelude.{ℕ, ◌==◌, ◌∷◌, ◌++◌, [], List, replicate, Some, None, if◌then◌else◌}
+use Rattle.std.specs.Prelude.{ℕ, ◌==◌, ◌∷◌, ◌++◌, [], replicate, Some, if◌then◌else◌}
 use Rattle.rb_base.specs.Nodes.Side.{Biu, Rmu}
 use Rattle.rb_base.specs.declared.values.Heard.TheVariants.{Word, Fault}
 use Rattle.rb_rules.specs.declared.sense.Sense.{Sense}

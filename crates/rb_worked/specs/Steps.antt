@@ -1,14 +1,13 @@
 -- Single steps of a core and of a world.
-use Rattle.std.specs.Prelude.{ℕ, ◌^◌, List, [], ◌∷◌, true, Option, Some, None}
+use Rattle.std.specs.Prelude.{ℕ, [], ◌∷◌, Option, Some}
 use Rattle.rb_base.specs.Nodes.Side.{Biu, Rmu}
 use Rattle.rb_base.specs.declared.values.Heard.TheVariants.{Word}
-use Rattle.rb_base.specs.declared.values.Place.{Place}
 use Rattle.rb_rules.specs.declared.link.Pattern.TheVariants.{AllRmu}
 use Rattle.rb_rules.specs.declared.message.Message.{Message}
 use Rattle.rb_rules.specs.declared.plan.Plan.{Plan}
 use Rattle.rb_rules.specs.declared.say.Content.TheVariants.{Sync}
 use Rattle.rb_rules.specs.declared.say.Say.{Say}
-use Rattle.rb_rules.specs.Book.{Each, each_of}
+use Rattle.rb_rules.specs.Book.{Each}
 use Rattle.rb_rules.specs.Book.Record.{Frame, Slot}
 use Rattle.rb_rules.specs.Core.{Core, first_core, arrive, tick, pass_to}
 use Rattle.rb_rules.specs.ExactStage.{message_of}
@@ -17,7 +16,7 @@ use Rattle.rb_rules.specs.Hearing.{Coming, Span}
 use Rattle.rb_rules.specs.WorldStep.{Site, World, fresh_site, first_world, stop}
 use Rattle.rb_worked.specs.Buses.{b, plan, says}
 use Rattle.rb_worked.specs.Cores.{usual_sizes}
-use Rattle.rb_worked.specs.Ordinary.{ordinary_use, smallest_bus}
+use Rattle.rb_worked.specs.Ordinary.{smallest_bus}
 use Rattle.rb_worked.specs.Parts.{biu}
 use Rattle.rb_worked.specs.Told.{at}
 
@@ -81,7 +80,11 @@ call_in_tail offset = record (says (b 1) AllRmu (0, 0) (19, 19) (4, 4) Sync) { o
 abbrev pub small_world : World
 small_world = first_world smallest_bus
 
--- the same, the frame's record or a slot's record being the last turn
+-- the smallest bus with a BIU that is not good
+abbrev pub faulty_bus : Scenario
+faulty_bus = record smallest_bus { biu_onsets = Some (0, 0) ∷ [] }
+
+-- the smallest bus, the frame's record or a slot's record being the last turn
 abbrev pub at_frame : World
 at_frame = record small_world { turn = Some (Frame 0 [] []) }
 

@@ -1,10 +1,9 @@
 -- A plan and a clock whose numbers are all different, and rules of delay.
-use Rattle.std.specs.Prelude.{ℕ, List, [], ◌∷◌}
+use Rattle.std.specs.Prelude.{[], ◌∷◌}
 use Rattle.rb_base.specs.declared.node.NodeName.TheVariants.{Biu, Rmu}
 use Rattle.rb_base.specs.declared.values.Place.{Place}
 use Rattle.rb_rules.specs.declared.link.Pattern.TheVariants.{One, AllBiu, AllRmu}
 use Rattle.rb_rules.specs.declared.link.Rule.{Rule}
-use Rattle.rb_rules.specs.declared.message.Message.{Message}
 use Rattle.rb_rules.specs.declared.message.Tag.TheVariants.{Word}
 use Rattle.rb_rules.specs.declared.plan.Plan.{Plan}
 use Rattle.rb_rules.specs.Clock.{Timeline}

@@ -14,7 +14,7 @@ ghost use Rattle.rb_rules.specs.WorldStep.Pending.{Arrival, Tick};
 ghost use Rattle.rb_worked.specs.Buses.{plan};
 ghost use Rattle.rb_worked.specs.Cores.{usual_sizes};
 ghost use Rattle.rb_worked.specs.Ordinary.{ordinary_use, smallest_bus};
-ghost use Rattle.rb_worked.specs.Steps.{all_but_one_run, at_frame, at_slot, call_in_tail, core_after, empty_at, in_time, own_slot, own_slot_by_last_ticks, short_tail, small_world, too_late, waiting, word_in_stage};
+ghost use Rattle.rb_worked.specs.Steps.{all_but_one_run, at_frame, at_slot, call_in_tail, core_after, empty_at, faulty_bus, in_time, own_slot, own_slot_by_last_ticks, short_tail, small_world, too_late, waiting, word_in_stage};
 
 /// A core remembers what it sent in its own slot until stage 2 is closed, also where it sends in the window's last tick: the one
 /// RMU that relays another value is accused by mismatch.
@@ -52,12 +52,13 @@ pub fn calls_in_the_tail()
     ensures { map (λ offset. is_said Rmu 0 1 short_tail (call_in_tail offset)) (0 ∷ 2 ∷ 3 ∷ []) ≡ (true ∷ true ∷ false ∷ []) }
 {}
 
-/// A state is handed in at the begin of a frame alone.
+/// A state is handed in at the begin of a frame alone, and to a BIU that is good there.
 pub fn hand_in_at_a_frame()
     ensures at_first { map (λ p. p.state) (hand smallest_bus small_world 0 77).ports ≡ (7 ∷ []) }
     ensures after_a_slot { map (λ p. p.state) (hand smallest_bus at_slot 0 77).ports ≡ (7 ∷ []) }
     ensures after_the_frame { map (λ p. p.state) (hand smallest_bus at_frame 0 77).ports ≡ (77 ∷ []) }
     ensures told { length (hand smallest_bus at_frame 0 77).hands ≡ 1 }
+    ensures to_a_faulty_biu { map (λ p. p.state) (hand faulty_bus at_frame 0 77).ports ≡ (7 ∷ []) }
 {}
 
 /// A message goes to the nodes of the other kind that still run.

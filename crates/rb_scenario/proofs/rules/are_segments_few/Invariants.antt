@@ -1,5 +1,5 @@
 use Rattle.std.proofs.Common.{◌≡◌, ◌+◌, drop}
-use Rattle.rb_scenario.specs.Rules.{segments_of_all}
+use Rattle.rb_rules.specs.Lawful.{segments_of_all}
 use Rattle.rb_scenario.proofs.rules.are_segments_few.Given as goal
 
 abbrev pub invariant-loop-clock : goal.invariant-loop-clock

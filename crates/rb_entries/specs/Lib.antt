@@ -1,0 +1,9 @@
+pub mod Bus
+pub mod Entries
+pub mod Seen
+pub mod Clocks
+pub mod Faults
+pub mod Links
+pub mod Says
+pub mod Outcome
+pub mod Codes
