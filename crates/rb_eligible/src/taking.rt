@@ -7,7 +7,7 @@ ghost use Rattle.rb_rules.specs.ExactStage.{at_source, each_node, present, see_v
 ghost use Rattle.rb_rules.specs.Majority.{majority_of};
 ghost use Rattle.rb_rules.specs.Sense.{is_one, value_in};
 ghost use Rattle.rb_rules.specs.Standing.{has_evidence, is_eligible, taken_of, with_evidence};
-ghost use Rattle.rb_eligible.specs.Inboxes.{Received, Shows, sense_in};
+ghost use Rattle.rb_eligible.specs.Inboxes.{Received, HoldsArrivals, sense_in};
 ghost use Rattle.rb_eligible.specs.Standings.{standing_of};
 
 use crate::inbox::Inbox;
@@ -54,10 +54,10 @@ fn take_some<K: Copy>(
 ) -> Taking<K>
     requires taken { taken.old ≡ replicate 16 None }
     requires sees { sees.old ≡ replicate 16 See.Nothing }
-    ensures ones { (received : List Received) → Shows inbox.now received
+    ensures ones { (received : List Received) → HoldsArrivals inbox.now received
         → result.ones ≡ set_of (λ j. has takable j && is_one (sense_in expect.now received j)) }
     ensures all { length taken.new ≡ 16 }
-    ensures taken { (received : List Received) → Shows inbox.now received → (j : ℕ) → j < 16
+    ensures taken { (received : List Received) → HoldsArrivals inbox.now received → (j : ℕ) → j < 16
         → at_source taken.new j ≡ (if has takable j then value_in (sense_in expect.now received j) else None) }
     ensures alike { IsTrue result.alike → majority_of (present taken.new) ≡ unwrap_or result.value Heard.Fault }
     ensures sees { sees.new ≡ map see_value taken.new }
@@ -87,10 +87,10 @@ fn take_each<K: Copy>(
     taken: &mut [Option<Heard>; 16],
     sees: &mut [See; 16],
 ) -> Taking<K>
-    ensures ones { (received : List Received) → Shows inbox.now received
+    ensures ones { (received : List Received) → HoldsArrivals inbox.now received
         → result.ones ≡ set_of (λ j. has takable j && is_one (sense_in expect.now received j)) }
     ensures all { length taken.new ≡ 16 }
-    ensures taken { (received : List Received) → Shows inbox.now received → (j : ℕ) → j < 16
+    ensures taken { (received : List Received) → HoldsArrivals inbox.now received → (j : ℕ) → j < 16
         → at_source taken.new j ≡ (if has takable j then value_in (sense_in expect.now received j) else None) }
     ensures alike { IsTrue result.alike → majority_of (present taken.new) ≡ unwrap_or result.value Heard.Fault }
     ensures sees { sees.new ≡ map see_value taken.new }
@@ -111,7 +111,7 @@ fn take_each<K: Copy>(
 // The sources of the set of which exactly one message came that is meant for the window.
 #[inline(never)]
 fn ones_among<K: Copy>(inbox: &Inbox<K>, set: NodeSet<K>, expect: &Expect) -> NodeSet<K>
-    ensures { (received : List Received) → Shows inbox.now received
+    ensures { (received : List Received) → HoldsArrivals inbox.now received
         → result ≡ set_of (λ j. has set j && is_one (sense_in expect.now received j)) }
 {
     let mut taken = [None; 16];
@@ -121,7 +121,7 @@ fn ones_among<K: Copy>(inbox: &Inbox<K>, set: NodeSet<K>, expect: &Expect) -> No
 
 // The same of the sources that are expected and accused already.
 fn ones_barred<K: Copy>(inbox: &Inbox<K>, barred: NodeSet<K>, expect: &Expect) -> NodeSet<K>
-    ensures { (received : List Received) → Shows inbox.now received
+    ensures { (received : List Received) → HoldsArrivals inbox.now received
         → result ≡ set_of (λ j. has barred j && is_one (sense_in expect.now received j)) }
 {
     if barred.is_empty() {
@@ -144,12 +144,12 @@ pub fn take_with_evidence<K: Copy>(
     taken: &mut [Option<Heard>; 16],
     sees: &mut [See; 16],
 ) -> Taking<K>
-    ensures ones { (received : List Received) → Shows inbox.now received
+    ensures ones { (received : List Received) → HoldsArrivals inbox.now received
         → result.ones ≡ set_of (λ j. (has expected j && is_eligible (standing_of standing.old) j)
         && is_one (sense_in expect.now received j)) }
-    ensures taken { (received : List Received) → Shows inbox.now received
+    ensures taken { (received : List Received) → HoldsArrivals inbox.now received
         → taken.new ≡ each_node (taken_of value_in (standing_of standing.old) (has expected) (sense_in expect.now received)) }
-    ensures accused { (received : List Received) → Shows inbox.now received
+    ensures accused { (received : List Received) → HoldsArrivals inbox.now received
         → standing_of standing.new
         ≡ with_evidence (has_evidence (standing_of standing.old) (has expected) (sense_in expect.now received))
         (standing_of standing.old) }

@@ -4,7 +4,7 @@
 ghost use Rattle.std.specs.Prelude.{◌≡◌, ℕ, ◌<◌, List, ◌||◌, ◌==◌, if◌then◌else◌, None, map, replicate, unwrap_or, IsTrue};
 ghost use Rattle.rb_base.specs.Nodes.{has, set_of};
 ghost use Rattle.rb_base.specs.declared.values.Heard.{Heard};
-ghost use Rattle.rb_eligible.specs.Inboxes.{Received, Shows, sense_in};
+ghost use Rattle.rb_eligible.specs.Inboxes.{Received, HoldsArrivals, sense_in};
 ghost use Rattle.rb_eligible.specs.Standings.{standing_of};
 ghost use Rattle.rb_rules.specs.ExactStage.{at_source, closing_of, present, see_value, with_unlike};
 ghost use Rattle.rb_rules.specs.Majority.{majority_of};
@@ -41,9 +41,9 @@ pub fn close_stage<K: Copy>(
     expect: &Expect,
     expected: NodeSet<K>,
 ) -> Closing
-    ensures closing { (received : List Received) → Shows inbox.now received
+    ensures closing { (received : List Received) → HoldsArrivals inbox.now received
         → result ≡ closing_of (standing_of standing.old) (has expected) (sense_in expect.now received) }
-    ensures accused { (received : List Received) → Shows inbox.now received
+    ensures accused { (received : List Received) → HoldsArrivals inbox.now received
         → standing_of standing.new
         ≡ with_evidence (has_evidence (standing_of standing.old) (has expected) (sense_in expect.now received))
         (standing_of standing.old) }
@@ -64,9 +64,9 @@ pub fn close_stage_into<K: Copy>(
     closing: &mut Closing,
     sees: &mut [See; 16],
 )
-    ensures closing { (received : List Received) → Shows inbox.now received
+    ensures closing { (received : List Received) → HoldsArrivals inbox.now received
         → closing.new ≡ closing_of (standing_of standing.old) (has expected) (sense_in expect.now received) }
-    ensures accused { (received : List Received) → Shows inbox.now received
+    ensures accused { (received : List Received) → HoldsArrivals inbox.now received
         → standing_of standing.new
         ≡ with_evidence (has_evidence (standing_of standing.old) (has expected) (sense_in expect.now received))
         (standing_of standing.old) }
