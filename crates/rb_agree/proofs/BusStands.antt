@@ -1,4 +1,4 @@
--- Where times are kept, the rounds stand for a run of the abstract bus.
+-- Where good nodes begin frames and slots in time, the rounds stand for a run of the abstract bus.
 use Rattle.std.proofs.Common.{◌≡◌, ℕ, zero, suc, ◌+◌, ◌*◌, ◌<◌, ◌≤◌, nat_lt, Bool, true, false, List, inl, inr, refl, sym, ◌∙◌, ap, subst, arith}
 use Rattle.std.proofs.lemmas.Bool.{cases_lt}
 use Rattle.rb_base.specs.Nodes.{Side, has}
@@ -13,11 +13,10 @@ use Rattle.rb_rules.specs.NodeState.{NodeState}
 use Rattle.rb_rules.specs.Plan.{shortest_of, longest_of, tail_start_of}
 use Rattle.rb_rules.specs.Ports.{HandIn}
 use Rattle.rb_rules.specs.Slots.{has_third_stage, first_diagnosis_of, role_of}
-use Rattle.rb_rules.specs.StandsFor.{steps_to, IsInBand, AgreesBefore, AgreesAfter, SlotAgrees, DeliversOn, IsLow, FrameAgrees}
+use Rattle.rb_rules.specs.StandsFor.{steps_to, IsInBand, AgreesBefore, AgreesAfter, SlotAgrees, DeliversOn, IsLow, FrameAgrees, StandsFor}
 use Rattle.rb_agree.specs.BusValues.{value_in_rounds, bus_in_rounds, bus_before, bus_then, IsBusBefore, IsBusSlot}
-use Rattle.rb_agree.specs.Laws.{TimeIsAllThatIsLeft}
-use Rattle.rb_agree.specs.Times.{IsInTime, KeepsTime}
 use Rattle.rb_agree.proofs.Tests.{less_true, less_false}
+use Rattle.rb_agree.proofs.BeginTimes.{IsInTime, BeginsInTime}
 use Rattle.rb_agree.proofs.Places.{complete_before}
 use Rattle.rb_agree.proofs.FrameBegins.{settled_before, reached}
 use Rattle.rb_agree.proofs.SlotLaws.{none_accused}
@@ -47,7 +46,7 @@ slot-step sc hands law low frame slot below complete =
       subst (λ (o : ℕ → ℕ). SlotStep sc o (value_in_rounds sc hands frame slot) bus (bus_then sc hands low frame slot)) (sym at) x.step,
     )
 
-frame-step : (sc : Scenario) (hands : List HandIn) → IsLawful sc → (low : ℕ → ℕ) → KeepsTime sc hands low → (frame : ℕ) → IsComplete sc hands frame (sync_slot_of sc.sizes)
+frame-step : (sc : Scenario) (hands : List HandIn) → IsLawful sc → (low : ℕ → ℕ) → BeginsInTime sc hands low → (frame : ℕ) → IsComplete sc hands frame (sync_slot_of sc.sizes)
     → IsStep sc (offered_in sc hands) (bus_before sc hands low frame (sync_slot_of sc.sizes)) (bus_then sc hands low frame (sync_slot_of sc.sizes))
 frame-step sc hands law low times frame complete =
     let s : ℕ = sync_slot_of sc.sizes in
@@ -110,7 +109,7 @@ none-yet : (sc : Scenario) (hands : List HandIn) (low : ℕ → ℕ) (steps : �
 unfolding AreSteps
 none-yet sc hands low steps e n lt = absurd (omega arith)
 
-begun : (sc : Scenario) (hands : List HandIn) → IsLawful sc → (low : ℕ → ℕ) → KeepsTime sc hands low → (frame : ℕ) → IsReached sc hands frame → AreSteps sc hands low (steps_to sc.sizes frame 0)
+begun : (sc : Scenario) (hands : List HandIn) → IsLawful sc → (low : ℕ → ℕ) → BeginsInTime sc hands low → (frame : ℕ) → IsReached sc hands frame → AreSteps sc hands low (steps_to sc.sizes frame 0)
 begun sc hands law low times zero h = none-yet sc hands low (steps_to sc.sizes 0 0) (omega arith)
 begun sc hands law low times (suc frame) complete =
     let s : ℕ = sync_slot_of sc.sizes in
@@ -131,7 +130,7 @@ unfolding AreSteps
 run-of sc hands low steps all = record { first = refl; each_step = all }
 
 -- up to and with a slot that is complete
-run-to-slot : (sc : Scenario) (hands : List HandIn) → IsLawful sc → (low : ℕ → ℕ) → KeepsTime sc hands low → (frame slot : ℕ) → slot ≤ sync_slot_of sc.sizes → IsComplete sc hands frame slot
+run-to-slot : (sc : Scenario) (hands : List HandIn) → IsLawful sc → (low : ℕ → ℕ) → BeginsInTime sc hands low → (frame slot : ℕ) → slot ≤ sync_slot_of sc.sizes → IsComplete sc hands frame slot
     → AreSteps sc hands low (steps_to sc.sizes frame slot + 1)
 run-to-slot sc hands law low times frame slot le complete =
     let before : AreSteps sc hands low (steps_to sc.sizes frame slot) =
@@ -154,7 +153,7 @@ run-to-slot sc hands law low times frame slot le complete =
 
 -- What is held.
 
-agrees-before : (sc : Scenario) (hands : List HandIn) → IsLawful sc → (low : ℕ → ℕ) → KeepsTime sc hands low → (frame slot : ℕ) → slot ≤ sync_slot_of sc.sizes → IsSettled sc hands frame slot
+agrees-before : (sc : Scenario) (hands : List HandIn) → IsLawful sc → (low : ℕ → ℕ) → BeginsInTime sc hands low → (frame slot : ℕ) → slot ≤ sync_slot_of sc.sizes → IsSettled sc hands frame slot
     → (me : Side) (i : ℕ) (st : NodeState) → IsGoodBefore sc hands frame slot me i st → AgreesBefore sc (bus_before sc hands low frame slot) me i st
 agrees-before sc hands law low times frame slot le settled me i st g =
     let bus : AbstractBus = bus_before sc hands low frame slot in
@@ -172,7 +171,7 @@ agrees-before sc hands law low times frame slot le settled me i st g =
       owners = (b.good_nodes me i st g).owners;
     }
 
-agrees-after : (sc : Scenario) (hands : List HandIn) → IsLawful sc → (low : ℕ → ℕ) → KeepsTime sc hands low → (frame slot : ℕ) → slot ≤ sync_slot_of sc.sizes → IsComplete sc hands frame slot
+agrees-after : (sc : Scenario) (hands : List HandIn) → IsLawful sc → (low : ℕ → ℕ) → BeginsInTime sc hands low → (frame slot : ℕ) → slot ≤ sync_slot_of sc.sizes → IsComplete sc hands frame slot
     → (me : Side) (i : ℕ) (st : NodeState) → IsGoodAfter sc hands frame slot me i st → AgreesAfter sc frame slot (bus_then sc hands low frame slot) me st
 agrees-after sc hands law low times frame slot le complete me i st g = record {
   vote = λ below votes. (bus-slot-step sc hands law low frame slot below complete).votes me i st g below votes;
@@ -201,7 +200,7 @@ delivers sc hands law low frame slot le complete data_slot =
           let both : true ≡ false = sym (third-in-sync sc.sizes) ∙ ap (λ k. has_third_stage (role_of sc.sizes k)) same ∙ data_slot in cc
     ]
 
-slot-agrees : (sc : Scenario) (hands : List HandIn) → IsLawful sc → (low : ℕ → ℕ) → KeepsTime sc hands low → (frame slot : ℕ) → slot ≤ sync_slot_of sc.sizes → IsComplete sc hands frame slot
+slot-agrees : (sc : Scenario) (hands : List HandIn) → IsLawful sc → (low : ℕ → ℕ) → BeginsInTime sc hands low → (frame slot : ℕ) → slot ≤ sync_slot_of sc.sizes → IsComplete sc hands frame slot
     → SlotAgrees sc hands frame slot (bus_before sc hands low frame slot) (bus_then sc hands low frame slot)
 slot-agrees sc hands law low times frame slot le complete = record {
   before = agrees-before sc hands law low times frame slot le (inl complete);
@@ -210,7 +209,7 @@ slot-agrees sc hands law low times frame slot le complete = record {
   deliveries = delivers sc hands law low frame slot le complete;
 }
 
-frame-agrees : (sc : Scenario) (hands : List HandIn) → IsLawful sc → (low : ℕ → ℕ) → KeepsTime sc hands low → (frame : ℕ) → IsReached sc hands frame
+frame-agrees : (sc : Scenario) (hands : List HandIn) → IsLawful sc → (low : ℕ → ℕ) → BeginsInTime sc hands low → (frame : ℕ) → IsReached sc hands frame
     → FrameAgrees sc hands frame (bus_before sc hands low frame 0)
 frame-agrees sc hands law low times frame is_reached = record {
   good_nodes = agrees-before sc hands law low times frame 0 (omega arith) (inr is_reached);
@@ -219,7 +218,7 @@ frame-agrees sc hands law low times frame is_reached = record {
 }
 
 -- so the times are all that is left
-pub stands_in_time : TimeIsAllThatIsLeft
+pub stands_in_time : (sc : Scenario) (hands : List HandIn) → IsLawful sc → (low : ℕ → ℕ) → BeginsInTime sc hands low → StandsFor sc hands
 stands_in_time sc hands law low times = record {
   bus = bus_in_rounds sc hands low;
   run_to_frame = λ frame is_reached. run-of sc hands low (steps_to sc.sizes frame 0) (begun sc hands law low times frame is_reached);

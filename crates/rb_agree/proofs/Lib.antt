@@ -39,5 +39,8 @@ pub mod Promises
 pub mod SharedBuses
 pub mod BusRuns
 pub mod BusLaws
+pub mod BeginTimes
 pub mod BusStands
+pub mod Leasts
+pub mod FrameTimes
 pub mod Skews

@@ -7,8 +7,11 @@ use Rattle.rb_rules.specs.Lawful.{IsLawful}
 use Rattle.rb_rules.specs.Moments.{time_in_frame}
 use Rattle.rb_rules.specs.Plan.{shortest_of, longest_of, drift_in}
 use Rattle.rb_rules.specs.Ports.{HandIn}
-use Rattle.rb_agree.specs.Laws.{TimeKeepsThePromise}
-use Rattle.rb_agree.specs.Times.{IsInTime, KeepsTime}
+use Rattle.rb_agree.specs.Laws.{TimeIsAllThatIsLeft, TimeKeepsThePromise}
+use Rattle.rb_agree.specs.Times.{KeepsTime}
+use Rattle.rb_agree.proofs.BeginTimes.{IsInTime, BeginsInTime}
+use Rattle.rb_agree.proofs.BusStands.{stands_in_time}
+use Rattle.rb_agree.proofs.FrameTimes.{first_time, begins_in_time}
 use Rattle.rb_agree.proofs.Promises.{deliver-alike, deliver-word, convict-alike}
 use Rattle.rb_agree.proofs.SlotLaws.{one-schedule, none_convicted}
 
@@ -25,7 +28,7 @@ ticks-drift plan n small =
 near : (mine yours low p short drift long : ℕ) → mine ≤ low + p + long → low + short ≤ yours → long ≡ short + drift → mine ≤ yours + (p + drift)
 near mine yours low p short drift long h k e = omega arith
 
-begin-near : (sc : Scenario) (hands : List HandIn) → IsLawful sc → (low : ℕ → ℕ) → KeepsTime sc hands low → BeginSlotsNear sc hands
+begin-near : (sc : Scenario) (hands : List HandIn) → IsLawful sc → (low : ℕ → ℕ) → BeginsInTime sc hands low → BeginSlotsNear sc hands
 begin-near sc hands law low times frame slot le settled me you i j mine yours h k =
     let offset : ℕ = 3 * slot * sc.plan.l in
     let a : IsInTime sc (low frame) me i mine offset = times.in_time frame slot le settled me i mine h in
@@ -33,9 +36,16 @@ begin-near sc hands law low times frame slot le settled me you i j mine yours h 
     near (time_in_frame sc me i mine offset) (time_in_frame sc you j yours offset) (low frame) sc.plan.p (offset * shortest_of sc.plan) (drift_in sc.plan offset) (offset * longest_of sc.plan)
     a.not_late b.not_early (ticks-drift sc.plan offset law.plan.r)
 
-pub promise_in_time : TimeKeepsThePromise
-promise_in_time sc hands law low times = record {
-  skew = begin-near sc hands law low times;
+-- good nodes begin slots near each other
+pub begin_slots_near : (sc : Scenario) (hands : List HandIn) → IsLawful sc → KeepsTime sc hands → BeginSlotsNear sc hands
+begin_slots_near sc hands law times = begin-near sc hands law (first_time sc hands) (begins_in_time sc hands law times)
+
+pub rounds_stand : TimeIsAllThatIsLeft
+rounds_stand sc hands law times = stands_in_time sc hands law (first_time sc hands) (begins_in_time sc hands law times)
+
+pub keeps_the_promise : TimeKeepsThePromise
+keeps_the_promise sc hands law times = record {
+  skew = begin_slots_near sc hands law times;
   deliveries = deliver-alike sc hands law;
   words = deliver-word sc hands law;
   schedules = one-schedule sc hands law;

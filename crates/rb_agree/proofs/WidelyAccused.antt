@@ -46,7 +46,7 @@ pub record HasStayed (sc : Scenario) (hands : List HandIn) (n k : ℕ) (me : Sid
   pub stays : Stays st now
   pub window : (moment sc hands (n + k)).window ≡ (moment sc hands n).window + k
 
-stays_on : (sc : Scenario) (hands : List HandIn) (n k : ℕ) (me : Side) (i : ℕ) (st : NodeState) → IsRunning (moment sc hands (n + k))
+pub stays_on : (sc : Scenario) (hands : List HandIn) (n k : ℕ) (me : Side) (i : ℕ) (st : NodeState) → IsRunning (moment sc hands (n + k))
     → (moment sc hands n).window + k ≤ windows_in sc.sizes → slice_get (of_kind me (moment sc hands n).nodes) i ≡ Some st → HasStayed sc hands n k me i st
 stays_on sc hands n zero me i st running le there =
     let e : n ≡ n + 0 = omega arith in
@@ -134,7 +134,7 @@ frame_ends sc hands law frame complete =
     plus a = omega arith
 
 -- the number of steps before a frame's end
-abbrev end_steps : Scenario → ℕ → ℕ
+abbrev pub end_steps : Scenario → ℕ → ℕ
 end_steps sc frame = suc (frame * (windows_in sc.sizes + 1) + 3 * sync_slot_of sc.sizes + 4 - 1)
 
 -- the moment before a slot of a frame that is complete

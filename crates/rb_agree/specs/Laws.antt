@@ -133,12 +133,10 @@ PortsHoldOneState =
 abbrev pub RoundsStepTheBus : Type 0
 RoundsStepTheBus = (sc : Scenario) (hands : List HandIn) → IsLawful sc → (low : ℕ → ℕ) → StepsTheBus sc hands low
 
--- where times are kept, the rounds stand for a run of the bus
+-- where good nodes keep time, the rounds stand for a run of the bus
 abbrev pub TimeIsAllThatIsLeft : Type 0
-TimeIsAllThatIsLeft =
-    (sc : Scenario) (hands : List HandIn) → IsLawful sc → (low : ℕ → ℕ) → KeepsTime sc hands low → StandsFor sc hands
+TimeIsAllThatIsLeft = (sc : Scenario) (hands : List HandIn) → IsLawful sc → KeepsTime sc hands → StandsFor sc hands
 
 -- and all that the bus promises holds
 abbrev pub TimeKeepsThePromise : Type 0
-TimeKeepsThePromise =
-    (sc : Scenario) (hands : List HandIn) → IsLawful sc → (low : ℕ → ℕ) → KeepsTime sc hands low → Headline sc hands
+TimeKeepsThePromise = (sc : Scenario) (hands : List HandIn) → IsLawful sc → KeepsTime sc hands → Headline sc hands

@@ -59,7 +59,8 @@ pub fn rounds_step_the_bus()
     ensures { RoundsStepTheBus }
 {}
 
-/// Where good nodes begin slots in time, the rounds stand for a run of the abstract bus.
+/// Where good nodes begin frames at most `p` reference units apart, and each frame takes as long as it must, the rounds stand for a
+/// run of the abstract bus.
 pub fn time_is_all_that_is_left()
     ensures { TimeIsAllThatIsLeft }
 {}
