@@ -3,6 +3,7 @@ use Rattle.std.proofs.Common.{◌≡◌, ℕ, zero, suc, ◌<◌, ◌≤◌, Opt
 use Rattle.std.proofs.lemmas.Bool.{cases_lt}
 use Rattle.rb_base.specs.Nodes.{Side}
 use Rattle.rb_base.specs.Nodes.Side.{Biu, Rmu}
+use Rattle.rb_agree.proofs.Tests.{same_some}
 
 -- The times of numbers.
 
@@ -17,10 +18,17 @@ record HasLeast (time : ℕ → Option ℕ) (n : ℕ) : Type 0 where
 HasNone : (ℕ → Option ℕ) → ℕ → Type 0
 HasNone time n = (j t : ℕ) → j < n → time j ≡ Some t → ⊥
 
--- what holds of the numbers below n, and of n
-with-next : (time : ℕ → Option ℕ) (n j : ℕ) → j < suc n → (j < n) ⊎ (time n ≡ time j)
-with-next time n j lt =
-    elim (cases_lt j n) [ inl before ↦ inl before | inr late ↦ inr (let same : n ≡ j = omega arith in ap time same) ]
+-- a number is below n, or it is n
+with-next : (time : ℕ → Option ℕ) (n at : ℕ) → ((j t : ℕ) → j < n → time j ≡ Some t → at ≤ t) → ((t : ℕ) → time n ≡ Some t → at ≤ t)
+    → (j t : ℕ) → j < suc n → time j ≡ Some t → at ≤ t
+with-next time n at before here j t lt is =
+    elim (cases_lt j n) [ inl below ↦ before j t below is | inr late ↦ (let same : n ≡ j = omega arith in here t (ap time same ∙ is)) ]
+
+one-time : (o : Option ℕ) (x : ℕ) → o ≡ Some x → (t : ℕ) → o ≡ Some t → x ≤ t
+one-time o x e t is = let same : x ≡ t = same_some x t (sym e ∙ is) in omega arith
+
+no-time : (o : Option ℕ) → o ≡ None → (t : ℕ) → o ≡ Some t → ⊥
+no-time o e t is = let both : None ≡ Some t = sym e ∙ is in cc
 
 least-in : (time : ℕ → Option ℕ) (n : ℕ) → HasLeast time n ⊎ HasNone time n
 unfolding HasNone
@@ -28,42 +36,22 @@ least-in time zero = inr (λ j t lt is. absurd (omega (arith, lt)))
 least-in time (suc n) = go (least-in time n) (time n) refl
   where
     go : HasLeast time n ⊎ HasNone time n → (o : Option ℕ) → time n ≡ o → HasLeast time (suc n) ⊎ HasNone time (suc n)
-    go (inl l) None e = inl (record {
-      i = l.i;
-      at = l.at;
-      is = l.is;
-      least = λ j t lt is. elim (with-next time n j lt) [ inl before ↦ l.least j t before is | inr same ↦ (let both : None ≡ Some t = sym e ∙ same ∙ is in cc) ];
-    })
-    go (inl l) (Some x) e = elim (cases_lt x l.at) [
-      | inl less ↦ inl (record {
-        i = n;
-        at = x;
-        is = e;
-        least = λ j t lt is. elim (with-next time n j lt) [
-          | inl before ↦ omega (arith, less, l.least j t before is)
-          | inr same ↦ (let both : Some x ≡ Some t = sym e ∙ same ∙ is in let equal : x ≡ t = cc in omega arith)
-        ];
-      })
-      | inr more ↦ inl (record {
-        i = l.i;
-        at = l.at;
-        is = l.is;
-        least = λ j t lt is. elim (with-next time n j lt) [
-          | inl before ↦ l.least j t before is
-          | inr same ↦ (let both : Some x ≡ Some t = sym e ∙ same ∙ is in let equal : x ≡ t = cc in omega arith)
-        ];
-      })
-    ]
-    go (inr none) None e = inr (λ j t lt is. elim (with-next time n j lt) [ inl before ↦ none j t before is | inr same ↦ (let both : None ≡ Some t = sym e ∙ same ∙ is in cc) ])
-    go (inr none) (Some x) e = inl (record {
-      i = n;
-      at = x;
-      is = e;
-      least = λ j t lt is. elim (with-next time n j lt) [
-        | inl before ↦ absurd (none j t before is)
-        | inr same ↦ (let both : Some x ≡ Some t = sym e ∙ same ∙ is in let equal : x ≡ t = cc in omega arith)
-      ];
-    })
+    go (inl l) None e =
+        inl (record { i = l.i; at = l.at; is = l.is; least = with-next time n l.at l.least (λ t is. absurd (no-time (time n) e t is)) })
+    go (inl l) (Some x) e =
+        elim (cases_lt x l.at) [
+          | inl less ↦
+              inl (record { i = n; at = x; is = e; least = with-next time n x (λ j t lt is. omega (arith, less, l.least j t lt is)) (one-time (time n) x e) })
+          | inr more ↦
+              inl (record { i = l.i; at = l.at; is = l.is; least = with-next time n l.at l.least (λ t is. omega (arith, more, one-time (time n) x e t is)) })
+        ]
+    go (inr none) None e =
+        inr (λ j t lt is. elim (cases_lt j n) [
+          | inl below ↦ none j t below is
+          | inr late ↦ (let same : n ≡ j = omega arith in no-time (time n) e t (ap time same ∙ is))
+        ])
+    go (inr none) (Some x) e =
+        inl (record { i = n; at = x; is = e; least = with-next time n x (λ j t lt is. absurd (none j t lt is)) (one-time (time n) x e) })
 
 -- The times of nodes.
 
