@@ -18,7 +18,7 @@ record HasLeast (time : ℕ → Option ℕ) (n : ℕ) : Type 0 where
 HasNone : (ℕ → Option ℕ) → ℕ → Type 0
 HasNone time n = (j t : ℕ) → j < n → time j ≡ Some t → ⊥
 
--- a number is below n, or it is n
+-- no number below n has an earlier time, nor has n
 with-next : (time : ℕ → Option ℕ) (n at : ℕ) → ((j t : ℕ) → j < n → time j ≡ Some t → at ≤ t) → ((t : ℕ) → time n ≡ Some t → at ≤ t)
     → (j t : ℕ) → j < suc n → time j ≡ Some t → at ≤ t
 with-next time n at before here j t lt is =
