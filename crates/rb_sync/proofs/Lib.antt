@@ -1,0 +1,17 @@
+pub mod PlanNumbers
+pub mod Times
+pub mod Middles
+pub mod TimelyWindows
+pub mod TakenCalls
+pub mod CallSights
+pub mod StageMiddles
+pub mod Synchronous
+pub mod StageCalls
+pub mod TimelyMoments
+pub mod KeptMiddles
+pub mod StageSteps
+pub mod SyncSteps
+pub mod LaterStages
+pub mod LastStage
+pub mod Synchrony
+pub mod SyncLaws
