@@ -1,5 +1,5 @@
 -- What holds of every lawful scenario and every list of hand-ins up to the first breach of the premise on faults: in slots that
--- are complete without one, as are all before them. No clock plays a part in it.
+-- are complete without one, as are all before them. Of clocks only the last two laws speak, by their premise.
 use Rattle.std.specs.Prelude.{ℕ, suc, ◌≡◌, ◌+◌, ◌<◌, ◌≤◌, ◌||◌, true, false, Some, List, slice_get}
 use Rattle.rb_base.specs.Nodes.{Side, other, has}
 use Rattle.rb_base.specs.Nodes.Side.{Biu}

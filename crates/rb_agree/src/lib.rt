@@ -1,5 +1,5 @@
-//! Laws of agreement: what all good nodes hold in common, whom they accuse, and whom they convict. There is no clock in them. Each
-//! law is the contract of a function that does nothing.
+//! Laws of agreement: what all good nodes hold in common, whom they accuse, and whom they convict. There is no clock in them, but for
+//! the premise of the last two. Each law is the contract of a function that does nothing.
 #![tactic(auto)]
 
 ghost use Rattle.rb_agree.specs.Laws.{AccusedByAllIsConvicted, DeliveriesAreRight, GoodNodesAgree, GoodNodesHoldOneSchedule, GoodSendersAreHeard, NoGoodNodeIsAccused, NoGoodNodeIsConvicted, PortsFollowTheBus, PortsHoldOneState, RoundsStepTheBus, TimeIsAllThatIsLeft, TimeKeepsThePromise, UnheardNodesHaveNoVector};
