@@ -1,6 +1,6 @@
 //! What a node takes in a window, and whom it accuses for what came.
-ghost use Rattle.std.specs.Prelude.{◌≡◌, ℕ, ◌<◌, ◌^◌, List, ◌&&◌, ◌==◌, not, true, if◌then◌else◌, None, unwrap_or, IsTrue};
-ghost use Rattle.rb_base.specs.Nodes.{has, set_of};
+ghost use Rattle.std.specs.Prelude.{◌≡◌, ℕ, ◌<◌, ◌*◌, ◌^◌, List, ◌&&◌, ◌==◌, not, true, if◌then◌else◌, None, unwrap_or, IsTrue};
+ghost use Rattle.rb_base.specs.Nodes.{has, set_of, size};
 ghost use Rattle.rb_base.specs.declared.values.Heard.{Heard};
 ghost use Rattle.rb_rules.specs.ExactStage.{at_source, each_node, present};
 ghost use Rattle.rb_rules.specs.Majority.{majority_of};
@@ -16,8 +16,8 @@ use crate::standing::Standing;
 use rb_base::{Heard, NodeId, NodeSet, See};
 use rb_rules::Expect;
 
-/// What was taken in a window: of which sources exactly one message came that is meant for it, and whether all values are
-/// alike. Where they are, `value` is that value, and None where there is none.
+/// What was taken in a window: of which sources exactly one message came that is meant for it, and whether more than half of
+/// these carry the value of the first that has one. Where they do, `value` is that value.
 #[derive(Clone, Copy, Debug, PartialEq, Eq)]
 pub struct Taking<K> {
     pub ones: NodeSet<K>,
@@ -41,6 +41,13 @@ fn keep_if<K: Copy>(ones: &mut NodeSet<K>, source: NodeId<K>, stays: bool)
     if !stays {
         drop_one(ones, source);
     }
+}
+
+// Whether the sources of the one set are more than half of those of the other.
+fn leads<K: Copy>(same: NodeSet<K>, ones: NodeSet<K>) -> bool
+    ensures { IsTrue result → size ones < 2 * size same }
+{
+    ones.count() < 2 * same.count()
 }
 
 // Makes room for what comes of the sources of the set. Of the others nothing is written down any longer.
@@ -83,19 +90,20 @@ fn take_some<K: Copy>(
     ensures sheet { IsSheet due taken.new sees.new }
 {
     let mut left = due;
-    let mut ones = due;
+    let (mut ones, mut same) = (due, due);
     let mut last = nothing_read(expect);
     while let Some(source) = left.pop_first() {
         read(inbox.sole_at(source), expect, &mut last);
         keep_if(&mut ones, source, last.one);
+        keep_if(&mut same, source, last.agrees);
         let at = usize::from(source.index());
         taken[at] = last.value;
         sees[at] = last.see;
     }
     Taking {
         ones,
-        alike: !last.mixed,
-        value: last.value,
+        alike: leads(same, ones),
+        value: last.candidate,
     }
 }
 
@@ -151,6 +159,7 @@ fn ones_barred<K: Copy>(inbox: &Inbox<K>, barred: NodeSet<K>, expect: &Expect) -
 /// shown of it. Then each trusted source is accused that was expected and of which not exactly that came, or that wasn't
 /// expected and of which something came. What was taken and shown of an earlier window is written over: only of the sources in
 /// `written` there may be something.
+#[inline(always)]
 pub fn take_with_evidence<K: Copy>(
     inbox: &Inbox<K>,
     standing: &mut Standing<K>,

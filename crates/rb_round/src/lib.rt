@@ -20,7 +20,7 @@ pub use sheet::Sheet;
 
 pub mod sheet;
 
-// The vote over what was taken. Where all of it is the same value, it is that one, and where nothing was taken, Fault.
+// The vote over what was taken. Where more than half of it is known to be alike, it is that value.
 fn vote(taken: &[Option<Heard>; 16], alike: bool, value: Option<Heard>) -> Heard
     requires { IsTrue alike → majority_of (present taken.now) ≡ unwrap_or value Heard.Fault }
     ensures { result ≡ majority_of (present taken.now) }

@@ -1,4 +1,4 @@
-use Rattle.std.proofs.Common.{◌≡◌, ◌<◌, ℕ, Bool, Option, ◌&&◌, ◌==◌, not, true, None, if◌then◌else◌, length, inl, refl, subst, sym, ◌∙◌, ap}
+use Rattle.std.proofs.Common.{◌≡◌, ◌<◌, ℕ, Bool, Option, ◌&&◌, ◌||◌, ◌==◌, not, true, false, None, if◌then◌else◌, length, get_or, refl, sym, ◌∙◌, ap}
 use Rattle.std.proofs.Math.ListN.{length-set}
 use Rattle.std.proofs.lemmas.List.{length-map}
 use Rattle.rb_base.specs.declared.values.Heard.{Heard}
@@ -7,10 +7,10 @@ use Rattle.rb_base.specs.Nodes.{has}
 use Rattle.rb_base.proofs.Sets.{has-is, has_none, is_set_of}
 use Rattle.rb_rules.specs.Sense.{is_one, value_in}
 use Rattle.rb_eligible.specs.Inboxes.{is_sole, sense_in}
-use Rattle.rb_eligible.proofs.Alike.{AreAlike, alike_next, alike_vote, held_next, was_not}
+use Rattle.rb_eligible.proofs.Alike.{leading_vote, ones_next, open_next, same_next}
 use Rattle.rb_eligible.proofs.Scans.{blank_first, blank_next, filled_next, kept_fits, kept_has, none_passed, passed_all, passed_next, within_next}
 use Rattle.rb_eligible.proofs.Seeing.{first_shown, shown_all, shown_next}
-use Rattle.rb_eligible.proofs.Sensed.{read_one, read_value}
+use Rattle.rb_eligible.proofs.Sensed.{read_one, read_value, says_none}
 use Rattle.rb_eligible.proofs.taking.take_some.Goals as goal
 
 pub loop-source-init : goal.loop-source-init
@@ -27,8 +27,9 @@ loop-source-init g c =
       one = λ received shown j h. none_passed todo (λ j. is_one (sense_in c.args.expect.now received j)) due j refl;
       so_far = λ received shown. blank_first due (λ j. value_in (sense_in c.args.expect.now received j)) c.args.taken.now sheet.rest;
       rest = sheet.rest;
-      alike = λ same j h other. inl (sheet.rest j h other);
-      held = inl c.nothing_read-last.ensures.value;
+      still = λ j h inside. inside;
+      ones_only = λ j h gone other. sheet.rest j h gone;
+      same_only = λ j h inside gone. let e : true ≡ false = sym inside ∙ gone in absurd cc;
       seen = first_shown c.args.sees.now c.args.taken.now sheet.all sheet.shown;
     }
 
@@ -48,6 +49,7 @@ loop-source-preserved g c =
     let sole : is_sole kept k ≡ true = c.requires.due k below is_due in
     let says = rw (c.sole_at.ensures.value, ← c.index.ensures.value) at c.read.ensures.says in
     let stays = rw (← c.index.ensures.value) at c.keep_if.ensures in
+    let stays_same = rw (← c.index.ensures.value) at c.keep_if-in-Some.ensures in
     record {
       fits = kept_fits c.loop-source.ones c.keep_if.new.ones k c.read.new.last.one stays c.loop-source.invariant.fits;
       all = length-set _ _ _ ∙ c.loop-source.invariant.all;
@@ -65,11 +67,16 @@ loop-source-preserved g c =
           (read_value c.args.expect.now kept received k c.read.new.last.one c.read.new.last.value shown below sole says ∙ sym (ap (λ b. if b then value k else None) is_due))
           removed (c.loop-source.invariant.so_far received shown));
       rest = rw c.from-at.ensures (blank_next due k c.loop-source.taken c.read.new.last.value is_due c.loop-source.invariant.rest);
-      alike = λ same.
-          let like = c.read.ensures.alike same in
+      still = open_next c.loop-source.ones c.keep_if.new.ones before after k c.read.new.last.one (λ j. kept_has c.loop-source.ones c.keep_if.new.ones k j c.read.new.last.one stays) removed c.loop-source.invariant.still;
+      ones_only =
           rw c.from-at.ensures
-          (alike_next c.loop-source.last.value c.read.new.last.value before after c.loop-source.taken k below c.loop-source.invariant.all like.1 removed (c.loop-source.invariant.alike like.0));
-      held = rw c.from-at.ensures (held_next c.read.new.last.value c.loop-source.taken k below c.loop-source.invariant.all);
+          (ones_next c.read.new.last.value c.loop-source.ones c.keep_if.new.ones before after k c.loop-source.taken c.read.new.last.one below c.loop-source.invariant.all (c.loop-source.invariant.still k below here)
+          (λ j. kept_has c.loop-source.ones c.keep_if.new.ones k j c.read.new.last.one stays) removed (says_none c.args.expect.now _ c.read.new.last.one c.read.new.last.value says) c.loop-source.invariant.ones_only);
+      same_only =
+          rw c.from-at.ensures
+          (same_next c.loop-source.last.candidate c.read.new.last.candidate c.read.new.last.value c.loop-source.same c.keep_if-in-Some.new.ones before after k c.loop-source.taken c.read.new.last.agrees below
+          c.loop-source.invariant.all (λ j. kept_has c.loop-source.same c.keep_if-in-Some.new.ones k j c.read.new.last.agrees stays_same) removed c.read.ensures.reading.agreed c.read.ensures.candidate
+          c.loop-source.invariant.same_only);
       seen =
           rw c.from-at.ensures
           (shown_next c.loop-source.sees c.loop-source.taken k c.read.new.last.see c.read.new.last.value below c.loop-source.invariant.all_seen c.loop-source.invariant.all c.read.ensures.reading.shown
@@ -89,9 +96,9 @@ returns-clause-taken g c = λ received shown j h.
 
 pub returns-clause-alike : goal.returns-clause-alike
 returns-clause-alike g c = λ is.
-    alike_vote c.loop-source.last.value c.loop-source.taken c.loop-source.invariant.all
-    (subst (λ left. AreAlike c.loop-source.last.value left c.loop-source.taken) (c.in_default.ensures.empty.0 refl) (c.loop-source.invariant.alike (was_not c.loop-source.last.mixed is)))
-    c.loop-source.invariant.held
+    let none : (j : ℕ) → has c.loop-source.left j ≡ false = λ j. ap (λ s. has s j) (c.in_default.ensures.empty.0 refl) ∙ has_none j in
+    leading_vote c.loop-source.last.candidate c.loop-source.ones c.loop-source.same c.loop-source.taken c.loop-source.invariant.all
+    (λ j h inside. c.loop-source.invariant.same_only j h inside (none j)) (λ j h other. c.loop-source.invariant.ones_only j h (none j) other) (c.leads.ensures is)
 
 pub returns-clause-sheet : goal.returns-clause-sheet
 returns-clause-sheet g c = record {

@@ -4,7 +4,7 @@ use Rattle.rb_eligible.proofs.Seeing.{AreShown}
 use Rattle.rb_rules.specs.Sense.{is_one, value_in}
 use Rattle.rb_eligible.specs.Inboxes.{Received, HoldsArrivals, sense_in}
 use Rattle.rb_eligible.specs.Readings.{IsReading}
-use Rattle.rb_eligible.proofs.Alike.{AreAlike, IsHeld}
+use Rattle.rb_eligible.proofs.Alike.{AreOnes, AreSame}
 use Rattle.rb_eligible.proofs.taking.take_some.Given as goal
 
 -- what is left of the sources of which something may be taken, and what was taken of the others
@@ -20,8 +20,9 @@ invariant-loop-source g l = record {
   so_far : (received : List Received) → HoldsArrivals l.inbox received → (j : ℕ) → j < 16 → has l.left j ≡ false
       → get_or l.taken j None ≡ (if has l.fn.due j then value_in (sense_in l.expect received j) else None);
   rest : (j : ℕ) → j < 16 → has l.fn.due j ≡ false → get_or l.taken j None ≡ None;
-  alike : l.last.mixed ≡ false → AreAlike l.last.value l.left l.taken;
-  held : IsHeld l.last.value l.taken;
+  still : (j : ℕ) → j < 16 → has l.left j ≡ true → has l.ones j ≡ true;
+  ones_only : AreOnes l.ones l.left l.taken;
+  same_only : AreSame l.last.candidate l.same l.left l.taken;
   seen : AreShown l.sees l.taken;
 }
 
