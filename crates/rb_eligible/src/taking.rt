@@ -25,21 +25,34 @@ pub struct Taking<K> {
     pub value: Option<Heard>,
 }
 
-// Takes the node out of the set. That is rare, so it is no part of a loop's body.
+// Takes the node out of the set of the same, and out of that of the ones unless it is one. That is rare, so it is no part of a
+// loop's body.
 #[inline(never)]
-fn drop_one<K: Copy>(ones: &mut NodeSet<K>, source: NodeId<K>)
-    ensures { ones.new ≡ set_of (λ i. has ones.old i && not (i == source)) }
+fn drop_from<K: Copy>(ones: &mut NodeSet<K>, same: &mut NodeSet<K>, source: NodeId<K>, one: bool)
+    ensures ones { ones.new ≡ (if one then ones.old else set_of (λ i. has ones.old i && not (i == source))) }
+    ensures same { same.new ≡ set_of (λ i. has same.old i && not (i == source)) }
 {
-    ones.remove(source);
+    if !one {
+        ones.remove(source);
+    }
+    same.remove(source);
 }
 
-// The set, without the node unless it stays.
+// Keeps the node in the two sets, if it is one and agrees. Who agrees is one.
 #[inline(always)]
-fn keep_if<K: Copy>(ones: &mut NodeSet<K>, source: NodeId<K>, stays: bool)
-    ensures { ones.new ≡ (if stays then ones.old else set_of (λ i. has ones.old i && not (i == source))) }
+fn keep_if<K: Copy>(
+    ones: &mut NodeSet<K>,
+    same: &mut NodeSet<K>,
+    source: NodeId<K>,
+    one: bool,
+    agrees: bool,
+)
+    requires { agrees ≡ true → one ≡ true }
+    ensures ones { ones.new ≡ (if one then ones.old else set_of (λ i. has ones.old i && not (i == source))) }
+    ensures same { same.new ≡ (if agrees then same.old else set_of (λ i. has same.old i && not (i == source))) }
 {
-    if !stays {
-        drop_one(ones, source);
+    if !agrees {
+        drop_from(ones, same, source, one);
     }
 }
 
@@ -94,8 +107,7 @@ fn take_some<K: Copy>(
     let mut last = nothing_read(expect);
     while let Some(source) = left.pop_first() {
         read(inbox.sole_at(source), expect, &mut last);
-        keep_if(&mut ones, source, last.one);
-        keep_if(&mut same, source, last.agrees);
+        keep_if(&mut ones, &mut same, source, last.one, last.agrees);
         let at = usize::from(source.index());
         taken[at] = last.value;
         sees[at] = last.see;

@@ -10,7 +10,7 @@ use Rattle.rb_eligible.specs.Inboxes.{is_sole, sense_in}
 use Rattle.rb_eligible.proofs.Alike.{leading_vote, ones_next, open_next, same_next}
 use Rattle.rb_eligible.proofs.Scans.{blank_first, blank_next, filled_next, kept_fits, kept_has, none_passed, passed_all, passed_next, within_next}
 use Rattle.rb_eligible.proofs.Seeing.{first_shown, shown_all, shown_next}
-use Rattle.rb_eligible.proofs.Sensed.{read_one, read_value, says_none}
+use Rattle.rb_eligible.proofs.Sensed.{read_one, read_value, says_none, says_one}
 use Rattle.rb_eligible.proofs.taking.take_some.Goals as goal
 
 pub loop-source-init : goal.loop-source-init
@@ -48,8 +48,8 @@ loop-source-preserved g c =
     let is_due : has due k ≡ true = c.loop-source.invariant.within k below here in
     let sole : is_sole kept k ≡ true = c.requires.due k below is_due in
     let says = rw (c.sole_at.ensures.value, ← c.index.ensures.value) at c.read.ensures.says in
-    let stays = rw (← c.index.ensures.value) at c.keep_if.ensures in
-    let stays_same = rw (← c.index.ensures.value) at c.keep_if-in-Some.ensures in
+    let stays = rw (← c.index.ensures.value) at c.keep_if.ensures.ones in
+    let stays_same = rw (← c.index.ensures.value) at c.keep_if.ensures.same in
     record {
       fits = kept_fits c.loop-source.ones c.keep_if.new.ones k c.read.new.last.one stays c.loop-source.invariant.fits;
       all = length-set _ _ _ ∙ c.loop-source.invariant.all;
@@ -74,14 +74,19 @@ loop-source-preserved g c =
           (λ j. kept_has c.loop-source.ones c.keep_if.new.ones k j c.read.new.last.one stays) removed (says_none c.args.expect.now _ c.read.new.last.one c.read.new.last.value says) c.loop-source.invariant.ones_only);
       same_only =
           rw c.from-at.ensures
-          (same_next c.loop-source.last.candidate c.read.new.last.candidate c.read.new.last.value c.loop-source.same c.keep_if-in-Some.new.ones before after k c.loop-source.taken c.read.new.last.agrees below
-          c.loop-source.invariant.all (λ j. kept_has c.loop-source.same c.keep_if-in-Some.new.ones k j c.read.new.last.agrees stays_same) removed c.read.ensures.reading.agreed c.read.ensures.candidate
+          (same_next c.loop-source.last.candidate c.read.new.last.candidate c.read.new.last.value c.loop-source.same c.keep_if.new.same before after k c.loop-source.taken c.read.new.last.agrees below
+          c.loop-source.invariant.all (λ j. kept_has c.loop-source.same c.keep_if.new.same k j c.read.new.last.agrees stays_same) removed c.read.ensures.reading.agreed c.read.ensures.candidate
           c.loop-source.invariant.same_only);
       seen =
           rw c.from-at.ensures
           (shown_next c.loop-source.sees c.loop-source.taken k c.read.new.last.see c.read.new.last.value below c.loop-source.invariant.all_seen c.loop-source.invariant.all c.read.ensures.reading.shown
           c.loop-source.invariant.seen);
     }
+
+pub keep_if-requires : goal.keep_if-requires
+keep_if-requires g c = λ same.
+    let found = c.read.ensures.reading.agreed same in
+    says_one c.args.expect.now _ c.read.new.last.one c.read.new.last.value found.0 c.read.ensures.says found.1.0
 
 pub returns-clause-ones : goal.returns-clause-ones
 returns-clause-ones g c = λ received shown.
