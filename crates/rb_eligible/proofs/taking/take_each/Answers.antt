@@ -1,4 +1,4 @@
-use Rattle.std.proofs.Common.{◌≡◌, ℕ, ◌<◌, ◌&&◌, true, if◌then◌else◌, None, refl, sym, ◌∙◌, ap}
+use Rattle.std.proofs.Common.{◌&&◌, if◌then◌else◌, None, sym, ◌∙◌, ap}
 use Rattle.rb_base.specs.Nodes.{has}
 use Rattle.rb_base.proofs.Sets.{same_set_of, set_of-lt}
 use Rattle.rb_rules.specs.Sense.{is_one, value_in}
