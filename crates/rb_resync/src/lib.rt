@@ -65,8 +65,17 @@ pub fn close_sync<K: Copy>(
         (standing_of standing.old) }
     ensures soon { (n : ℕ) → StampsUpTo n inbox.now → first ≤ n → result.middle ≤ n }
 {
+    let mut written = NodeSet::empty();
     let (mut values, mut sees) = ([None; 16], [See::Nothing; 16]);
-    let taking = take_with_evidence(inbox, standing, expect, expected, &mut values, &mut sees);
+    let taking = take_with_evidence(
+        inbox,
+        standing,
+        expect,
+        expected,
+        &mut written,
+        &mut values,
+        &mut sees,
+    );
     let takers = taking.ones.intersection(inbox.soles());
     let mut taken_of = [None; 16];
     let mut stamps = ArrayVec::new();
