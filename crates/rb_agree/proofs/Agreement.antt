@@ -1,7 +1,6 @@
 -- In every moment of a run that has not ended all good nodes agree.
 use Rattle.std.proofs.Common.{◌≡◌, ℕ, zero, suc, ◌+◌, ◌-◌, ◌*◌, ◌/◌, ◌%◌, ◌<◌, ◌≤◌, ◌==◌, nat_lt, Bool, true, false, List, [], ◌∷◌, ◌++◌, ◌⊎◌, inl, inr, refl, sym, ◌∙◌, ap, subst, arith}
 use Rattle.std.proofs.lemmas.Bool.{cases_lt}
-use Rattle.std.proofs.lemmas.Bool.Decides.{nat_tests}
 use Rattle.rb_base.specs.Sizes.{sync_slot_of}
 use Rattle.rb_rules.specs.Book.{Book, with_end}
 use Rattle.rb_rules.specs.Book.Record.{Ended}
@@ -11,7 +10,7 @@ use Rattle.rb_rules.specs.Moments.{IsRunning}
 use Rattle.rb_rules.specs.Ports.{HandIn}
 use Rattle.rb_rules.specs.Rounds.{Moment, next_frame, step, moment, windows_in}
 use Rattle.rb_rules.proofs.Books.{step-on, stepped}
-use Rattle.rb_agree.proofs.Tests.{so_not}
+use Rattle.rb_agree.proofs.Tests.{so_not, less_from, not_less_from}
 use Rattle.rb_agree.proofs.Invariant.{Shared, Agree}
 use Rattle.rb_agree.proofs.ExactAgrees.{with_value, agree_1, agree_2, agree_3}
 use Rattle.rb_agree.proofs.FrameAgrees.{first_shared, shared_next, agree_first, agree_frame}
@@ -42,14 +41,8 @@ stepped-is : (sc : Scenario) (hands : List HandIn) (m : Moment) (over in_frame :
     → ((m.window < windows_in sc.sizes) × (stepped sc hands m over in_frame ≡ next sc m))
     ⊎ ((windows_in sc.sizes ≤ m.window) × (stepped sc hands m over in_frame ≡ next_frame sc hands m))
 stepped-is sc hands m true in_frame e h = let both : true ≡ false = sym (ended-end m.book) ∙ h in cc
-stepped-is sc hands m false true e h = inl (lt-from m.window (windows_in sc.sizes) e, refl)
-  where
-    lt-from : (a b : ℕ) → nat_lt a b ≡ true → a < b
-    lt-from a b h = grind (arith, nat_tests)
-stepped-is sc hands m false false e h = inr (le-from m.window (windows_in sc.sizes) e, refl)
-  where
-    le-from : (a b : ℕ) → nat_lt a b ≡ false → b ≤ a
-    le-from a b h = grind (arith, nat_tests)
+stepped-is sc hands m false true e h = inl (less_from m.window (windows_in sc.sizes) e, refl)
+stepped-is sc hands m false false e h = inr (not_less_from m.window (windows_in sc.sizes) e, refl)
 
 pub step_is : (sc : Scenario) (hands : List HandIn) (m : Moment) → (step sc hands m).book.ended ≡ false → IsStep sc hands m
 unfolding step

@@ -24,7 +24,7 @@ use Rattle.rb_rules.specs.Slots.{Sender, sender_kind, if_owned, sender_in, role_
 use Rattle.rb_rules.specs.Slots.Sender.{Nobody, Node, EachTrusted}
 use Rattle.rb_rules.proofs.WindowNumbers.{length-each}
 use Rattle.rb_agree.specs.Values.{lines_in}
-use Rattle.rb_agree.proofs.Tests.{true_or_false, same_some}
+use Rattle.rb_agree.proofs.Tests.{true_or_false, same_some, less_true}
 use Rattle.rb_agree.proofs.Invariant.{Shared, sender_of, kind_in, IsGoodNode, Holds}
 use Rattle.rb_agree.proofs.JudgedWindows.{rows_of, row-at}
 use Rattle.rb_agree.proofs.NodeWindows.{Windows, own_window, kept_in, heard_in, sense_in, goes}
@@ -242,9 +242,6 @@ given_before sc hands n m s slot q c early =
 pub given_after : (sc : Scenario) (hands : List HandIn) (n : ℕ) (m : Moment) (s : Shared) (slot : ℕ) → Setting sc hands n m s slot 2
     → (next sc m).book.given ≡ m.book.given ++ Slot m.frame slot m.book.lines ∷ []
 given_after sc hands n m s slot c =
-    let is_below : nat_lt slot (sync_slot_of sc.sizes) ≡ true = less-true slot (sync_slot_of sc.sizes) c.below in
+    let is_below : nat_lt slot (sync_slot_of sc.sizes) ≡ true = less_true slot (sync_slot_of sc.sizes) c.below in
     ap (λ b. b.given) (book_exact sc m slot 2 c.below c.small c.at ∙ c.passed.is)
     ∙ ap (λ b. m.book.given ++ (if true && b then Slot m.frame slot m.book.lines ∷ [] else [])) is_below
-  where
-    less-true : (a b : ℕ) → a < b → nat_lt a b ≡ true
-    less-true a b h = grind (arith, nat_tests)

@@ -181,11 +181,11 @@ finished-same sc hands m s u t value same f = record {
   held = f.held;
 }
 
-value-at : (sc : Scenario) (s : Shared) (slot : ℕ) (value : Heard) → (with_value sc s slot value).values slot ≡ value
+pub value-at : (sc : Scenario) (s : Shared) (slot : ℕ) (value : Heard) → (with_value sc s slot value).values slot ≡ value
 unfolding with_value
 value-at sc s slot value = let e : (slot == slot) ≡ true = grind (arith, nat_tests) in ap (λ b. if b then value else s.values slot) e
 
-value-before : (sc : Scenario) (s : Shared) (slot : ℕ) (value : Heard) (t : ℕ) → t < slot → (with_value sc s slot value).values t ≡ s.values t
+pub value-before : (sc : Scenario) (s : Shared) (slot : ℕ) (value : Heard) (t : ℕ) → t < slot → (with_value sc s slot value).values t ≡ s.values t
 unfolding with_value
 value-before sc s slot value t before = let e : (t == slot) ≡ false = grind (arith, nat_tests) in ap (λ b. if b then value else s.values t) e
 
@@ -247,9 +247,15 @@ owned-after sc s slot value owned = go (slot + 1 == sc.sizes.bius) (map (λ t. i
     go true requests = owners_are_trusted sc.sizes (s.trusted Biu) requests
     go false requests = owned
 
-same-trusted : (sc : Scenario) (s : Shared) (slot : ℕ) (value : Heard) (kind : Side) → s.trusted kind ≡ (with_value sc s slot value).trusted kind
+pub same-trusted : (sc : Scenario) (s : Shared) (slot : ℕ) (value : Heard) (kind : Side) → s.trusted kind ≡ (with_value sc s slot value).trusted kind
 unfolding with_value
 same-trusted sc s slot value kind = refl
+
+pub owners-slot : (sc : Scenario) (s : Shared) (slot : ℕ) (value : Heard)
+    → (with_value sc s slot value).owners
+    ≡ (if slot + 1 == sc.sizes.bius then owners_of sc.sizes (s.trusted Biu) (map (with_value sc s slot value).values (numbers sc.sizes.bius)) else s.owners)
+unfolding with_value
+owners-slot sc s slot value = refl
 
 pub agree_3 : (sc : Scenario) (hands : List HandIn) (n : ℕ) (m : Moment) (s : Shared) (slot : ℕ) (c : Setting sc hands n m s slot 2)
     → next sc m ≡ moment sc hands (suc n) → Agree sc hands (suc n) (next sc m) (with_value sc s slot (voted sc hands n m s slot c).value)

@@ -2,7 +2,6 @@
 use Rattle.std.proofs.Common.{◌≡◌, ℕ, zero, suc, ◌+◌, ◌-◌, ◌*◌, ◌<◌, ◌≤◌, ◌^◌, ◌&&◌, ◌||◌, nat_lt, bit_and, Bool, true, false, List, [], ◌∷◌, length, inl, inr, Option, Some, None, is_some, slice_get, get_or, if◌then◌else◌, refl, sym, ◌∙◌, ap, subst, arith}
 use Rattle.std.specs.Prelude.{IfSome}
 use Rattle.std.proofs.lemmas.Bool.{cases_lt}
-use Rattle.std.proofs.lemmas.Bool.Decides.{nat_tests}
 use Rattle.std.proofs.lemmas.List.FromFn.{length-map-range_with_len}
 use Rattle.rb_base.specs.Nodes.{Side, other, has, set_of}
 use Rattle.std.proofs.lemmas.Nat.{and_le_l, and_le_r}
@@ -28,7 +27,7 @@ use Rattle.rb_rules.specs.Standing.{Standing, taken_of, vector_of}
 use Rattle.rb_rules.specs.Moments.{before_slot}
 use Rattle.rb_rules.proofs.Senses.{IsCarried}
 use Rattle.rb_rules.proofs.Votes.{taken_at}
-use Rattle.rb_agree.proofs.Tests.{and_first, and_none, or_neither, Present, same_some}
+use Rattle.rb_agree.proofs.Tests.{and_first, and_none, or_neither, Present, same_some, less_true}
 use Rattle.rb_agree.proofs.Goodnesses.{good_below_16, few_nodes}
 use Rattle.rb_agree.proofs.Invariant.{Shared, sender_of, kind_in, IsGoodNode, is_good_now, slot_numbered, is_diagnosis, IsVector, GoodSent, HasRelays, Holds}
 use Rattle.rb_agree.proofs.ExactWindows.{other_twice, expected_at, closing_at}
@@ -103,9 +102,6 @@ vector-spares s j small d m =
     has-set_of j (λ j. has s.trusted j && (has s.direct j || has s.mismatch j)) small
     ∙ and_none (has s.trusted j) (has s.direct j || has s.mismatch j) (or_neither (has s.direct j) (has s.mismatch j) d m)
 
-less-true : (a b : ℕ) → a < b → nat_lt a b ≡ true
-less-true a b h = grind (arith, nat_tests)
-
 -- a good node's vector is one of nodes that there are, and names no good one
 vector-of : (sc : Scenario) (hands : List HandIn) (n : ℕ) (m : Moment) (s : Shared) (slot : ℕ) (c : Setting sc hands n m s slot 0) (me : Side) (i : ℕ) (st : NodeState)
     → IsGoodNode sc m me i st → IsVector sc (next sc m) (other me) (Word (vector_of st.far))
@@ -113,7 +109,7 @@ vector-of sc hands n m s slot c me i st here =
     let holds : Holds sc m s me st = c.agree.nodes me i st here in
     let trusts : st.far.trusted ≡ s.trusted (other me) = far-held sc m s me st holds in
     record {
-      valid = less-true (vector_of st.far) (2 ^ count_of (other me) sc.sizes)
+      valid = less_true (vector_of st.far) (2 ^ count_of (other me) sc.sizes)
           (set-fits (count_of (other me) sc.sizes) (vector_of st.far) (few_nodes sc.sizes c.law.sizes (other me)) (vector_fits st)
           (λ j small h. c.agree.inside (other me) j (ap (λ t. has t j) (sym trusts) ∙ vector-inside st.far j small h)));
       spared = λ j good.

@@ -1,7 +1,6 @@
 -- Over the end of a frame all good nodes agree, and at the run's begin.
 use Rattle.std.proofs.Common.{◌≡◌, ℕ, suc, ◌+◌, ◌-◌, ◌*◌, ◌<◌, ◌&&◌, nat_lt, not, true, false, List, [], length, inl, inr, Option, Some, None, is_some, option_map, slice_get, refl, sym, ◌∙◌, ap, subst, arith}
 use Rattle.std.proofs.lemmas.Bool.{cases_lt}
-use Rattle.std.proofs.lemmas.Bool.Decides.{nat_tests}
 use Rattle.rb_base.specs.Nodes.{Side, other, has, set_of}
 use Rattle.rb_base.specs.Nodes.Side.{Biu, Rmu}
 use Rattle.rb_base.specs.Sizes.{Sizes, sync_slot_of}
@@ -23,16 +22,13 @@ use Rattle.rb_rules.proofs.RoundStates.{Knows, knows-none, state-turned}
 use Rattle.rb_rules.proofs.WindowNumbers.{length-each, get-made}
 use Rattle.std.proofs.lemmas.List.FromFn.{length-map-range_with_len}
 use Rattle.std.proofs.lemmas.List.{length-replicate}
-use Rattle.rb_agree.proofs.Tests.{Present, same_some, and_first, and_both, not_so}
+use Rattle.rb_agree.proofs.Tests.{Present, same_some, and_first, and_both, not_so, less_from, less_true}
 use Rattle.rb_agree.proofs.Goodnesses.{good_before, good_counts, good_below_16}
 use Rattle.rb_agree.proofs.Invariant.{Shared, IsGoodNode, is_good_now, slot_numbered, Holds, Agree}
 use Rattle.rb_agree.proofs.Settings.{good_state}
 use Rattle.rb_agree.proofs.FrameTurns.{AtEnd, convicted_all, convicted_held, good_not_convicted}
 
 -- What a turn makes of a node.
-
-less-true : (a b : ℕ) → a < b → nat_lt a b ≡ true
-less-true a b h = grind (arith, nat_tests)
 
 map-some : (f : ℕ → ℕ) (o : Option ℕ) → is_some (option_map f o) ≡ is_some o
 map-some f None = refl
@@ -41,9 +37,9 @@ map-some f (Some x) = refl
 -- at the end of a frame a node knows its next epoch
 epoch-known : (sizes : Sizes) (plan : Plan) (me : Side) (st : NodeState) → Knows sizes me (windows_in sizes) st → is_some (new_epoch_of plan me st) ≡ true
 epoch-known sizes plan Biu st h =
-    map-some (λ k2. k2 + plan.v + plan.z + plan.c) st.k2 ∙ h.k2 ∙ less-true (3 * sync_slot_of sizes + 2 - 1) (windows_in sizes) (omega arith)
+    map-some (λ k2. k2 + plan.v + plan.z + plan.c) st.k2 ∙ h.k2 ∙ less_true (3 * sync_slot_of sizes + 2 - 1) (windows_in sizes) (omega arith)
 epoch-known sizes plan Rmu st h =
-    map-some (λ k3. k3 + plan.z) st.k3 ∙ h.k3 ∙ less-true (3 * sync_slot_of sizes + 3 - 1) (windows_in sizes) (omega arith)
+    map-some (λ k3. k3 + plan.z) st.k3 ∙ h.k3 ∙ less_true (3 * sync_slot_of sizes + 3 - 1) (windows_in sizes) (omega arith)
 
 -- what a node is after its turn
 pub record IsTurned (sizes : Sizes) (probation : ℕ) (me : Side) (st now : NodeState) : Type 0 where
@@ -101,6 +97,10 @@ shared_next sizes s = record {
 pub next-trusted : (sizes : Sizes) (s : Shared) (kind : Side) → (shared_next sizes s).trusted kind ≡ without (s.trusted kind) (convicted_all sizes s kind)
 unfolding shared_next
 next-trusted sizes s kind = refl
+
+pub next-owners : (sizes : Sizes) (s : Shared) → (shared_next sizes s).owners ≡ []
+unfolding shared_next
+next-owners sizes s = refl
 
 -- who is trusted afterwards was trusted before
 trusted-before : (trusted convicted j : ℕ) → has (without trusted convicted) j ≡ true → has trusted j ≡ true
@@ -190,9 +190,6 @@ agree_frame sc hands n m s e is = record {
 pub first_shared : Scenario → Shared
 first_shared sc = record { trusted = λ kind. set_of (λ i. nat_lt i (count_of kind sc.sizes)); owners = []; values = λ t. Fault }
 
-lt-from : (a b : ℕ) → nat_lt a b ≡ true → a < b
-lt-from a b h = grind (arith, nat_tests)
-
 first-trusted : (sizes : Sizes) (kind me : Side) → trusted_of kind me (first_state sizes me) ≡ set_of (λ i. nat_lt i (count_of kind sizes))
 first-trusted sizes Biu Biu = refl
 first-trusted sizes Biu Rmu = refl
@@ -206,12 +203,28 @@ counts-made sizes make Rmu = length-map-range_with_len (make Rmu) 0 sizes.rmus
 first-inside : (sc : Scenario) (kind : Side) (j : ℕ) → has (set_of (λ i. nat_lt i (count_of kind sc.sizes))) j ≡ true → j < count_of kind sc.sizes
 first-inside sc kind j h =
     elim (cases_lt j 16) [
-      | inl below ↦ lt-from j (count_of kind sc.sizes) (sym (has-set_of j (λ i. nat_lt i (count_of kind sc.sizes)) below) ∙ h)
+      | inl below ↦ less_from j (count_of kind sc.sizes) (sym (has-set_of j (λ i. nat_lt i (count_of kind sc.sizes)) below) ∙ h)
       | inr above ↦
           let none : has (set_of (λ i. nat_lt i (count_of kind sc.sizes))) j ≡ false =
           has_above (set_of (λ i. nat_lt i (count_of kind sc.sizes))) j (set_of-lt (λ i. nat_lt i (count_of kind sc.sizes))) above in
           let both : true ≡ false = sym h ∙ none in absurd (cc)
     ]
+
+pub first-shared-trusted : (sc : Scenario) (kind : Side) → (first_shared sc).trusted kind ≡ set_of (λ i. nat_lt i (count_of kind sc.sizes))
+unfolding first_shared
+first-shared-trusted sc kind = refl
+
+pub first-shared-owners : (sc : Scenario) → (first_shared sc).owners ≡ []
+unfolding first_shared
+first-shared-owners sc = refl
+
+pub begin-frame : (sc : Scenario) (hands : List HandIn) → (first_moment sc hands).frame ≡ 0
+unfolding begin_frame
+begin-frame sc hands = refl
+
+pub begin-window : (sc : Scenario) (hands : List HandIn) → (first_moment sc hands).window ≡ 0
+unfolding begin_frame
+begin-window sc hands = refl
 
 pub agree_first : (sc : Scenario) (hands : List HandIn) → IsLawful sc → Agree sc hands 0 (first_moment sc hands) (first_shared sc)
 unfolding begin_frame first_shared
@@ -235,7 +248,7 @@ agree_first sc hands law = record {
       });
   trusted = λ kind j good.
       has-set_of j (λ i. nat_lt i (count_of kind sc.sizes)) (good_below_16 sc law.sizes kind j 0 (slot_numbered sc.sizes 0) good)
-      ∙ less-true j (count_of kind sc.sizes) (good_counts sc kind j 0 (slot_numbered sc.sizes 0) good);
+      ∙ less_true j (count_of kind sc.sizes) (good_counts sc kind j 0 (slot_numbered sc.sizes 0) good);
   inside = first-inside sc;
   owned = λ k p h. cc;
   finished = λ t lt done. absurd (omega arith);

@@ -1,6 +1,5 @@
 -- A frame that is reached begins before the first breach.
 use Rattle.std.proofs.Common.{◌≡◌, ℕ, zero, suc, ◌+◌, ◌-◌, ◌*◌, ◌<◌, ◌≤◌, ◌==◌, nat_lt, Bool, true, false, List, inl, inr, refl, sym, ◌∙◌, ap, arith}
-use Rattle.std.proofs.lemmas.Bool.Decides.{nat_tests}
 use Rattle.rb_base.specs.Sizes.{sync_slot_of}
 use Rattle.rb_rules.specs.Book.{Begun, Book, with_frame}
 use Rattle.rb_rules.specs.Goodness.{Scenario}
@@ -14,6 +13,7 @@ use Rattle.rb_agree.proofs.NextMoments.{next}
 use Rattle.rb_agree.proofs.Places.{IsPlaced, placed, complete_before}
 use Rattle.rb_agree.proofs.SlotRuns.{stage_next, next-frame, next-window}
 use Rattle.rb_agree.proofs.SyncAgrees.{book_tail}
+use Rattle.rb_agree.proofs.Tests.{less_false, less_true}
 
 -- a step after which the run goes on is not its end
 not-over : (sc : Scenario) (hands : List HandIn) (m : Moment) → IsRunning (step sc hands m) → (m.frame == sc.frames) ≡ false
@@ -27,11 +27,8 @@ not-over sc hands m running = go (m.frame == sc.frames) (nat_lt m.window (window
 -- such a step is a window, or a turn
 window-step : (sc : Scenario) (hands : List HandIn) (m : Moment) → (m.frame == sc.frames) ≡ false → m.window < windows_in sc.sizes → step sc hands m ≡ next sc m
 unfolding step
-window-step sc hands m over below = go (m.frame == sc.frames) (nat_lt m.window (windows_in sc.sizes)) over (less-true m.window (windows_in sc.sizes) below)
+window-step sc hands m over below = go (m.frame == sc.frames) (nat_lt m.window (windows_in sc.sizes)) over (less_true m.window (windows_in sc.sizes) below)
   where
-    less-true : (a b : ℕ) → a < b → nat_lt a b ≡ true
-    less-true a b h = grind (arith, nat_tests)
-
     go : (over in_frame : Bool) → over ≡ false → in_frame ≡ true → stepped sc hands m over in_frame ≡ next sc m
     go true in_frame p q = cc
     go false true p q = refl
@@ -39,11 +36,8 @@ window-step sc hands m over below = go (m.frame == sc.frames) (nat_lt m.window (
 
 turn-step : (sc : Scenario) (hands : List HandIn) (m : Moment) → (m.frame == sc.frames) ≡ false → windows_in sc.sizes ≤ m.window → step sc hands m ≡ next_frame sc hands m
 unfolding step
-turn-step sc hands m over full = go (m.frame == sc.frames) (nat_lt m.window (windows_in sc.sizes)) over (less-false m.window (windows_in sc.sizes) full)
+turn-step sc hands m over full = go (m.frame == sc.frames) (nat_lt m.window (windows_in sc.sizes)) over (less_false m.window (windows_in sc.sizes) full)
   where
-    less-false : (a b : ℕ) → b ≤ a → nat_lt a b ≡ false
-    less-false a b h = grind (arith, nat_tests)
-
     go : (over in_frame : Bool) → over ≡ false → in_frame ≡ false → stepped sc hands m over in_frame ≡ next_frame sc hands m
     go true in_frame p q = cc
     go false true p q = cc
@@ -63,7 +57,7 @@ pub record IsTurn (sc : Scenario) (hands : List HandIn) (frame : ℕ) : Type 0 w
   pub turn : next_frame sc hands (next sc (after_slot sc hands frame (sync_slot_of sc.sizes))) ≡ before_slot sc hands (suc frame) 0
   pub running : IsRunning (before_slot sc hands (suc frame) 0)
 
-turn-index : (frame s : ℕ) → suc (suc (frame * (3 * s + 4 + 1) + 3 * s + 4 - 1)) ≡ suc frame * (3 * s + 4 + 1) + 3 * 0 + 1 - 1
+pub turn-index : (frame s : ℕ) → suc (suc (frame * (3 * s + 4 + 1) + 3 * s + 4 - 1)) ≡ suc frame * (3 * s + 4 + 1) + 3 * 0 + 1 - 1
 turn-index frame s = omega arith
 
 pub frame_turns : (sc : Scenario) (hands : List HandIn) → IsLawful sc → (frame : ℕ) → IsComplete sc hands frame (sync_slot_of sc.sizes) → IsTurn sc hands frame
@@ -96,7 +90,7 @@ unfolding begin_frame with_frame
 first-open sc hands = refl
 
 -- where a frame begins that is reached, the run goes on
-reached : (sc : Scenario) (hands : List HandIn) → IsLawful sc → (frame : ℕ) → IsReached sc hands frame → IsRunning (before_slot sc hands frame 0)
+pub reached : (sc : Scenario) (hands : List HandIn) → IsLawful sc → (frame : ℕ) → IsReached sc hands frame → IsRunning (before_slot sc hands frame 0)
 reached sc hands law zero h =
     let e : 0 * (windows_in sc.sizes + 1) + 3 * 0 + 1 - 1 ≡ 0 = omega arith in
     ap (λ n. (moment sc hands n).book.ended) e ∙ first-open sc hands

@@ -9,7 +9,7 @@ use Rattle.rb_rules.specs.declared.role.Role.TheVariants.{Schedule, Data, DiagBi
 use Rattle.rb_rules.specs.Goodness.{Scenario, onsets_of, is_before, is_good}
 use Rattle.rb_rules.specs.Slots.{count_of, first_diagnosis_of, role_of, if_trusted, if_owned, sender_in}
 use Rattle.rb_rules.specs.Slots.Sender.{Nobody, Node}
-use Rattle.rb_agree.proofs.Tests.{and_first, and_second, and_both}
+use Rattle.rb_agree.proofs.Tests.{and_first, and_second, and_both, less_from, less_true}
 use Rattle.rb_agree.proofs.ExactWindows.{IsSingle}
 use Rattle.rb_agree.proofs.Invariant.{slot_numbered}
 
@@ -35,13 +35,10 @@ good_before sc me i frame later a b h g =
     and_both (nat_lt i (count_of me sc.sizes)) (is_before (get_or (onsets_of me sc) i None) frame a) there
     (before-earlier (get_or (onsets_of me sc) i None) frame later a b h (and_second (nat_lt i (count_of me sc.sizes)) (is_before (get_or (onsets_of me sc) i None) later b) g))
 
-lt-from : (a b : ℕ) → nat_lt a b ≡ true → a < b
-lt-from a b h = grind (arith, nat_tests)
-
 -- a good node is one of the bus
 pub good_counts : (sc : Scenario) (me : Side) (i frame slot : ℕ) → is_good sc me i frame slot ≡ true → i < count_of me sc.sizes
 good_counts sc me i frame slot g =
-    lt-from i (count_of me sc.sizes) (and_first (nat_lt i (count_of me sc.sizes)) (is_before (get_or (onsets_of me sc) i None) frame slot) g)
+    less_from i (count_of me sc.sizes) (and_first (nat_lt i (count_of me sc.sizes)) (is_before (get_or (onsets_of me sc) i None) frame slot) g)
 
 -- no kind has more than 16
 pub few_nodes : (sizes : Sizes) → IsShape sizes → (kind : Side) → count_of kind sizes ≤ 16
@@ -75,12 +72,9 @@ IsExact (DiagBiu i) = Unit {0}
 IsExact (DiagRmu i) = Unit {0}
 IsExact Sync = ⊥
 
-less-true : (a b : ℕ) → a < b → nat_lt a b ≡ true
-less-true a b h = grind (arith, nat_tests)
-
 pub exact_role : (sizes : Sizes) (slot : ℕ) → slot < sync_slot_of sizes → IsExact (role_of sizes slot)
 exact_role sizes slot below =
-    go (nat_lt slot sizes.bius) (nat_lt slot (first_diagnosis_of Biu sizes)) (nat_lt slot (first_diagnosis_of Rmu sizes)) (nat_lt slot (sync_slot_of sizes)) (less-true slot (sync_slot_of sizes) below)
+    go (nat_lt slot sizes.bius) (nat_lt slot (first_diagnosis_of Biu sizes)) (nat_lt slot (first_diagnosis_of Rmu sizes)) (nat_lt slot (sync_slot_of sizes)) (less_true slot (sync_slot_of sizes) below)
   where
     go : (a b c d : Bool) → d ≡ true
         → IsExact (if a then Schedule slot else (if b then Data (slot - sizes.bius) else (if c then DiagBiu (slot - first_diagnosis_of Biu sizes) else (if d then DiagRmu (slot - first_diagnosis_of Rmu sizes) else Sync))))

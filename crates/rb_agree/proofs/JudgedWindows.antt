@@ -2,7 +2,6 @@
 -- cause.
 use Rattle.std.proofs.Common.{◌≡◌, ℕ, zero, suc, ◌<◌, ◌≤◌, ◌&&◌, ◌⊎◌, inl, inr, not, nat_le, Bool, true, false, List, [], ◌∷◌, ◌++◌, Option, Some, None, is_some, option_map, slice_get, get_or, refl, sym, ◌∙◌, ap, subst, arith}
 use Rattle.std.specs.List.{list_any}
-use Rattle.std.proofs.lemmas.Bool.Decides.{nat_tests}
 use Rattle.std.proofs.lemmas.List.FromFn.{get_or-map-range_with_len}
 use Rattle.std.proofs.Common.{zero-add}
 use Rattle.rb_base.specs.Counting.{numbers}
@@ -26,7 +25,7 @@ use Rattle.rb_rules.specs.Rounds.{Moment, Result, window_in, sent_in, close_on, 
 use Rattle.rb_rules.proofs.Majorities.{same_heard-is}
 use Rattle.rb_rules.proofs.RoundStates.{Stays, through-stays}
 use Rattle.rb_rules.proofs.WindowNumbers.{get-each}
-use Rattle.rb_agree.proofs.Tests.{and_both, and_first, not_so, passes_at, get-some, same_some, Passing}
+use Rattle.rb_agree.proofs.Tests.{and_both, and_first, not_so, passes_at, get-some, same_some, Passing, le_from}
 use Rattle.rb_agree.proofs.Numbers.{how_many, one_of_many}
 use Rattle.rb_agree.proofs.Premises.{Premise, premise_holds}
 use Rattle.rb_agree.proofs.ExactWindows.{other_twice}
@@ -104,9 +103,6 @@ first_present P [] each r rs h = cc
 first_present P (None ∷ xs) each r rs h = first_present P xs (λ i x is. each (suc i) x is) r rs h
 first_present P (Some y ∷ xs) each r rs h = let e : y ≡ r = cc in subst P e (each 0 y refl)
 
-pub le-from : (a b : ℕ) → nat_le a b ≡ true → a ≤ b
-le-from a b h = grind (arith, nat_tests)
-
 -- whom the first row tells to trust, all good nodes trust
 pub first_row_trusts : (sc : Scenario) (m : Moment) (slot stage : ℕ) (ws : Windows sc m slot stage) (trusted : Side → ℕ)
     → ((me : Side) (i : ℕ) (st : NodeState) → slice_get (of_kind me m.nodes) i ≡ Some st → is_good sc me i m.frame slot ≡ true → (kind : Side) → trusted_of kind me st ≡ trusted kind)
@@ -122,7 +118,7 @@ first_row_trusts sc m slot stage ws trusted all r rs h kind =
         → (go_through sc m (sent_in sc m) me i st (window_in sc m me st)).row ≡ Some x → trusted_in kind x ≡ trusted kind
     of_node me i x st is told =
         let both : (is_good sc me i m.frame slot ≡ true) × (nat_le (ws.first me st) (ws.last me st) ≡ true) = told_by_good sc m slot stage ws me i st x told in
-        let e = goes sc m slot stage ws me i st both.0 (le-from (ws.first me st) (ws.last me st) both.1) in
+        let e = goes sc m slot stage ws me i st both.0 (le_from (ws.first me st) (ws.last me st) both.1) in
         trusts_told sc me i (kept_in sc m slot stage me i st) (own_window sc m slot stage ws me st) (heard_in sc m slot stage ws me i st) x kind (sym (ap (λ r. r.row) e) ∙ told)
         ∙ ap (λ r. trusted_of kind me r.state) (sym e)
         ∙ stays-trusted kind me st _ (through-stays sc m (sent_in sc m) me i st (window_in sc m me st))

@@ -35,3 +35,12 @@ pub mod WidelyAccused
 pub mod PortLists
 pub mod PortSlots
 pub mod PortHistories
+pub mod Promises
+pub mod SharedBuses
+pub mod BusRuns
+pub mod BusLaws
+pub mod BeginTimes
+pub mod BusStands
+pub mod Leasts
+pub mod FrameTimes
+pub mod Skews

@@ -33,7 +33,7 @@ pub record IsSyncStage (sc : Scenario) (hands : List HandIn) (frame q : ℕ) : T
   pub counts : length (of_kind Biu (before_stage sc hands frame (sync_slot_of sc.sizes) (q + 1)).nodes) ≡ sc.sizes.bius
   pub runs : IsRunning (before_stage sc hands frame (sync_slot_of sc.sizes) (q + 2))
 
-sync-stage : (sc : Scenario) (hands : List HandIn) → IsLawful sc → (frame q : ℕ) → q < 3 → IsComplete sc hands frame (sync_slot_of sc.sizes) → IsSyncStage sc hands frame q
+pub sync-stage : (sc : Scenario) (hands : List HandIn) → IsLawful sc → (frame q : ℕ) → q < 3 → IsComplete sc hands frame (sync_slot_of sc.sizes) → IsSyncStage sc hands frame q
 sync-stage sc hands law frame q small complete =
     let s : ℕ = sync_slot_of sc.sizes in
     let m : Moment = before_stage sc hands frame s (q + 1) in
@@ -106,7 +106,7 @@ one-slot sc hands law frame slot i le complete good =
           subst P same (λ c. sync-slot-port sc hands law frame i c (good_counts sc Biu i frame slot good)) complete
     ]
 
-slot-follows : (sc : Scenario) (hands : List HandIn) (frame slot : ℕ) → before_slot sc hands frame (suc slot) ≡ after_slot sc hands frame slot
+pub slot-follows : (sc : Scenario) (hands : List HandIn) (frame slot : ℕ) → before_slot sc hands frame (suc slot) ≡ after_slot sc hands frame slot
 slot-follows sc hands frame slot = ap (moment sc hands) (index (frame * (windows_in sc.sizes + 1)) slot)
   where
     index : (a slot : ℕ) → a + 3 * suc slot + 1 - 1 ≡ a + 3 * slot + 4 - 1
@@ -153,7 +153,7 @@ turn-port sc hands law frame i complete count =
     plus a = omega arith
 
 -- a frame with a complete slot is reached
-reached_from : (sc : Scenario) (hands : List HandIn) (frame slot : ℕ) → IsComplete sc hands frame slot → IsReached sc hands frame
+pub reached_from : (sc : Scenario) (hands : List HandIn) (frame slot : ℕ) → IsComplete sc hands frame slot → IsReached sc hands frame
 reached_from sc hands zero slot complete = tt
 reached_from sc hands (suc f) slot complete =
     running_earlier sc hands (f * (windows_in sc.sizes + 1) + 3 * sync_slot_of sc.sizes + 4 - 1) (suc f * (windows_in sc.sizes + 1) + 3 * slot + 4 - 1)

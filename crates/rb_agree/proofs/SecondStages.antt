@@ -2,7 +2,6 @@
 use Rattle.std.proofs.Common.{◌≡◌, ℕ, ◌+◌, ◌*◌, ◌<◌, ◌==◌, ◌&&◌, ◌||◌, not, nat_lt, Bool, true, false, List, [], ◌∷◌, length, map, inl, inr, Option, Some, None, is_some, unwrap_or, slice_get, slice_set, get_or, if◌then◌else◌, refl, sym, ◌∙◌, ap, subst, arith}
 use Rattle.std.specs.Prelude.{IfSome}
 use Rattle.std.specs.List.{list_any, cons_option}
-use Rattle.std.proofs.lemmas.Bool.Decides.{nat_tests}
 use Rattle.std.proofs.lemmas.List.{get_or-set_same}
 use Rattle.rb_base.specs.Counting.{numbers}
 use Rattle.rb_base.specs.Nodes.{Side, other, has}
@@ -27,7 +26,7 @@ use Rattle.rb_rules.specs.Standing.{Standing, taken_of, is_unlike}
 use Rattle.rb_rules.proofs.ExactStages.{idle_expects_nobody, vote_over_nothing}
 use Rattle.rb_rules.proofs.Senses.{IsCarried}
 use Rattle.rb_rules.proofs.Votes.{same_vote}
-use Rattle.rb_agree.proofs.Tests.{true_or_false, and_first, and_second, Present, Passing, same_some, or_neither_second}
+use Rattle.rb_agree.proofs.Tests.{true_or_false, and_first, and_second, Present, Passing, same_some, or_neither_second, equal_from}
 use Rattle.rb_agree.proofs.Numbers.{one_of_many}
 use Rattle.rb_agree.proofs.Premises.{Premise, is_sound}
 use Rattle.rb_agree.proofs.Goodnesses.{few_nodes, exact_role, single_sender}
@@ -312,11 +311,8 @@ sender-is : (me : Side) (i : ℕ) (role : Role) (sender : Sender) → is_sender 
 sender-is me i role Nobody h = cc
 sender-is me i role EachTrusted h = cc
 sender-is me i role (Node p) h =
-    let same : i ≡ p = equal-from i p (and_second (same_side me (sender_kind role)) (i == p) h) in
+    let same : i ≡ p = equal_from i p (and_second (same_side me (sender_kind role)) (i == p) h) in
     (ap (λ k. Node k) (sym same), same_side-is me (sender_kind role) (and_first (same_side me (sender_kind role)) (i == p) h))
-  where
-    equal-from : (a b : ℕ) → (a == b) ≡ true → a ≡ b
-    equal-from a b h = grind (arith, nat_tests)
 
 pub none_unlike_2 : (sc : Scenario) (hands : List HandIn) (n : ℕ) (m : Moment) (s : Shared) (slot : ℕ) (c : Setting sc hands n m s slot 1) → NoneUnlike sc hands n m s slot 1 c
 none_unlike_2 sc hands n m s slot c me i j st source here there value reference =

@@ -7,7 +7,7 @@ use Rattle.rb_rules.specs.declared.role.Role.TheVariants.{Schedule, Data, DiagBi
 use Rattle.rb_rules.specs.Slots.{sender_kind, if_trusted, if_owned, sender_in}
 use Rattle.rb_rules.specs.Slots.Sender.{Nobody, Node}
 
-same_node : (a b : ℕ) → Node a ≡ Node b → a ≡ b
+pub same_node : (a b : ℕ) → Node a ≡ Node b → a ≡ b
 same_node a b h = cc
 
 trusted-if : (trusted i p : ℕ) → if_trusted trusted i ≡ Node p → has trusted p ≡ true

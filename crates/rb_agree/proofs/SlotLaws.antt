@@ -14,7 +14,7 @@ use Rattle.rb_rules.specs.Ports.{HandIn}
 use Rattle.rb_rules.specs.Rounds.{Moment, step}
 use Rattle.rb_rules.specs.Slots.{count_of}
 use Rattle.rb_rules.specs.StandsFor.{SparesAllGood}
-use Rattle.rb_agree.specs.Laws.{TrustAlike, GoodNodesHoldOneSchedule, NoGoodNodeIsAccused, NoGoodNodeIsConvicted}
+use Rattle.rb_agree.specs.Laws.{TrustAlike, NoGoodNodeIsAccused, NoGoodNodeIsConvicted}
 use Rattle.rb_agree.proofs.Tests.{and_none}
 use Rattle.rb_agree.proofs.Invariant.{Shared, is_good_now, slot_numbered, Holds}
 use Rattle.rb_agree.proofs.Goodnesses.{good_below_16, slot_last}
@@ -52,18 +52,15 @@ held_before sc hands law frame slot le running =
     here : (window : ℕ) → window ≡ 3 * slot + (1 - 1) → slot_numbered sc.sizes window ≡ slot
     here window e = omega arith
 
-trust-alike : (sc : Scenario) (hands : List HandIn) → IsLawful sc → TrustAlike sc hands
+pub trust-alike : (sc : Scenario) (hands : List HandIn) → IsLawful sc → TrustAlike sc hands
 trust-alike sc hands law frame slot le settled me you i j mine yours h k kind =
     let b : HoldsBefore sc hands frame slot = held_before sc hands law frame slot le (settled_before sc hands law frame slot settled) in
     (b.holds me i mine h).trusted kind ∙ sym ((b.holds you j yours k).trusted kind)
 
-one-schedule : (sc : Scenario) (hands : List HandIn) → IsLawful sc → HoldOneSchedule sc hands
+pub one-schedule : (sc : Scenario) (hands : List HandIn) → IsLawful sc → HoldOneSchedule sc hands
 one-schedule sc hands law frame slot first le complete me you i j mine yours h k =
     let b : HoldsBefore sc hands frame slot = held_before sc hands law frame slot le (complete_before sc hands frame slot 1 (omega arith) complete) in
     (b.holds me i mine h).owners ∙ sym (b.holds you j yours k).owners
-
-pub one_schedule : GoodNodesHoldOneSchedule
-one_schedule sc hands law = (one-schedule sc hands law, trust-alike sc hands law)
 
 -- no good node is convicted
 pub none_convicted : NoGoodNodeIsConvicted

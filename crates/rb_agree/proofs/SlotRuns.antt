@@ -44,18 +44,19 @@ pub record IsSlot (sc : Scenario) (hands : List HandIn) (frame slot : ℕ) : Typ
   pub after_first : next sc (before_slot sc hands frame slot) ≡ before_stage sc hands frame slot 2
   pub after_second : next sc (next sc (before_slot sc hands frame slot)) ≡ before_stage sc hands frame slot 3
   pub after_third : next sc (next sc (next sc (before_slot sc hands frame slot))) ≡ after_slot sc hands frame slot
+  pub steps_on : next sc (next sc (next sc (before_slot sc hands frame slot))) ≡ moment sc hands (suc (suc (suc steps)))
 
 pub next-window : (sc : Scenario) (m : Moment) → (next sc m).window ≡ m.window + 1
 unfolding after_window
 next-window sc m = refl
 
-pub slot_runs : (sc : Scenario) (hands : List HandIn) → IsLawful sc → (frame slot : ℕ) → slot < sync_slot_of sc.sizes → IsComplete sc hands frame slot → IsSlot sc hands frame slot
-slot_runs sc hands law frame slot below complete =
+pub slot_runs_from : (sc : Scenario) (hands : List HandIn) → IsLawful sc → (frame slot : ℕ) → slot < sync_slot_of sc.sizes → IsComplete sc hands frame slot → IsPlaced sc hands frame slot 1
+    → IsSlot sc hands frame slot
+slot_runs_from sc hands law frame slot below complete p =
     let m1 : Moment = before_slot sc hands frame slot in
     let m2 : Moment = next sc m1 in
     let m3 : Moment = next sc m2 in
     let m4 : Moment = next sc m3 in
-    let p : IsPlaced sc hands frame slot 1 = placed sc hands law frame slot 1 (omega arith) (omega arith) (omega arith) (complete_before sc hands frame slot 1 (omega arith) complete) in
     let at_1 : m1.window ≡ 3 * slot + 0 = p.window_is in
     let step_1 : step sc hands m1 ≡ before_stage sc hands frame slot 2 = stage_next sc hands frame slot 1 (omega arith) in
     let run_2 : IsRunning (before_stage sc hands frame slot 2) = complete_before sc hands frame slot 2 (omega arith) complete in
@@ -90,10 +91,22 @@ slot_runs sc hands law frame slot below complete =
       after_first = is_2;
       after_second = is_3;
       after_third = is_4;
+      steps_on = is_4 ∙ sym step_3 ∙ ap (step sc hands) (sym is_3 ∙ then_3);
     }
   where
     shift : (a b : ℕ) → a + b + 1 ≡ a + (b + 1)
     shift a b = omega arith
+
+-- what all hold through it is what they held before it
+pub slot_runs-shared : (sc : Scenario) (hands : List HandIn) (law : IsLawful sc) (frame slot : ℕ) (below : slot < sync_slot_of sc.sizes) (complete : IsComplete sc hands frame slot)
+    (p : IsPlaced sc hands frame slot 1) → (slot_runs_from sc hands law frame slot below complete p).shared ≡ p.shared
+unfolding slot_runs_from
+slot_runs-shared sc hands law frame slot below complete p = refl
+
+pub slot_runs : (sc : Scenario) (hands : List HandIn) → IsLawful sc → (frame slot : ℕ) → slot < sync_slot_of sc.sizes → IsComplete sc hands frame slot → IsSlot sc hands frame slot
+slot_runs sc hands law frame slot below complete =
+    slot_runs_from sc hands law frame slot below complete
+    (placed sc hands law frame slot 1 (omega arith) (omega arith) (omega arith) (complete_before sc hands frame slot 1 (omega arith) complete))
 
 -- Good nodes of the slot.
 

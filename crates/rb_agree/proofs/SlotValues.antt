@@ -20,8 +20,8 @@ use Rattle.rb_agree.specs.Values.{lines_in, HasValue, IsGoodSender, value_of_sen
 use Rattle.rb_agree.specs.Laws.{GoodNodesAgree, GoodSendersAreHeard}
 use Rattle.rb_agree.proofs.Invariant.{sender_of, kind_in, IsGoodNode, is_good_now, IsOwn, HasVoted}
 use Rattle.rb_agree.proofs.Exchanges.{sender-held}
-use Rattle.rb_agree.proofs.Settings.{after}
-use Rattle.rb_agree.proofs.SecondStages.{vote_of, vote-held, voters-vote}
+use Rattle.rb_agree.proofs.Settings.{after, good_here}
+use Rattle.rb_agree.proofs.SecondStages.{GoodOne, some_good, vote_of, vote-held, voters-vote}
 use Rattle.rb_agree.proofs.ThirdStages.{voted, held_3}
 use Rattle.rb_agree.proofs.NextMoments.{next}
 use Rattle.rb_agree.proofs.SlotRuns.{IsSlot, slot_runs, good_in_stage, StateFrom, state_from, second_frame, third_frame, next-slot-good}
@@ -47,6 +47,17 @@ votes_for sc hands frame slot r i st here =
     } in
     sym (vote-held sc hands (suc r.steps) m2 r.shared slot 1 r.second k i st now here refl (voters-vote (role_of sc.sizes slot))) ∙ v.held i now voter
 
+-- what is delivered in the slot
+pub slot-lines : (sc : Scenario) (hands : List HandIn) (frame slot : ℕ) (r : IsSlot sc hands frame slot)
+    → (next sc (next sc (before_slot sc hands frame slot))).book.lines
+    ≡ lines_in sc frame slot (owner_sending (role_of sc.sizes slot) (sender_of sc.sizes r.shared slot)) (value_of_slot sc hands frame slot r)
+slot-lines sc hands frame slot r =
+    let m2 : Moment = next sc (before_slot sc hands frame slot) in
+    let value : Heard = value_of_slot sc hands frame slot r in
+    lines_after_2 sc hands (suc r.steps) m2 r.shared slot r.second
+    ∙ lines_2 sc hands (suc r.steps) m2 r.shared slot r.second value (λ i st good. votes_for sc hands frame slot r i st good)
+    ∙ ap (λ f. lines_in sc f slot (owner_sending (role_of sc.sizes slot) (sender_of sc.sizes r.shared slot)) value) (second_frame sc hands frame slot r)
+
 has-record : (sc : Scenario) (hands : List HandIn) (frame slot : ℕ) (r : IsSlot sc hands frame slot) (me : Side) (i : ℕ) (st : NodeState) → IsGoodBefore sc hands frame slot me i st
     → HasRecord sc hands frame slot (lines_in sc frame slot (owner_at sc.sizes st slot) (value_of_slot sc hands frame slot r))
 has-record sc hands frame slot r me i st h =
@@ -58,10 +69,7 @@ has-record sc hands frame slot r me i st h =
     let owner : owner_at sc.sizes st slot ≡ owner_sending (role_of sc.sizes slot) (sender_of sc.sizes r.shared slot) =
     owner-held sc m1 r.shared me st slot (r.first.agree.nodes me i st here) in
     let lines : m3.book.lines ≡ lines_in sc frame slot (owner_at sc.sizes st slot) value =
-    lines_after_2 sc hands (suc r.steps) m2 r.shared slot r.second
-    ∙ lines_2 sc hands (suc r.steps) m2 r.shared slot r.second value (λ i st good. votes_for sc hands frame slot r i st good)
-    ∙ ap (λ f. lines_in sc f slot (owner_sending (role_of sc.sizes slot) (sender_of sc.sizes r.shared slot)) value) (second_frame sc hands frame slot r)
-    ∙ ap (λ o. lines_in sc frame slot o value) (sym owner) in
+    slot-lines sc hands frame slot r ∙ ap (λ o. lines_in sc frame slot o value) (sym owner) in
     let before : m3.book.given ≡ m1.book.given =
     given_before sc hands (suc r.steps) m2 r.shared slot 1 r.second (omega arith) ∙ given_before sc hands r.steps m1 r.shared slot 0 r.first (omega arith) in
     ap (λ m. m.book.given) (sym r.after_third)
@@ -77,7 +85,19 @@ has_value sc hands frame slot r =
     let v : HasVoted sc hands m3 r.shared slot = voted sc hands steps m3 r.shared slot r.third in
     let good : (me : Side) (i : ℕ) → is_good sc me i frame slot ≡ true → is_good_now sc m3 me i ≡ true =
     λ me i g. good_in_stage sc hands steps m3 r.shared frame slot 2 r.third (third_frame sc hands frame slot r) me i g in
+    let one : GoodOne sc m3 (kind_in sc.sizes slot) = some_good sc hands steps m3 r.shared slot 2 r.third (kind_in sc.sizes slot) in
     record {
+      some_voter = (
+        one.index,
+        (
+          one.st,
+          record {
+            good = ap (λ f. is_good sc (kind_in sc.sizes slot) one.index f slot) (sym (third_frame sc hands frame slot r))
+                ∙ sym (good_here sc hands steps m3 r.shared slot 2 r.third (kind_in sc.sizes slot) one.index) ∙ one.here.good;
+            state = ap (λ m. slice_get (of_kind (kind_in sc.sizes slot) m.nodes) one.index) (sym r.after_second) ∙ one.here.there;
+          },
+        ),
+      );
       voters = λ i st h.
           v.held i st (record {
             there = ap (λ m. slice_get (of_kind (kind_in sc.sizes slot) m.nodes) i) r.after_second ∙ h.state;

@@ -1,5 +1,5 @@
 -- The windows of the sync slot, the tail with them: whoever is good calls where it is expected, and is not accused.
-use Rattle.std.proofs.Common.{◌≡◌, ℕ, zero, suc, ◌+◌, ◌-◌, ◌*◌, ◌<◌, ◌≤◌, ◌%◌, ◌==◌, ◌&&◌, nat_lt, nat_le, Bool, true, false, Option, Some, None, is_some, option_map, slice_get, if◌then◌else◌, refl, sym, ◌∙◌, ap, subst, arith, inl, inr}
+use Rattle.std.proofs.Common.{◌≡◌, ℕ, zero, suc, ◌+◌, ◌-◌, ◌*◌, ◌<◌, ◌≤◌, ◌%◌, ◌==◌, ◌&&◌, nat_le, Bool, true, false, Option, Some, None, is_some, option_map, slice_get, if◌then◌else◌, refl, sym, ◌∙◌, ap, subst, arith, inl, inr}
 use Rattle.std.proofs.lemmas.Bool.Decides.{nat_tests}
 use Rattle.rb_base.specs.Nodes.{Side, other, has}
 use Rattle.rb_base.specs.Nodes.Side.{Biu, Rmu}
@@ -21,10 +21,10 @@ use Rattle.rb_rules.specs.Sense.{suits}
 use Rattle.rb_rules.specs.Slots.{listens}
 use Rattle.rb_rules.specs.Spelling.{IsMessage}
 use Rattle.rb_rules.specs.Standing.{does_wrong, has_evidence}
-use Rattle.rb_rules.specs.SyncStage.{calls, call_of, expects_call, close_sync, sync_outcome_of, call_tick_of}
+use Rattle.rb_rules.specs.SyncStage.{calls, call_of, expects_call, close_sync, sync_outcome_of, call_tick_of, new_epoch_of}
 use Rattle.rb_rules.proofs.RoundStates.{Knows, keeping-stays}
 use Rattle.rb_rules.proofs.Standings.{right_is_no_evidence, others_stay}
-use Rattle.rb_agree.proofs.Tests.{true_or_false, Present, present_if}
+use Rattle.rb_agree.proofs.Tests.{true_or_false, Present, present_if, le_from, less_true}
 use Rattle.rb_agree.proofs.Goodnesses.{few_slots}
 use Rattle.rb_agree.proofs.Invariant.{Shared, Holds}
 use Rattle.rb_agree.proofs.Exchanges.{far-held}
@@ -62,9 +62,6 @@ call-is-message : (sizes : Sizes) (sender : NodeState) (stage : ℕ) → IsShape
 call-is-message sizes sender stage shape some most =
     record { frame = omega arith; slot = omega (arith, few_slots sizes shape); some_stage = some; most_stages = most; value = refl }
 
-less-true : (a b : ℕ) → a < b → nat_lt a b ≡ true
-less-true a b h = grind (arith, nat_tests)
-
 -- whoever calls knows the tick at which it does
 call-tick : (sizes : Sizes) (plan : Plan) (me : Side) (st : NodeState) (q : ℕ) → q < 3 → listens (other me) Sync (q + 1) ≡ true → Knows sizes me (3 * sync_slot_of sizes + q) st
     → is_some (call_tick_of sizes plan st (q + 1)) ≡ true
@@ -72,13 +69,13 @@ call-tick sizes plan Biu st zero small h knows = refl
 call-tick sizes plan Rmu st zero small h knows = cc
 call-tick sizes plan Biu st (suc zero) small h knows = cc
 call-tick sizes plan Rmu st (suc zero) small h knows =
-    mapped st.k1 plan.l (knows.k1 ∙ less-true (3 * sync_slot_of sizes + 1 - 1) (3 * sync_slot_of sizes + 1) (omega arith))
+    mapped st.k1 plan.l (knows.k1 ∙ less_true (3 * sync_slot_of sizes + 1 - 1) (3 * sync_slot_of sizes + 1) (omega arith))
   where
     mapped : (o : Option ℕ) (d : ℕ) → is_some o ≡ true → is_some (option_map (λ k. k + d) o) ≡ true
     mapped None d h = h
     mapped (Some k) d h = refl
 call-tick sizes plan Biu st (suc (suc zero)) small h knows =
-    mapped st.k2 plan.v (knows.k2 ∙ less-true (3 * sync_slot_of sizes + 2 - 1) (3 * sync_slot_of sizes + 2) (omega arith))
+    mapped st.k2 plan.v (knows.k2 ∙ less_true (3 * sync_slot_of sizes + 2 - 1) (3 * sync_slot_of sizes + 2) (omega arith))
   where
     mapped : (o : Option ℕ) (d : ℕ) → is_some o ≡ true → is_some (option_map (λ k. k + d) o) ≡ true
     mapped None d h = h
@@ -197,8 +194,19 @@ passed-over sc m slot stage ws me i st none =
     go true false h = refl
     go false false h = refl
 
-le-from : (a b : ℕ) → nat_le a b ≡ true → a ≤ b
-le-from a b h = grind (arith, nat_tests)
+-- the state after the window of a node that is good there
+closed-state : (sc : Scenario) (m : Moment) (stage : ℕ) (ws : Windows sc m (sync_slot_of sc.sizes) stage) (me : Side) (i : ℕ) (st : NodeState)
+    → is_good sc me i m.frame (sync_slot_of sc.sizes) ≡ true → ws.first me st ≤ ws.last me st
+    → (go_through sc m (sent_in sc m) me i st (window_in sc m me st)).state
+    ≡ (close_sync sc.sizes me (with_sent st (sent_by sc.sizes me i st (sync_slot_of sc.sizes) stage (word_at sc m (sync_slot_of sc.sizes) i))) stage
+    ((kept_in sc m (sync_slot_of sc.sizes) stage me i st).epoch + ws.first me st) (sense_in sc m (sync_slot_of sc.sizes) stage ws me i st)).state
+closed-state sc m stage ws me i st good tick =
+    let slot : ℕ = sync_slot_of sc.sizes in
+    let sense : ℕ → Sense = sense_in sc m slot stage ws me i st in
+    let kept : NodeState = kept_in sc m slot stage me i st in
+    ap (λ r. r.state) (goes sc m slot stage ws me i st good tick) ∙ state-closed sc m slot stage ws me i st
+    ∙ ap (λ x. x.state) (close-sync sc.sizes me i kept stage (ws.first me st) sense)
+    ∙ ap (λ k. (close_sync sc.sizes me k stage (kept.epoch + ws.first me st) sense).state) (keeping-is sc.sizes me i st slot stage (word_at sc m slot i))
 
 -- the window of a node that is good there
 pub sync_closes : (sc : Scenario) (m : Moment) (stage : ℕ) (ws : Windows sc m (sync_slot_of sc.sizes) stage) (me : Side) (i : ℕ) (st : NodeState)
@@ -211,14 +219,33 @@ sync_closes sc m stage ws me i st good =
     let wrong : ℕ → Bool = λ j. does_wrong (expects_call me st stage j) (sense j) in
     elim (true_or_false (nat_le (ws.first me st) (ws.last me st))) [
       | inl tick ↦
-          let kept : NodeState = kept_in sc m slot stage me i st in
           let sent : Option Heard = sent_by sc.sizes me i st slot stage (word_at sc m slot i) in
-          let is : (go_through sc m (sent_in sc m) me i st (window_in sc m me st)).state ≡ (close_sync sc.sizes me (with_sent st sent) stage (kept.epoch + ws.first me st) sense).state =
-          ap (λ r. r.state) (goes sc m slot stage ws me i st good (le-from (ws.first me st) (ws.last me st) tick)) ∙ state-closed sc m slot stage ws me i st
-          ∙ ap (λ x. x.state) (close-sync sc.sizes me i kept stage (ws.first me st) sense)
-          ∙ ap (λ k. (close_sync sc.sizes me k stage (kept.epoch + ws.first me st) sense).state) (keeping-is sc.sizes me i st slot stage (word_at sc m slot i)) in
-          subst (λ now. IsAfterSync st now wrong) (sym is) (close-parts sc.sizes me st sent stage (kept.epoch + ws.first me st) sense)
+          subst (λ now. IsAfterSync st now wrong) (sym (closed-state sc m stage ws me i st good (le_from (ws.first me st) (ws.last me st) tick)))
+          (close-parts sc.sizes me st sent stage ((kept_in sc m slot stage me i st).epoch + ws.first me st) sense)
       | inr none ↦
           subst (λ now. IsAfterSync st now wrong) (sym (passed-over sc m slot stage ws me i st none))
           (record { votes = refl; owners = refl; mismatch = refl; direct = λ j below right. refl })
+    ]
+
+-- The tail.
+
+epoch-kept : (sizes : Sizes) (plan : Plan) (me : Side) (st : NodeState) (sent : Option Heard) (first : ℕ) (sense : ℕ → Sense)
+    → new_epoch_of plan me (close_sync sizes me (with_sent st sent) 4 first sense).state ≡ new_epoch_of plan me st
+unfolding close_sync sync_outcome_of
+epoch-kept sizes plan Biu st sent first sense = refl
+epoch-kept sizes plan Rmu st sent first sense = refl
+
+-- the tail leaves the next epoch as it is
+pub tail_keeps_epoch : (sc : Scenario) (m : Moment) (ws : Windows sc m (sync_slot_of sc.sizes) 4) (me : Side) (i : ℕ) (st : NodeState)
+    → is_good sc me i m.frame (sync_slot_of sc.sizes) ≡ true
+    → new_epoch_of sc.plan me (go_through sc m (sent_in sc m) me i st (window_in sc m me st)).state ≡ new_epoch_of sc.plan me st
+tail_keeps_epoch sc m ws me i st good =
+    let slot : ℕ = sync_slot_of sc.sizes in
+    let sense : ℕ → Sense = sense_in sc m slot 4 ws me i st in
+    elim (true_or_false (nat_le (ws.first me st) (ws.last me st))) [
+      | inl tick ↦
+          let sent : Option Heard = sent_by sc.sizes me i st slot 4 (word_at sc m slot i) in
+          ap (new_epoch_of sc.plan me) (closed-state sc m 4 ws me i st good (le_from (ws.first me st) (ws.last me st) tick))
+          ∙ epoch-kept sc.sizes sc.plan me st sent ((kept_in sc m slot 4 me i st).epoch + ws.first me st) sense
+      | inr none ↦ ap (new_epoch_of sc.plan me) (passed-over sc m slot 4 ws me i st none)
     ]

@@ -1,6 +1,7 @@
 -- Tests that hold, and tests of which one holds.
-use Rattle.std.proofs.Common.{◌≡◌, ℕ, zero, suc, ◌+◌, ◌<◌, ◌≤◌, Bool, true, false, ◌&&◌, ◌||◌, not, List, [], ◌∷◌, get_or, Option, Some, None, is_some, slice_get, refl, ◌∙◌, ap, ◌⊎◌, inl, inr, arith, zero-add}
+use Rattle.std.proofs.Common.{◌≡◌, ℕ, zero, suc, ◌+◌, ◌<◌, ◌≤◌, ◌==◌, nat_lt, nat_le, Bool, true, false, ◌&&◌, ◌||◌, not, List, [], ◌∷◌, get_or, Option, Some, None, is_some, slice_get, refl, ◌∙◌, ap, ◌⊎◌, inl, inr, arith, zero-add}
 use Rattle.std.specs.List.{list_any, range_with_len}
+use Rattle.std.proofs.lemmas.Bool.Decides.{nat_tests}
 use Rattle.std.proofs.lemmas.List.Folds.{list_any_at}
 use Rattle.std.proofs.lemmas.List.FromFn.{get_or-range_with_len}
 use Rattle.rb_base.specs.Counting.{numbers}
@@ -66,6 +67,26 @@ not_so b h = rw h refl
 pub so_not : (b : Bool) → (b ≡ true → ⊥) → b ≡ false
 so_not true h = absurd (h refl)
 so_not false h = refl
+
+-- Numbers that pass a test.
+
+pub less_true : (a b : ℕ) → a < b → nat_lt a b ≡ true
+less_true a b h = grind (arith, nat_tests)
+
+pub less_false : (a b : ℕ) → b ≤ a → nat_lt a b ≡ false
+less_false a b h = grind (arith, nat_tests)
+
+pub less_from : (a b : ℕ) → nat_lt a b ≡ true → a < b
+less_from a b h = grind (arith, nat_tests)
+
+pub not_less_from : (a b : ℕ) → nat_lt a b ≡ false → b ≤ a
+not_less_from a b h = grind (arith, nat_tests)
+
+pub le_from : (a b : ℕ) → nat_le a b ≡ true → a ≤ b
+le_from a b h = grind (arith, nat_tests)
+
+pub equal_from : (a b : ℕ) → (a == b) ≡ true → a ≡ b
+equal_from a b h = grind (arith, nat_tests)
 
 -- A number below 16 that passes.
 

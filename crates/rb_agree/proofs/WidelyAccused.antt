@@ -1,6 +1,5 @@
 -- Whoever is accused by all nodes of the other kind that are good at a frame's end is convicted there.
 use Rattle.std.proofs.Common.{◌≡◌, ℕ, zero, suc, ◌+◌, ◌-◌, ◌*◌, ◌<◌, ◌≤◌, ◌&&◌, ◌||◌, nat_lt, not, true, false, List, Some, slice_get, inl, inr, refl, sym, ◌∙◌, ap, subst, arith}
-use Rattle.std.proofs.lemmas.Bool.Decides.{nat_tests}
 use Rattle.rb_base.specs.Nodes.{Side, other, has}
 use Rattle.rb_base.specs.Nodes.Side.{Biu, Rmu}
 use Rattle.rb_base.specs.Sizes.{sync_slot_of}
@@ -20,9 +19,9 @@ use Rattle.rb_rules.specs.Slots.{count_of, role_of}
 use Rattle.rb_rules.specs.Standing.{vector_of, without}
 use Rattle.rb_rules.proofs.RoundStates.{Stays, stays-refl, stays-trans, through-stays, state-after}
 use Rattle.rb_agree.specs.Laws.{Accuses, IsAccusedByAll, AccusedByAllIsConvicted}
-use Rattle.rb_agree.proofs.Tests.{true_or_false, and_both, and_none, not_so, Present}
+use Rattle.rb_agree.proofs.Tests.{true_or_false, and_both, and_none, not_so, Present, less_true}
 use Rattle.rb_agree.proofs.Goodnesses.{good_earlier, few_nodes, slot_last}
-use Rattle.rb_agree.proofs.Invariant.{Shared, IsGoodNode, is_good_now, slot_numbered, IsOwn, Holds, Agree}
+use Rattle.rb_agree.proofs.Invariant.{Shared, IsGoodNode, is_good_now, slot_numbered, IsOwn, Holds}
 use Rattle.rb_agree.proofs.ExactWindows.{other_twice}
 use Rattle.rb_agree.proofs.Exchanges.{trusted-either, far-trusted}
 use Rattle.rb_agree.proofs.JudgedWindows.{stays-trusted}
@@ -47,7 +46,7 @@ pub record HasStayed (sc : Scenario) (hands : List HandIn) (n k : ℕ) (me : Sid
   pub stays : Stays st now
   pub window : (moment sc hands (n + k)).window ≡ (moment sc hands n).window + k
 
-stays_on : (sc : Scenario) (hands : List HandIn) (n k : ℕ) (me : Side) (i : ℕ) (st : NodeState) → IsRunning (moment sc hands (n + k))
+pub stays_on : (sc : Scenario) (hands : List HandIn) (n k : ℕ) (me : Side) (i : ℕ) (st : NodeState) → IsRunning (moment sc hands (n + k))
     → (moment sc hands n).window + k ≤ windows_in sc.sizes → slice_get (of_kind me (moment sc hands n).nodes) i ≡ Some st → HasStayed sc hands n k me i st
 stays_on sc hands n zero me i st running le there =
     let e : n ≡ n + 0 = omega arith in
@@ -65,15 +64,16 @@ stays_on sc hands n (suc k) me i st running le there =
     let at : m.window ≡ (moment sc hands n).window + k = x.window in
     let is : step sc hands m ≡ next sc m = step_through sc hands m (omega arith) goes_on in
     let onward : moment sc hands (n + suc k) ≡ next sc m = ap (moment sc hands) e ∙ is in
+    let passed : (moment sc hands (n + suc k)).window ≡ m.window + 1 = ap (λ y. y.window) onward ∙ next-window sc m in
     record {
       now = after sc m me i x.now;
-      there = ap (λ y. slice_get (of_kind me y.nodes) i) onward ∙ state-after sc m me i x.now x.there;
+      there = subst (λ (y : Moment). slice_get (of_kind me y.nodes) i ≡ Some (after sc m me i x.now)) (sym onward) (state-after sc m me i x.now x.there);
       stays = stays-trans st x.now (after sc m me i x.now) x.stays (through-stays sc m (sent_in sc m) me i x.now (window_in sc m me x.now));
-      window = ap (λ y. y.window) onward ∙ next-window sc m ∙ ap (λ w. w + 1) at ∙ plus (moment sc hands n).window k;
+      window = one_more (moment sc hands (n + suc k)).window m.window (moment sc hands n).window k passed at;
     }
   where
-    plus : (a b : ℕ) → a + b + 1 ≡ a + suc b
-    plus a b = omega arith
+    one_more : (now before first k : ℕ) → now ≡ before + 1 → before ≡ first + k → now ≡ first + suc k
+    one_more now before first k p q = omega arith
 
 -- What a vector names.
 
@@ -133,6 +133,64 @@ frame_ends sc hands law frame complete =
     plus : (a : ℕ) → a + 3 + 1 ≡ a + 4
     plus a = omega arith
 
+-- the number of steps before a frame's end
+abbrev pub end_steps : Scenario → ℕ → ℕ
+end_steps sc frame = suc (frame * (windows_in sc.sizes + 1) + 3 * sync_slot_of sc.sizes + 4 - 1)
+
+-- the moment before a slot of a frame that is complete
+begins : (sc : Scenario) (hands : List HandIn) → IsLawful sc → (frame slot : ℕ) → slot < sync_slot_of sc.sizes → IsComplete sc hands frame (sync_slot_of sc.sizes) → IsPlaced sc hands frame slot 1
+begins sc hands law frame slot lt complete =
+    placed sc hands law frame slot 1 (omega arith) (omega arith) (omega arith)
+    (running_earlier sc hands (frame * (windows_in sc.sizes + 1) + 3 * slot + 1 - 1) (frame * (windows_in sc.sizes + 1) + 3 * sync_slot_of sc.sizes + 4 - 1)
+    (earlier (frame * (windows_in sc.sizes + 1)) slot (sync_slot_of sc.sizes) lt) complete)
+  where
+    earlier : (a slot s : ℕ) → slot < s → a + 3 * slot + 1 - 1 ≤ a + 3 * s + 4 - 1
+    earlier a slot s lt = omega arith
+
+-- a node that is good at the frame's end has a state before the slot
+state-then : (sc : Scenario) (hands : List HandIn) → IsLawful sc → (frame slot : ℕ) → slot < sync_slot_of sc.sizes → IsPlaced sc hands frame slot 1
+    → (me : Side) (i : ℕ) → is_good sc me i frame (sync_slot_of sc.sizes) ≡ true → Present (slice_get (of_kind me (before_slot sc hands frame slot).nodes) i)
+state-then sc hands law frame slot lt p me i good =
+    good_state sc hands p.steps (before_slot sc hands frame slot) p.shared p.agree me i
+    (ap (λ f. is_good sc me i f (slot_numbered sc.sizes (before_slot sc hands frame slot).window)) p.frame_is
+    ∙ ap (is_good sc me i frame) (here (before_slot sc hands frame slot).window p.window_is) ∙ good_earlier sc me i frame slot (sync_slot_of sc.sizes) (omega arith) good)
+  where
+    here : (window : ℕ) → window ≡ 3 * slot + (1 - 1) → slot_numbered sc.sizes window ≡ slot
+    here window e = omega arith
+
+-- the end runs on
+end-runs : (sc : Scenario) (hands : List HandIn) → IsLawful sc → (frame : ℕ) → IsComplete sc hands frame (sync_slot_of sc.sizes) → IsRunning (next sc (after_slot sc hands frame (sync_slot_of sc.sizes)))
+end-runs sc hands law frame complete =
+    let p : IsPlaced sc hands frame (sync_slot_of sc.sizes) 4 = placed sc hands law frame (sync_slot_of sc.sizes) 4 (omega arith) (omega arith) (omega arith) complete in
+    ap (λ b. b.ended) (book_tail sc (after_slot sc hands frame (sync_slot_of sc.sizes)) p.window_is) ∙ complete
+
+-- it trusts before the slot whom it trusts at the end
+trusts-then : (sc : Scenario) (hands : List HandIn) → IsLawful sc → (frame slot : ℕ) → slot < sync_slot_of sc.sizes → IsComplete sc hands frame (sync_slot_of sc.sizes)
+    → (e : IsEnd sc hands frame) → IsPlaced sc hands frame slot 1 → (me : Side) (i : ℕ) (st : NodeState)
+    → slice_get (of_kind me (before_slot sc hands frame slot).nodes) i ≡ Some st → is_good_now sc (next sc (after_slot sc hands frame (sync_slot_of sc.sizes))) me i ≡ true
+    → st.far.trusted ≡ e.shared.trusted (other me)
+trusts-then sc hands law frame slot lt complete e p me i st there good =
+    far-trusted me st ∙ sym (stays-trusted (other me) me st stay.now stay.stays)
+    ∙ (e.at_end.agree.nodes me i stay.now (record { there = ap (λ m. slice_get (of_kind me m.nodes) i) (sym reached) ∙ stay.there; good = good })).trusted (other me)
+  where
+    n : ℕ
+    n = frame * (windows_in sc.sizes + 1) + 3 * slot + 1 - 1
+
+    k : ℕ
+    k = 3 * sync_slot_of sc.sizes + 4 - 3 * slot
+
+    index : (a slot s : ℕ) → slot < s → a + 3 * slot + 1 - 1 + (3 * s + 4 - 3 * slot) ≡ suc (a + 3 * s + 4 - 1)
+    index a slot s lt = omega arith
+
+    reached : moment sc hands (n + k) ≡ next sc (after_slot sc hands frame (sync_slot_of sc.sizes))
+    reached = ap (moment sc hands) (index (frame * (windows_in sc.sizes + 1)) slot (sync_slot_of sc.sizes) lt) ∙ sym e.at_end.agree.is
+
+    within : (window : ℕ) → window ≡ 3 * slot + (1 - 1) → window + (3 * sync_slot_of sc.sizes + 4 - 3 * slot) ≤ windows_in sc.sizes
+    within window at = omega arith
+
+    stay : HasStayed sc hands n k me i st
+    stay = stays_on sc hands n k me i st (ap (λ m. m.book.ended) reached ∙ end-runs sc hands law frame complete) (within (before_slot sc hands frame slot).window p.window_is) there
+
 -- a good node's vector names whom it accused then, and trusts still
 vector-names : (sc : Scenario) (hands : List HandIn) → IsLawful sc → (frame : ℕ) → IsComplete sc hands frame (sync_slot_of sc.sizes) → (e : IsEnd sc hands frame)
     → (accused : Side) (j : ℕ) → has (e.shared.trusted accused) j ≡ true → IsAccusedByAll sc hands frame accused j
@@ -140,48 +198,43 @@ vector-names : (sc : Scenario) (hands : List HandIn) → IsLawful sc → (frame 
     → is_good_now sc (next sc (after_slot sc hands frame (sync_slot_of sc.sizes))) (other accused) i ≡ true
     → names j (e.shared.values (vector_slot sc.sizes (other accused) i)) ≡ true
 vector-names sc hands law frame complete e accused j t all i trusts good =
-    let s : ℕ = sync_slot_of sc.sizes in
-    let from : Side = other accused in
-    let b : Moment = next sc (after_slot sc hands frame s) in
-    let agree : Agree sc hands (suc (frame * (windows_in sc.sizes + 1) + 3 * s + 4 - 1)) b e.shared = e.at_end.agree in
-    let count : i < count_of from sc.sizes = agree.inside from i trusts in
-    let slot : ℕ = vector_slot sc.sizes from i in
-    let lt : slot < s = vector_slot-lt sc.sizes from i count in
-    let n : ℕ = frame * (windows_in sc.sizes + 1) + 3 * slot + 1 - 1 in
-    let k : ℕ = 3 * s + 4 - 3 * slot in
-    let reach : n + k ≡ suc (frame * (windows_in sc.sizes + 1) + 3 * s + 4 - 1) = index (frame * (windows_in sc.sizes + 1)) slot s lt in
-    let p : IsPlaced sc hands frame slot 1 =
-    placed sc hands law frame slot 1 (omega arith) (omega arith) (omega arith)
-    (running_earlier sc hands n (frame * (windows_in sc.sizes + 1) + 3 * s + 4 - 1) (earlier (frame * (windows_in sc.sizes + 1)) slot s lt) complete) in
-    let p4 : IsPlaced sc hands frame s 4 = placed sc hands law frame s 4 (omega arith) (omega arith) (omega arith) complete in
-    let at : (before_slot sc hands frame slot).window ≡ 3 * slot + (1 - 1) = p.window_is in
-    let last : is_good sc from i frame s ≡ true =
-    ap (λ f. is_good sc from i f s) (sym e.frame_is) ∙ ap (is_good sc from i b.frame) (sym (slot_last sc.sizes b.window 4 e.at_end.at)) ∙ good in
-    let now : is_good_now sc (before_slot sc hands frame slot) from i ≡ true =
-    ap (λ f. is_good sc from i f (slot_numbered sc.sizes (before_slot sc hands frame slot).window)) p.frame_is
-    ∙ ap (is_good sc from i frame) (here slot (before_slot sc hands frame slot).window lt at) ∙ good_earlier sc from i frame slot s (omega arith) last in
-    let st : Present (slice_get (of_kind from (before_slot sc hands frame slot).nodes) i) = good_state sc hands p.steps (before_slot sc hands frame slot) p.shared p.agree from i now in
-    let reached : moment sc hands (n + k) ≡ b = ap (moment sc hands) reach ∙ sym agree.is in
-    let goes_on : IsRunning (moment sc hands (n + k)) = ap (λ m. m.book.ended) reached ∙ ap (λ x. x.ended) (book_tail sc (after_slot sc hands frame s) (p4.window_is)) ∙ complete in
-    let stay : HasStayed sc hands n k from i st.value = stays_on sc hands n k from i st.value goes_on (omega arith) st.is in
-    let holds : Holds sc b e.shared from stay.now =
-    agree.nodes from i stay.now (record { there = ap (λ m. slice_get (of_kind from m.nodes) i) (sym reached) ∙ stay.there; good = good }) in
-    let trusted : has st.value.far.trusted j ≡ true =
-    ap (λ x. has x j) (far-trusted from st.value ∙ sym (stays-trusted (other from) from st.value stay.now stay.stays) ∙ holds.trusted (other from))
-    ∙ ap (λ x. has (e.shared.trusted x) j) (other_twice accused) ∙ t in
-    let small : j < 16 = omega (arith, agree.inside accused j t, few_nodes sc.sizes law.sizes accused) in
-    let v : VectorOf sc hands b e.shared from i = vector_end sc hands (suc (frame * (windows_in sc.sizes + 1) + 3 * s + 4 - 1)) b e.shared e.at_end from i trusts in
     ap (names j) (own-vector sc hands b e.shared from i st.value count v good (ap (λ f. slice_get (of_kind from (before_slot sc hands f slot).nodes) i) e.frame_is ∙ st.is))
     ∙ names-accused st.value j small trusted (all i st.value last st.is)
   where
-    index : (a slot s : ℕ) → slot < s → a + 3 * slot + 1 - 1 + (3 * s + 4 - 3 * slot) ≡ suc (a + 3 * s + 4 - 1)
-    index a slot s lt = omega arith
+    from : Side
+    from = other accused
 
-    earlier : (a slot s : ℕ) → slot < s → a + 3 * slot + 1 - 1 ≤ a + 3 * s + 4 - 1
-    earlier a slot s lt = omega arith
+    b : Moment
+    b = next sc (after_slot sc hands frame (sync_slot_of sc.sizes))
 
-    here : (slot window : ℕ) → slot < sync_slot_of sc.sizes → window ≡ 3 * slot + (1 - 1) → slot_numbered sc.sizes window ≡ slot
-    here slot window lt e = omega arith
+    slot : ℕ
+    slot = vector_slot sc.sizes from i
+
+    count : i < count_of from sc.sizes
+    count = e.at_end.agree.inside from i trusts
+
+    lt : slot < sync_slot_of sc.sizes
+    lt = vector_slot-lt sc.sizes from i count
+
+    last : is_good sc from i frame (sync_slot_of sc.sizes) ≡ true
+    last =
+        ap (λ f. is_good sc from i f (sync_slot_of sc.sizes)) (sym e.frame_is) ∙ ap (is_good sc from i b.frame) (sym (slot_last sc.sizes b.window 4 e.at_end.at)) ∙ good
+
+    p : IsPlaced sc hands frame slot 1
+    p = begins sc hands law frame slot lt complete
+
+    st : Present (slice_get (of_kind from (before_slot sc hands frame slot).nodes) i)
+    st = state-then sc hands law frame slot lt p from i last
+
+    trusted : has st.value.far.trusted j ≡ true
+    trusted =
+        ap (λ x. has x j) (trusts-then sc hands law frame slot lt complete e p from i st.value st.is good) ∙ ap (λ x. has (e.shared.trusted x) j) (other_twice accused) ∙ t
+
+    small : j < 16
+    small = omega (arith, e.at_end.agree.inside accused j t, few_nodes sc.sizes law.sizes accused)
+
+    v : VectorOf sc hands b e.shared from i
+    v = vector_end sc hands (end_steps sc frame) b e.shared e.at_end from i trusts
 
 -- whoever all accuse is convicted
 convicted-then : (sc : Scenario) (hands : List HandIn) → IsLawful sc → (frame : ℕ) → IsComplete sc hands frame (sync_slot_of sc.sizes) → (e : IsEnd sc hands frame)
@@ -195,9 +248,6 @@ convicted-then sc hands law frame complete e accused j small all =
           e.shared e.at_end accused j t (vector-names sc hands law frame complete e accused j t all)))
       | inr out ↦ ap (λ b. b && not (has (convicted_all sc.sizes e.shared accused) j)) out
     ]
-
-less-true : (a b : ℕ) → a < b → nat_lt a b ≡ true
-less-true a b h = grind (arith, nat_tests)
 
 pub accused_by_all : AccusedByAllIsConvicted
 accused_by_all sc hands law frame complete accused j count all me i st h =
@@ -215,4 +265,4 @@ accused_by_all sc hands law frame complete accused j count all me i st h =
     ap (λ x. has x j) (trusted-either me accused st ∙ holds.trusted accused ∙ next-trusted sc.sizes e.shared accused)
     ∙ convicted-then sc hands law frame complete e accused j small all in
     has-set_of j (λ j. nat_lt j (count_of accused sc.sizes) && not (has (trusted_of me accused st) j)) small
-    ∙ and_both (nat_lt j (count_of accused sc.sizes)) (not (has (trusted_of me accused st) j)) (less-true j (count_of accused sc.sizes) count) (not_so (has (trusted_of me accused st) j) out)
+    ∙ and_both (nat_lt j (count_of accused sc.sizes)) (not (has (trusted_of me accused st) j)) (less_true j (count_of accused sc.sizes) count) (not_so (has (trusted_of me accused st) j) out)

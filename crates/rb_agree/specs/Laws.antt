@@ -1,5 +1,5 @@
 -- What holds of every lawful scenario and every list of hand-ins up to the first breach of the premise on faults: in slots that
--- are complete without one, as are all before them. No clock plays a part in it.
+-- are complete without one, as are all before them. Of clocks only the last two laws speak, by their premise.
 use Rattle.std.specs.Prelude.{ℕ, suc, ◌≡◌, ◌+◌, ◌<◌, ◌≤◌, ◌||◌, true, false, Some, List, slice_get}
 use Rattle.rb_base.specs.Nodes.{Side, other, has}
 use Rattle.rb_base.specs.Nodes.Side.{Biu}
@@ -8,7 +8,7 @@ use Rattle.rb_base.specs.declared.values.Heard.{Heard}
 use Rattle.rb_rules.specs.Book.{of_kind}
 use Rattle.rb_rules.specs.Conviction.{is_valid, voted_vector}
 use Rattle.rb_rules.specs.Goodness.{Scenario, is_good}
-use Rattle.rb_rules.specs.Headline.{HoldOneSchedule, ConvictNoGoodNode}
+use Rattle.rb_rules.specs.Headline.{DeliverAlike, DeliverTheWord, HoldOneSchedule, ConvictAlike, ConvictNoGoodNode, Headline}
 use Rattle.rb_rules.specs.Hearing.{port_at}
 use Rattle.rb_rules.specs.Judging.{is_benign}
 use Rattle.rb_rules.specs.Lawful.{IsLawful}
@@ -18,8 +18,10 @@ use Rattle.rb_rules.specs.NodeSteps.{convicted_of}
 use Rattle.rb_rules.specs.Ports.{HandIn}
 use Rattle.rb_rules.specs.Slots.{count_of, first_diagnosis_of}
 use Rattle.rb_rules.specs.Standing.{Standing}
-use Rattle.rb_rules.specs.StandsFor.{SparesAllGood}
+use Rattle.rb_rules.specs.StandsFor.{SparesAllGood, StandsFor}
+use Rattle.rb_agree.specs.BusValues.{StepsTheBus}
 use Rattle.rb_agree.specs.Histories.{port_through, port_begun, AreAlike}
+use Rattle.rb_agree.specs.Times.{KeepsTime}
 use Rattle.rb_agree.specs.Values.{HasValue, IsGoodSender, value_of_sender}
 
 -- Agreement.
@@ -39,6 +41,10 @@ GoodSendersAreHeard =
     → (p : ℕ) (st : NodeState) → IsGoodSender sc hands frame slot p st
     → HasValue sc hands frame slot (value_of_sender sc hands frame slot p st)
 
+-- so all good BIUs deliver one value, and where the owner is good, the word that its application offered
+abbrev pub DeliveriesAreRight : Type 0
+DeliveriesAreRight = (sc : Scenario) (hands : List HandIn) → IsLawful sc → DeliverAlike sc hands × DeliverTheWord sc hands
+
 -- all good nodes trust the same nodes of each kind, in each complete slot and at the begin of each frame
 abbrev pub TrustAlike : Scenario → List HandIn → Type 0
 TrustAlike sc hands =
@@ -47,9 +53,14 @@ TrustAlike sc hands =
     → IsGoodBefore sc hands frame slot me i mine → IsGoodBefore sc hands frame slot you j yours
     → (kind : Side) → trusted_of kind me mine ≡ trusted_of kind you yours
 
--- they hold one schedule and trust the same nodes
+-- they hold one schedule, trust the same nodes, and so hold the same ones convicted
+pub record HoldTheSame (sc : Scenario) (hands : List HandIn) : Type 0 where
+  pub schedules : HoldOneSchedule sc hands
+  pub trusted : TrustAlike sc hands
+  pub convicted : ConvictAlike sc hands
+
 abbrev pub GoodNodesHoldOneSchedule : Type 0
-GoodNodesHoldOneSchedule = (sc : Scenario) (hands : List HandIn) → IsLawful sc → HoldOneSchedule sc hands × TrustAlike sc hands
+GoodNodesHoldOneSchedule = (sc : Scenario) (hands : List HandIn) → IsLawful sc → HoldTheSame sc hands
 
 -- Accusation and conviction.
 
@@ -115,3 +126,17 @@ PortsHoldOneState =
     → (frame slot : ℕ) → slot ≤ sync_slot_of sc.sizes → IsComplete sc hands frame slot
     → (i j : ℕ) → is_good sc Biu i frame slot ≡ true → is_good sc Biu j frame slot ≡ true → AreAlike sc hands i j
     → port_at sc (after_slot sc hands frame slot).ports i ≡ port_at sc (after_slot sc hands frame slot).ports j
+
+-- The abstract bus.
+
+-- whatever the times are at which frames begin
+abbrev pub RoundsStepTheBus : Type 0
+RoundsStepTheBus = (sc : Scenario) (hands : List HandIn) → IsLawful sc → (low : ℕ → ℕ) → StepsTheBus sc hands low
+
+-- where good nodes keep time, the rounds stand for a run of the bus
+abbrev pub TimeIsAllThatIsLeft : Type 0
+TimeIsAllThatIsLeft = (sc : Scenario) (hands : List HandIn) → IsLawful sc → KeepsTime sc hands → StandsFor sc hands
+
+-- and all that the bus promises holds
+abbrev pub TimeKeepsThePromise : Type 0
+TimeKeepsThePromise = (sc : Scenario) (hands : List HandIn) → IsLawful sc → KeepsTime sc hands → Headline sc hands

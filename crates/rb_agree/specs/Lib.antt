@@ -1,3 +1,5 @@
 pub mod Values
 pub mod Histories
+pub mod BusValues
+pub mod Times
 pub mod Laws

@@ -1,8 +1,8 @@
-//! Laws of agreement: what all good nodes hold in common, whom they accuse, and whom they convict. There is no clock in them. Each
-//! law is the contract of a function that does nothing.
+//! Laws of agreement: what all good nodes hold in common, whom they accuse, and whom they convict. There is no clock in them, but for
+//! the premise of the last two. Each law is the contract of a function that does nothing.
 #![tactic(auto)]
 
-ghost use Rattle.rb_agree.specs.Laws.{AccusedByAllIsConvicted, GoodNodesAgree, GoodNodesHoldOneSchedule, GoodSendersAreHeard, NoGoodNodeIsAccused, NoGoodNodeIsConvicted, PortsFollowTheBus, PortsHoldOneState, UnheardNodesHaveNoVector};
+ghost use Rattle.rb_agree.specs.Laws.{AccusedByAllIsConvicted, DeliveriesAreRight, GoodNodesAgree, GoodNodesHoldOneSchedule, GoodSendersAreHeard, NoGoodNodeIsAccused, NoGoodNodeIsConvicted, PortsFollowTheBus, PortsHoldOneState, RoundsStepTheBus, TimeIsAllThatIsLeft, TimeKeepsThePromise, UnheardNodesHaveNoVector};
 
 /// The good nodes that vote on a slot hold one vote, and each good BIU delivers that in an owned data slot.
 pub fn good_nodes_agree()
@@ -12,6 +12,11 @@ pub fn good_nodes_agree()
 /// Where the sender is good, the vote is what it sent: its request, the word that its application offered, its vector.
 pub fn good_senders_are_heard()
     ensures { GoodSendersAreHeard }
+{}
+
+/// In each complete slot all good BIUs deliver one value, and where the slot's owner is good, the word that its application offered.
+pub fn deliveries_are_right()
+    ensures { DeliveriesAreRight }
 {}
 
 /// From the first data slot on good nodes hold one schedule, and they trust the same nodes, also as a frame begins.
@@ -47,4 +52,20 @@ pub fn ports_follow_the_bus()
 /// Good BIUs with one application, one first word and equal hand-ins have equal ports.
 pub fn ports_hold_one_state()
     ensures { PortsHoldOneState }
+{}
+
+/// What good nodes hold is what the abstract bus holds, each slot is a step of it, and so is the begin of each frame. Of its times nothing is said.
+pub fn rounds_step_the_bus()
+    ensures { RoundsStepTheBus }
+{}
+
+/// Where good nodes begin frames at most `p` reference units apart, and each frame takes as long as it must, the rounds stand for a
+/// run of the abstract bus.
+pub fn time_is_all_that_is_left()
+    ensures { TimeIsAllThatIsLeft }
+{}
+
+/// Then all that the bus promises holds.
+pub fn time_keeps_the_promise()
+    ensures { TimeKeepsThePromise }
 {}

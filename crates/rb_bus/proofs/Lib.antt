@@ -1,9 +1,1 @@
 pub mod Promise
-pub mod Lows
-pub mod BusRun
-pub mod BusNodes
-pub mod SlotSteps
-pub mod FrameSteps
-pub mod BusStands
-pub mod BusSteps
-pub mod RoundsStand

@@ -6,10 +6,10 @@ use Rattle.rb_rules.specs.Lawful.{IsLawful}
 use Rattle.rb_rules.specs.Ports.{HandIn}
 use Rattle.rb_rules.specs.StandsFor.{StandsFor}
 
--- every lawful scenario keeps the promise, whatever is handed in
-abbrev pub ThePromiseIsKept : Type 0
-ThePromiseIsKept = (sc : Scenario) (hands : List HandIn) → IsLawful sc → Headline sc hands
-
--- and its rounds stand for a run of the abstract bus
+-- the rounds of every lawful scenario stand for a run of the abstract bus, whatever is handed in
 abbrev pub RoundsStandForTheBus : Type 0
 RoundsStandForTheBus = (sc : Scenario) (hands : List HandIn) → IsLawful sc → StandsFor sc hands
+
+-- and every one keeps the promise
+abbrev pub ThePromiseIsKept : Type 0
+ThePromiseIsKept = (sc : Scenario) (hands : List HandIn) → IsLawful sc → Headline sc hands

@@ -98,11 +98,7 @@ fn counts<S: Copy>(vectors: &[Heard; 16], others: u8, senders: NodeSet<S>, i: u8
 }
 
 // The senders whose vectors count.
-fn valid_senders<S: Copy>(
-    vectors: &[Heard; 16],
-    others: u8,
-    senders: NodeSet<S>,
-) -> NodeSet<S>
+fn valid_senders<S: Copy>(vectors: &[Heard; 16], others: u8, senders: NodeSet<S>) -> NodeSet<S>
     requires { others ≤ 16 }
     ensures { result ≡ set_of (counts others senders (vector_in vectors.now)) }
 {

@@ -5,3 +5,4 @@ pub mod Shown
 pub mod Sensed
 pub mod Alike
 pub mod Seeing
+pub mod Quiet

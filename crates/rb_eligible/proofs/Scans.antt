@@ -1,5 +1,5 @@
 -- A walk over the nodes of a set: what is left of it, which of the others passed, and what was written down of them.
-use Rattle.std.proofs.Common.{◌≡◌, ℕ, ◌<◌, ◌^◌, Bool, true, false, not, ◌&&◌, ◌||◌, ◌==◌, if◌then◌else◌, Option, None, List, length, get_or, set, inl, inr, refl, sym, ◌∙◌, ap, arith}
+use Rattle.std.proofs.Common.{◌≡◌, ◌≢◌, ℕ, ◌<◌, ◌^◌, Bool, true, false, not, ◌&&◌, ◌||◌, ◌==◌, if◌then◌else◌, Option, None, List, length, get_or, set, inl, inr, refl, sym, ◌∙◌, ap, arith}
 use Rattle.std.proofs.lemmas.Bool.{cases_eq}
 use Rattle.std.proofs.lemmas.List.{get_or-set_other, get_or-set_same}
 use Rattle.rb_base.specs.Nodes.{has, set_of}
@@ -68,28 +68,32 @@ pub both_second : (a b : Bool) → (a && b) ≡ true → b ≡ true
 both_second true b both = both
 both_second false b both = absurd cc
 
--- what was written down of those that were done
-pub filled_next : {X : Type 0} (todo : ℕ → Bool) (value : ℕ → Option X) (left left' k : ℕ) (taken : List (Option X)) (v : Option X) → k < 16 → length taken ≡ 16 → has left k ≡ true → todo k ≡ true
-    → v ≡ value k → ((j : ℕ) → j < 16 → has left' j ≡ (has left j && not (j == k)))
-    → ((j : ℕ) → j < 16 → get_or taken j None ≡ (if todo j && not (has left j) then value j else None))
-    → (j : ℕ) → j < 16 → get_or (set taken k v) j None ≡ (if todo j && not (has left' j) then value j else None)
-filled_next todo value left left' k taken v below all here due is removed so_far j h =
+-- who is not left after one node more is that node, or was not left before
+pub not_left : (left left' j k : ℕ) → has left' j ≡ (has left j && not (j == k)) → j ≢ k → has left' j ≡ false → has left j ≡ false
+not_left left left' j k removed apart gone =
+    sym (removed ∙ ap (λ e. has left j && not e) (eq_other j k apart) ∙ elim (has left j) as (λ b. (b && not false) ≡ b) [ true ↦ refl | false ↦ refl ]) ∙ gone
+
+-- what was written down of those that are not left
+pub filled_next : {X : Type 0} (f : ℕ → Option X) (left left' k : ℕ) (taken : List (Option X)) (v : Option X) → k < 16 → length taken ≡ 16 → v ≡ f k
+    → ((j : ℕ) → j < 16 → has left' j ≡ (has left j && not (j == k)))
+    → ((j : ℕ) → j < 16 → has left j ≡ false → get_or taken j None ≡ f j)
+    → (j : ℕ) → j < 16 → has left' j ≡ false → get_or (set taken k v) j None ≡ f j
+filled_next f left left' k taken v below all is removed so_far j h gone =
     elim (cases_eq j k) [
-      | inl same ↦
-          let gone : has left' k ≡ false = removed k below ∙ rw (here, eq_self k) refl in
-          let new : get_or (set taken k v) k None ≡ v = get_or-set_same taken k v None (omega arith) in
-          rw same (new ∙ is ∙ sym (rw (gone, due) refl))
-      | inr apart ↦
-          let stays : has left' j ≡ has left j =
-          removed j h ∙ ap (λ e. has left j && not e) (eq_other j k apart) ∙ elim (has left j) as (λ b. (b && not false) ≡ b) [ true ↦ refl | false ↦ refl ] in
-          get_or-set_other taken k j v None apart ∙ so_far j h ∙ ap (λ b. if todo j && not b then value j else None) (sym stays)
+      | inl same ↦ rw same (get_or-set_same taken k v None (omega arith) ∙ is)
+      | inr apart ↦ get_or-set_other taken k j v None apart ∙ so_far j h (not_left left left' j k (removed j h) apart gone)
     ]
 
-pub none_filled : {X : Type 0} (todo : ℕ → Bool) (value : ℕ → Option X) (left j : ℕ) → has left j ≡ todo j → ◌≡◌ {A = Option X} None (if todo j && not (has left j) then value j else None)
-none_filled {X = X} todo value left j first =
-    rw first (elim (todo j) as (λ b. ◌≡◌ {A = Option X} None (if b && not b then value j else None)) [ true ↦ refl | false ↦ refl ])
+-- nothing is written down of those that aren't due
+pub blank_next : {X : Type 0} (due k : ℕ) (taken : List (Option X)) (v : Option X) → has due k ≡ true → ((j : ℕ) → j < 16 → has due j ≡ false → get_or taken j None ≡ None)
+    → (j : ℕ) → j < 16 → has due j ≡ false → get_or (set taken k v) j None ≡ None
+blank_next due k taken v here before j h other =
+    elim (cases_eq j k) [
+      | inl same ↦ (let e : true ≡ false = sym here ∙ ap (has due) (sym same) ∙ other in absurd cc)
+      | inr apart ↦ get_or-set_other taken k j v None apart ∙ before j h other
+    ]
 
-pub filled_all : {X : Type 0} (todo : ℕ → Bool) (value : ℕ → Option X) (left j : ℕ) (v : Option X) → left ≡ 0 → v ≡ (if todo j && not (has left j) then value j else None) → v ≡ (if todo j then value j else None)
-filled_all todo value left j v none so_far =
-    so_far ∙ ap (λ l. if todo j && not (has l j) then value j else None) none ∙ ap (λ b. if todo j && not b then value j else None) (has_none j)
-    ∙ ap (λ b. if b then value j else None) (elim (todo j) as (λ b. (b && not false) ≡ b) [ true ↦ refl | false ↦ refl ])
+-- at first all that are due are left
+pub blank_first : {X : Type 0} (due : ℕ) (value : ℕ → Option X) (taken : List (Option X)) → ((j : ℕ) → j < 16 → has due j ≡ false → get_or taken j None ≡ None)
+    → (j : ℕ) → j < 16 → has due j ≡ false → get_or taken j None ≡ (if has due j then value j else None)
+blank_first due value taken before j h other = before j h other ∙ sym (rw other refl)

@@ -1,11 +1,14 @@
 -- What is shown of each source while it is written down beside what was taken of it.
-use Rattle.std.proofs.Common.{◌≡◌, ℕ, ◌<◌, Option, None, List, length, map, get_or, set, replicate, inl, inr, sym, ◌∙◌, ap, arith}
+use Rattle.std.proofs.Common.{◌≡◌, ℕ, ◌<◌, Bool, true, false, not, ◌&&◌, Option, None, List, length, map, get_or, set, replicate, inl, inr, refl, sym, ◌∙◌, ap, arith}
 use Rattle.std.proofs.lemmas.Bool.{cases_eq}
 use Rattle.std.proofs.lemmas.List.{ext_get_or, get_or-map, get_or-replicate, get_or-set_other, get_or-set_same, length-map}
+use Rattle.rb_base.specs.Nodes.{has, set_of}
 use Rattle.rb_base.specs.declared.values.Heard.{Heard}
 use Rattle.rb_base.specs.declared.values.See.{See}
 use Rattle.rb_base.specs.declared.values.See.TheVariants.{Nothing}
+use Rattle.rb_base.proofs.Sets.{has-is, has_none}
 use Rattle.rb_rules.specs.ExactStage.{see_value}
+use Rattle.rb_eligible.specs.Sheets.{IsSheet}
 
 -- of each of the 16 sources what was taken is shown
 abbrev pub AreShown : List See → List (Option Heard) → Type 0
@@ -24,6 +27,27 @@ shown_all sees taken all all_taken shown =
     let n : length (map see_value taken) ≡ length taken = length-map taken see_value in
     ext_get_or Nothing sees (map see_value taken) (omega (arith, n)) (λ j h. shown j (omega arith) ∙ sym (get_or-map see_value taken j None Nothing (omega arith)))
 
-pub none_shown : (sees : List See) (taken : List (Option Heard)) → sees ≡ replicate 16 Nothing → taken ≡ replicate 16 None → AreShown sees taken
-none_shown sees taken sees_are taken_are j h =
-    ap (λ xs. get_or xs j Nothing) sees_are ∙ get_or-replicate 16 j Nothing Nothing h ∙ sym (ap see_value (ap (λ xs. get_or xs j None) taken_are ∙ get_or-replicate 16 j None None h))
+pub first_shown : (sees : List See) (taken : List (Option Heard)) → length taken ≡ 16 → sees ≡ map see_value taken → AreShown sees taken
+first_shown sees taken all shown j h = ap (λ xs. get_or xs j Nothing) shown ∙ get_or-map see_value taken j None Nothing (omega arith)
+
+pub blank_sheet : (due : ℕ) (taken : List (Option Heard)) (sees : List See) → taken ≡ replicate 16 None → sees ≡ replicate 16 Nothing → IsSheet due taken sees
+blank_sheet due taken sees taken_are sees_are = record {
+  all = ap length taken_are;
+  shown = sees_are ∙ ap (map see_value) (sym taken_are);
+  rest = λ j h other. ap (λ xs. get_or xs j None) taken_are ∙ get_or-replicate 16 j None None h;
+}
+
+-- where the stale ones are none
+pub same_sheet : (written due stale : ℕ) (taken : List (Option Heard)) (sees : List See) → stale ≡ set_of (λ i. has written i && not (has due i)) → stale ≡ 0 → IsSheet written taken sees
+    → IsSheet due taken sees
+same_sheet written due stale taken sees stale_are none sheet = record {
+  all = sheet.all;
+  shown = sheet.shown;
+  rest = λ j h other.
+      sheet.rest j h (either (has written j) (has due j) other (sym (has-is stale j (λ i. has written i && not (has due i)) stale_are h) ∙ ap (λ s. has s j) none ∙ has_none j));
+}
+  where
+    either : (w d : Bool) → d ≡ false → (w && not d) ≡ false → w ≡ false
+    either true true other gone = other
+    either true false other gone = gone
+    either false d other gone = refl

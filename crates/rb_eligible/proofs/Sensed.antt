@@ -17,7 +17,7 @@ use Rattle.rb_rules.specs.declared.sense.Sense.TheVariants.{Silent, One, Bad}
 use Rattle.rb_rules.specs.Sense.{Arrival, is_one, is_silent, sense_of, sense_of_one, stamp_in, suits, value_in}
 use Rattle.rb_rules.specs.Spelling.{message_in}
 use Rattle.rb_eligible.specs.declared.reading.Sole.{Sole}
-use Rattle.rb_eligible.specs.Inboxes.{IsKept, IsSpoilt, IsUpTo, Kept, Received, Shows, StampsUpTo, arrivals_of, is_sole, sense_in, sole_at}
+use Rattle.rb_eligible.specs.Inboxes.{IsKept, IsSpoilt, IsUpTo, KeptArrivals, Received, HoldsArrivals, StampsUpTo, arrivals_of, is_sole, sense_in, sole_at}
 use Rattle.rb_eligible.specs.Readings.{Says, bytes_of, spelled}
 
 -- no message has more than 12 bytes
@@ -39,7 +39,7 @@ spoilt_bad e arrivals spoilt =
     ]
 
 -- so a source that is spoilt is bad
-pub shown_bad : (e : Expect) (kept : Kept) (received : List Received) (j : ℕ) → Shows kept received → j < 16 → has kept.came j ≡ true → has kept.spoilt j ≡ true → Bad ≡ sense_in e received j
+pub shown_bad : (e : Expect) (kept : KeptArrivals) (received : List Received) (j : ℕ) → HoldsArrivals kept received → j < 16 → has kept.came j ≡ true → has kept.spoilt j ≡ true → Bad ≡ sense_in e received j
 shown_bad e kept received j shown h came spoilt = sym (spoilt_bad e (arrivals_of j received) (rw (came, spoilt) at (shown j h)))
 
 heard_one : (e : Expect) (stamp : ℕ) (m : Option Message) → not (is_silent (sense_of_one e stamp m)) ≡ true
@@ -53,7 +53,7 @@ came_kept e false true s arrivals kept = absurd kept
 came_kept e true false s arrivals kept = ap (λ xs. not (is_silent (sense_of e xs))) kept.1 ∙ heard_one e s.at (message_in e.version (bytes_of s))
 came_kept e true true s arrivals kept = rw (spoilt_bad e arrivals kept) refl
 
-pub came_is : (e : Expect) (kept : Kept) (received : List Received) (j : ℕ) → Shows kept received → j < 16 → has kept.came j ≡ not (is_silent (sense_in e received j))
+pub came_is : (e : Expect) (kept : KeptArrivals) (received : List Received) (j : ℕ) → HoldsArrivals kept received → j < 16 → has kept.came j ≡ not (is_silent (sense_in e received j))
 came_is e kept received j shown h = sym (came_kept e (has kept.came j) (has kept.spoilt j) (sole_at kept.soles j) (arrivals_of j received) (shown j h))
 
 -- exactly one message came at most of those of which one arrival is kept
@@ -63,7 +63,7 @@ none_kept e false true s arrivals poor kept = absurd kept
 none_kept e true false s arrivals poor kept = absurd cc
 none_kept e true true s arrivals poor kept = rw (spoilt_bad e arrivals kept) refl
 
-pub none_else : (e : Expect) (kept : Kept) (received : List Received) (j : ℕ) → Shows kept received → j < 16 → is_sole kept j ≡ false → is_one (sense_in e received j) ≡ false
+pub none_else : (e : Expect) (kept : KeptArrivals) (received : List Received) (j : ℕ) → HoldsArrivals kept received → j < 16 → is_sole kept j ≡ false → is_one (sense_in e received j) ≡ false
 none_else e kept received j shown h poor = none_kept e (has kept.came j) (has kept.spoilt j) (sole_at kept.soles j) (arrivals_of j received) poor (shown j h)
 
 -- and of those the sense is that of the arrival
@@ -73,7 +73,7 @@ sole_kept e false spoilt s arrivals good kept = absurd cc
 sole_kept e true false s arrivals good kept = ap (sense_of e) kept.1
 sole_kept e true true s arrivals good kept = absurd cc
 
-pub sole_is : (e : Expect) (kept : Kept) (received : List Received) (j : ℕ) → Shows kept received → j < 16 → is_sole kept j ≡ true
+pub sole_is : (e : Expect) (kept : KeptArrivals) (received : List Received) (j : ℕ) → HoldsArrivals kept received → j < 16 → is_sole kept j ≡ true
     → sense_in e received j ≡ sense_of_one e (sole_at kept.soles j).at (message_in e.version (bytes_of (sole_at kept.soles j)))
 sole_is e kept received j shown h good = sole_kept e (has kept.came j) (has kept.spoilt j) (sole_at kept.soles j) (arrivals_of j received) good (shown j h)
 
@@ -96,14 +96,14 @@ says_sense e stamp bytes sense one value is one_is value_is = record {
 }
 
 -- a reading of a sole arrival is what came of the source
-pub read_one : (e : Expect) (kept : Kept) (received : List Received) (j : ℕ) (one : Bool) (value : Option Heard) → Shows kept received → j < 16 → is_sole kept j ≡ true
+pub read_one : (e : Expect) (kept : KeptArrivals) (received : List Received) (j : ℕ) (one : Bool) (value : Option Heard) → HoldsArrivals kept received → j < 16 → is_sole kept j ≡ true
     → Says e (bytes_of (sole_at kept.soles j)) one value → one ≡ is_one (sense_in e received j)
 read_one e kept received j one value shown h good says =
     let is = sole_is e kept received j shown h good in
     let s = sole_at kept.soles j in
     says.one_is ∙ one_anytime e 0 s.at (message_in e.version (bytes_of s)) ∙ ap is_one (sym is)
 
-pub read_value : (e : Expect) (kept : Kept) (received : List Received) (j : ℕ) (one : Bool) (value : Option Heard) → Shows kept received → j < 16 → is_sole kept j ≡ true
+pub read_value : (e : Expect) (kept : KeptArrivals) (received : List Received) (j : ℕ) (one : Bool) (value : Option Heard) → HoldsArrivals kept received → j < 16 → is_sole kept j ≡ true
     → Says e (bytes_of (sole_at kept.soles j)) one value → value ≡ value_in (sense_in e received j)
 read_value e kept received j one value shown h good says =
     let is = sole_is e kept received j shown h good in
@@ -143,7 +143,7 @@ spelled_is bytes room low high all small low_is high_is begins =
     ap (take (length bytes)) (ap (λ xs. xs ++ to_le_bytes w32 high) first ∙ ap (λ ys. take 8 room ++ ys) rest ∙ take-append-drop 8 room) ∙ begins
 
 -- so among the sources of a set only those with one arrival can be one
-pub none_but_soles : (e : Expect) (kept : Kept) (received : List Received) (b : Bool) (j : ℕ) → Shows kept received → j < 16
+pub none_but_soles : (e : Expect) (kept : KeptArrivals) (received : List Received) (b : Bool) (j : ℕ) → HoldsArrivals kept received → j < 16
     → ((b && is_sole kept j) && is_one (sense_in e received j)) ≡ (b && is_one (sense_in e received j))
 none_but_soles e kept received b j shown h =
     let go : (s : Bool) → is_sole kept j ≡ s → ((b && s) && is_one (sense_in e received j)) ≡ (b && is_one (sense_in e received j)) =
@@ -154,7 +154,7 @@ none_but_soles e kept received b j shown h =
     go (is_sole kept j) refl
 
 -- and only of those a value can be taken
-pub value_but_soles : (e : Expect) (kept : Kept) (received : List Received) (b : Bool) (j : ℕ) → Shows kept received → j < 16
+pub value_but_soles : (e : Expect) (kept : KeptArrivals) (received : List Received) (b : Bool) (j : ℕ) → HoldsArrivals kept received → j < 16
     → (if b && is_sole kept j then value_in (sense_in e received j) else None) ≡ (if b then value_in (sense_in e received j) else None)
 value_but_soles e kept received b j shown h =
     let v = value_in (sense_in e received j) in
@@ -173,7 +173,7 @@ no_stamp (One stamp m) poor = absurd cc
 no_stamp Bad poor = refl
 
 -- the stamp that is taken of a source that is expected and eligible, and one
-pub stamp_taken : (e : Expect) (kept : Kept) (received : List Received) (takes : Bool) (j : ℕ) → Shows kept received → j < 16
+pub stamp_taken : (e : Expect) (kept : KeptArrivals) (received : List Received) (takes : Bool) (j : ℕ) → HoldsArrivals kept received → j < 16
     → (if (takes && is_one (sense_in e received j)) && is_sole kept j then Some (sole_at kept.soles j).at else None) ≡ (if takes then stamp_in (sense_in e received j) else None)
 stamp_taken e kept received takes j shown h =
     let sense = sense_in e received j in
@@ -206,10 +206,19 @@ stamp_taken e kept received takes j shown h =
     no_sole false o at = refl
 
 -- and it is none of those above the bound
-pub stamp_up_to : (n : ℕ) (kept : Kept) (j : ℕ) → StampsUpTo n kept → j < 16 → is_sole kept j ≡ true → (sole_at kept.soles j).at ≤ n
+pub stamp_up_to : (n : ℕ) (kept : KeptArrivals) (j : ℕ) → StampsUpTo n kept → j < 16 → is_sole kept j ≡ true → (sole_at kept.soles j).at ≤ n
 stamp_up_to n kept j up_to h sole = here (has kept.came j) (has kept.spoilt j) sole (up_to j h)
   where
     here : (came spoilt : Bool) → (came && not spoilt) ≡ true → IsUpTo n came spoilt (sole_at kept.soles j) → (sole_at kept.soles j).at ≤ n
     here true false e most = most
     here true true e most = absurd cc
     here false spoilt e most = absurd cc
+
+-- where it is not one, there is no value
+pub says_none : (e : Expect) (bytes : List ℕ) (one : Bool) (value : Option Heard) → Says e bytes one value → one ≡ false → value ≡ None
+says_none e bytes one value says poor = says.value_is ∙ no_value (sense_of_one e 0 (message_in e.version bytes)) (sym says.one_is ∙ poor)
+
+-- so who has a value is one
+pub says_one : (e : Expect) (bytes : List ℕ) (one : Bool) (value : Option Heard) (h : Heard) → Says e bytes one value → value ≡ Some h → one ≡ true
+says_one e bytes true value h says is = refl
+says_one e bytes false value h says is = let e : ◌≡◌ {A = Option Heard} (Some h) None = sym is ∙ says_none e bytes false value says refl in absurd cc

@@ -7,7 +7,7 @@ use Rattle.rb_base.specs.Nodes.{has, set_of}
 use Rattle.rb_base.proofs.Sets.{eq_other, eq_self, has-set_of}
 use Rattle.rb_rules.specs.Sense.{Arrival}
 use Rattle.rb_eligible.specs.declared.reading.Sole.{Sole}
-use Rattle.rb_eligible.specs.Inboxes.{IsKept, IsSpoilt, IsUpTo, Kept, Received, Shows, StampsUpTo, arrivals_of, sole_at}
+use Rattle.rb_eligible.specs.Inboxes.{IsKept, IsSpoilt, IsUpTo, KeptArrivals, Received, HoldsArrivals, StampsUpTo, arrivals_of, sole_at}
 use Rattle.rb_eligible.specs.Readings.{bytes_of, len_of}
 
 arrivals_more : (j : ℕ) (received : List Received) (r : Received) → arrivals_of j (received ++ r ∷ []) ≡ arrivals_of j received ++ arrivals_of j (r ∷ [])
@@ -63,9 +63,9 @@ with_other set k j within apart =
     has-set_of j (λ i. has set i || (i == k)) within ∙ ap (λ b. has set j || b) (eq_other j k apart) ∙ elim (has set j) as (λ b. (b || false) ≡ b) [ true ↦ refl | false ↦ refl ]
 
 -- the first arrival of a source, no longer than any message
-pub shows_first : (kept : Kept) (received : List Received) (i at : ℕ) (bytes : List ℕ) (s : Sole) → i < 16 → length kept.soles ≡ 16
-    → has kept.came i ≡ false → s.at ≡ at → len_of s.tail ≤ 12 → bytes_of s ≡ bytes → Shows kept received
-    → Shows (record { came = with_node kept.came i; spoilt = kept.spoilt; soles = set kept.soles i s })
+pub shows_first : (kept : KeptArrivals) (received : List Received) (i at : ℕ) (bytes : List ℕ) (s : Sole) → i < 16 → length kept.soles ≡ 16
+    → has kept.came i ≡ false → s.at ≡ at → len_of s.tail ≤ 12 → bytes_of s ≡ bytes → HoldsArrivals kept received
+    → HoldsArrivals (record { came = with_node kept.came i; spoilt = kept.spoilt; soles = set kept.soles i s })
     (received ++ record { source = i; arrival = record { stamp = at; bytes = bytes } } ∷ [])
 shows_first kept received i at bytes s below all first at_is short bytes_are shown = λ j h.
     let a : Arrival = record { stamp = at; bytes = bytes } in
@@ -83,9 +83,9 @@ shows_first kept received i at bytes s below all first at_is short bytes_are sho
     ]
 
 -- an arrival after which the source can't be good
-pub shows_spoilt : (kept : Kept) (received : List Received) (i : ℕ) (a : Arrival) → i < 16
-    → (has kept.came i ≡ false → 12 < length a.bytes) → Shows kept received
-    → Shows (record { came = with_node kept.came i; spoilt = with_node kept.spoilt i; soles = kept.soles })
+pub shows_spoilt : (kept : KeptArrivals) (received : List Received) (i : ℕ) (a : Arrival) → i < 16
+    → (has kept.came i ≡ false → 12 < length a.bytes) → HoldsArrivals kept received
+    → HoldsArrivals (record { came = with_node kept.came i; spoilt = with_node kept.spoilt i; soles = kept.soles })
     (received ++ record { source = i; arrival = a } ∷ [])
 shows_spoilt kept received i a below long shown = λ j h.
     elim (cases_eq j i) [
@@ -116,7 +116,7 @@ kept_up_to : (n : ℕ) (spoilt : Bool) (s : Sole) → s.at ≤ n → IsUpTo n tr
 kept_up_to n false s most = most
 kept_up_to n true s most = tt
 
-pub up_to_first : (n : ℕ) (kept : Kept) (i at : ℕ) (s : Sole) → i < 16 → length kept.soles ≡ 16 → s.at ≡ at → at ≤ n → StampsUpTo n kept
+pub up_to_first : (n : ℕ) (kept : KeptArrivals) (i at : ℕ) (s : Sole) → i < 16 → length kept.soles ≡ 16 → s.at ≡ at → at ≤ n → StampsUpTo n kept
     → StampsUpTo n (record { came = with_node kept.came i; spoilt = kept.spoilt; soles = set kept.soles i s })
 up_to_first n kept i at s below all at_is most up_to = λ j h.
     elim (cases_eq j i) [
@@ -128,7 +128,7 @@ up_to_first n kept i at s below all at_is most up_to = λ j h.
           same_up_to n (has kept.came j) (has kept.spoilt j) _ _ (sole_at kept.soles j) _ (with_other kept.came i j h apart) refl (get_or-set_other kept.soles i j s _ apart) (up_to j h)
     ]
 
-pub up_to_spoilt : (n : ℕ) (kept : Kept) (i : ℕ) → i < 16 → StampsUpTo n kept
+pub up_to_spoilt : (n : ℕ) (kept : KeptArrivals) (i : ℕ) → i < 16 → StampsUpTo n kept
     → StampsUpTo n (record { came = with_node kept.came i; spoilt = with_node kept.spoilt i; soles = kept.soles })
 up_to_spoilt n kept i below up_to = λ j h.
     elim (cases_eq j i) [

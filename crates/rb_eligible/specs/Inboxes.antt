@@ -21,7 +21,7 @@ abbrev pub sense_in : Expect → List Received → ℕ → Sense
 sense_in e received source = sense_of e (arrivals_of source received)
 
 -- what is kept: the sources of which something came, those of which it can be no message, and the sole arrivals of the others
-pub record Kept : Type 0 where
+pub record KeptArrivals : Type 0 where
   pub came : ℕ
   pub spoilt : ℕ
   pub soles : List Sole
@@ -31,7 +31,7 @@ abbrev pub sole_at : List Sole → ℕ → Sole
 sole_at soles source = slice_index_or soles source (record { at = 0; low = 0; tail = 0 })
 
 -- of the source came one arrival that is no longer than any message
-abbrev pub is_sole : Kept → ℕ → Bool
+abbrev pub is_sole : KeptArrivals → ℕ → Bool
 is_sole kept source = has kept.came source && not (has kept.spoilt source)
 
 -- the only arrival is longer than any message, or there are more
@@ -48,15 +48,15 @@ IsKept true false sole arrivals =
 IsKept true true sole arrivals = IsSpoilt arrivals
 
 -- the inbox stands for what was received
-abbrev pub Shows : Kept → List Received → Type 0
-Shows kept received = (source : ℕ) → source < 16
+abbrev pub HoldsArrivals : KeptArrivals → List Received → Type 0
+HoldsArrivals kept received = (source : ℕ) → source < 16
     → IsKept (has kept.came source) (has kept.spoilt source) (sole_at kept.soles source) (arrivals_of source received)
 
 -- what is kept is that of some arrivals, and no sole arrival is longer than any message
-pub record IsInbox (kept : Kept) : Type 0 where
+pub record IsInbox (kept : KeptArrivals) : Type 0 where
   pub all : length kept.soles ≡ 16
   pub short : (source : ℕ) → source < 16 → len_of (sole_at kept.soles source).tail ≤ 12
-  pub stands : (received : List Received) × Shows kept received
+  pub stands : (received : List Received) × HoldsArrivals kept received
 
 -- the stamp that is kept of a source, if there is one, is at most n
 abbrev pub IsUpTo : ℕ → Bool → Bool → Sole → Type 0
@@ -65,5 +65,5 @@ IsUpTo n true false sole = sole.at ≤ n
 IsUpTo n true true sole = Unit {0}
 
 -- no stamp that the inbox keeps is above n
-abbrev pub StampsUpTo : ℕ → Kept → Type 0
+abbrev pub StampsUpTo : ℕ → KeptArrivals → Type 0
 StampsUpTo n kept = (source : ℕ) → source < 16 → IsUpTo n (has kept.came source) (has kept.spoilt source) (sole_at kept.soles source)

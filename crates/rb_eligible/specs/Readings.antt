@@ -1,5 +1,5 @@
 -- What an arrival is kept as, and what its bytes say.
-use Rattle.std.specs.Prelude.{ℕ, ◌≡◌, ◌≤◌, ◌/◌, ◌%◌, Bool, false, ◌⊎◌, Option, None, List, ◌++◌, take}
+use Rattle.std.specs.Prelude.{ℕ, ◌≡◌, ◌≤◌, ◌/◌, ◌%◌, Bool, true, Option, Some, List, ◌++◌, take}
 use Rattle.std.specs.Int.{to_le_bytes, w32, w64}
 use Rattle.rb_base.specs.declared.values.Heard.{Heard}
 use Rattle.rb_rules.specs.declared.sense.Expect.{Expect}
@@ -33,7 +33,4 @@ pub record Says (e : Expect) (bytes : List ℕ) (one : Bool) (value : Option Hea
 pub record IsReading (e : Expect) (r : Reading) : Type 0 where
   pub says : len_of r.tail ≤ 12 → Says e (spelled r.low (high_of r.tail) (len_of r.tail)) r.one r.value
   pub shown : r.see ≡ see_value r.value
-
--- the one before it had no value, or the same, and was no mixed one
-abbrev pub IsLike : Reading → Reading → Type 0
-IsLike before r = (before.mixed ≡ false) × ((before.value ≡ None) ⊎ (r.value ≡ before.value))
+  pub agreed : r.agrees ≡ true → (h : Heard) × ((r.value ≡ Some h) × (r.candidate ≡ Some h))

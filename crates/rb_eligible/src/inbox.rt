@@ -2,7 +2,7 @@
 ghost use Rattle.std.specs.Prelude.{◌≡◌, List, [], ◌∷◌, ◌++◌, ◌<◌, ◌≤◌, ℕ};
 ghost use Rattle.rb_base.specs.Nodes.{set_of};
 ghost use Rattle.rb_rules.specs.Sense.{sense_of};
-ghost use Rattle.rb_eligible.specs.Inboxes.{Received, Shows, StampsUpTo, arrivals_of, is_sole, sole_at};
+ghost use Rattle.rb_eligible.specs.Inboxes.{Received, HoldsArrivals, StampsUpTo, arrivals_of, is_sole, sole_at};
 ghost use Rattle.rb_eligible.specs.Readings.{len_of};
 
 use crate::reading::{MOST_BYTES, Sole, sense_of_sole, sole_of};
@@ -23,9 +23,9 @@ pub struct Inbox<K> {
 }
 
 impl<K> Model for Inbox<K> {
-    ghost use Rattle.rb_eligible.specs.Inboxes.{IsInbox, Kept};
+    ghost use Rattle.rb_eligible.specs.Inboxes.{IsInbox, KeptArrivals};
 
-    ghost Value = { Kept };
+    ghost Value = { KeptArrivals };
 
     ghost view = { λ b. record { came = b.came; spoilt = b.spoilt; soles = b.soles } };
 
@@ -35,7 +35,7 @@ impl<K> Model for Inbox<K> {
 impl<K: Copy> Inbox<K> {
     /// An inbox in which nothing came.
     pub fn new() -> Inbox<K>
-        ensures shows { Shows result [] }
+        ensures shows { HoldsArrivals result [] }
         ensures stamps { (n : ℕ) → StampsUpTo n result }
     {
         Inbox {
@@ -51,8 +51,8 @@ impl<K: Copy> Inbox<K> {
 
     /// One arrival of the source, with its stamp in ticks. Any bytes may come.
     pub fn take(&mut self, from: NodeId<K>, at: u64, bytes: &[u8])
-        ensures shows { (received : List Received) → Shows self.old received
-            → Shows self.new (received
+        ensures shows { (received : List Received) → HoldsArrivals self.old received
+            → HoldsArrivals self.new (received
             ++ record { source = from; arrival = record { stamp = at; bytes = bytes.now } } ∷ []) }
         ensures stamps { (n : ℕ) → at ≤ n → StampsUpTo n self.old → StampsUpTo n self.new }
     {
@@ -69,7 +69,7 @@ impl<K: Copy> Inbox<K> {
     /// The sources of which something came. An inbox stands for some list of arrivals, whatever came.
     pub fn came(&self) -> NodeSet<K>
         ensures value { result ≡ self.now.came }
-        ensures stands { (received : List Received) × Shows self.now received }
+        ensures stands { (received : List Received) × HoldsArrivals self.now received }
     {
         self.came
     }
@@ -91,7 +91,7 @@ impl<K: Copy> Inbox<K> {
 
     /// What the node makes of the source's arrivals in the window that the expectation describes.
     pub fn sense(&self, from: NodeId<K>, expect: &Expect) -> Sense
-        ensures { (received : List Received) → Shows self.now received
+        ensures { (received : List Received) → HoldsArrivals self.now received
             → result ≡ sense_of expect.now (arrivals_of from received) }
     {
         let source = from.index();
@@ -106,7 +106,7 @@ impl<K: Copy> Inbox<K> {
 
     /// A new window begins, in which nothing came.
     pub fn clear(&mut self)
-        ensures shows { Shows self.new [] }
+        ensures shows { HoldsArrivals self.new [] }
         ensures stamps { (n : ℕ) → StampsUpTo n self.new }
     {
         self.came = NodeSet::empty();

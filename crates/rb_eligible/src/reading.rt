@@ -1,10 +1,11 @@
 //! What the bytes of an arrival say, in a window.
-ghost use Rattle.std.specs.Prelude.{◌≡◌, ◌≤◌, ◌++◌, ℕ, IsTrue, None, ◌<◌, drop, length, slice_index, take, false, ◌⊎◌};
+ghost use Rattle.std.specs.Prelude.{◌≡◌, ◌≤◌, ◌++◌, ℕ, IsTrue, Some, ◌<◌, drop, length, slice_index, take, true};
 ghost use Rattle.std.specs.Int.{from_le_bytes, to_le_bytes, w32, w64};
 ghost use Rattle.rb_rules.specs.ExactStage.{see_value};
 ghost use Rattle.rb_rules.specs.Sense.{is_one, sense_of_one, suits, tag_suits, value_in, value_of};
 ghost use Rattle.rb_rules.specs.Spelling.{message_in};
-ghost use Rattle.rb_eligible.specs.Readings.{IsLike, IsReading, Says, bytes_of, high_of, len_of};
+ghost use Rattle.rb_base.specs.declared.values.Heard.{Heard};
+ghost use Rattle.rb_eligible.specs.Readings.{IsReading, Says, bytes_of, high_of, len_of};
 
 use byteorder::{ByteOrder, LittleEndian};
 use rb_base::{Heard, See};
@@ -25,7 +26,8 @@ pub struct Sole {
 
 /// The bytes that were read last, as an arrival keeps them: whether they are exactly one message that is meant for the window,
 /// the value that such a message carries, and what is shown of it. Who spells alike is read alike: the next arrival with the
-/// same bytes need not be read. `mixed` says that a value was read and then another one or none.
+/// same bytes need not be read. `candidate` is the first value that was read, if there was one, and `agrees` says that this one
+/// is the same.
 #[derive(Clone, Copy, Debug, PartialEq, Eq)]
 pub struct Reading {
     pub low: u64,
@@ -33,13 +35,13 @@ pub struct Reading {
     pub one: bool,
     pub value: Option<Heard>,
     pub see: See,
-    pub mixed: bool,
+    pub candidate: Option<Heard>,
+    pub agrees: bool,
 }
 
 /// The reading before the first: no arrival that is kept has 13 bytes.
 pub(crate) fn nothing_read(expect: &Expect) -> Reading
     ensures reading { IsReading expect.now result }
-    ensures value { result.value ≡ None }
 {
     let _version = expect.version;
     Reading {
@@ -48,7 +50,8 @@ pub(crate) fn nothing_read(expect: &Expect) -> Reading
         one: false,
         value: None,
         see: See::Nothing,
-        mixed: false,
+        candidate: None,
+        agrees: false,
     }
 }
 
@@ -67,7 +70,7 @@ pub(crate) fn read(sole: &Sole, expect: &Expect, last: &mut Reading)
     requires last { IsReading expect.now last.old }
     ensures reading { IsReading expect.now last.new }
     ensures says { Says expect.now (bytes_of sole.now) last.new.one last.new.value }
-    ensures alike { last.new.mixed ≡ false → IsLike last.old last.new }
+    ensures candidate { (h : Heard) → last.old.candidate ≡ Some h → last.new.candidate ≡ Some h }
 {
     if !spells_alike(sole, last) {
         read_anew(sole, expect, last);
@@ -81,11 +84,12 @@ fn read_anew(sole: &Sole, expect: &Expect, last: &mut Reading)
     requires { len_of sole.now.tail ≤ 12 }
     ensures reading { IsReading expect.now last.new }
     ensures says { Says expect.now (bytes_of sole.now) last.new.one last.new.value }
-    ensures alike { last.new.mixed ≡ false → IsLike last.old last.new }
+    ensures candidate { (h : Heard) → last.old.candidate ≡ Some h → last.new.candidate ≡ Some h }
 {
     let sense = sense_of_sole(sole, expect);
     let value = value_in(&sense);
-    last.mixed = is_mixed(last.mixed, last.value, value);
+    last.candidate = first_of(last.candidate, value);
+    last.agrees = agrees(last.candidate, value);
     last.low = sole.low;
     last.tail = sole.tail;
     last.one = is_one(&sense);
@@ -103,14 +107,23 @@ fn see_value(taken: Option<Heard>) -> See
     }
 }
 
-// Whether values are mixed once one more was read.
-fn is_mixed(mixed: bool, before: Option<Heard>, value: Option<Heard>) -> bool
-    ensures mixed { result ≡ false → mixed ≡ false }
-    ensures same { result ≡ false → (before ≡ None) ⊎ (value ≡ before) }
+// The first value, once one more was read.
+fn first_of(before: Option<Heard>, value: Option<Heard>) -> Option<Heard>
+    ensures { (h : Heard) → before ≡ Some h → result ≡ Some h }
 {
     match before {
-        Some(heard) => mixed || value != Some(heard),
-        None => mixed,
+        Some(heard) => Some(heard),
+        None => value,
+    }
+}
+
+// Whether there is a value, and it is the candidate.
+fn agrees(candidate: Option<Heard>, value: Option<Heard>) -> bool
+    ensures { result ≡ true → (h : Heard) × ((value ≡ Some h) × (candidate ≡ Some h)) }
+{
+    match value {
+        Some(heard) => candidate == Some(heard),
+        None => false,
     }
 }
 

@@ -2,8 +2,8 @@
 ghost use Rattle.std.specs.Prelude.{◌≡◌, ◌≤◌, ◌<◌, ◌+◌, ◌==◌, ◌||◌, ◌&&◌, if◌then◌else◌, map, min, not};
 ghost use Rattle.rb_base.specs.Counting.{numbers};
 ghost use Rattle.rb_base.specs.Nodes.{has, set_of};
-ghost use Rattle.rb_rules.specs.Standing.{calm_after, first_standing, is_eligible, standing_at_end, lapses, vector_of, with_evidence, with_mismatch, without};
-ghost use Rattle.rb_eligible.specs.Standings.{calm_at_end, standing_of};
+ghost use Rattle.rb_rules.specs.Standing.{calm_after, first_standing, is_eligible, standing_at_end, lapses, next_calm, vector_of, with_evidence, with_mismatch, without};
+ghost use Rattle.rb_eligible.specs.Standings.{standing_of};
 
 use rb_base::{NodeId, NodeSet};
 
@@ -129,8 +129,8 @@ impl<K: Copy> Standing<K> {
     }
 
     // The node's calm in the next frame.
-    fn calm_at_end(&self, id: NodeId<K>, probation: u16) -> u16
-        ensures { result ≡ calm_at_end probation (standing_of self.now) id }
+    fn next_calm(&self, id: NodeId<K>, probation: u16) -> u16
+        ensures { result ≡ next_calm probation (standing_of self.now) id }
     {
         if !self.direct.contains(id) {
             self.calm[usize::from(id.index())]
@@ -171,14 +171,14 @@ impl<K: Copy> Standing<K> {
     // The calm of node i in the next frame.
     fn calm_of(&self, i: u8, probation: u16) -> u16
         requires { i < 16 }
-        ensures { result ≡ calm_at_end probation (standing_of self.now) i }
+        ensures { result ≡ next_calm probation (standing_of self.now) i }
     {
-        self.calm_at_end(NodeId::of(i), probation)
+        self.next_calm(NodeId::of(i), probation)
     }
 
     // The calm of each node in the next frame.
     fn calms(&self, probation: u16) -> [u16; 16]
-        ensures { result ≡ map (calm_at_end probation (standing_of self.now)) (numbers 16) }
+        ensures { result ≡ map (next_calm probation (standing_of self.now)) (numbers 16) }
     {
         let mut calms = [0; 16];
         for i in 0..16u8 {

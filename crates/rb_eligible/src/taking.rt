@@ -1,13 +1,13 @@
 //! What a node takes in a window, and whom it accuses for what came.
-ghost use Rattle.std.specs.Prelude.{◌≡◌, ℕ, ◌<◌, List, ◌&&◌, ◌==◌, not, if◌then◌else◌, None, length, map, replicate, unwrap_or, IsTrue};
-ghost use Rattle.rb_base.specs.Nodes.{has, set_of};
+ghost use Rattle.std.specs.Prelude.{◌≡◌, ℕ, ◌<◌, ◌*◌, ◌^◌, List, ◌&&◌, ◌==◌, not, true, if◌then◌else◌, None, unwrap_or, IsTrue};
+ghost use Rattle.rb_base.specs.Nodes.{has, set_of, size};
 ghost use Rattle.rb_base.specs.declared.values.Heard.{Heard};
-ghost use Rattle.rb_base.specs.declared.values.See.{See};
-ghost use Rattle.rb_rules.specs.ExactStage.{at_source, each_node, present, see_value};
+ghost use Rattle.rb_rules.specs.ExactStage.{at_source, each_node, present};
 ghost use Rattle.rb_rules.specs.Majority.{majority_of};
 ghost use Rattle.rb_rules.specs.Sense.{is_one, value_in};
 ghost use Rattle.rb_rules.specs.Standing.{has_evidence, is_eligible, taken_of, with_evidence};
-ghost use Rattle.rb_eligible.specs.Inboxes.{Received, Shows, sense_in};
+ghost use Rattle.rb_eligible.specs.Inboxes.{Received, HoldsArrivals, is_sole, sense_in};
+ghost use Rattle.rb_eligible.specs.Sheets.{IsSheet};
 ghost use Rattle.rb_eligible.specs.Standings.{standing_of};
 
 use crate::inbox::Inbox;
@@ -16,8 +16,8 @@ use crate::standing::Standing;
 use rb_base::{Heard, NodeId, NodeSet, See};
 use rb_rules::Expect;
 
-/// What was taken in a window: of which sources exactly one message came that is meant for it, and whether all values are
-/// alike. Where they are, `value` is that value, and None where there is none.
+/// What was taken in a window: of which sources exactly one message came that is meant for it, and whether more than half of
+/// these carry the value of the first that has one. Where they do, `value` is that value.
 #[derive(Clone, Copy, Debug, PartialEq, Eq)]
 pub struct Taking<K> {
     pub ones: NodeSet<K>,
@@ -25,103 +25,138 @@ pub struct Taking<K> {
     pub value: Option<Heard>,
 }
 
-// Takes the node out of the set. That is rare, so it is no part of a loop's body.
+// Takes the node out of the set of the same, and out of that of the ones unless it is one. That is rare, so it is no part of a
+// loop's body.
 #[inline(never)]
-fn drop_one<K: Copy>(ones: &mut NodeSet<K>, source: NodeId<K>)
-    ensures { ones.new ≡ set_of (λ i. has ones.old i && not (i == source)) }
+fn drop_from<K: Copy>(ones: &mut NodeSet<K>, same: &mut NodeSet<K>, source: NodeId<K>, one: bool)
+    ensures ones { ones.new ≡ (if one then ones.old else set_of (λ i. has ones.old i && not (i == source))) }
+    ensures same { same.new ≡ set_of (λ i. has same.old i && not (i == source)) }
 {
-    ones.remove(source);
+    if !one {
+        ones.remove(source);
+    }
+    same.remove(source);
 }
 
-// The set, without the node unless it stays.
+// Keeps the node in the two sets, if it is one and agrees. Who agrees is one.
 #[inline(always)]
-fn keep_if<K: Copy>(ones: &mut NodeSet<K>, source: NodeId<K>, stays: bool)
-    ensures { ones.new ≡ (if stays then ones.old else set_of (λ i. has ones.old i && not (i == source))) }
+fn keep_if<K: Copy>(
+    ones: &mut NodeSet<K>,
+    same: &mut NodeSet<K>,
+    source: NodeId<K>,
+    one: bool,
+    agrees: bool,
+)
+    requires { agrees ≡ true → one ≡ true }
+    ensures ones { ones.new ≡ (if one then ones.old else set_of (λ i. has ones.old i && not (i == source))) }
+    ensures same { same.new ≡ (if agrees then same.old else set_of (λ i. has same.old i && not (i == source))) }
 {
-    if !stays {
-        drop_one(ones, source);
+    if !agrees {
+        drop_from(ones, same, source, one);
     }
 }
 
-// Takes what came of the sources of the set. At first nothing is taken or shown.
-#[inline(never)]
+// Whether the sources of the one set are more than half of those of the other.
+fn leads<K: Copy>(same: NodeSet<K>, ones: NodeSet<K>) -> bool
+    ensures { IsTrue result → size ones < 2 * size same }
+{
+    ones.count() < 2 * same.count()
+}
+
+// Makes room for what comes of the sources of the set. Of the others nothing is written down any longer.
+#[inline(always)]
+fn make_room<K: Copy>(
+    due: NodeSet<K>,
+    written: &mut NodeSet<K>,
+    taken: &mut [Option<Heard>; 16],
+    sees: &mut [See; 16],
+)
+    requires { IsSheet written.old taken.old sees.old }
+    ensures written { written.new ≡ due }
+    ensures sheet { IsSheet due taken.new sees.new }
+{
+    let stale = written.difference(due);
+    *written = due;
+    if !stale.is_empty() {
+        *taken = [None; 16];
+        *sees = [See::Nothing; 16];
+    }
+}
+
+// Takes what came of the sources of the set, of each of which there is one arrival.
+#[inline(always)]
 fn take_some<K: Copy>(
     inbox: &Inbox<K>,
-    takable: NodeSet<K>,
+    due: NodeSet<K>,
     expect: &Expect,
     taken: &mut [Option<Heard>; 16],
     sees: &mut [See; 16],
 ) -> Taking<K>
-    requires taken { taken.old ≡ replicate 16 None }
-    requires sees { sees.old ≡ replicate 16 See.Nothing }
-    ensures ones { (received : List Received) → Shows inbox.now received
-        → result.ones ≡ set_of (λ j. has takable j && is_one (sense_in expect.now received j)) }
-    ensures all { length taken.new ≡ 16 }
-    ensures taken { (received : List Received) → Shows inbox.now received → (j : ℕ) → j < 16
-        → at_source taken.new j ≡ (if has takable j then value_in (sense_in expect.now received j) else None) }
+    requires fits { due < 2 ^ 16 }
+    requires due { (j : ℕ) → j < 16 → has due j ≡ true → is_sole inbox.now j ≡ true }
+    requires sheet { IsSheet due taken.old sees.old }
+    ensures ones { (received : List Received) → HoldsArrivals inbox.now received
+        → result.ones ≡ set_of (λ j. has due j && is_one (sense_in expect.now received j)) }
+    ensures taken { (received : List Received) → HoldsArrivals inbox.now received → (j : ℕ) → j < 16
+        → at_source taken.new j ≡ (if has due j then value_in (sense_in expect.now received j) else None) }
     ensures alike { IsTrue result.alike → majority_of (present taken.new) ≡ unwrap_or result.value Heard.Fault }
-    ensures sees { sees.new ≡ map see_value taken.new }
+    ensures sheet { IsSheet due taken.new sees.new }
 {
-    let mut left = takable.intersection(inbox.soles());
-    let mut ones = left;
+    let mut left = due;
+    let (mut ones, mut same) = (due, due);
     let mut last = nothing_read(expect);
     while let Some(source) = left.pop_first() {
         read(inbox.sole_at(source), expect, &mut last);
-        keep_if(&mut ones, source, last.one);
+        keep_if(&mut ones, &mut same, source, last.one, last.agrees);
         let at = usize::from(source.index());
         taken[at] = last.value;
         sees[at] = last.see;
     }
     Taking {
         ones,
-        alike: !last.mixed,
-        value: last.value,
+        alike: leads(same, ones),
+        value: last.candidate,
     }
 }
 
-// The same, where there may be no such arrivals.
+// The same of the sources of a set, where there may be no such arrivals.
+#[inline(always)]
 fn take_each<K: Copy>(
     inbox: &Inbox<K>,
     takable: NodeSet<K>,
     expect: &Expect,
+    written: &mut NodeSet<K>,
     taken: &mut [Option<Heard>; 16],
     sees: &mut [See; 16],
 ) -> Taking<K>
-    ensures ones { (received : List Received) → Shows inbox.now received
+    requires { IsSheet written.old taken.old sees.old }
+    ensures ones { (received : List Received) → HoldsArrivals inbox.now received
         → result.ones ≡ set_of (λ j. has takable j && is_one (sense_in expect.now received j)) }
-    ensures all { length taken.new ≡ 16 }
-    ensures taken { (received : List Received) → Shows inbox.now received → (j : ℕ) → j < 16
+    ensures taken { (received : List Received) → HoldsArrivals inbox.now received → (j : ℕ) → j < 16
         → at_source taken.new j ≡ (if has takable j then value_in (sense_in expect.now received j) else None) }
     ensures alike { IsTrue result.alike → majority_of (present taken.new) ≡ unwrap_or result.value Heard.Fault }
-    ensures sees { sees.new ≡ map see_value taken.new }
+    ensures sheet { IsSheet written.new taken.new sees.new }
 {
-    *taken = [None; 16];
-    *sees = [See::Nothing; 16];
-    if takable.intersection(inbox.soles()).is_empty() {
-        Taking {
-            ones: NodeSet::empty(),
-            alike: true,
-            value: None,
-        }
-    } else {
-        take_some(inbox, takable, expect, taken, sees)
-    }
+    let due = takable.intersection(inbox.soles());
+    make_room(due, written, taken, sees);
+    take_some(inbox, due, expect, taken, sees)
 }
 
 // The sources of the set of which exactly one message came that is meant for the window.
 #[inline(never)]
 fn ones_among<K: Copy>(inbox: &Inbox<K>, set: NodeSet<K>, expect: &Expect) -> NodeSet<K>
-    ensures { (received : List Received) → Shows inbox.now received
+    ensures { (received : List Received) → HoldsArrivals inbox.now received
         → result ≡ set_of (λ j. has set j && is_one (sense_in expect.now received j)) }
 {
+    let mut written = NodeSet::empty();
     let mut taken = [None; 16];
     let mut sees = [See::Nothing; 16];
-    take_each(inbox, set, expect, &mut taken, &mut sees).ones
+    take_each(inbox, set, expect, &mut written, &mut taken, &mut sees).ones
 }
 
 // The same of the sources that are expected and accused already.
 fn ones_barred<K: Copy>(inbox: &Inbox<K>, barred: NodeSet<K>, expect: &Expect) -> NodeSet<K>
-    ensures { (received : List Received) → Shows inbox.now received
+    ensures { (received : List Received) → HoldsArrivals inbox.now received
         → result ≡ set_of (λ j. has barred j && is_one (sense_in expect.now received j)) }
 {
     if barred.is_empty() {
@@ -134,33 +169,48 @@ fn ones_barred<K: Copy>(inbox: &Inbox<K>, barred: NodeSet<K>, expect: &Expect) -
 /// Takes what came in a window of each source that is expected and eligible, if exactly one message came and it is meant for
 /// the window: `taken` is by source the value of that message, which a call to resynchronise has not, and `sees` is what is
 /// shown of it. Then each trusted source is accused that was expected and of which not exactly that came, or that wasn't
-/// expected and of which something came. Where nobody is expected and nothing came that costs next to nothing. What `taken` and
-/// `sees` were before doesn't matter.
+/// expected and of which something came. What was taken and shown of an earlier window is written over: only of the sources in
+/// `written` there may be something.
+#[inline(always)]
 pub fn take_with_evidence<K: Copy>(
     inbox: &Inbox<K>,
     standing: &mut Standing<K>,
     expect: &Expect,
     expected: NodeSet<K>,
+    written: &mut NodeSet<K>,
     taken: &mut [Option<Heard>; 16],
     sees: &mut [See; 16],
 ) -> Taking<K>
-    ensures ones { (received : List Received) → Shows inbox.now received
+    requires { IsSheet written.old taken.old sees.old }
+    ensures ones { (received : List Received) → HoldsArrivals inbox.now received
         → result.ones ≡ set_of (λ j. (has expected j && is_eligible (standing_of standing.old) j)
         && is_one (sense_in expect.now received j)) }
-    ensures taken { (received : List Received) → Shows inbox.now received
+    ensures taken { (received : List Received) → HoldsArrivals inbox.now received
         → taken.new ≡ each_node (taken_of value_in (standing_of standing.old) (has expected) (sense_in expect.now received)) }
-    ensures accused { (received : List Received) → Shows inbox.now received
+    ensures accused { (received : List Received) → HoldsArrivals inbox.now received
         → standing_of standing.new
         ≡ with_evidence (has_evidence (standing_of standing.old) (has expected) (sense_in expect.now received))
         (standing_of standing.old) }
     ensures alike { IsTrue result.alike → majority_of (present taken.new) ≡ unwrap_or result.value Heard.Fault }
-    ensures sees { sees.new ≡ map see_value taken.new }
+    ensures sheet { IsSheet written.new taken.new sees.new }
 {
     let takable = standing.eligible_of(expected);
-    let taking = take_each(inbox, takable, expect, taken, sees);
+    let taking = take_each(inbox, takable, expect, written, taken, sees);
     let barred = expected.intersection(standing.direct);
     let ones = taking.ones.union(ones_barred(inbox, barred, expect));
     let evidence = standing.evidence(expected, ones, inbox.came());
     standing.accuse_each(evidence);
     taking
+}
+
+/// Whether a window is quiet: nothing came, and no trusted source is expected. Then nothing is taken, and nobody accused.
+#[inline(always)]
+pub fn is_quiet<K: Copy>(inbox: &Inbox<K>, standing: &Standing<K>, expected: NodeSet<K>) -> bool
+    ensures came { IsTrue result → inbox.now.came ≡ 0 }
+    ensures nobody { IsTrue result → set_of (λ j. has standing.now.trusted j && has expected j) ≡ 0 }
+    ensures direct { standing.now.direct < 2 ^ 16 }
+    ensures fresh { standing.now.fresh < 2 ^ 16 }
+{
+    let (_direct, _fresh) = (standing.direct.bits(), standing.fresh.bits());
+    inbox.came().is_empty() && standing.trusted.intersection(expected).is_empty()
 }

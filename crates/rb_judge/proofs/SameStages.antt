@@ -5,7 +5,7 @@ use Rattle.std.proofs.Math.Path.{fun_ext}
 use Rattle.rb_base.specs.Nodes.{Side}
 use Rattle.rb_base.specs.declared.values.See.{See}
 use Rattle.rb_rules.specs.Judging.{JudgedStage}
-use Rattle.rb_judge.specs.Stages.{KeptJudge, Shows}
+use Rattle.rb_judge.specs.Stages.{KeptJudge, HoldsStages}
 
 pub same_stage : (s t : JudgedStage) → ((kind : Side) → s.good kind ≡ t.good kind) → ((kind : Side) → s.trusted kind ≡ t.trusted kind)
     → s.eps ≡ t.eps → ((kind : Side) (i j : ℕ) → s.sight kind i j ≡ t.sight kind i j) → s ≡ t
@@ -21,5 +21,5 @@ same_stage s t good trusted eps sight =
     ∙ ap (λ v. made t.good t.trusted t.eps v) sights
 
 -- the judge shows the other stage too
-pub shows_same : (judge : KeptJudge) (s t : JudgedStage) (earlier : List JudgedStage) → s ≡ t → Shows judge (s ∷ earlier) → Shows judge (t ∷ earlier)
-shows_same judge s t earlier same is = subst (λ (x : JudgedStage). Shows judge (x ∷ earlier)) same is
+pub shows_same : (judge : KeptJudge) (s t : JudgedStage) (earlier : List JudgedStage) → s ≡ t → HoldsStages judge (s ∷ earlier) → HoldsStages judge (t ∷ earlier)
+shows_same judge s t earlier same is = subst (λ (x : JudgedStage). HoldsStages judge (x ∷ earlier)) same is

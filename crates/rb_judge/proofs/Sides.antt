@@ -10,7 +10,7 @@ use Rattle.rb_base.specs.declared.values.See.TheVariants.{Nothing}
 use Rattle.rb_base.proofs.Sets.{eq_self, has-is, has_above, has_none, same_set_of}
 use Rattle.rb_rules.specs.Judging.{JudgedStage, are_alike, classes_of, good_now, is_benign, is_something, is_suspect, with_newest_sight, stage_begun, trusted_now, was_taken, was_unlike, with_sight}
 use Rattle.rb_rules.specs.Links.{name_of, same_node}
-use Rattle.rb_judge.specs.declared.seen.Seen.{Seen}
+use Rattle.rb_judge.specs.declared.seen.SourceSights.{SourceSights}
 use Rattle.rb_judge.specs.declared.stage_sets.StageSets.{StageSets}
 use Rattle.rb_judge.specs.Kinds.{AreSetsOf, Begins, KeepsSets, KeptKind, KnowsKind, ShowsKind, classes_kept, eps_now, is_suspected, seen_of, sight_now, taken_so_far, unlike_so_far}
 use Rattle.rb_judge.specs.Sights.{ShowsSource, some_node, some_unlike}
@@ -41,7 +41,7 @@ set_by op a b r p q a_is b_is r_is =
 -- ---- a stage begins
 
 -- nobody saw anything
-source_none : (eps good : ℕ) (seen : Seen) → seen.by ≡ 0 → seen.heard ≡ false → seen.unlike ≡ false → ShowsSource eps good (λ i. Nothing) seen
+source_none : (eps good : ℕ) (seen : SourceSights) → seen.by ≡ 0 → seen.heard ≡ false → seen.unlike ≡ false → ShowsSource eps good (λ i. Nothing) seen
 source_none eps good seen by_none none_heard alike = record {
   by = λ i h. ap (λ s. has s i) by_none ∙ has_none i;
   within = λ i h now. absurd (let e : has seen.by i ≡ false = ap (λ s. has s i) by_none ∙ has_none i in cc);
@@ -76,7 +76,7 @@ unfolding some_node
 was_taken_is kind j x = refl
 
 -- who saw something is good
-heard_is : (eps good : ℕ) (sight : ℕ → See) (seen : Seen) → ShowsSource eps good sight seen
+heard_is : (eps good : ℕ) (sight : ℕ → See) (seen : SourceSights) → ShowsSource eps good sight seen
     → seen.heard ≡ some_node (λ i. has good i && is_something (sight i))
 heard_is eps good sight seen is =
     let at : (g b s : Bool) → b ≡ s → (b ≡ true → g ≡ true) → b ≡ (g && s) =
@@ -178,7 +178,7 @@ kind_noted kind r from see (x ∷ earlier) before after good here others sets is
             (subst P (sym at) (here (λ i. x.sight (other kind) i from) (subst (λ (k : ℕ). ShowsSource x.eps (x.good (other kind)) (λ i. x.sight (other kind) i k) (seen_of k before)) at (is.sights j h))))
         | false ↦ λ e.
             let apart : j ≢ from = λ same. let yes : (j == from) ≡ true = ap (λ k. k == from) same ∙ eq_self from in cc in
-            let Q : Seen → Type 0 = λ seen. ShowsSource x.eps (x.good (other kind)) (λ i. x.sight (other kind) i j) seen in
+            let Q : SourceSights → Type 0 = λ seen. ShowsSource x.eps (x.good (other kind)) (λ i. x.sight (other kind) i j) seen in
             same_sights _ _ (λ i. x.sight (other kind) i j) _ (seen_of j after)
             (λ i.
             ap (λ b. if same_node (name_of (other kind) i) (name_of (other kind) r) && b then see else x.sight (other kind) i j) e

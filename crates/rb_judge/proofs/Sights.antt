@@ -10,9 +10,9 @@ use Rattle.rb_base.specs.declared.values.See.TheVariants as see
 use Rattle.rb_base.proofs.Sets.{eq_other, eq_self, has-is, same_set}
 use Rattle.rb_rules.specs.Judging.{are_alike, is_something}
 use Rattle.rb_rules.specs.Majority.{same_heard}
-use Rattle.rb_judge.specs.declared.seen.Kept.{Kept}
-use Rattle.rb_judge.specs.declared.seen.Kept.TheVariants.{Unlike, Value, Times}
-use Rattle.rb_judge.specs.declared.seen.Seen.{Seen}
+use Rattle.rb_judge.specs.declared.seen.KeptSight.{KeptSight}
+use Rattle.rb_judge.specs.declared.seen.KeptSight.TheVariants.{Unlike, Value, Times}
+use Rattle.rb_judge.specs.declared.seen.SourceSights.{SourceSights}
 use Rattle.rb_judge.specs.Sights.{IsKept, ShowsSource, clashes, is_unlike, kept_of, kept_with, some_differs, some_node, some_unlike, widened}
 use Rattle.rb_judge.proofs.SomeNode.{and_both, and_parts, not_false, not_true, or_first, or_parts, or_none, or_second, same_bool, some_fails, some_found, some_is, some_none}
 
@@ -283,7 +283,7 @@ wider_times : (eps l g t u : ℕ) → not (nat_le u (min l t + eps) && nat_le (m
     ≡ (not (nat_le u (l + eps) && nat_le g (u + eps)) || not (nat_le t (u + eps) && nat_le u (t + eps)))
 wider_times eps l g t u = grind (arith, nat_tests)
 
-wider_clashes : (eps : ℕ) (kept : Kept) (x y : See) → is_something x ≡ true → is_something y ≡ true → clashes eps kept x ≡ false
+wider_clashes : (eps : ℕ) (kept : KeptSight) (x y : See) → is_something x ≡ true → is_something y ≡ true → clashes eps kept x ≡ false
     → clashes eps (widened kept x) y ≡ (clashes eps kept y || not (are_alike eps x y))
 wider_clashes eps Unlike x y hx hy h = absurd (cc)
 wider_clashes eps (Value v) see.Nothing y hx hy h = absurd (cc)
@@ -297,14 +297,14 @@ wider_clashes eps (Times l g) (see.Time t) see.Nothing hx hy h = absurd (cc)
 wider_clashes eps (Times l g) (see.Time t) (see.Value u) hx hy h = refl
 wider_clashes eps (Times l g) (see.Time t) (see.Time u) hx hy h = wider_times eps l g t u
 
-wider_is_like : (kept : Kept) (x : See) → is_unlike (widened kept x) ≡ is_unlike kept
+wider_is_like : (kept : KeptSight) (x : See) → is_unlike (widened kept x) ≡ is_unlike kept
 wider_is_like Unlike x = refl
 wider_is_like (Value v) x = refl
 wider_is_like (Times l g) see.Nothing = refl
 wider_is_like (Times l g) (see.Value w) = refl
 wider_is_like (Times l g) (see.Time t) = refl
 
-unlike_clashes : (eps : ℕ) (kept : Kept) (x : See) → is_unlike kept ≡ true → clashes eps kept x ≡ true
+unlike_clashes : (eps : ℕ) (kept : KeptSight) (x : See) → is_unlike kept ≡ true → clashes eps kept x ≡ true
 unlike_clashes eps Unlike x h = refl
 unlike_clashes eps (Value v) x h = absurd (cc)
 unlike_clashes eps (Times l g) x h = absurd (cc)
@@ -327,7 +327,7 @@ kept_first eps before after r x sight adds something none =
     }
 
 -- a further sight
-kept_next : (eps before after r : ℕ) (x : See) (sight : ℕ → See) (kept : Kept) → Adds before after r → is_something x ≡ true
+kept_next : (eps before after r : ℕ) (x : See) (sight : ℕ → See) (kept : KeptSight) → Adds before after r → is_something x ≡ true
     → IsKept eps before sight kept → IsKept eps after (with_x r x sight) (if clashes eps kept x then Unlike else widened kept x)
 kept_next eps before after r x sight kept adds something is =
     let Goal : Bool → Type 0 = λ c. IsKept eps after (with_x r x sight) (if c then Unlike else widened kept x) in
@@ -358,7 +358,7 @@ kept_next eps before after r x sight kept adds something is =
     ] in
     by_unlike (is_unlike kept) refl (clashes eps kept x) refl
 
-kept_more : (eps before after r : ℕ) (x : See) (sight : ℕ → See) (heard : Bool) (kept : Kept) → Adds before after r → is_something x ≡ true
+kept_more : (eps before after r : ℕ) (x : See) (sight : ℕ → See) (heard : Bool) (kept : KeptSight) → Adds before after r → is_something x ≡ true
     → heard ≡ some_node (has before) → (heard ≡ true → IsKept eps before sight kept) → IsKept eps after (with_x r x sight) (kept_with eps heard kept x)
 kept_more eps before after r x sight true kept adds something some is = kept_next eps before after r x sight kept adds something (is refl)
 kept_more eps before after r x sight false kept adds something some is = kept_first eps before after r x sight adds something (sym some)
@@ -402,7 +402,7 @@ some_left_out eps good by r sight fits_good fits_by sees within below r_in apart
       unlike = something_unlike_nothing eps (sight r) (sight f.node) (sym (sees r below) ∙ r_in) (sym (sees f.node f.below) ∙ not_true _ at.1);
     })
 
-unlike_is : (eps good by r : ℕ) (sight : ℕ → See) (kept : Kept) → good < 2 ^ 16 → by < 2 ^ 16
+unlike_is : (eps good by r : ℕ) (sight : ℕ → See) (kept : KeptSight) → good < 2 ^ 16 → by < 2 ^ 16
     → ((i : ℕ) → i < 16 → has by i ≡ is_something (sight i)) → ((i : ℕ) → i < 16 → has by i ≡ true → has good i ≡ true)
     → r < 16 → has by r ≡ true → IsKept eps by sight kept → (not (by == good) || is_unlike kept) ≡ some_unlike eps good sight
 unlike_is eps good by r sight kept fits_good fits_by sees within below r_in is =
@@ -415,7 +415,7 @@ unlike_is eps good by r sight kept fits_good fits_by sees within below r_in is =
 
 -- ---- the whole step
 
-pub same_sights : (eps good : ℕ) (sight other : ℕ → See) (seen : Seen) → ((i : ℕ) → other i ≡ sight i) → ShowsSource eps good sight seen → ShowsSource eps good other seen
+pub same_sights : (eps good : ℕ) (sight other : ℕ → See) (seen : SourceSights) → ((i : ℕ) → other i ≡ sight i) → ShowsSource eps good sight seen → ShowsSource eps good other seen
 same_sights eps good sight other seen same is = subst (λ (f : ℕ → See). ShowsSource eps good f seen) (sym (fun_ext same)) is
 
 is_nothing : (x : See) → is_something x ≡ false → see.Nothing ≡ x
@@ -424,7 +424,7 @@ is_nothing (see.Value v) h = absurd (cc)
 is_nothing (see.Time t) h = absurd (cc)
 
 -- nothing is noted of a receiver of which nothing was noted
-pub nothing_noted : (eps good r : ℕ) (x : See) (sight : ℕ → See) (seen : Seen) → r < 16 → has seen.by r ≡ false → x ≡ see.Nothing
+pub nothing_noted : (eps good r : ℕ) (x : See) (sight : ℕ → See) (seen : SourceSights) → r < 16 → has seen.by r ≡ false → x ≡ see.Nothing
     → ShowsSource eps good sight seen → ShowsSource eps good (λ i. if i == r then x else sight i) seen
 nothing_noted eps good r x sight seen below fresh nothing is =
     let here : x ≡ sight r = nothing ∙ is_nothing (sight r) (sym (is.by r below) ∙ fresh) in
@@ -436,7 +436,7 @@ nothing_noted eps good r x sight seen below fresh nothing is =
     is
 
 -- something is noted
-pub something_noted : (eps good r by : ℕ) (x : See) (sight : ℕ → See) (seen : Seen) (unlike : Bool) (kept : Kept)
+pub something_noted : (eps good r by : ℕ) (x : See) (sight : ℕ → See) (seen : SourceSights) (unlike : Bool) (kept : KeptSight)
     → r < 16 → good < 2 ^ 16 → by < 2 ^ 16 → has good r ≡ true → has seen.by r ≡ false → is_something x ≡ true
     → by ≡ set_of (λ k. has seen.by k || (k == r)) → kept ≡ kept_with eps seen.heard seen.kept x → unlike ≡ (not (by == good) || is_unlike kept)
     → ShowsSource eps good sight seen
@@ -454,7 +454,7 @@ something_noted eps good r by x sight seen unlike kept below fits_good fits_by r
     let within : (i : ℕ) → i < 16 → has by i ≡ true → has good i ≡ true =
     λ i h now. elim (r_or_old seen.by by r adds i h now) [ inl old ↦ is.within i h old | inr same ↦ ap (has good) same ∙ r_good ] in
     let kept_now : IsKept eps by (with_x r x sight) kept =
-    let P : Kept → Type 0 = λ k. IsKept eps by (with_x r x sight) k in
+    let P : KeptSight → Type 0 = λ k. IsKept eps by (with_x r x sight) k in
     subst P (sym kept_is) (kept_more eps seen.by by r x sight seen.heard seen.kept adds something is.heard is.kept) in
     record {
       by = sees;

@@ -7,9 +7,9 @@ use Rattle.rb_base.specs.declared.values.See.TheVariants.{Nothing}
 use Rattle.rb_rules.specs.Judging.{ClassSets, JudgedStage, good_now, trusted_now, was_taken, was_unlike}
 use Rattle.rb_judge.specs.Sights.{ShowsSource}
 use Rattle.rb_judge.specs.declared.classes.Classes.{Classes}
-use Rattle.rb_judge.specs.declared.seen.Kept.{Kept}
-use Rattle.rb_judge.specs.declared.seen.Kept.TheVariants.{Unlike}
-use Rattle.rb_judge.specs.declared.seen.Seen.{Seen}
+use Rattle.rb_judge.specs.declared.seen.KeptSight.{KeptSight}
+use Rattle.rb_judge.specs.declared.seen.KeptSight.TheVariants.{Unlike}
+use Rattle.rb_judge.specs.declared.seen.SourceSights.{SourceSights}
 use Rattle.rb_judge.specs.declared.sources.Sources.{Sources}
 use Rattle.rb_judge.specs.declared.stage_sets.StageSets.{StageSets}
 
@@ -22,7 +22,7 @@ pub record KeptKind : Type 0 where
   pub unlike_now : ℕ  -- the same of the newest stage
   pub heard_now : ℕ
   pub by : List ℕ  -- by source, which receivers saw something of it in the newest stage
-  pub kept : List Kept  -- and what is kept of that
+  pub kept : List KeptSight  -- and what is kept of that
 
 -- what the code keeps, as these
 abbrev pub kept_kind : {K : Type 0} → Sources K → KeptKind
@@ -38,7 +38,7 @@ kept_kind s = record {
 }
 
 -- what is kept of source j in the newest stage
-abbrev pub seen_of : ℕ → KeptKind → Seen
+abbrev pub seen_of : ℕ → KeptKind → SourceSights
 seen_of j s = record {
   by = slice_index s.by j;
   heard = has s.heard_now j;

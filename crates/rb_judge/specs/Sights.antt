@@ -7,9 +7,9 @@ use Rattle.rb_base.specs.declared.values.See.{See}
 use Rattle.rb_base.specs.declared.values.See.TheVariants as see
 use Rattle.rb_rules.specs.Judging.{are_alike, is_something}
 use Rattle.rb_rules.specs.Majority.{same_heard}
-use Rattle.rb_judge.specs.declared.seen.Kept.{Kept}
-use Rattle.rb_judge.specs.declared.seen.Kept.TheVariants.{Unlike, Value, Times}
-use Rattle.rb_judge.specs.declared.seen.Seen.{Seen}
+use Rattle.rb_judge.specs.declared.seen.KeptSight.{KeptSight}
+use Rattle.rb_judge.specs.declared.seen.KeptSight.TheVariants.{Unlike, Value, Times}
+use Rattle.rb_judge.specs.declared.seen.SourceSights.{SourceSights}
 
 -- some node of a kind passes
 unfoldable pub some_node : (ℕ → Bool) → Bool
@@ -24,7 +24,7 @@ abbrev pub some_differs : ℕ → ℕ → (ℕ → See) → See → Bool
 some_differs eps nodes sight x = some_node (λ i. has nodes i && not (are_alike eps (sight i) x))
 
 -- a sight is unlike one of those of which this is kept
-abbrev pub clashes : ℕ → Kept → See → Bool
+abbrev pub clashes : ℕ → KeptSight → See → Bool
 clashes eps Unlike x = true
 clashes eps (Value v) see.Nothing = true
 clashes eps (Value v) (see.Value w) = not (same_heard v w)
@@ -34,13 +34,13 @@ clashes eps (Times least greatest) (see.Value w) = true
 clashes eps (Times least greatest) (see.Time t) = not (nat_le t (least + eps) && nat_le greatest (t + eps))
 
 -- what is kept of a first sight
-abbrev pub kept_of : See → Kept
+abbrev pub kept_of : See → KeptSight
 kept_of see.Nothing = Unlike
 kept_of (see.Value v) = Value v
 kept_of (see.Time t) = Times t t
 
 -- what is kept of sights and one more that is like all of them
-abbrev pub widened : Kept → See → Kept
+abbrev pub widened : KeptSight → See → KeptSight
 widened Unlike x = Unlike
 widened (Value v) x = Value v
 widened (Times least greatest) see.Nothing = Times least greatest
@@ -48,23 +48,23 @@ widened (Times least greatest) (see.Value w) = Times least greatest
 widened (Times least greatest) (see.Time t) = Times (min least t) (max greatest t)
 
 -- what is kept of sights and one more
-abbrev pub kept_with : ℕ → Bool → Kept → See → Kept
+abbrev pub kept_with : ℕ → Bool → KeptSight → See → KeptSight
 kept_with eps heard kept x = if heard then (if clashes eps kept x then Unlike else widened kept x) else kept_of x
 
-abbrev pub is_unlike : Kept → Bool
+abbrev pub is_unlike : KeptSight → Bool
 is_unlike Unlike = true
 is_unlike (Value v) = false
 is_unlike (Times least greatest) = false
 
 -- this is kept of what the receivers saw: whether they saw unlike, and if not, what tells of each further sight whether it is
 -- unlike one of theirs
-pub record IsKept (eps nodes : ℕ) (sight : ℕ → See) (kept : Kept) : Type 0 where
+pub record IsKept (eps nodes : ℕ) (sight : ℕ → See) (kept : KeptSight) : Type 0 where
   pub unlike : is_unlike kept ≡ some_unlike eps nodes sight
   pub further : is_unlike kept ≡ false → (x : See) → is_something x ≡ true → clashes eps kept x ≡ some_differs eps nodes sight x
 
 -- what the good receivers saw of a source, and what is kept of it: who saw something, whether anybody did, whether two good
 -- receivers saw it unlike, and the value or the times that were seen
-pub record ShowsSource (eps good : ℕ) (sight : ℕ → See) (seen : Seen) : Type 0 where
+pub record ShowsSource (eps good : ℕ) (sight : ℕ → See) (seen : SourceSights) : Type 0 where
   pub by : (i : ℕ) → i < 16 → has seen.by i ≡ is_something (sight i)
   pub within : (i : ℕ) → i < 16 → has seen.by i ≡ true → has good i ≡ true
   pub heard : seen.heard ≡ some_node (has seen.by)

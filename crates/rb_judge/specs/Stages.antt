@@ -17,7 +17,7 @@ pub record KeptJudge : Type 0 where
   pub rmus : KeptKind
 
 -- the judge stands for these stages of a frame, the newest first
-pub record Shows (judge : KeptJudge) (stages : List JudgedStage) : Type 0 where
+pub record HoldsStages (judge : KeptJudge) (stages : List JudgedStage) : Type 0 where
   pub eps : judge.eps ≡ eps_now stages
   pub bius : ShowsKind Biu stages judge.bius
   pub rmus : ShowsKind Rmu stages judge.rmus

@@ -5,7 +5,7 @@ ghost use Rattle.std.specs.Prelude.{◌≡◌, ◌<◌, true, false, [], ◌∷�
 ghost use Rattle.rb_base.specs.Nodes.Side.{Biu as biu_side, Rmu as rmu_side};
 ghost use Rattle.rb_rules.specs.Judging.{JudgedStage, are_few_good, by_kind, cause_of, classes_of, with_newest_sight, stage_begun, verdict_of};
 ghost use Rattle.rb_judge.specs.Kinds.{AreSetsOf, sets_of};
-ghost use Rattle.rb_judge.specs.Stages.{Knows, Shows, has_noted, is_good_now, sources_of};
+ghost use Rattle.rb_judge.specs.Stages.{Knows, HoldsStages, has_noted, is_good_now, sources_of};
 
 pub use classes::Classes;
 use rb_base::{Biu, NodeName, NodeSet, Rmu, See, Shape};
@@ -43,7 +43,7 @@ impl Model for Judge {
 impl Judge {
     /// A judge of a bus of this shape, at the begin of a frame.
     pub fn new(shape: &Shape) -> Judge
-        ensures begun { Shows result [] }
+        ensures begun { HoldsStages result [] }
         ensures shape { result.sizes ≡ shape.now }
     {
         Judge {
@@ -56,7 +56,7 @@ impl Judge {
 
     /// A frame begins: all that was seen is forgotten.
     pub fn frame(&mut self)
-        ensures begun { Shows self.new [] }
+        ensures begun { HoldsStages self.new [] }
         ensures shape { self.new.sizes ≡ self.old.sizes }
     {
         self.eps = 0;
@@ -75,7 +75,7 @@ impl Judge {
         eps: u32,
     )
         ensures begun { (stages : List JudgedStage) → Knows self.old stages
-            → Shows self.new (stage_begun (by_kind good_biu good_rmu) (by_kind trusted_biu trusted_rmu) eps ∷ stages) }
+            → HoldsStages self.new (stage_begun (by_kind good_biu good_rmu) (by_kind trusted_biu trusted_rmu) eps ∷ stages) }
         ensures shape { self.new.sizes ≡ self.old.sizes }
     {
         self.eps = eps;
@@ -88,7 +88,7 @@ impl Judge {
         requires good { is_good_now self.old receiver ≡ true }
         requires source { from < sources_of self.old receiver }
         requires once { has_noted self.old receiver from ≡ false }
-        ensures seen { (stages : List JudgedStage) → Shows self.old stages → Shows self.new (with_newest_sight receiver from see stages) }
+        ensures seen { (stages : List JudgedStage) → HoldsStages self.old stages → HoldsStages self.new (with_newest_sight receiver from see stages) }
         ensures shape { self.new.sizes ≡ self.old.sizes }
     {
         match receiver {

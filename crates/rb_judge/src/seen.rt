@@ -9,7 +9,7 @@ use rb_base::{Heard, NodeId, NodeSet, See};
 
 /// What is kept of the sights that are something.
 #[derive(Clone, Copy)]
-pub enum Kept {
+pub enum KeptSight {
     /// Two of them are unlike.
     Unlike,
     /// All are this value.
@@ -20,19 +20,25 @@ pub enum Kept {
 
 /// What is kept of the sights of one source.
 #[derive(Clone, Copy)]
-pub struct Seen {
+pub struct SourceSights {
     /// The receivers that saw something.
     pub by: u16,
     /// Whether there is one.
     pub heard: bool,
     /// Whether two good receivers saw the source unlike.
     pub unlike: bool,
-    pub kept: Kept,
+    pub kept: KeptSight,
 }
 
-impl Seen {
+impl SourceSights {
     /// One sight more. The receiver is good, and saw nothing of the source so far.
-    pub(crate) fn noted<R: Copy>(self, good: NodeSet<R>, eps: u32, receiver: u8, see: See) -> Seen
+    pub(crate) fn noted<R: Copy>(
+        self,
+        good: NodeSet<R>,
+        eps: u32,
+        receiver: u8,
+        see: See,
+    ) -> SourceSights
         requires number { receiver < 16 }
         requires good { has good receiver ≡ true }
         requires once { has self.by receiver ≡ false }
@@ -46,7 +52,7 @@ impl Seen {
         let mut by: NodeSet<R> = NodeSet::from_bits(self.by);
         by.insert(NodeId::of(receiver));
         let by = by.bits();
-        Seen {
+        SourceSights {
             by,
             heard: true,
             unlike: by != good.bits() || is_unlike(kept),
@@ -55,33 +61,33 @@ impl Seen {
     }
 }
 
-fn is_unlike(kept: Kept) -> bool
+fn is_unlike(kept: KeptSight) -> bool
     ensures { result ≡ is_unlike kept }
 {
-    matches!(kept, Kept::Unlike)
+    matches!(kept, KeptSight::Unlike)
 }
 
 // What is kept of sights and one more.
-fn kept_with(eps: u32, heard: bool, kept: Kept, see: See) -> Kept
+fn kept_with(eps: u32, heard: bool, kept: KeptSight, see: See) -> KeptSight
     ensures { result ≡ kept_with eps heard kept see }
 {
     if !heard {
         kept_of(see)
     } else if clashes(eps, kept, see) {
-        Kept::Unlike
+        KeptSight::Unlike
     } else {
         widened(kept, see)
     }
 }
 
 // What is kept of a first sight.
-fn kept_of(see: See) -> Kept
+fn kept_of(see: See) -> KeptSight
     ensures { result ≡ kept_of see }
 {
     match see {
-        See::Nothing => Kept::Unlike,
-        See::Value(value) => Kept::Value(value),
-        See::Time(time) => Kept::Times {
+        See::Nothing => KeptSight::Unlike,
+        See::Value(value) => KeptSight::Value(value),
+        See::Time(time) => KeptSight::Times {
             least: time,
             greatest: time,
         },
@@ -89,11 +95,11 @@ fn kept_of(see: See) -> Kept
 }
 
 // What is kept of sights and one more that is like all of them.
-fn widened(kept: Kept, see: See) -> Kept
+fn widened(kept: KeptSight, see: See) -> KeptSight
     ensures { result ≡ widened kept see }
 {
     match (kept, see) {
-        (Kept::Times { least, greatest }, See::Time(time)) => Kept::Times {
+        (KeptSight::Times { least, greatest }, See::Time(time)) => KeptSight::Times {
             least: least.min(time),
             greatest: greatest.max(time),
         },
@@ -112,12 +118,12 @@ fn same_heard(v: Heard, w: Heard) -> bool
 }
 
 // Whether a sight is unlike one of those of which this is kept.
-fn clashes(eps: u32, kept: Kept, see: See) -> bool
+fn clashes(eps: u32, kept: KeptSight, see: See) -> bool
     ensures { result ≡ clashes eps kept see }
 {
     match (kept, see) {
-        (Kept::Value(v), See::Value(w)) => !same_heard(v, w),
-        (Kept::Times { least, greatest }, See::Time(time)) => {
+        (KeptSight::Value(v), See::Value(w)) => !same_heard(v, w),
+        (KeptSight::Times { least, greatest }, See::Time(time)) => {
             let eps = u64::from(eps);
             eps < time.saturating_sub(least) || eps < greatest.saturating_sub(time)
         }

@@ -6,7 +6,7 @@ ghost use Rattle.rb_judge.specs.Sights.{ShowsSource};
 ghost use Rattle.rb_judge.specs.Kinds.{Begins, KeepsSets, classes_kept, kept_kind, seen_of, sets_of};
 
 use crate::classes::Classes;
-use crate::seen::{Kept, Seen};
+use crate::seen::{KeptSight, SourceSights};
 use crate::stage_sets::StageSets;
 use rb_base::{NodeId, NodeSet, See};
 
@@ -24,7 +24,7 @@ pub struct Sources<K> {
     pub heard_now: NodeSet<K>,
     /// By source, which receivers saw something of it in the newest stage, as a mask, and what is kept of that.
     pub by: [u16; 16],
-    pub kept: [Kept; 16],
+    pub kept: [KeptSight; 16],
 }
 
 // The set with node i exactly where `member`.
@@ -60,7 +60,7 @@ impl<K: Copy> Sources<K> {
             unlike_now: NodeSet::empty(),
             heard_now: NodeSet::empty(),
             by: [0; 16],
-            kept: [Kept::Unlike; 16],
+            kept: [KeptSight::Unlike; 16],
         }
     }
 
@@ -90,12 +90,12 @@ impl<K: Copy> Sources<K> {
         self.by = [0; 16];
     }
 
-    fn seen(&self, source: u8) -> Seen
+    fn seen(&self, source: u8) -> SourceSights
         requires { source < 16 }
         ensures { result ≡ seen_of source (kept_kind self.now) }
     {
         let at = usize::from(source);
-        Seen {
+        SourceSights {
             by: self.by[at],
             heard: self.heard_now.has(source),
             unlike: self.unlike_now.has(source),
@@ -103,7 +103,7 @@ impl<K: Copy> Sources<K> {
         }
     }
 
-    fn put(&mut self, source: u8, seen: Seen)
+    fn put(&mut self, source: u8, seen: SourceSights)
         requires { source < 16 }
         ensures here { seen_of source (kept_kind self.new) ≡ seen }
         ensures others { (j : ℕ) → j < 16 → j ≢ source → seen_of j (kept_kind self.new) ≡ seen_of j (kept_kind self.old) }

@@ -14,7 +14,7 @@ abbrev pub is_lost : Delivery → Bool
 is_lost delivery = is_fault delivery.value
 
 -- the port stands for this state, of which it keeps the last 64 deliveries
-pub record Shows (kept : KeptPort) (port : PortState) : Type 0 where
+pub record HoldsPort (kept : KeptPort) (port : PortState) : Type 0 where
   pub app : kept.app ≡ port.app
   pub state : kept.state ≡ port.state
   pub faults : map is_lost (reverse kept.latest) ≡ take 64 port.faults

@@ -1,7 +1,7 @@
 //! The port of a BIU.
 ghost use Rattle.std.specs.Prelude.{◌≡◌, ◌<◌, IfOk, count_by};
 ghost use Rattle.rb_rules.specs.Ports.{PortState, delivered_to, fresh_port, losses_of, offered_at, word_in};
-ghost use Rattle.rb_port.specs.Keeping.{Shows, is_lost};
+ghost use Rattle.rb_port.specs.Keeping.{HoldsPort, is_lost};
 
 use crate::apps::Apps;
 use circular_buffer::HeapCircularBuffer;
@@ -53,7 +53,7 @@ impl Port {
     /// A port with no deliveries. The application's number is below 3.
     pub fn new(alloc: Global, app: u8, state: u64) -> Result<Port, OutOfMemory>
         requires { app < 3 }
-        ensures { IfOk result (λ port. Shows port (fresh_port app state)) }
+        ensures { IfOk result (λ port. HoldsPort port (fresh_port app state)) }
     {
         let latest = HeapCircularBuffer::with_capacity(alloc, KEPT)?;
         Ok(Port { app, state, latest })
@@ -61,14 +61,14 @@ impl Port {
 
     /// The word that the application offers for the slot.
     pub fn offer(&self, apps: &Apps, slot: u16) -> u32
-        ensures { (port : PortState) → Shows self.now port → result ≡ offered_at port slot }
+        ensures { (port : PortState) → HoldsPort self.now port → result ≡ offered_at port slot }
     {
         apps.offer(self.app, self.state, slot)
     }
 
     /// The application learns a delivery.
     pub fn deliver(&mut self, apps: &Apps, delivery: Delivery)
-        ensures { (port : PortState) → Shows self.old port → Shows self.new (delivered_to port delivery.value) }
+        ensures { (port : PortState) → HoldsPort self.old port → HoldsPort self.new (delivered_to port delivery.value) }
     {
         self.state = apps.learn(
             self.app,
@@ -82,21 +82,21 @@ impl Port {
 
     /// The application's state.
     pub fn state(&self) -> u64
-        ensures { (port : PortState) → Shows self.now port → result ≡ port.state }
+        ensures { (port : PortState) → HoldsPort self.now port → result ≡ port.state }
     {
         self.state
     }
 
     /// Sets the application's state, and changes nothing else.
     pub fn set(&mut self, state: u64)
-        ensures { (port : PortState) → Shows self.old port → Shows self.new (record port { state = state }) }
+        ensures { (port : PortState) → HoldsPort self.old port → HoldsPort self.new (record port { state = state }) }
     {
         self.state = state;
     }
 
     /// How many of the last 64 deliveries were Fault.
     pub fn losses(&self) -> u8
-        ensures { (port : PortState) → Shows self.now port → result ≡ losses_of port }
+        ensures { (port : PortState) → HoldsPort self.now port → result ≡ losses_of port }
     {
         self.count_lost()
     }

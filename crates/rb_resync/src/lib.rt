@@ -4,7 +4,7 @@
 ghost use Rattle.std.specs.Prelude.{◌≡◌, ℕ, ◌+◌, ◌<◌, ◌≤◌, ◌^◌, ◌++◌, ◌∷◌, [], List, if◌then◌else◌, Some, None, length};
 ghost use Rattle.rb_base.specs.Nodes.{has};
 ghost use Rattle.rb_base.specs.Nodes.Side.{Biu, Rmu};
-ghost use Rattle.rb_eligible.specs.Inboxes.{Received, Shows, StampsUpTo, sense_in, sole_at};
+ghost use Rattle.rb_eligible.specs.Inboxes.{Received, HoldsArrivals, StampsUpTo, sense_in, sole_at};
 ghost use Rattle.rb_eligible.specs.Standings.{standing_of};
 ghost use Rattle.rb_rules.specs.ExactStage.{present};
 ghost use Rattle.rb_rules.specs.NodeState.{NodeState};
@@ -57,16 +57,25 @@ pub fn close_sync<K: Copy>(
     expected: NodeSet<K>,
     first: u64,
 ) -> SyncClosing
-    ensures closing { (received : List Received) → Shows inbox.now received
+    ensures closing { (received : List Received) → HoldsArrivals inbox.now received
         → result ≡ sync_closing_of (standing_of standing.old) (has expected) (sense_in expect.now received) first }
-    ensures accused { (received : List Received) → Shows inbox.now received
+    ensures accused { (received : List Received) → HoldsArrivals inbox.now received
         → standing_of standing.new
         ≡ with_evidence (has_evidence (standing_of standing.old) (has expected) (sense_in expect.now received))
         (standing_of standing.old) }
     ensures soon { (n : ℕ) → StampsUpTo n inbox.now → first ≤ n → result.middle ≤ n }
 {
+    let mut written = NodeSet::empty();
     let (mut values, mut sees) = ([None; 16], [See::Nothing; 16]);
-    let taking = take_with_evidence(inbox, standing, expect, expected, &mut values, &mut sees);
+    let taking = take_with_evidence(
+        inbox,
+        standing,
+        expect,
+        expected,
+        &mut written,
+        &mut values,
+        &mut sees,
+    );
     let takers = taking.ones.intersection(inbox.soles());
     let mut taken_of = [None; 16];
     let mut stamps = ArrayVec::new();

@@ -1,5 +1,12 @@
 -- The close of a stage, and mismatch accusations.
-use Rattle.std.proofs.Common.{◌≡◌, ℕ, Bool, Option, List, refl, ◌∙◌, ap}
+use Rattle.std.proofs.Common.{◌≡◌, ℕ, ◌<◌, Bool, Option, None, List, [], replicate, refl, sym, ◌∙◌, ap}
+use Rattle.std.proofs.lemmas.List.FromFn.{fill_by_all}
+use Rattle.rb_base.specs.Nodes.{has}
+use Rattle.rb_base.proofs.Sets.{has_none}
+use Rattle.rb_base.specs.declared.values.See.{See}
+use Rattle.rb_base.specs.declared.values.Heard.TheVariants.{Fault}
+use Rattle.rb_rules.proofs.ExactStages.{same_each_node}
+use Rattle.rb_eligible.specs.Sheets.{IsSheet}
 use Rattle.rb_base.specs.declared.values.Heard.{Heard}
 use Rattle.rb_rules.specs.Majority.{majority_of}
 use Rattle.rb_rules.specs.ExactStage.{closing_of, each_node, present}
@@ -16,3 +23,15 @@ closing_is s expected sense taken values voted taken_is values_are voted_is =
     let vote : voted ≡ majority_of (present (each_node (taken_of value_in s expected sense))) =
     voted_is ∙ ap majority_of values_are ∙ ap (λ t. majority_of (present t)) taken_is in
     rw (taken_is, vote) refl
+
+-- where nothing is taken of any source, the closing is that of nothing
+pub nothing_closing : (s : Standing) (expected : ℕ → Bool) (sense : ℕ → Sense) → ((j : ℕ) → j < 16 → taken_of value_in s expected sense j ≡ None)
+    → ◌≡◌ {A = Closing} (record { taken = replicate 16 None; voted = Fault }) (closing_of s expected sense)
+nothing_closing s expected sense none =
+    let taken : each_node (taken_of value_in s expected sense) ≡ replicate 16 None = same_each_node (taken_of value_in s expected sense) (λ j. None) none in
+    closing_is s expected sense (replicate 16 None) [] Fault (sym taken) refl refl
+
+-- a sheet on which nothing is written
+pub blank_closing : (written : ℕ) (taken : List (Option Heard)) (sees : List See) → written ≡ 0 → IsSheet written taken sees → taken ≡ replicate 16 None
+blank_closing written taken sees none sheet =
+    fill_by_all (λ j. None) taken 16 None sheet.all (λ j h. sheet.rest j h (ap (λ s. has s j) none ∙ has_none j))

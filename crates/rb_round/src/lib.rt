@@ -4,19 +4,23 @@
 ghost use Rattle.std.specs.Prelude.{◌≡◌, ℕ, ◌<◌, List, ◌||◌, ◌==◌, if◌then◌else◌, None, map, replicate, unwrap_or, IsTrue};
 ghost use Rattle.rb_base.specs.Nodes.{has, set_of};
 ghost use Rattle.rb_base.specs.declared.values.Heard.{Heard};
-ghost use Rattle.rb_eligible.specs.Inboxes.{Received, Shows, sense_in};
+ghost use Rattle.rb_eligible.specs.Inboxes.{Received, HoldsArrivals, sense_in};
+ghost use Rattle.rb_eligible.specs.Sheets.{IsSheet};
 ghost use Rattle.rb_eligible.specs.Standings.{standing_of};
 ghost use Rattle.rb_rules.specs.ExactStage.{at_source, closing_of, present, see_value, with_unlike};
 ghost use Rattle.rb_rules.specs.Majority.{majority_of};
 ghost use Rattle.rb_rules.specs.Standing.{has_evidence, is_unlike, with_evidence};
 
 use rb_base::{Heard, NodeId, NodeSet, See};
-use rb_eligible::{Inbox, Standing, take_with_evidence};
+use rb_eligible::{Inbox, Standing, is_quiet, take_with_evidence};
 pub use rb_rules::Closing;
 use rb_rules::Expect;
 use rb_vote::majority_taken;
+pub use sheet::Sheet;
 
-// The vote over what was taken. Where all of it is the same value, it is that one, and where nothing was taken, Fault.
+pub mod sheet;
+
+// The vote over what was taken. Where more than half of it is known to be alike, it is that value.
 fn vote(taken: &[Option<Heard>; 16], alike: bool, value: Option<Heard>) -> Heard
     requires { IsTrue alike → majority_of (present taken.now) ≡ unwrap_or value Heard.Fault }
     ensures { result ≡ majority_of (present taken.now) }
@@ -41,9 +45,9 @@ pub fn close_stage<K: Copy>(
     expect: &Expect,
     expected: NodeSet<K>,
 ) -> Closing
-    ensures closing { (received : List Received) → Shows inbox.now received
+    ensures closing { (received : List Received) → HoldsArrivals inbox.now received
         → result ≡ closing_of (standing_of standing.old) (has expected) (sense_in expect.now received) }
-    ensures accused { (received : List Received) → Shows inbox.now received
+    ensures accused { (received : List Received) → HoldsArrivals inbox.now received
         → standing_of standing.new
         ≡ with_evidence (has_evidence (standing_of standing.old) (has expected) (sense_in expect.now received))
         (standing_of standing.old) }
@@ -54,8 +58,40 @@ pub fn close_stage<K: Copy>(
     closing
 }
 
-/// The same in place: the closing is written over `closing`, and what is shown of each source over `sees`. Where nobody is
-/// expected and nothing came that costs next to nothing.
+// The close of a stage in which something came or somebody is expected.
+#[inline(never)]
+pub(crate) fn close_busy<K: Copy>(
+    inbox: &Inbox<K>,
+    standing: &mut Standing<K>,
+    expect: &Expect,
+    expected: NodeSet<K>,
+    written: &mut NodeSet<K>,
+    closing: &mut Closing,
+    sees: &mut [See; 16],
+)
+    requires { IsSheet written.old closing.old.taken sees.old }
+    ensures closing { (received : List Received) → HoldsArrivals inbox.now received
+        → closing.new ≡ closing_of (standing_of standing.old) (has expected) (sense_in expect.now received) }
+    ensures accused { (received : List Received) → HoldsArrivals inbox.now received
+        → standing_of standing.new
+        ≡ with_evidence (has_evidence (standing_of standing.old) (has expected) (sense_in expect.now received))
+        (standing_of standing.old) }
+    ensures sheet { IsSheet written.new closing.new.taken sees.new }
+{
+    let taking = take_with_evidence(
+        inbox,
+        standing,
+        expect,
+        expected,
+        written,
+        &mut closing.taken,
+        sees,
+    );
+    closing.voted = vote(&closing.taken, taking.alike, taking.value);
+}
+
+/// The same in place: the closing is written over `closing`, and what is shown of each source over `sees`, whatever they were
+/// before. Where nothing came and no trusted source is expected that costs next to nothing.
 pub fn close_stage_into<K: Copy>(
     inbox: &Inbox<K>,
     standing: &mut Standing<K>,
@@ -64,16 +100,28 @@ pub fn close_stage_into<K: Copy>(
     closing: &mut Closing,
     sees: &mut [See; 16],
 )
-    ensures closing { (received : List Received) → Shows inbox.now received
+    ensures closing { (received : List Received) → HoldsArrivals inbox.now received
         → closing.new ≡ closing_of (standing_of standing.old) (has expected) (sense_in expect.now received) }
-    ensures accused { (received : List Received) → Shows inbox.now received
+    ensures accused { (received : List Received) → HoldsArrivals inbox.now received
         → standing_of standing.new
         ≡ with_evidence (has_evidence (standing_of standing.old) (has expected) (sense_in expect.now received))
         (standing_of standing.old) }
     ensures sees { sees.new ≡ map see_value closing.new.taken }
 {
-    let taking = take_with_evidence(inbox, standing, expect, expected, &mut closing.taken, sees);
-    closing.voted = vote(&closing.taken, taking.alike, taking.value);
+    *closing = nothing_taken();
+    *sees = [See::Nothing; 16];
+    if !is_quiet(inbox, standing, expected) {
+        let mut written = NodeSet::empty();
+        close_busy(
+            inbox,
+            standing,
+            expect,
+            expected,
+            &mut written,
+            closing,
+            sees,
+        );
+    }
 }
 
 /// A closing in which nothing was taken.

@@ -1,5 +1,5 @@
 -- An accepted input says one scenario, and breaks no rule.
-use Rattle.std.proofs.Common.{◌≡◌, ℕ, zero, suc, ◌+◌, ◌<◌, ◌&&◌, ◌==◌, Bool, true, false, not, List, [], ◌∷◌, length, take, codes, Option, Some, None, is_none, slice_get, arith, ap, sym, ◌∙◌, refl, subst}
+use Rattle.std.proofs.Common.{◌≡◌, ℕ, zero, suc, ◌<◌, ◌&&◌, ◌==◌, Bool, true, false, not, List, [], ◌∷◌, length, take, codes, Option, Some, None, is_none, slice_get, arith, ap, sym, ◌∙◌, refl, subst}
 use Rattle.std.specs.List.{list_all, list_any}
 use Rattle.toml.specs.Data.{Members}
 use Rattle.rb_rules.specs.Goodness.{Scenario as Told}

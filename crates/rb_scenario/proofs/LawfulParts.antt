@@ -1,6 +1,6 @@
 -- Every scenario that is accepted is lawful.
 use Rattle.std.proofs.Common.{◌≡◌, ◌+◌, ◌-◌, ◌^◌, ◌<◌, ◌≤◌, ℕ, List, Bool, true, false, not, nat_le, nat_lt, cond, All, length, get_or, map, codes, Option, Some, None, Result, Ok, Err, IfOk, refl, sym, ap, ◌∙◌, subst, arith, length-append}
-use Rattle.std.proofs.lemmas.Bool.{and_parts, false≢true, leb-true, not-true}
+use Rattle.std.proofs.lemmas.Bool.{and_parts, leb-true, not-true}
 use Rattle.std.proofs.lemmas.List.Elements.{All-append, All-map}
 use Rattle.std.proofs.lemmas.List.FromFn.{length-map-range_with_len}
 use Rattle.std.proofs.lemmas.List.Sums.{AllPass-from_list_all}
@@ -11,24 +11,19 @@ use Rattle.toml.specs.Data.{Data, Members, string, integer, float, boolean, date
 use Rattle.rb_base.specs.Counting.{numbers}
 use Rattle.rb_base.specs.Nodes.{Side}
 use Rattle.rb_base.specs.Nodes.Side.{Biu, Rmu}
-use Rattle.rb_base.specs.Sizes.{Sizes, sync_slot_of}
+use Rattle.rb_base.specs.Sizes.{sync_slot_of}
 use Rattle.rb_base.specs.declared.node.NodeName.{NodeName}
-use Rattle.rb_base.specs.declared.node.NodeName.TheVariants as node
 use Rattle.rb_rules.specs.Clock.{IsClock, Timeline}
 use Rattle.rb_rules.specs.Goodness.{Scenario}
 use Rattle.rb_rules.specs.Links.{name_of}
 use Rattle.rb_rules.specs.Plan.{IsFeasible, longest_of, shortest_of}
-use Rattle.rb_rules.specs.declared.link.Pattern.{Pattern}
-use Rattle.rb_rules.specs.declared.link.Pattern.TheVariants.{One}
-use Rattle.rb_rules.specs.declared.link.Rule.{Rule}
 use Rattle.rb_rules.specs.declared.plan.Plan.{Plan}
-use Rattle.rb_rules.specs.declared.say.Say.{Say}
 use Rattle.rb_rules.specs.Lawful.{HasEach, IsLawful, IsOnsetOf, is_node_good, segments_of_all}
 use Rattle.rb_rules.proofs.Feasibility.{feasible_exactly}
 use Rattle.rb_rules.proofs.Lawfulness.{sends_inside_all}
-use Rattle.rb_document.specs.Names.{node_at, pattern_at}
-use Rattle.rb_document.specs.Values.{has_number, is_range, item_at, may_have_number, number_at, number_or, range_or}
-use Rattle.rb_document.specs.Walk.{absent_or, entries_at, has_key, passes}
+use Rattle.rb_document.specs.Names.{node_at}
+use Rattle.rb_document.specs.Values.{has_number, item_at, may_have_number, number_at, number_or}
+use Rattle.rb_document.specs.Walk.{entries_at, has_key, passes}
 use Rattle.rb_document.proofs.Bounds.{absent_or-bounds, passes-bounds}
 use Rattle.rb_document.proofs.Walks.{listed-within}
 use Rattle.rb_entries.specs.declared.bus.Bus.{Bus}
@@ -38,7 +33,7 @@ use Rattle.rb_entries.specs.Clocks.{clock_for, clocks_of, is_clock, kind_clocks,
 use Rattle.rb_entries.specs.Entries.{is_node}
 use Rattle.rb_entries.specs.Faults.{is_fault, onset_for, onset_of, onsets_of}
 use Rattle.rb_scenario.specs.Hosts.{app_at, app_in, apps_of, has_lists, request_at, requests_of, word_at, words_of}
-use Rattle.rb_entries.specs.Links.{are_apart, is_link, rule_of}
+use Rattle.rb_entries.specs.Links.{is_link, rule_of}
 use Rattle.rb_scenario.specs.Reading.{fits_bus, scenario_on}
 use Rattle.rb_scenario.specs.Rules.{is_delay, keep_time, start_together}
 use Rattle.rb_entries.specs.Clocks.{keeps_time}

@@ -1,5 +1,5 @@
 -- The rules on what a document says.
-use Rattle.std.specs.Prelude.{ℕ, ◌-◌, Bool, not, ◌&&◌, nat_le, List, length}
+use Rattle.std.specs.Prelude.{ℕ, ◌-◌, Bool, not, ◌&&◌, nat_le, List}
 use Rattle.std.specs.List.{list_all}
 use Rattle.rb_rules.specs.Clock.{Timeline}
 use Rattle.rb_rules.specs.Goodness.{Scenario}

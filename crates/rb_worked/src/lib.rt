@@ -4,6 +4,7 @@
 
 pub mod abstract_bus;
 pub mod accusing;
+pub mod agreement;
 pub mod cores;
 pub mod events;
 pub mod frames;

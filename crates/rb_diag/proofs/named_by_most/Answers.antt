@@ -1,5 +1,5 @@
 -- The set grows by each trusted node that most name.
-use Rattle.std.proofs.Common.{ℕ, Bool, ◌&&◌, get_or, refl, sym, ◌∙◌, arith}
+use Rattle.std.proofs.Common.{ℕ, Bool, ◌&&◌, get_or, sym, ◌∙◌, arith}
 use Rattle.rb_base.specs.Nodes.{has}
 use Rattle.rb_base.specs.declared.values.Heard.TheVariants.{Fault}
 use Rattle.rb_base.proofs.SetLoops.{passing_none, passing_more, passing_same, passing_all}

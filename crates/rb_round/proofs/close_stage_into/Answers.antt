@@ -1,13 +1,20 @@
-use Rattle.std.proofs.Common.{refl}
+use Rattle.std.proofs.Common.{sym, ◌∙◌}
 use Rattle.rb_base.specs.Nodes.{has}
-use Rattle.rb_rules.specs.ExactStage.{present}
 use Rattle.rb_eligible.specs.Inboxes.{sense_in}
 use Rattle.rb_eligible.specs.Standings.{standing_of}
-use Rattle.rb_round.proofs.Closings.{closing_is}
+use Rattle.rb_eligible.proofs.Quiet.{quiet_accuses, quiet_takes}
+use Rattle.rb_round.proofs.Closings.{nothing_closing}
 use Rattle.rb_round.proofs.close_stage_into.Goals as goal
 
-pub returns-clause-closing : goal.returns-clause-closing
-returns-clause-closing g c = λ received shown.
-    let taken = c.take_with_evidence-taking.new.taken in
-    closing_is (standing_of c.args.standing.now) (has c.args.expected) (sense_in c.args.expect.now received) taken (present taken) c.vote-closing.result
-    (c.take_with_evidence-taking.ensures.taken received shown) refl c.vote-closing.ensures
+pub returns-else-not-is_quiet-clause-closing : goal.returns-else-not-is_quiet-clause-closing
+returns-else-not-is_quiet-clause-closing g c = λ received shown.
+    let s = standing_of c.args.standing.now in
+    let sense = sense_in c.args.expect.now received in
+    c.nothing_taken.ensures
+    ∙ nothing_closing s (has c.args.expected) sense (quiet_takes s c.args.expected sense (c.is_quiet.ensures.nobody c.if-not-is_quiet.false))
+
+pub returns-else-not-is_quiet-clause-accused : goal.returns-else-not-is_quiet-clause-accused
+returns-else-not-is_quiet-clause-accused g c = λ received shown.
+    sym
+    (quiet_accuses (standing_of c.args.standing.now) c.args.expected c.args.expect.now c.args.inbox.now received c.is_quiet.ensures.direct c.is_quiet.ensures.fresh (c.is_quiet.ensures.came c.if-not-is_quiet.false)
+    (c.is_quiet.ensures.nobody c.if-not-is_quiet.false) shown)

@@ -1,38 +1,42 @@
-use Rattle.std.proofs.Common.{◌≡◌, ◌<◌, ℕ, Bool, ◌&&◌, ◌==◌, not, true, None, length, get_or, inl, refl, sym, ◌∙◌, ap}
+use Rattle.std.proofs.Common.{◌≡◌, ◌<◌, ℕ, Bool, Option, ◌&&◌, ◌==◌, not, true, false, None, if◌then◌else◌, length, refl, sym, ◌∙◌, ap}
 use Rattle.std.proofs.Math.ListN.{length-set}
+use Rattle.std.proofs.lemmas.List.{length-map}
+use Rattle.rb_base.specs.declared.values.Heard.{Heard}
+use Rattle.rb_rules.specs.ExactStage.{see_value}
 use Rattle.rb_base.specs.Nodes.{has}
-use Rattle.rb_base.proofs.Sets.{has-is, is_set_of, set_of-lt}
+use Rattle.rb_base.proofs.Sets.{has-is, has_none, is_set_of}
 use Rattle.rb_rules.specs.Sense.{is_one, value_in}
 use Rattle.rb_eligible.specs.Inboxes.{is_sole, sense_in}
-use Rattle.rb_eligible.proofs.Alike.{alike_next, alike_vote, held_next, none_taken, was_not}
-use Rattle.rb_eligible.proofs.Scans.{both_second, common_has, filled_all, filled_next, kept_fits, kept_has, none_filled, none_passed, passed_all, passed_next, within_next}
-use Rattle.rb_eligible.proofs.Seeing.{none_shown, shown_all, shown_next}
-use Rattle.rb_eligible.proofs.Sensed.{none_but_soles, read_one, read_value, value_but_soles}
+use Rattle.rb_eligible.proofs.Alike.{leading_vote, ones_next, open_next, same_next}
+use Rattle.rb_eligible.proofs.Scans.{blank_first, blank_next, filled_next, kept_fits, kept_has, none_passed, passed_all, passed_next, within_next}
+use Rattle.rb_eligible.proofs.Seeing.{first_shown, shown_all, shown_next}
+use Rattle.rb_eligible.proofs.Sensed.{read_one, read_value, says_none, says_one}
 use Rattle.rb_eligible.proofs.taking.take_some.Goals as goal
 
 pub loop-source-init : goal.loop-source-init
 loop-source-init g c =
-    let kept = c.args.inbox.now in
-    let left = c.intersection-left.result in
-    let todo : ℕ → Bool = λ j. has c.args.takable j && is_sole kept j in
-    let first : (j : ℕ) → j < 16 → has left j ≡ todo j = λ j h. common_has c.args.takable c.soles.result left j (is_sole kept) c.intersection-left.ensures c.soles.ensures h in
-    let blank : (j : ℕ) → j < 16 → get_or c.args.taken.now j None ≡ None = none_taken c.args.taken.now c.requires.taken in
+    let due = c.args.due in
+    let todo : ℕ → Bool = λ j. has due j in
+    let sheet = c.requires.sheet in
     record {
-      fits = rw c.intersection-left.ensures (set_of-lt (λ i. has c.args.takable i && has c.soles.result i));
-      all = ap length c.requires.taken;
-      all_seen = ap length c.requires.sees;
+      fits = c.requires.fits;
+      all = sheet.all;
+      all_seen = ap length sheet.shown ∙ length-map c.args.taken.now see_value ∙ sheet.all;
       last = c.nothing_read-last.ensures.reading;
-      within = λ j h inside. sym (first j h) ∙ inside;
-      one = λ received shown j h. none_passed todo (λ j. is_one (sense_in c.args.expect.now received j)) left j (first j h);
-      so_far = λ received shown j h. blank j h ∙ none_filled todo (λ j. value_in (sense_in c.args.expect.now received j)) left j (first j h);
-      alike = λ same j h. inl (blank j h);
-      held = inl c.nothing_read-last.ensures.value;
-      seen = none_shown c.args.sees.now c.args.taken.now c.requires.sees c.requires.taken;
+      within = λ j h inside. inside;
+      one = λ received shown j h. none_passed todo (λ j. is_one (sense_in c.args.expect.now received j)) due j refl;
+      so_far = λ received shown. blank_first due (λ j. value_in (sense_in c.args.expect.now received j)) c.args.taken.now sheet.rest;
+      rest = sheet.rest;
+      still = λ j h inside. inside;
+      ones_only = λ j h gone other. sheet.rest j h gone;
+      same_only = λ j h inside gone. let e : true ≡ false = sym inside ∙ gone in absurd cc;
+      seen = first_shown c.args.sees.now c.args.taken.now sheet.all sheet.shown;
     }
 
 pub loop-source-preserved : goal.loop-source-preserved
 loop-source-preserved g c =
     let kept = c.args.inbox.now in
+    let due = c.args.due in
     let before = c.loop-source.left in
     let after = c.pop_first.new.self in
     let k = c.index.result in
@@ -40,11 +44,12 @@ loop-source-preserved g c =
     let pops = c.in-Some.ensures.first in
     let here : has before k ≡ true = rw c.index.ensures.value pops.inside in
     let removed : (j : ℕ) → j < 16 → has after j ≡ (has before j && not (j == k)) = rw c.index.ensures.value (λ j h. has-is after j (λ i. has before i && not (i == c.in-Some.source)) pops.rest h) in
-    let todo : ℕ → Bool = λ j. has c.args.takable j && is_sole kept j in
-    let due : todo k ≡ true = c.loop-source.invariant.within k below here in
-    let sole : is_sole kept k ≡ true = both_second (has c.args.takable k) (is_sole kept k) due in
+    let todo : ℕ → Bool = λ j. has due j in
+    let is_due : has due k ≡ true = c.loop-source.invariant.within k below here in
+    let sole : is_sole kept k ≡ true = c.requires.due k below is_due in
     let says = rw (c.sole_at.ensures.value, ← c.index.ensures.value) at c.read.ensures.says in
-    let stays = rw (← c.index.ensures.value) at c.keep_if.ensures in
+    let stays = rw (← c.index.ensures.value) at c.keep_if.ensures.ones in
+    let stays_same = rw (← c.index.ensures.value) at c.keep_if.ensures.same in
     record {
       fits = kept_fits c.loop-source.ones c.keep_if.new.ones k c.read.new.last.one stays c.loop-source.invariant.fits;
       all = length-set _ _ _ ∙ c.loop-source.invariant.all;
@@ -52,43 +57,57 @@ loop-source-preserved g c =
       last = c.read.ensures.reading;
       within = within_next todo before after k removed c.loop-source.invariant.within;
       one = λ received shown.
-          passed_next todo (λ j. is_one (sense_in c.args.expect.now received j)) before after c.loop-source.ones c.keep_if.new.ones k c.read.new.last.one below here due
+          passed_next todo (λ j. is_one (sense_in c.args.expect.now received j)) before after c.loop-source.ones c.keep_if.new.ones k c.read.new.last.one below here is_due
           (read_one c.args.expect.now kept received k c.read.new.last.one c.read.new.last.value shown below sole says)
           removed (λ j. kept_has c.loop-source.ones c.keep_if.new.ones k j c.read.new.last.one stays) (c.loop-source.invariant.one received shown);
       so_far = λ received shown.
+          let value : ℕ → Option Heard = λ j. value_in (sense_in c.args.expect.now received j) in
           rw c.from-at.ensures
-          (filled_next todo (λ j. value_in (sense_in c.args.expect.now received j)) before after k c.loop-source.taken c.read.new.last.value below c.loop-source.invariant.all here due
-          (read_value c.args.expect.now kept received k c.read.new.last.one c.read.new.last.value shown below sole says)
+          (filled_next (λ j. if has due j then value j else None) before after k c.loop-source.taken c.read.new.last.value below c.loop-source.invariant.all
+          (read_value c.args.expect.now kept received k c.read.new.last.one c.read.new.last.value shown below sole says ∙ sym (ap (λ b. if b then value k else None) is_due))
           removed (c.loop-source.invariant.so_far received shown));
-      alike = λ same.
-          let like = c.read.ensures.alike same in
-          rw c.from-at.ensures (alike_next c.loop-source.last.value c.read.new.last.value c.loop-source.taken k below c.loop-source.invariant.all like.1 (c.loop-source.invariant.alike like.0));
-      held = rw c.from-at.ensures (held_next c.read.new.last.value c.loop-source.taken k below c.loop-source.invariant.all);
+      rest = rw c.from-at.ensures (blank_next due k c.loop-source.taken c.read.new.last.value is_due c.loop-source.invariant.rest);
+      still = open_next c.loop-source.ones c.keep_if.new.ones before after k c.read.new.last.one (λ j. kept_has c.loop-source.ones c.keep_if.new.ones k j c.read.new.last.one stays) removed c.loop-source.invariant.still;
+      ones_only =
+          rw c.from-at.ensures
+          (ones_next c.read.new.last.value c.loop-source.ones c.keep_if.new.ones before after k c.loop-source.taken c.read.new.last.one below c.loop-source.invariant.all (c.loop-source.invariant.still k below here)
+          (λ j. kept_has c.loop-source.ones c.keep_if.new.ones k j c.read.new.last.one stays) removed (says_none c.args.expect.now _ c.read.new.last.one c.read.new.last.value says) c.loop-source.invariant.ones_only);
+      same_only =
+          rw c.from-at.ensures
+          (same_next c.loop-source.last.candidate c.read.new.last.candidate c.read.new.last.value c.loop-source.same c.keep_if.new.same before after k c.loop-source.taken c.read.new.last.agrees below
+          c.loop-source.invariant.all (λ j. kept_has c.loop-source.same c.keep_if.new.same k j c.read.new.last.agrees stays_same) removed c.read.ensures.reading.agreed c.read.ensures.candidate
+          c.loop-source.invariant.same_only);
       seen =
           rw c.from-at.ensures
           (shown_next c.loop-source.sees c.loop-source.taken k c.read.new.last.see c.read.new.last.value below c.loop-source.invariant.all_seen c.loop-source.invariant.all c.read.ensures.reading.shown
           c.loop-source.invariant.seen);
     }
 
+pub keep_if-requires : goal.keep_if-requires
+keep_if-requires g c = λ same.
+    let found = c.read.ensures.reading.agreed same in
+    says_one c.args.expect.now _ c.read.new.last.one c.read.new.last.value found.0 c.read.ensures.says found.1.0
+
 pub returns-clause-ones : goal.returns-clause-ones
 returns-clause-ones g c = λ received shown.
-    let kept = c.args.inbox.now in
-    let todo : ℕ → Bool = λ j. has c.args.takable j && is_sole kept j in
+    let todo : ℕ → Bool = λ j. has c.args.due j in
     let passes : ℕ → Bool = λ j. is_one (sense_in c.args.expect.now received j) in
-    is_set_of c.loop-source.ones (λ j. has c.args.takable j && passes j) c.loop-source.invariant.fits
-    (λ j h. passed_all todo passes c.loop-source.left c.loop-source.ones j (c.in_default.ensures.empty.0 refl) (c.loop-source.invariant.one received shown j h)
-    ∙ none_but_soles c.args.expect.now kept received (has c.args.takable j) j shown h)
+    is_set_of c.loop-source.ones (λ j. has c.args.due j && passes j) c.loop-source.invariant.fits
+    (λ j h. passed_all todo passes c.loop-source.left c.loop-source.ones j (c.in_default.ensures.empty.0 refl) (c.loop-source.invariant.one received shown j h))
 
 pub returns-clause-taken : goal.returns-clause-taken
 returns-clause-taken g c = λ received shown j h.
-    let kept = c.args.inbox.now in
-    let todo : ℕ → Bool = λ j. has c.args.takable j && is_sole kept j in
-    filled_all todo (λ j. value_in (sense_in c.args.expect.now received j)) c.loop-source.left j (get_or c.loop-source.taken j None) (c.in_default.ensures.empty.0 refl) (c.loop-source.invariant.so_far received shown j h)
-    ∙ value_but_soles c.args.expect.now kept received (has c.args.takable j) j shown h
+    c.loop-source.invariant.so_far received shown j h (ap (λ s. has s j) (c.in_default.ensures.empty.0 refl) ∙ has_none j)
 
 pub returns-clause-alike : goal.returns-clause-alike
 returns-clause-alike g c = λ is.
-    alike_vote c.loop-source.last.value c.loop-source.taken c.loop-source.invariant.all (c.loop-source.invariant.alike (was_not c.loop-source.last.mixed is)) c.loop-source.invariant.held
+    let none : (j : ℕ) → has c.loop-source.left j ≡ false = λ j. ap (λ s. has s j) (c.in_default.ensures.empty.0 refl) ∙ has_none j in
+    leading_vote c.loop-source.last.candidate c.loop-source.ones c.loop-source.same c.loop-source.taken c.loop-source.invariant.all
+    (λ j h inside. c.loop-source.invariant.same_only j h inside (none j)) (λ j h other. c.loop-source.invariant.ones_only j h (none j) other) (c.leads.ensures is)
 
-pub returns-clause-sees : goal.returns-clause-sees
-returns-clause-sees g c = shown_all c.loop-source.sees c.loop-source.taken c.loop-source.invariant.all_seen c.loop-source.invariant.all c.loop-source.invariant.seen
+pub returns-clause-sheet : goal.returns-clause-sheet
+returns-clause-sheet g c = record {
+  all = c.loop-source.invariant.all;
+  shown = shown_all c.loop-source.sees c.loop-source.taken c.loop-source.invariant.all_seen c.loop-source.invariant.all c.loop-source.invariant.seen;
+  rest = c.loop-source.invariant.rest;
+}

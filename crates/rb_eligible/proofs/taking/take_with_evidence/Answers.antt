@@ -22,7 +22,7 @@ returns-clause-taken g c = λ received shown.
     let s = standing_of c.args.standing.now in
     let sense = sense_in c.args.expect.now received in
     let takable : ℕ → Bool = λ j. has c.args.expected j && is_eligible s j in
-    fill_by_all (taken_of value_in s (has c.args.expected) sense) c.take_each-taking.new.taken 16 None c.take_each-taking.ensures.all
+    fill_by_all (taken_of value_in s (has c.args.expected) sense) c.take_each-taking.new.taken 16 None c.take_each-taking.ensures.sheet.all
     (λ j h. c.take_each-taking.ensures.taken received shown j h ∙ ap (λ b. if b then value_in (sense j) else None) (has-is c.eligible_of-takable.result j takable c.eligible_of-takable.ensures h))
 
 pub returns-clause-accused : goal.returns-clause-accused

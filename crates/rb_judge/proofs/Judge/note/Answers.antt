@@ -2,7 +2,7 @@ use Rattle.std.proofs.Common.{◌≡◌, true, arith, ◌∙◌, sym, subst}
 use Rattle.rb_base.specs.Nodes.{has}
 use Rattle.rb_base.specs.Nodes.Side.{Biu, Rmu}
 use Rattle.rb_base.specs.declared.node.NodeName.TheVariants as node
-use Rattle.rb_judge.specs.Stages.{KeptJudge, Shows, is_good_now}
+use Rattle.rb_judge.specs.Stages.{KeptJudge, HoldsStages, is_good_now}
 use Rattle.rb_judge.proofs.Sides.{eps_stays, kind_notes, kind_stays}
 use Rattle.rb_judge.proofs.Judge.note.Goals as goal
 
@@ -14,7 +14,7 @@ note-requires-in-Rmu-clause-source c = omega (arith, c.biu.ensures.shape.most_bi
 
 pub returns-in-Biu-clause-seen : goal.returns-in-Biu-clause-seen
 returns-in-Biu-clause-seen c = λ stages is.
-    let shows = subst (λ (k : KeptJudge). Shows k stages) (sym c.self.view_is) is in
+    let shows = subst (λ (k : KeptJudge). HoldsStages k stages) (sym c.self.view_is) is in
     let good : has c.self.inside.bius.good c.in-Biu.i ≡ true =
     subst (λ (k : KeptJudge). is_good_now k (node.Biu c.in-Biu.i) ≡ true) (sym c.self.view_is) (rw c.in-Biu.is at c.requires.good) in
     rw c.in-Biu.is (record {
@@ -25,7 +25,7 @@ returns-in-Biu-clause-seen c = λ stages is.
 
 pub returns-in-Rmu-clause-seen : goal.returns-in-Rmu-clause-seen
 returns-in-Rmu-clause-seen c = λ stages is.
-    let shows = subst (λ (k : KeptJudge). Shows k stages) (sym c.self.view_is) is in
+    let shows = subst (λ (k : KeptJudge). HoldsStages k stages) (sym c.self.view_is) is in
     let good : has c.self.inside.rmus.good c.in-Rmu.i ≡ true =
     subst (λ (k : KeptJudge). is_good_now k (node.Rmu c.in-Rmu.i) ≡ true) (sym c.self.view_is) (rw c.in-Rmu.is at c.requires.good) in
     rw c.in-Rmu.is (record {

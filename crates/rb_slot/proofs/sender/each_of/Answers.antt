@@ -1,4 +1,4 @@
-use Rattle.std.proofs.Common.{◌∙◌, ◌^◌, ◌<◌, ◌≡◌, sym, arith, ap}
+use Rattle.std.proofs.Common.{◌∙◌, sym, arith, ap}
 use Rattle.rb_base.specs.Nodes.{has, set_of}
 use Rattle.rb_base.proofs.Sets.{set_of-has}
 use Rattle.rb_slot.proofs.sender.each_of.Goals as goal

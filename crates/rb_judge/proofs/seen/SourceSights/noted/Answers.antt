@@ -3,7 +3,7 @@ use Rattle.rb_base.specs.Nodes.{has, set_of}
 use Rattle.rb_base.proofs.Sets.{eq_other, eq_self}
 use Rattle.rb_judge.specs.Sights.{is_unlike}
 use Rattle.rb_judge.proofs.Sights.{not_nothing, nothing_noted, something_noted}
-use Rattle.rb_judge.proofs.seen.Seen.noted.Goals as goal
+use Rattle.rb_judge.proofs.seen.SourceSights.noted.Goals as goal
 
 pub returns-in-Nothing : goal.returns-in-Nothing
 returns-in-Nothing g c = λ sight is. nothing_noted _ _ _ _ sight _ c.requires.number c.requires.once c.in-Nothing.is is
