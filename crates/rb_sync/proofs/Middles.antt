@@ -142,7 +142,7 @@ pub record HasLeast (good : ℕ → Bool) (time : ℕ → ℕ) (spread n : ℕ) 
   pub held : ((i : ℕ) → i < n → good i ≡ false) ⊎ ((k : ℕ) × (good k ≡ true) × (time k ≡ least))
 
 -- a number up to the last
-pub last_or_before : (i n : ℕ) → i < suc n → (i < n) ⊎ (i ≡ n)
+last_or_before : (i n : ℕ) → i < suc n → (i < n) ⊎ (i ≡ n)
 last_or_before i n lt = elim (cases_lt i n) [ inl before ↦ inl before | inr ge ↦ inr (omega arith) ]
 
 Near : (ℕ → Bool) → (ℕ → ℕ) → ℕ → Type 0
