@@ -16,7 +16,7 @@ pub fn windows_are_timely()
     ensures { WindowsAreTimely }
 {}
 
-/// Good nodes begin offset `o` of a slot's first tick at most `p + 2 * r * o` reference units apart.
+/// Good nodes begin a slot at most `p + 2 * r * o` reference units apart, `o` being the offset of its first tick in the frame.
 pub fn slots_begin_near()
     ensures { SlotsBeginNear }
 {}
