@@ -1,5 +1,5 @@
 -- The least of times.
-use Rattle.std.proofs.Common.{◌≡◌, ℕ, ◌+◌, ◌<◌, min, Option, Some, None, List, [], ◌∷◌, ◌++◌, length, map, take, get_or, refl, ap, ◌∙◌, arith}
+use Rattle.std.proofs.Common.{◌≡◌, ℕ, ◌+◌, ◌<◌, min, Option, Some, None, List, [], ◌∷◌, ◌++◌, length, map, take, get_or, is_some, IsNone, ◌↔◌, Bool, true, false, refl, sym, ap, ◌∙◌, arith}
 use Rattle.std.proofs.lemmas.List.{take_more}
 use Rattle.rb_rules.specs.WorldStep.{least}
 use Rattle.rb_queue.specs.declared.pending.Pending.{Pending}
@@ -24,3 +24,8 @@ least_pushed events p = ap least (map-last events p) ∙ least-push (map (λ p. 
 pub least_more : (events : List Pending) (i : ℕ) (d : Pending) → i < length events
     → least (map (λ p. p.time) (take (i + 1) events)) ≡ Some (earlier (least (map (λ p. p.time) (take i events))) (get_or events i d).time)
 least_more events i d h = rw (take_more events i d h) (least_pushed (take i events) (get_or events i d))
+
+-- there is no least time exactly where there is no event
+pub none_left : (events : List Pending) (o : Option ℕ) → o ≡ least (map (λ p. p.time) events) → IsNone o ↔ (events ≡ [])
+none_left [] o is = let none : o ≡ None = is in (λ h. refl, λ h. ap is_some none)
+none_left (p ∷ events) o is = (λ h. let some : is_some o ≡ true = ap is_some is in let never : true ≡ false = sym some ∙ h in cc, λ h. cc)

@@ -1,5 +1,5 @@
 //! The pending events of one node.
-ghost use Rattle.std.specs.Prelude.{◌≡◌, ◌<◌, ◌≤◌, length, Some, IfOk};
+ghost use Rattle.std.specs.Prelude.{◌≡◌, ◌<◌, ◌≤◌, length, [], Some, IfOk, IsNone, ◌↔◌};
 ghost use Rattle.rb_queue.specs.Waiting.{ready_event, empty_lane, emptied, head_of, pushed, ready_of, spare_of, without_ready};
 
 use crate::pending::Pending;
@@ -56,8 +56,10 @@ impl Lane {
         let _ = self.events.push(pending);
     }
 
+    #[tactic(auto, using(crate::proofs::Times::none_left))]
     pub(crate) fn head(&self) -> Option<u64>
-        ensures { result ≡ head_of self.now }
+        ensures value { result ≡ head_of self.now }
+        ensures none { IsNone result ↔ (self.now.events ≡ []) }
     {
         self.head
     }

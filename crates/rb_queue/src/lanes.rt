@@ -1,5 +1,5 @@
 //! The pending events of all nodes.
-ghost use Rattle.std.specs.Prelude.{◌≡◌, ◌<◌, ◌≤◌, [], ◌∷◌, ◌++◌, length, map, Some, IfOk};
+ghost use Rattle.std.specs.Prelude.{◌≡◌, ◌<◌, ◌≤◌, [], ◌∷◌, ◌++◌, length, map, Some, IfOk, IsNone, ◌↔◌};
 ghost use Rattle.rb_base.specs.Counting.{numbers};
 ghost use Rattle.rb_rules.specs.Book.{each_of};
 ghost use Rattle.rb_queue.specs.Waiting.{HasLane, empty_lane, emptied, head_of, lane_of, pushed, ready_event, ready_of, spare_of, with_lane, without_ready};
@@ -78,8 +78,8 @@ impl Lanes {
         requires in_shape { HasLane self.old event.node }
         requires spare { 1 ≤ spare_of (lane_of self.old event.node) }
         ensures after { self.new ≡ with_lane event.node
-          (pushed (record { time = time; event = event }) (lane_of self.old event.node))
-          self.old }
+            (pushed (record { time = time; event = event }) (lane_of self.old event.node))
+            self.old }
     {
         let node = event.node;
         let pending = Pending { time, event };
@@ -93,6 +93,7 @@ impl Lanes {
     pub fn head(&self, node: NodeName) -> Option<u64>
         requires in_shape { HasLane self.now node }
         ensures value { result ≡ head_of (lane_of self.now node) }
+        ensures none { IsNone result ↔ ((lane_of self.now node).events ≡ []) }
     {
         self.lane(node).head()
     }

@@ -74,10 +74,8 @@ fn lowest_source(events: &[Pending], time: u64, first: u16) -> u16
 // The place of the event that comes from a source at a time after so many others. Where there is none, how many of those others
 // are still to be found elsewhere.
 fn place_among(events: &[Pending], time: u64, source: u16, others: usize) -> Result<usize, usize>
-    ensures {
-      MatchResult result (λ place. StandsAt (coming_at time events.now source) others events.now place)
-      (λ left. left + length (coming_at time events.now source) ≡ others)
-    }
+    ensures { MatchResult result (λ place. StandsAt (coming_at time events.now source) others events.now place)
+        (λ left. left + length (coming_at time events.now source) ≡ others) }
 {
     let mut left = others;
     for (place, pending) in events.iter().enumerate() {

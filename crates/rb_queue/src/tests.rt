@@ -32,16 +32,14 @@ fn arrival(node: NodeName, from: u8) -> Event
 }
 
 #[test]
-fn lanes(rt: HostRuntime) -> Result<(), Fail> {
+fn a_tick_waits_for_an_arrival_of_its_time(rt: HostRuntime) -> Result<(), Fail> {
     let shape = Shape::new(1, 2, 1).unwrap();
     let mut lanes = Lanes::new(rt.alloc(), &shape, 3)?;
     let b0 = NodeName::Biu(0);
-    let r1 = NodeName::Rmu(1);
     assert_eq!(rt; lanes.spare(b0), 3);
     assert_eq!(rt; lanes.head(b0), None);
     assert_eq!(rt; lanes.ready(b0), 0);
 
-    // A tick waits for an arrival of its time.
     assert!(rt; lanes.spare(b0) >= 1);
     lanes.push(5, tick(b0));
     assert!(rt; lanes.spare(b0) >= 1);
@@ -53,16 +51,33 @@ fn lanes(rt: HostRuntime) -> Result<(), Fail> {
     assert!(rt; lanes.take(b0, 0) == arrival(b0, 0));
     assert_eq!(rt; lanes.ready(b0), 1);
     assert!(rt; lanes.event_at(b0, 0) == &tick(b0));
+    lanes.drop_all(b0);
+    assert_eq!(rt; lanes.head(b0), None);
+    Ok(())
+}
 
-    // Another node's events stay.
+#[test]
+fn events_of_other_nodes_stay(rt: HostRuntime) -> Result<(), Fail> {
+    let shape = Shape::new(1, 2, 1).unwrap();
+    let mut lanes = Lanes::new(rt.alloc(), &shape, 3)?;
+    let b0 = NodeName::Biu(0);
+    let r1 = NodeName::Rmu(1);
+    assert!(rt; lanes.spare(b0) >= 1);
+    lanes.push(5, arrival(b0, 1));
     assert!(rt; lanes.spare(r1) >= 1);
     lanes.push(7, tick(r1));
     lanes.drop_all(b0);
     assert_eq!(rt; lanes.head(b0), None);
     assert_eq!(rt; lanes.spare(b0), 3);
     assert_eq!(rt; lanes.head(r1), Some(7));
+    Ok(())
+}
 
-    // Ready are the events of the least time, by sender.
+#[test]
+fn ready_are_the_events_of_the_least_time_by_sender(rt: HostRuntime) -> Result<(), Fail> {
+    let shape = Shape::new(1, 2, 1).unwrap();
+    let mut lanes = Lanes::new(rt.alloc(), &shape, 3)?;
+    let b0 = NodeName::Biu(0);
     assert!(rt; lanes.spare(b0) >= 1);
     lanes.push(9, arrival(b0, 0));
     assert!(rt; lanes.spare(b0) >= 1);

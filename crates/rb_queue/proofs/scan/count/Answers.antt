@@ -9,7 +9,7 @@ pub loop-pending-preserved : goal.loop-pending-preserved
 loop-pending-preserved c =
     let within : c.loop-pending.pending-index < length c.args.events.now = omega arith in
     let more = count_more c.args.time c.args.first c.args.end c.args.events.now c.loop-pending.pending-index c.pending-item.result within c.pending-item.is in
-    let one : c.from-count.result ≡ cond (is_between c.args.time c.args.first c.args.end c.pending-item.result) 1 0 = 
+    let one : c.from-count.result ≡ cond (is_between c.args.time c.args.first c.args.end c.pending-item.result) 1 0 =
     subst (λ b. c.from-count.result ≡ cond b 1 0) c.is_between.ensures (grind (arith, common_steps)) in
     record {
       few = omega (arith, one, once (is_between c.args.time c.args.first c.args.end c.pending-item.result));
