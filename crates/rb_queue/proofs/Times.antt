@@ -1,5 +1,5 @@
 -- The least of times.
-use Rattle.std.proofs.Common.{◌≡◌, ℕ, ◌+◌, ◌<◌, min, Option, Some, None, List, [], ◌∷◌, ◌++◌, length, map, take, get_or, is_some, IsNone, ◌↔◌, Bool, true, false, refl, sym, ap, ◌∙◌, arith}
+use Rattle.std.proofs.Common.{◌≡◌, ℕ, ◌+◌, ◌<◌, min, Option, Some, None, List, [], ◌∷◌, ◌++◌, length, map, take, get_or, is_some, IsNone, ◌↔◌, true, false, refl, sym, ap, ◌∙◌, arith}
 use Rattle.std.proofs.lemmas.List.{take_more}
 use Rattle.rb_rules.specs.WorldStep.{least}
 use Rattle.rb_queue.specs.declared.pending.Pending.{Pending}

@@ -1,4 +1,3 @@
-use Rattle.std.proofs.Common.{arith}
 use Rattle.rb_queue.proofs.EmptyLanes.{one_more}
 use Rattle.rb_queue.proofs.lanes.empty_lanes.Goals as goal
 

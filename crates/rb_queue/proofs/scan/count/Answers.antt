@@ -1,4 +1,4 @@
-use Rattle.std.proofs.Common.{◌≡◌, ℕ, ◌<◌, length, arith, cond, subst, Bool, true, false}
+use Rattle.std.proofs.Common.{◌≡◌, ◌<◌, length, arith, cond, subst}
 use Rattle.std.proofs.lemmas.Grind.{common_steps}
 use Rattle.rb_base.proofs.Counts.{once}
 use Rattle.rb_queue.specs.Waiting.{is_between}

@@ -1,4 +1,4 @@
-use Rattle.std.proofs.Common.{◌≡◌, ◌<◌, ℕ, length, arith, ap, sym, ◌∙◌}
+use Rattle.std.proofs.Common.{◌≡◌, length, arith, sym, ◌∙◌}
 use Rattle.rb_queue.specs.Waiting.{arrivals_at, ticks_at}
 use Rattle.rb_queue.proofs.Sources.{count_arrivals, count_ticks, unless_any-none, unless_any-some}
 use Rattle.rb_queue.proofs.scan.count_ready.Goals as goal

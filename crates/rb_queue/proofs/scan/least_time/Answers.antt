@@ -1,4 +1,4 @@
-use Rattle.std.proofs.Common.{◌≡◌, ℕ, ◌<◌, length, map, take, Some, arith, ap, sym, ◌∙◌}
+use Rattle.std.proofs.Common.{◌<◌, length, map, take, Some, arith, ap, sym, ◌∙◌}
 use Rattle.rb_rules.specs.WorldStep.{least}
 use Rattle.rb_queue.specs.Waiting.{earlier}
 use Rattle.rb_queue.proofs.Times.{least_more}

@@ -1,5 +1,4 @@
-use Rattle.std.proofs.Common.{◌≡◌, ◌<◌, length, arith, sym, ◌∙◌, true, false}
-use Rattle.rb_queue.specs.Waiting.{is_between}
+use Rattle.std.proofs.Common.{◌<◌, length, arith, sym, ◌∙◌}
 use Rattle.rb_queue.proofs.Sources.{lowest_new, lowest_stays}
 use Rattle.rb_queue.proofs.scan.lowest_source.Goals as goal
 use Rattle.rb_queue.proofs.scan.lowest_source.Goals.{then-is_between, else-is_between}

@@ -1,4 +1,4 @@
-use Rattle.std.proofs.Common.{◌≡◌, ℕ, ◌<◌, length, arith, sym, ◌∙◌, true}
+use Rattle.std.proofs.Common.{◌≡◌, ◌<◌, length, arith, sym, ◌∙◌, true}
 use Rattle.rb_queue.specs.Waiting.{comes}
 use Rattle.rb_queue.proofs.Sources.{found_here}
 use Rattle.rb_queue.proofs.scan.place_among.Goals as goal

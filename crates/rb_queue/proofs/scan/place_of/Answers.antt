@@ -1,4 +1,3 @@
-use Rattle.std.proofs.Common.{◌≡◌, arith}
 use Rattle.rb_queue.proofs.Sources.{all_left, left_here, left_later}
 use Rattle.rb_queue.proofs.scan.place_of.Goals as goal
 
