@@ -7,7 +7,8 @@ use Rattle.std.proofs.lemmas.Option.{slice_get-get_or}
 use Rattle.rb_base.specs.Counting.{count_if}
 use Rattle.rb_base.proofs.Counts.{count_if-take_more}
 use Rattle.rb_queue.specs.declared.pending.Pending.{Pending}
-use Rattle.rb_queue.specs.Waiting.{source_of, comes, is_between, coming_at, arrivals_at, ticks_at, unless_any, ready_at, StandsAt}
+use Rattle.rb_queue.specs.Waiting.{source_of, comes, coming_at, arrivals_at, ticks_at, unless_any, ready_at}
+use Rattle.rb_queue.specs.Scanning.{is_between, StandsAt}
 
 -- what comes at a time from n sources, of which this is the first
 unfoldable pub from_on : ℕ → List Pending → ℕ → ℕ → List (ℕ × Pending)

@@ -3,7 +3,7 @@ use Rattle.std.proofs.Common.{◌≡◌, ℕ, ◌+◌, ◌<◌, min, Option, Som
 use Rattle.std.proofs.lemmas.List.{take_more}
 use Rattle.rb_rules.specs.WorldStep.{least}
 use Rattle.rb_queue.specs.declared.pending.Pending.{Pending}
-use Rattle.rb_queue.specs.Waiting.{earlier}
+use Rattle.rb_queue.specs.Scanning.{earlier}
 
 -- one time more
 pub least-push : (ts : List ℕ) (t : ℕ) → least (ts ++ t ∷ []) ≡ Some (earlier (least ts) t)
@@ -11,7 +11,7 @@ least-push [] t = refl
 least-push (x ∷ ts) t =
     let go : (o : Option ℕ) → min x (earlier o t) ≡ earlier (Some (elim o [ None ↦ x | Some u ↦ min x u ])) t =
     λ o. elim o as (λ o. min x (earlier o t) ≡ earlier (Some (elim o [ None ↦ x | Some u ↦ min x u ])) t) [ None ↦ omega arith | Some u ↦ omega arith ] in
-    ap (λ o. Some (elim o [ None ↦ x | Some u ↦ min x u ])) (least-push ts t) ∙ ap (λ n. Some n) (go (least ts))
+    rw (least-push ts t) (ap (λ n. Some n) (go (least ts)))
 
 map-last : (events : List Pending) (p : Pending) → map (λ p. p.time) (events ++ p ∷ []) ≡ map (λ p. p.time) events ++ p.time ∷ []
 map-last [] p = refl

@@ -1,5 +1,5 @@
 -- Pending events by node: which is the least time at a node, and which events are ready then.
-use Rattle.std.specs.Prelude.{ℕ, ◌-◌, nat_le, nat_lt, ◌<◌, ◌≡◌, min, ◌==◌, ◌&&◌, Bool, Option, Some, None, option_map, unwrap_or, List, [], ◌∷◌, ◌++◌, filter, flat_map, length, map, remove, slice_get, slice_set}
+use Rattle.std.specs.Prelude.{ℕ, ◌-◌, ◌<◌, ◌==◌, ◌&&◌, Bool, Option, Some, None, option_map, unwrap_or, List, [], ◌∷◌, ◌++◌, filter, flat_map, length, map, remove, slice_get, slice_set}
 use Rattle.std.specs.List.{enumerate_from}
 use Rattle.rb_base.specs.Counting.{numbers}
 use Rattle.rb_base.specs.declared.event.Event.{Event}
@@ -16,11 +16,11 @@ pub record Held : Type 0 where
   pub events : List Pending
   pub room : ℕ
 
+-- One lane.
+
 -- how many events more it has room for
 abbrev pub spare_of : Held → ℕ
 spare_of lane = lane.room - length lane.events
-
--- One lane.
 
 -- where an event comes from: an arrival from its sender, and a tick from the node's own clock, which stands behind all senders
 abbrev pub source_of : EventKind → ℕ
@@ -30,10 +30,6 @@ source_of (Tick word wanted) = 256
 -- the event comes from this source at this time
 abbrev pub comes : ℕ → ℕ → Pending → Bool
 comes time source p = (source_of p.event.kind == source) && (p.time == time)
-
--- the event comes at this time from one of the sources that begin with the first and stand before the end
-abbrev pub is_between : ℕ → ℕ → ℕ → Pending → Bool
-is_between time first end p = nat_le first (source_of p.event.kind) && nat_lt (source_of p.event.kind) end && (p.time == time)
 
 -- what comes from a source at a time, in the order of pushing, each with its place in the lane
 abbrev pub coming_at : ℕ → List Pending → ℕ → List (ℕ × Pending)
@@ -60,11 +56,7 @@ ready_at time events = unless_any (arrivals_at time events) (ticks_at time event
 abbrev pub head_of : Held → Option ℕ
 head_of lane = least (map (λ p. p.time) lane.events)
 
--- the earlier of two times, of which the first may be missing
-abbrev pub earlier : Option ℕ → ℕ → ℕ
-earlier None time = time
-earlier (Some other) time = min time other
-
+-- nothing is ready where there is no least time
 abbrev pub ready_from : Option ℕ → List Pending → List (ℕ × Pending)
 ready_from None events = []
 ready_from (Some time) events = ready_at time events
@@ -93,14 +85,9 @@ without_ready i lane = without_found (slice_get (ready_of lane) i) lane
 abbrev pub emptied : Held → Held
 emptied lane = record lane { events = [] }
 
+-- no event, and this room
 abbrev pub empty_lane : ℕ → Held
 empty_lane room = record { events = []; room = room }
-
--- the i-th that is listed is the event at this place of the lane
-pub record StandsAt (listed : List (ℕ × Pending)) (i : ℕ) (events : List Pending) (place : ℕ) : Type 0 where
-  pub pending : Pending
-  pub found : slice_get listed i ≡ Some (place, pending)
-  pub stands : slice_get events place ≡ Some pending
 
 -- The lanes of all nodes.
 

@@ -2,7 +2,8 @@
 ghost use Rattle.std.specs.Prelude.{◌≡◌, ℕ, ◌+◌, ◌<◌, ◌≤◌, length, map, MatchResult};
 ghost use Rattle.rb_base.specs.Counting.{count_if};
 ghost use Rattle.rb_rules.specs.WorldStep.{least};
-ghost use Rattle.rb_queue.specs.Waiting.{StandsAt, coming_at, comes, earlier, is_between, ready_at};
+ghost use Rattle.rb_queue.specs.Waiting.{coming_at, comes, ready_at};
+ghost use Rattle.rb_queue.specs.Scanning.{StandsAt, earlier, is_between};
 
 use crate::pending::Pending;
 

@@ -1,6 +1,6 @@
 use Rattle.std.proofs.Common.{◌≡◌, ◌≤◌, take}
 use Rattle.rb_base.specs.Counting.{count_if}
-use Rattle.rb_queue.specs.Waiting.{is_between}
+use Rattle.rb_queue.specs.Scanning.{is_between}
 use Rattle.rb_queue.proofs.scan.count.Given as goal
 
 abbrev pub invariant-loop-pending : goal.invariant-loop-pending

@@ -1,6 +1,6 @@
 use Rattle.std.proofs.Common.{◌<◌, length, map, take, Some, arith, ap, sym, ◌∙◌}
 use Rattle.rb_rules.specs.WorldStep.{least}
-use Rattle.rb_queue.specs.Waiting.{earlier}
+use Rattle.rb_queue.specs.Scanning.{earlier}
 use Rattle.rb_queue.proofs.Times.{least_more}
 use Rattle.rb_queue.proofs.scan.least_time.Goals as goal
 
