@@ -1,0 +1,31 @@
+//! A pending event.
+ghost use Rattle.std.specs.Prelude.{◌≡◌, ◌≤◌};
+ghost use Rattle.rb_queue.specs.Waiting.{comes, source_of};
+
+use rb_base::{Event, EventKind};
+
+/// An event and the time at which it is due.
+#[derive(Drop)]
+pub struct Pending {
+    pub time: u64,
+    pub event: Event,
+}
+
+impl Pending {
+    // The number of its sender, or 256 for a tick.
+    pub(crate) fn source(&self) -> u16
+        ensures value { result ≡ source_of self.now.event.kind }
+        ensures small { result ≤ 256 }
+    {
+        match &self.event.kind {
+            EventKind::Arrive { from, .. } => u16::from(*from),
+            EventKind::Tick { .. } => 256,
+        }
+    }
+
+    pub(crate) fn comes(&self, time: u64, source: u16) -> bool
+        ensures { result ≡ comes time source self.now }
+    {
+        self.source() == source && self.time == time
+    }
+}

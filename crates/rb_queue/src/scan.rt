@@ -1,0 +1,110 @@
+//! What is looked up among the events of one lane.
+ghost use Rattle.std.specs.Prelude.{◌≡◌, ℕ, ◌+◌, ◌<◌, ◌≤◌, length, map, MatchResult};
+ghost use Rattle.rb_base.specs.Counting.{count_if};
+ghost use Rattle.rb_rules.specs.WorldStep.{least};
+ghost use Rattle.rb_queue.specs.Waiting.{coming_at, comes, ready_at};
+ghost use Rattle.rb_queue.specs.Scanning.{StandsAt, earlier, is_between};
+
+use crate::pending::Pending;
+
+pub(crate) fn earlier(other: Option<u64>, time: u64) -> u64
+    ensures { result ≡ earlier other time }
+{
+    match other {
+        None => time,
+        Some(other) => time.min(other),
+    }
+}
+
+// The least time of the events.
+pub(crate) fn least_time(events: &[Pending]) -> Option<u64>
+    ensures { result ≡ least (map (λ p. p.time) events.now) }
+{
+    let mut least = None;
+    for pending in events {
+        least = Some(earlier(least, pending.time));
+    }
+    least
+}
+
+fn is_between(pending: &Pending, time: u64, first: u16, end: u16) -> bool
+    ensures { result ≡ is_between time first end pending.now }
+{
+    let source = pending.source();
+    first <= source && source < end && pending.time == time
+}
+
+// How many events come at a time from the sources that begin with the first and stand before the end.
+pub(crate) fn count(events: &[Pending], time: u64, first: u16, end: u16) -> usize
+    ensures { result ≡ count_if (is_between time first end) events.now }
+{
+    let mut count = 0;
+    for pending in events {
+        count += usize::from(is_between(pending, time, first, end));
+    }
+    count
+}
+
+// How many events are ready at a time.
+pub(crate) fn count_ready(events: &[Pending], time: u64) -> usize
+    ensures { result ≡ length (ready_at time events.now) }
+{
+    let arrivals = count(events, time, 0, 256);
+    if arrivals > 0 {
+        return arrivals;
+    }
+    count(events, time, 256, 257)
+}
+
+// The lowest source, from this one on, of which something comes at a time. The clock, where there is none.
+fn lowest_source(events: &[Pending], time: u64, first: u16) -> u16
+    requires { first ≤ 256 }
+    ensures low { first ≤ result }
+    ensures high { result ≤ 256 }
+    ensures none { (j : ℕ) → first ≤ j → j < result → count_if (comes time j) events.now ≡ 0 }
+{
+    let mut lowest = 256;
+    for pending in events {
+        if is_between(pending, time, first, lowest) {
+            lowest = pending.source();
+        }
+    }
+    lowest
+}
+
+// The place of the event that comes from a source at a time after so many others. Where there is none, how many of those others
+// are still to be found elsewhere.
+fn place_among(events: &[Pending], time: u64, source: u16, others: usize) -> Result<usize, usize>
+    ensures { MatchResult result (λ place. StandsAt (coming_at time events.now source) others events.now place)
+        (λ left. left + length (coming_at time events.now source) ≡ others) }
+{
+    let mut left = others;
+    for (place, pending) in events.iter().enumerate() {
+        if pending.comes(time, source) {
+            if left == 0 {
+                return Ok(place);
+            }
+            left -= 1;
+        }
+    }
+    Err(left)
+}
+
+// The place of the i-th event that is ready at a time.
+pub(crate) fn place_of(events: &[Pending], time: u64, i: usize) -> usize
+    requires { i < length (ready_at time events.now) }
+    ensures { StandsAt (ready_at time events.now) i events.now result }
+{
+    let mut first = 0;
+    let mut left = i;
+    'sources: loop {
+        let source = lowest_source(events, time, first);
+        match place_among(events, time, source, left) {
+            Ok(place) => return place,
+            Err(others) => {
+                left = others;
+                first = source + 1;
+            }
+        }
+    }
+}
