@@ -66,8 +66,8 @@ abbrev pub ready_of : Held → List (ℕ × Pending)
 ready_of lane = ready_from (head_of lane) lane.events
 
 -- one event more, at this time
-abbrev pub pushed : Pending → Held → Held
-pushed p lane = record lane { events = lane.events ++ p ∷ [] }
+abbrev pub with_event : Pending → Held → Held
+with_event p lane = record lane { events = lane.events ++ p ∷ [] }
 
 -- the i-th of the ready events
 abbrev pub ready_event : ℕ → Held → Option Event
@@ -82,8 +82,8 @@ abbrev pub without_ready : ℕ → Held → Held
 without_ready i lane = without_found (slice_get (ready_of lane) i) lane
 
 -- all events are dropped
-abbrev pub emptied : Held → Held
-emptied lane = record lane { events = [] }
+abbrev pub without_events : Held → Held
+without_events lane = record lane { events = [] }
 
 -- no event, and this room
 abbrev pub empty_lane : ℕ → Held

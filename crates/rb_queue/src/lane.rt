@@ -1,6 +1,6 @@
 //! The pending events of one node.
 ghost use Rattle.std.specs.Prelude.{◌≡◌, ◌<◌, ◌≤◌, length, [], Some, IfOk, IsNone, ◌↔◌};
-ghost use Rattle.rb_queue.specs.Waiting.{ready_event, empty_lane, emptied, head_of, pushed, ready_of, spare_of, without_ready};
+ghost use Rattle.rb_queue.specs.Waiting.{ready_event, empty_lane, without_events, head_of, with_event, ready_of, spare_of, without_ready};
 
 use crate::pending::Pending;
 use crate::scan::{count_ready, earlier, least_time, place_of};
@@ -49,7 +49,7 @@ impl Lane {
     #[tactic(auto, using(crate::proofs::Times::least_pushed))]
     pub(crate) fn push(&mut self, pending: Pending)
         requires { 1 ≤ spare_of self.old }
-        ensures { self.new ≡ pushed pending self.old }
+        ensures { self.new ≡ with_event pending self.old }
     {
         self.head = Some(earlier(self.head, pending.time));
         // There is room, so this takes no memory and can't fail.
@@ -94,7 +94,7 @@ impl Lane {
     }
 
     pub(crate) fn clear(&mut self)
-        ensures { self.new ≡ emptied self.old }
+        ensures { self.new ≡ without_events self.old }
     {
         self.events.clear();
         self.head = None;

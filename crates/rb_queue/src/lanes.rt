@@ -2,7 +2,7 @@
 ghost use Rattle.std.specs.Prelude.{◌≡◌, ◌<◌, ◌≤◌, [], ◌∷◌, ◌++◌, length, map, Some, IfOk, IsNone, ◌↔◌};
 ghost use Rattle.rb_base.specs.Counting.{numbers};
 ghost use Rattle.rb_rules.specs.Book.{each_of};
-ghost use Rattle.rb_queue.specs.Waiting.{HasLane, empty_lane, emptied, head_of, lane_of, pushed, ready_event, ready_of, spare_of, with_lane, without_ready};
+ghost use Rattle.rb_queue.specs.Waiting.{HasLane, empty_lane, without_events, head_of, lane_of, with_event, ready_event, ready_of, spare_of, with_lane, without_ready};
 
 use crate::lane::Lane;
 use crate::pending::Pending;
@@ -78,7 +78,7 @@ impl Lanes {
         requires in_shape { HasLane self.old event.node }
         requires spare { 1 ≤ spare_of (lane_of self.old event.node) }
         ensures after { self.new ≡ with_lane event.node
-            (pushed (record { time = time; event = event }) (lane_of self.old event.node))
+            (with_event (record { time = time; event = event }) (lane_of self.old event.node))
             self.old }
     {
         let node = event.node;
@@ -140,7 +140,7 @@ impl Lanes {
     /// Drops all events of the node, and no others.
     pub fn drop_all(&mut self, node: NodeName)
         requires in_shape { HasLane self.old node }
-        ensures after { self.new ≡ with_lane node (emptied (lane_of self.old node)) self.old }
+        ensures after { self.new ≡ with_lane node (without_events (lane_of self.old node)) self.old }
     {
         match node {
             NodeName::Biu(i) => self.bius[usize::from(i)].clear(),
