@@ -2,6 +2,7 @@ pub mod PlanNumbers
 pub mod StageOrder
 pub mod CloseOrder
 pub mod TickWindows
+pub mod NodeSends
 pub mod RoundNodes
 pub mod WorldBooks
 pub mod EventsLaw

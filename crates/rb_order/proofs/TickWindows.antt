@@ -25,7 +25,7 @@ first_of sizes plan me st n = (window_numbered sizes plan me st n).first
 
 -- The windows of a frame follow one another.
 
-first-same : (sizes : Sizes) (plan : Plan) (me : Side) (st : NodeState) (n : ℕ) → n ≤ 3 * sync_slot_of sizes → first_of sizes plan me st n ≡ n * plan.l
+pub first-same : (sizes : Sizes) (plan : Plan) (me : Side) (st : NodeState) (n : ℕ) → n ≤ 3 * sync_slot_of sizes → first_of sizes plan me st n ≡ n * plan.l
 first-same sizes plan me st n h =
     elim (cases_lt n (3 * sync_slot_of sizes)) [
       | inl lt ↦ ap (λ w. w.first) (exact-numbered sizes plan me st n lt)
