@@ -3,6 +3,7 @@ pub mod StageOrder
 pub mod CloseOrder
 pub mod TickWindows
 pub mod NodeSends
+pub mod NodeWords
 pub mod RoundNodes
 pub mod WorldBooks
 pub mod EventsLaw
