@@ -4,6 +4,7 @@ pub mod CloseOrder
 pub mod TickWindows
 pub mod NodeSends
 pub mod NodeWords
+pub mod NodeTicks
 pub mod RoundNodes
 pub mod WorldBooks
 pub mod EventsLaw
