@@ -5,6 +5,7 @@ pub mod TickWindows
 pub mod NodeSends
 pub mod NodeWords
 pub mod NodeTicks
+pub mod NodeActs
 pub mod RoundNodes
 pub mod WorldBooks
 pub mod EventsLaw

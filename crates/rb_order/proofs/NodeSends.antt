@@ -1,6 +1,6 @@
 -- For the law that events are rounds, which is still to come: at each tick of a window the core says what the rounds send in this
 -- window, if that is its tick.
-use Rattle.std.proofs.Common.{◌≡◌, ℕ, zero, suc, ◌+◌, ◌*◌, ◌-◌, ◌/◌, ◌%◌, ◌<◌, ◌≤◌, ◌==◌, ◌⊎◌, nat_le, nat_lt, Bool, true, false, cond, refl, ap, sym, ◌∙◌, subst, arith, inl, inr, Option, Some, None, is_some, option_and_then, option_map, if◌then◌else◌}
+use Rattle.std.proofs.Common.{◌≡◌, ℕ, zero, suc, ◌+◌, ◌*◌, ◌-◌, ◌/◌, ◌%◌, ◌<◌, ◌≤◌, ◌==◌, ◌&&◌, ◌⊎◌, nat_le, nat_lt, Bool, true, false, cond, refl, ap, sym, ◌∙◌, subst, arith, inl, inr, Option, Some, None, is_some, option_and_then, option_map, if◌then◌else◌}
 use Rattle.std.proofs.lemmas.Bool.{cases_lt}
 use Rattle.std.proofs.lemmas.Bool.Decides.{nat_tests}
 use Rattle.std.proofs.Math.Nat.{add-mul}
@@ -9,15 +9,19 @@ use Rattle.rb_base.specs.Nodes.{Side, other}
 use Rattle.rb_base.specs.Nodes.Side.{Biu, Rmu}
 use Rattle.rb_base.specs.Sizes.{Sizes, sync_slot_of}
 use Rattle.rb_rules.specs.declared.message.Message.{Message}
+use Rattle.rb_base.specs.declared.values.Heard.{Heard}
 use Rattle.rb_rules.specs.declared.plan.Plan.{Plan}
 use Rattle.rb_rules.specs.declared.plan.Window.{Window}
+use Rattle.rb_rules.specs.declared.role.Role.{Role}
+use Rattle.rb_rules.specs.declared.role.Role.TheVariants.{Schedule, Data, DiagBiu, DiagRmu, Sync}
 use Rattle.rb_rules.specs.Core.{if_at, said_at, window_here, state_at, is_tick}
-use Rattle.rb_rules.specs.ExactStage.{says, message_of}
+use Rattle.rb_rules.specs.ExactStage.{says, says_of, message_of, keep_sent}
 use Rattle.rb_rules.specs.Hearing.{Sending, sending, window_numbered}
-use Rattle.rb_rules.specs.NodeState.{NodeState}
+use Rattle.rb_rules.specs.NodeState.{NodeState, trusted_of}
 use Rattle.rb_rules.specs.NodeSteps.{message_said, turn_if_known}
 use Rattle.rb_rules.specs.Plan.{f0_of, tail_start_of}
-use Rattle.rb_rules.specs.SyncStage.{new_epoch_of, send_tick_of, call_tick_of}
+use Rattle.rb_rules.specs.Slots.{first_diagnosis_of, role_of, sender_in}
+use Rattle.rb_rules.specs.SyncStage.{calls, new_epoch_of, send_tick_of, call_tick_of}
 use Rattle.rb_rules.specs.Windows.{send_offset_of}
 use Rattle.rb_rules.proofs.Lawfulness.{SendsInside}
 use Rattle.rb_rules.proofs.RoundStates.{HasTicks}
@@ -244,4 +248,108 @@ said-is sizes plan me i st n word k ticks inside keeps le at =
           let e : 3 * sync_slot_of sizes + r ≡ n = omega arith in
           subst (λ m. said_at sizes plan me i st word k ≡ if_at k (sending_at sizes plan me i st m word)) e
           (sync-said sizes plan me i st r word k ticks inside keeps (omega arith) (subst (λ m. IsTickIn sizes plan me st m k) (sym e) at))
+    ]
+
+-- Where the message of a window goes out.
+
+sync-sent : (sizes : Sizes) (plan : Plan) (me : Side) (i : ℕ) (st : NodeState) (r word : ℕ) (s : Sending) → SendsInside plan → KeepsTime sizes plan me st
+    → r < 4 → sending_at sizes plan me i st (3 * sync_slot_of sizes + r) word ≡ Some s → IsTickIn sizes plan me st (3 * sync_slot_of sizes + r) s.tick
+sync-sent sizes plan me i st zero word s inside keeps small e =
+    sent-in-window sizes plan me i st (sync_slot_of sizes) 0 word s inside keeps (omega arith) (omega arith)
+    (sym (ap (λ (w : Window). sending sizes plan me i st w.slot w.stage word) (sync-numbered sizes plan me st 0)) ∙ e)
+sync-sent sizes plan me i st (suc zero) word s inside keeps small e =
+    sent-in-window sizes plan me i st (sync_slot_of sizes) 1 word s inside keeps (omega arith) (omega arith)
+    (sym (ap (λ (w : Window). sending sizes plan me i st w.slot w.stage word) (sync-numbered sizes plan me st 1)) ∙ e)
+sync-sent sizes plan me i st (suc (suc zero)) word s inside keeps small e =
+    sent-in-window sizes plan me i st (sync_slot_of sizes) 2 word s inside keeps (omega arith) (omega arith)
+    (sym (ap (λ (w : Window). sending sizes plan me i st w.slot w.stage word) (sync-numbered sizes plan me st 2)) ∙ e)
+sync-sent sizes plan me i st (suc (suc (suc zero))) word s inside keeps small e =
+    absurd (no-none (sym (unsent sizes plan me i st word)
+    ∙ sym (ap (λ (w : Window). sending sizes plan me i st w.slot w.stage word) (sync-numbered sizes plan me st 3)) ∙ e))
+  where
+    no-none : None ≡ Some s → ⊥
+    no-none e = cc
+sync-sent sizes plan me i st (suc (suc (suc (suc r)))) word s inside keeps small e = absurd (omega arith)
+
+-- what is sent in a window goes out at one of its ticks
+pub sent-in : (sizes : Sizes) (plan : Plan) (me : Side) (i : ℕ) (st : NodeState) (n word : ℕ) (s : Sending) → SendsInside plan → KeepsTime sizes plan me st
+    → n ≤ stages_in sizes → sending_at sizes plan me i st n word ≡ Some s → IsTickIn sizes plan me st n s.tick
+sent-in sizes plan me i st n word s inside keeps le e =
+    elim (cases_lt n (3 * sync_slot_of sizes)) [
+      | inl lt ↦
+          let w : window_numbered sizes plan me st n ≡ _ = exact-numbered sizes plan me st n lt in
+          let parts = thirds n in
+          let f : n ≡ 3 * (n / 3) + n % 3 = parts.0 in
+          subst (λ m. IsTickIn sizes plan me st m s.tick) (sym f)
+          (sent-in-window sizes plan me i st (n / 3) (n % 3) word s inside keeps (omega (arith, f)) parts.1
+          (sym (ap (λ (w : Window). sending sizes plan me i st w.slot w.stage word) w) ∙ e))
+      | inr ge ↦
+          let r : ℕ = n - 3 * sync_slot_of sizes in
+          let f : 3 * sync_slot_of sizes + r ≡ n = omega arith in
+          subst (λ m. IsTickIn sizes plan me st m s.tick) f
+          (sync-sent sizes plan me i st r word s inside keeps (omega arith) (ap (λ m. sending_at sizes plan me i st m word) f ∙ e))
+    ]
+
+-- Where nothing is sent the sender keeps nothing.
+
+no-message : (m : Option Message) (t : ℕ) → option_and_then (λ m. option_map (λ tick. let x : Sending = record { tick = tick; message = m } in x) (Some t)) m ≡ None → m ≡ None
+no-message None t e = refl
+no-message (Some m) t e = cc
+
+no-value : (st : NodeState) (slot stage : ℕ) (o : Option Heard) → option_map (message_of st slot stage) o ≡ None → o ≡ None
+no-value st slot stage None e = refl
+no-value st slot stage (Some v) e = cc
+
+nothing-kept : (sizes : Sizes) (me : Side) (i : ℕ) (st : NodeState) (slot stage word : ℕ) → says sizes me i st slot stage word ≡ None
+    → keep_sent sizes me i st slot stage word ≡ st
+nothing-kept sizes me i st slot stage word e =
+    ap (λ o. if (stage == 1) && is_some o then record st { sent = o } else st) e ∙ by (stage == 1)
+  where
+    by : (b : Bool) → (if b && false then record st { sent = None } else st) ≡ st
+    by true = refl
+    by false = refl
+
+unsent-exact : (sizes : Sizes) (plan : Plan) (me : Side) (i : ℕ) (st : NodeState) (slot stage word : ℕ) → slot < sync_slot_of sizes
+    → sending sizes plan me i st slot stage word ≡ None → keep_sent sizes me i st slot stage word ≡ st
+unfolding sending
+unsent-exact sizes plan me i st slot stage word lt e =
+    let test : (slot == sync_slot_of sizes) ≡ false = differs slot (sync_slot_of sizes) lt in
+    let t : ℕ = st.epoch + send_offset_of plan slot stage in
+    let exact : send_tick_of sizes plan st slot stage ≡ Some t =
+    ap (λ b. if b then call_tick_of sizes plan st stage else Some t) test in
+    let none : message_said sizes me i st slot stage word ≡ None =
+    no-message (message_said sizes me i st slot stage word) t
+    (sym (ap (λ o. option_and_then (λ m. option_map (λ tick. let x : Sending = record { tick = tick; message = m } in x) o) (message_said sizes me i st slot stage word)) exact) ∙ e) in
+    let value : option_map (message_of st slot stage) (says sizes me i st slot stage word) ≡ None =
+    sym (ap (λ b. if b then calls sizes me st stage else option_map (message_of st slot stage) (says sizes me i st slot stage word)) test) ∙ none in
+    nothing-kept sizes me i st slot stage word (no-value st slot stage (says sizes me i st slot stage word) value)
+
+not-less : (a b : ℕ) → b ≤ a → nat_lt a b ≡ false
+not-less a b h = grind (arith, nat_tests)
+
+sync-role : (sizes : Sizes) → role_of sizes (sync_slot_of sizes) ≡ Sync
+sync-role sizes =
+    let s : ℕ = sync_slot_of sizes in
+    let a : nat_lt s sizes.bius ≡ false = not-less s sizes.bius (omega arith) in
+    let b : nat_lt s (first_diagnosis_of Biu sizes) ≡ false = not-less s (first_diagnosis_of Biu sizes) (omega arith) in
+    let c : nat_lt s (first_diagnosis_of Rmu sizes) ≡ false = not-less s (first_diagnosis_of Rmu sizes) (omega arith) in
+    let d : nat_lt s s ≡ false = not-less s s (omega arith) in
+    ap (λ t. if t then Schedule s else (if nat_lt s (first_diagnosis_of Biu sizes) then Data (s - sizes.bius) else later s)) a
+    ∙ ap (λ t. if t then Data (s - sizes.bius) else later s) b
+    ∙ ap (λ t. if t then DiagBiu (s - first_diagnosis_of Biu sizes) else (if nat_lt s s then DiagRmu (s - first_diagnosis_of Rmu sizes) else Sync)) c
+    ∙ ap (λ t. if t then DiagRmu (s - first_diagnosis_of Rmu sizes) else Sync) d
+  where
+    later : ℕ → Role
+    later s = (if nat_lt s (first_diagnosis_of Rmu sizes) then DiagBiu (s - first_diagnosis_of Biu sizes) else (if nat_lt s (sync_slot_of sizes) then DiagRmu (s - first_diagnosis_of Rmu sizes) else Sync))
+
+pub keeps-none : (sizes : Sizes) (plan : Plan) (me : Side) (i : ℕ) (st : NodeState) (slot stage word : ℕ) → slot ≤ sync_slot_of sizes
+    → sending sizes plan me i st slot stage word ≡ None → keep_sent sizes me i st slot stage word ≡ st
+keeps-none sizes plan me i st slot stage word le e =
+    elim (cases_lt slot (sync_slot_of sizes)) [
+      | inl lt ↦ unsent-exact sizes plan me i st slot stage word lt e
+      | inr ge ↦
+          let same : sync_slot_of sizes ≡ slot = omega arith in
+          subst (λ slot. keep_sent sizes me i st slot stage word ≡ st) same
+          (nothing-kept sizes me i st (sync_slot_of sizes) stage word
+          (ap (λ role. says_of me i st (sync_slot_of sizes) role (sender_in (trusted_of me Biu st) (trusted_of me Rmu st) st.owners role) stage word) (sync-role sizes)))
     ]

@@ -183,7 +183,7 @@ like-in sizes plan me i st n word k =
 -- What the core says.
 
 -- a sending is of the window's place
-sent-place : (sizes : Sizes) (plan : Plan) (me : Side) (i : ℕ) (st : NodeState) (slot stage word : ℕ) (s : Sending)
+pub sent-place : (sizes : Sizes) (plan : Plan) (me : Side) (i : ℕ) (st : NodeState) (slot stage word : ℕ) (s : Sending)
     → sending sizes plan me i st slot stage word ≡ Some s → HasPlace s.message slot stage
 unfolding sending
 sent-place sizes plan me i st slot stage word s e = by (message_said sizes me i st slot stage word) (send_tick_of sizes plan st slot stage) refl e
@@ -226,7 +226,7 @@ below-differs : (a b : ℕ) → a < b → (a == b) ≡ false
 below-differs a b h = grind (arith, nat_tests)
 
 -- after the tick the state is that of the next tick
-after-say : (sizes : Sizes) (me : Side) (i : ℕ) (st kept : NodeState) (slot stage word k : ℕ) (o : Option Sending)
+pub after-say : (sizes : Sizes) (me : Side) (i : ℕ) (st kept : NodeState) (slot stage word k : ℕ) (o : Option Sending)
     → ((s : Sending) → o ≡ Some s → HasPlace s.message slot stage) → kept ≡ keep_sent sizes me i st slot stage word
     → state_kept sizes me i (by_said (gone o k) st kept) word (if_at k o) ≡ by_said (gone o (k + 1)) st kept
 after-say sizes me i st kept slot stage word k None place is = refl
@@ -257,7 +257,7 @@ after-say sizes me i st kept slot stage word k (Some s) place is = by (nat_lt s.
         ∙ at (s.tick == k) refl e
 
 -- two words that come to the same fit
-words-fit : (sizes : Sizes) (me : Side) (i : ℕ) (st : NodeState) (slot stage a b : ℕ) (t : Bool) → SameWords sizes me i st slot stage a b
+pub words-fit : (sizes : Sizes) (me : Side) (i : ℕ) (st : NodeState) (slot stage a b : ℕ) (t : Bool) → SameWords sizes me i st slot stage a b
     → WordFits sizes me i st slot stage a b t
 words-fit sizes me i st slot stage a b false same = record { message = refl; kept = refl }
 words-fit sizes me i st slot stage a b true same = record {

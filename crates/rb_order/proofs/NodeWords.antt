@@ -160,7 +160,7 @@ unmapped : (f : Heard → Message) (o : Option Heard) → option_map f o ≡ Non
 unmapped f None e = refl
 unmapped f (Some v) e = cc
 
-none-message : (sizes : Sizes) (me : Side) (i : ℕ) (st : NodeState) (slot stage a b : ℕ) → message_said sizes me i st slot stage a ≡ None
+pub none-message : (sizes : Sizes) (me : Side) (i : ℕ) (st : NodeState) (slot stage a b : ℕ) → message_said sizes me i st slot stage a ≡ None
     → message_said sizes me i st slot stage b ≡ None
 none-message sizes me i st slot stage a b = by (slot == sync_slot_of sizes)
   where
