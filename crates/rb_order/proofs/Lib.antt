@@ -6,6 +6,7 @@ pub mod NodeSends
 pub mod NodeWords
 pub mod NodeTicks
 pub mod NodeActs
+pub mod NodeNext
 pub mod RoundNodes
 pub mod WorldBooks
 pub mod EventsLaw

@@ -44,7 +44,7 @@ pub record StandsAt (sizes : Sizes) (plan : Plan) (me : Side) (i : ℕ) (st : No
 -- Messages.
 
 -- what the core says in the state of the tick, by the word that it is given
-said-form : (sizes : Sizes) (plan : Plan) (me : Side) (i : ℕ) (st y : NodeState) (n given k : ℕ) → HasRoom plan → n ≤ stages_in sizes
+pub said-form : (sizes : Sizes) (plan : Plan) (me : Side) (i : ℕ) (st y : NodeState) (n given k : ℕ) → HasRoom plan → n ≤ stages_in sizes
     → KeepsTime sizes plan me st → IsTickIn sizes plan me st n k → Like sizes plan me i st y
     → said_at sizes plan me i y given k
     ≡ at_its_tick (is_tick (send_tick_of sizes plan y (window_numbered sizes plan me st n).slot (window_numbered sizes plan me st n).stage) k)
