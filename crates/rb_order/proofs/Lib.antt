@@ -7,6 +7,8 @@ pub mod NodeWords
 pub mod NodeTicks
 pub mod NodeActs
 pub mod NodeNext
+pub mod Invariant
+pub mod NodeEvents
 pub mod RoundNodes
 pub mod WorldBooks
 pub mod EventsLaw
@@ -17,4 +19,3 @@ pub mod ClosingTicks
 pub mod DueEvents
 pub mod WorldNodes
 pub mod Receiving
-pub mod Invariant

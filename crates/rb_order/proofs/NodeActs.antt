@@ -34,7 +34,7 @@ pub record HasRoom (plan : Plan) : Type 0 where
   pub inside : SendsInside plan
 
 -- tick k of window n of a node whose state there is `st`: its word in the window is `word`
-pub record StandsAt (sizes : Sizes) (plan : Plan) (me : Side) (i : ℕ) (st : NodeState) (n word k : ℕ) (c : NodeState) : Type 0 where
+pub record IsInWindow (sizes : Sizes) (plan : Plan) (me : Side) (i : ℕ) (st : NodeState) (n word k : ℕ) (c : NodeState) : Type 0 where
   pub window : n ≤ stages_in sizes
   pub slot : (window_numbered sizes plan me st n).slot ≤ sync_slot_of sizes
   pub keeps : KeepsTime sizes plan me st
@@ -204,7 +204,7 @@ HasWord sc ports me i st n word =
     (word_for sc ports i (window_numbered sc.sizes sc.plan me st n).slot (role_of sc.sizes (window_numbered sc.sizes sc.plan me st n).slot)) word
 
 says-given : (sc : Scenario) (ports : List PortState) (me : Side) (i : ℕ) (st : NodeState) (n word : ℕ) (c : Core) → HasRoom sc.plan
-    → StandsAt sc.sizes sc.plan me i st n word c.had c.state → c.had < 2 ^ 31 → HasWord sc ports me i st n word
+    → IsInWindow sc.sizes sc.plan me i st n word c.had c.state → c.had < 2 ^ 31 → HasWord sc ports me i st n word
     → Says sc.sizes sc.plan me i st n word c.had (state_in sc.sizes sc.plan me i st n word c.had) (word_of sc ports i (wants_in sc me i c))
 says-given sc ports me i st n word c room stands below words =
     subst (Says sc.sizes sc.plan me i st n word c.had (state_in sc.sizes sc.plan me i st n word c.had))
@@ -213,7 +213,7 @@ says-given sc ports me i st n word c room stands below words =
 
 -- a tick that is not the window's last
 pub acts-open : (sc : Scenario) (ports : List PortState) (me : Side) (i : ℕ) (st : NodeState) (n word : ℕ) (c : Core) → HasRoom sc.plan
-    → StandsAt sc.sizes sc.plan me i st n word c.had c.state → c.had < 2 ^ 31 → HasWord sc ports me i st n word
+    → IsInWindow sc.sizes sc.plan me i st n word c.had c.state → c.had < 2 ^ 31 → HasWord sc ports me i st n word
     → c.had < st.epoch + last_of sc.sizes sc.plan me st n
     → ActsOpen sc me i st n word c.had c (tick sc.sizes sc.plan me i c (word_of sc ports i (wants_in sc me i c)))
 acts-open sc ports me i st n word c room stands below words before =
@@ -246,7 +246,7 @@ acts-open sc ports me i st n word c room stands below words before =
 
 -- the window's last tick
 pub acts-close : (sc : Scenario) (ports : List PortState) (me : Side) (i : ℕ) (st : NodeState) (n word : ℕ) (c : Core) → HasRoom sc.plan
-    → StandsAt sc.sizes sc.plan me i st n word c.had c.state → c.had < 2 ^ 31 → HasWord sc ports me i st n word
+    → IsInWindow sc.sizes sc.plan me i st n word c.had c.state → c.had < 2 ^ 31 → HasWord sc ports me i st n word
     → c.had ≡ st.epoch + last_of sc.sizes sc.plan me st n
     → ActsClose sc me i st n word c.had c (tick sc.sizes sc.plan me i c (word_of sc ports i (wants_in sc me i c)))
 acts-close sc ports me i st n word c room stands below words last =

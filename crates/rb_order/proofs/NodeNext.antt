@@ -15,7 +15,7 @@ use Rattle.rb_rules.specs.NodeSteps.{message_said}
 use Rattle.rb_rules.specs.SyncStage.{send_tick_of}
 use Rattle.rb_rules.proofs.QuietTicks.{IsNext, IsQuiet, quiet-from, next-is}
 use Rattle.rb_order.specs.Closing.{stages_in}
-use Rattle.rb_order.proofs.NodeActs.{HasRoom, StandsAt, said-form}
+use Rattle.rb_order.proofs.NodeActs.{HasRoom, IsInWindow, said-form}
 use Rattle.rb_order.proofs.NodeSends.{KeepsTime, sending_at, sent-at}
 use Rattle.rb_order.proofs.NodeTicks.{Like, like-in, like-tick, like-keeps, gone, by_said, kept_in, state_in, no-turn}
 use Rattle.rb_order.proofs.NodeWords.{at_its_tick, none-message, said-at-tick}
@@ -94,7 +94,7 @@ unsaid sizes plan me i st y n word s room le keeps at like is quiet =
 
 -- the state of a node that stands at a quiet tick of a window
 quiet-state : (sizes : Sizes) (plan : Plan) (me : Side) (i : ℕ) (st : NodeState) (n word had : ℕ) (c : NodeState)
-    → StandsAt sizes plan me i st n word had c → is_busy sizes plan me i c had ≡ false → c ≡ state_in sizes plan me i st n word had
+    → IsInWindow sizes plan me i st n word had c → is_busy sizes plan me i c had ≡ false → c ≡ state_in sizes plan me i st n word had
 quiet-state sizes plan me i st n word had c stands h =
     let q : IsQuiet sizes plan me i c had = quiet-from sizes plan me i c had h in
     sym q.no_turn ∙ stands.now
@@ -155,7 +155,7 @@ unchanged sizes plan me i st y n word had k room le keeps at to like next (Some 
     ]
 
 pub next-in : (sizes : Sizes) (plan : Plan) (me : Side) (i : ℕ) (st : NodeState) (n word had k : ℕ) (c : NodeState) → HasRoom plan
-    → StandsAt sizes plan me i st n word had c → IsNext sizes plan me i c had k → NextIn sizes plan me i st n word had k c
+    → IsInWindow sizes plan me i st n word had c → IsNext sizes plan me i c had k → NextIn sizes plan me i st n word had k c
 next-in sizes plan me i st n word had k c room stands next =
     elim (cases_lt had k) [
       | inl lt ↦
@@ -202,7 +202,7 @@ found sizes plan me i c (suc others) had m lo hi busy = by (λ le. found sizes p
     ]
 
 pub next-found : (sizes : Sizes) (plan : Plan) (me : Side) (i : ℕ) (st : NodeState) (n word : ℕ) (c : Core) → HasRoom plan
-    → StandsAt sizes plan me i st n word c.had c.state → st.epoch + last_of sizes plan me st n < 2 ^ 31
+    → IsInWindow sizes plan me i st n word c.had c.state → st.epoch + last_of sizes plan me st n < 2 ^ 31
     → (k : ℕ) × ((next_tick sizes plan me i c ≡ Some k) × IsNext sizes plan me i c.state c.had k)
 next-found sizes plan me i st n word c room stands below =
     let to : c.had ≤ st.epoch + last_of sizes plan me st n = stands.at.to in
