@@ -9,6 +9,7 @@ pub mod NodeActs
 pub mod NodeNext
 pub mod Invariant
 pub mod NodeEvents
+pub mod NodeMoves
 pub mod RoundNodes
 pub mod WorldBooks
 pub mod EventsLaw

@@ -111,13 +111,13 @@ like-keeps sizes plan me i st y h keeps = record {
 
 -- The node doesn't turn at a tick of its windows.
 
-tail-first : (sizes : Sizes) (plan : Plan) (me : Side) (st : NodeState) → first_of sizes plan me st (stages_in sizes) ≡ tail_start_of sizes plan
+pub tail-first : (sizes : Sizes) (plan : Plan) (me : Side) (st : NodeState) → first_of sizes plan me st (stages_in sizes) ≡ tail_start_of sizes plan
 tail-first sizes plan me st = ap (λ w. w.first) (sync-numbered sizes plan me st 3)
 
-tail-last : (sizes : Sizes) (plan : Plan) (me : Side) (st : NodeState) → last_of sizes plan me st (stages_in sizes) ≡ (tail_at sizes plan me st).last
+pub tail-last : (sizes : Sizes) (plan : Plan) (me : Side) (st : NodeState) → last_of sizes plan me st (stages_in sizes) ≡ (tail_at sizes plan me st).last
 tail-last sizes plan me st = ap (λ w. w.last) (sync-numbered sizes plan me st 3)
 
-past-tail : (sizes : Sizes) (plan : Plan) (me : Side) (st : NodeState) (k x : ℕ) → HasTicks plan → st.epoch + tail_start_of sizes plan ≤ x
+pub past-tail : (sizes : Sizes) (plan : Plan) (me : Side) (st : NodeState) (k x : ℕ) → HasTicks plan → st.epoch + tail_start_of sizes plan ≤ x
     → IsTickIn sizes plan me st (stages_in sizes) k → new_epoch_of plan me st ≡ Some x → k < x
 past-tail sizes plan me st k x ticks low at e =
     let first : first_of sizes plan me st (stages_in sizes) ≡ tail_start_of sizes plan = tail-first sizes plan me st in
