@@ -10,6 +10,7 @@ pub mod NodeNext
 pub mod Invariant
 pub mod NodeEvents
 pub mod NodeMoves
+pub mod SayLists
 pub mod RoundNodes
 pub mod WorldBooks
 pub mod EventsLaw
