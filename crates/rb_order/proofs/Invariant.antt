@@ -18,6 +18,7 @@ use Rattle.rb_order.proofs.NodeActs.{IsInWindow}
 use Rattle.rb_order.proofs.NodeSends.{KeepsTime}
 use Rattle.rb_order.proofs.Receiving.{Receives}
 use Rattle.rb_order.proofs.RoundNodes.{slot_numbered}
+use Rattle.rb_order.proofs.SameHeard.{Every}
 use Rattle.rb_order.proofs.StageOrder.{last_of}
 use Rattle.rb_order.proofs.TickWindows.{first_of}
 
@@ -84,3 +85,22 @@ pub record NodeStands (sc : Scenario) (hands : List HandIn) (sent : Side → ℕ
       (ahead_so_far sc (moment sc hands (next_stage sc.sizes (moment sc hands p) p)) me i
       (λ j. sent (other me) j (next_stage sc.sizes (moment sc hands p) p)))
       now s a
+
+-- What is taken of synchrony: in moment p the good nodes are in time.
+
+-- the message of a source comes after the last tick of the window before, at the latest with this window's last tick
+abbrev pub ComesInWindow : Scenario → Moment → Side → ℕ → NodeState → Coming → Type 0
+ComesInWindow sc m me i st c =
+    ((k : ℕ) → st.epoch + first_of sc.sizes sc.plan me st m.window ≡ suc k → time_of (clock_of sc me i) k < c.time)
+    × (c.time ≤ time_of (clock_of sc me i) (last_tick sc m me st))
+
+pub record InTime (sc : Scenario) (m next : Moment) : Type 0 where
+  pub keeps : (me : Side) (i : ℕ) (st : NodeState) → slice_get (of_kind me m.nodes) i ≡ Some st → is_good_at sc m me i ≡ true
+      → KeepsTime sc.sizes sc.plan me st
+  pub room : (me : Side) (i : ℕ) (st : NodeState) → slice_get (of_kind me m.nodes) i ≡ Some st → is_good_at sc m me i ≡ true
+      → last_tick sc m me st < 2 ^ 31
+  pub heard : (me : Side) (i j : ℕ) (st : NodeState) → slice_get (of_kind me m.nodes) i ≡ Some st → is_good_at sc m me i ≡ true
+      → is_good_at sc m (other me) j ≡ true → Every (ComesInWindow sc m me i st) (entry_of sc m me i j)
+  -- what is sent in the next stage comes later
+  pub later : (me : Side) (i j : ℕ) (st : NodeState) → slice_get (of_kind me m.nodes) i ≡ Some st → is_good_at sc m me i ≡ true
+      → is_good_at sc next (other me) j ≡ true → Every (λ c. time_of (clock_of sc me i) (last_tick sc m me st) < c.time) (entry_of sc next me i j)

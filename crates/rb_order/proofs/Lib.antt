@@ -11,6 +11,7 @@ pub mod Invariant
 pub mod NodeEvents
 pub mod NodeMoves
 pub mod SayLists
+pub mod NodeCloses
 pub mod RoundNodes
 pub mod WorldBooks
 pub mod EventsLaw

@@ -104,7 +104,7 @@ abbrev pub begun_after : Scenario → List PortState → Side → ℕ → Option
 begun_after sc ports me i None b = b
 begun_after sc ports me i (Some e) b = Some (begun_of sc ports me i e)
 
-epoch-is : (sc : Scenario) (ports : List PortState) (me : Side) (i : ℕ) (e : Option Epoch) (s : Site)
+pub epoch-is : (sc : Scenario) (ports : List PortState) (me : Side) (i : ℕ) (e : Option Epoch) (s : Site)
     → with_epoch sc ports me i e s ≡ record s { begun = begun_after sc ports me i e s.begun }
 epoch-is sc ports me i None s = refl
 epoch-is sc ports me i (Some e) s = refl

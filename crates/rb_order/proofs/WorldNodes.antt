@@ -30,7 +30,7 @@ use Rattle.rb_order.proofs.SameHeard.{Every}
 abbrev pub Known : Sizes → Side → List Coming → Type 0
 Known sizes me cs = Every (λ c. c.from < count_of (other me) sizes) cs
 
-known-append : (sizes : Sizes) (me : Side) (xs ys : List Coming) → Known sizes me xs → Known sizes me ys → Known sizes me (xs ++ ys)
+pub known-append : (sizes : Sizes) (me : Side) (xs ys : List Coming) → Known sizes me xs → Known sizes me ys → Known sizes me (xs ++ ys)
 known-append sizes me [] ys a b = b
 known-append sizes me (x ∷ xs) ys a b = (a.0, known-append sizes me xs ys a.1 b)
 
@@ -59,7 +59,7 @@ flat-known sizes me f a (suc n) all =
 said-known : (sc : Scenario) (me : Side) (i : ℕ) (span : Span) (j : ℕ) → j < count_of (other me) sc.sizes → Known sc.sizes me (said_by sc me i span j)
 said-known sc me i span j h = map-known sc.sizes me j (coming_said sc.plan.version (clock_of sc me i) j span) (λ s. refl) h (filter (is_said me i j span) sc.says)
 
-says-known : (sc : Scenario) (me : Side) (i : ℕ) (span : Span) → Known sc.sizes me (says_in sc me i span)
+pub says-known : (sc : Scenario) (me : Side) (i : ℕ) (span : Span) → Known sc.sizes me (says_in sc me i span)
 unfolding says_in
 says-known sc me i span =
     flat-known sc.sizes me (λ j. elim (is_good sc (other me) j span.place.frame span.place.slot) [ true ↦ [] | false ↦ said_by sc me i span j ]) 0
