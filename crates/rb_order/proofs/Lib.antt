@@ -12,6 +12,7 @@ pub mod NodeEvents
 pub mod NodeMoves
 pub mod SayLists
 pub mod NodeCloses
+pub mod NodeGoesOn
 pub mod RoundNodes
 pub mod WorldBooks
 pub mod EventsLaw

@@ -152,12 +152,13 @@ pub record Closed (sc : Scenario) (hands : List HandIn) (me : Side) (i p : ℕ) 
   pub knows : Knows sc.sizes me (moment sc hands p).window st
   pub some : first_of sc.sizes sc.plan me st (moment sc hands p).window ≤ last_of sc.sizes sc.plan me st (moment sc hands p).window
   -- where the node is good in the next moment, it keeps time there
-  pub keeps : is_good_at sc (moment sc hands (suc p)) me i ≡ true → KeepsTime sc.sizes sc.plan me (state_after sc (moment sc hands p) me i st)
+  pub keeps : (moment sc hands p).window < stages_in sc.sizes → is_good_at sc (moment sc hands (suc p)) me i ≡ true
+      → KeepsTime sc.sizes sc.plan me (state_after sc (moment sc hands p) me i st)
 
-after-stays : (sc : Scenario) (m : Moment) (me : Side) (i : ℕ) (st : NodeState) → Stays st (state_after sc m me i st)
+pub after-stays : (sc : Scenario) (m : Moment) (me : Side) (i : ℕ) (st : NodeState) → Stays st (state_after sc m me i st)
 after-stays sc m me i st = through-stays sc m (sent_in sc m) me i st (window_in sc m me st)
 
-after-knows : (sc : Scenario) (hands : List HandIn) (me : Side) (i p : ℕ) (st : NodeState) → HasTicks sc.plan → Closed sc hands me i p st
+pub after-knows : (sc : Scenario) (hands : List HandIn) (me : Side) (i p : ℕ) (st : NodeState) → HasTicks sc.plan → Closed sc hands me i p st
     → Knows sc.sizes me ((moment sc hands p).window + 1) (state_after sc (moment sc hands p) me i st)
 after-knows sc hands me i p st ticks h =
     let m : Moment = moment sc hands p in
@@ -177,7 +178,7 @@ first-alike sizes plan me a b n ticks h =
         (sym (get-window sizes plan me b n h) ∙ get-window sizes plan me a n h)
 
 -- the next stage of the frame
-inner : (sc : Scenario) (hands : List HandIn) (me : Side) (i p : ℕ) (st : NodeState) → HasTicks sc.plan → Closed sc hands me i p st
+pub inner : (sc : Scenario) (hands : List HandIn) (me : Side) (i p : ℕ) (st : NodeState) → HasTicks sc.plan → Closed sc hands me i p st
     → (moment sc hands p).window + 1 < stages_in sc.sizes
     → ((is_good_at sc (moment sc hands (suc p)) me i ≡ true) ⊎ ((moment sc hands p).window + 1 ≤ 3 * sync_slot_of sc.sizes))
     → NextPlace sc hands me i p (st.epoch + last_of sc.sizes sc.plan me st (moment sc hands p).window + 1) (state_after sc (moment sc hands p) me i st)
@@ -195,7 +196,7 @@ inner sc hands me i p st ticks h below how =
     let t : Tiles sc.sizes sc.plan me c (m.window + 1) = tiles sc.sizes sc.plan me c (m.window + 1) ticks below in
     let some : first_of sc.sizes sc.plan me c (m.window + 1) ≤ last_of sc.sizes sc.plan me c (m.window + 1) = t.some in
     let turned : state_at sc.sizes sc.plan me c k ≡ c = elim how [
-      | inl good ↦ no-turn sc.sizes sc.plan me c (m.window + 1) k ticks (h.keeps good) (omega arith) (record { from = omega arith; to = omega arith })
+      | inl good ↦ no-turn sc.sizes sc.plan me c (m.window + 1) k ticks (h.keeps (omega arith) good) (omega arith) (record { from = omega arith; to = omega arith })
       | inr early ↦
           ap (λ o. elim (is_tick o k) as (λ _. NodeState) [ true ↦ turn_if_known sc.sizes sc.plan me c | false ↦ c ])
           (epoch-unknown sc.sizes sc.plan me c (m.window + 1) early (after-knows sc hands me i p st ticks h))
@@ -240,7 +241,7 @@ le-false : (a b : ℕ) → b < a → nat_le a b ≡ false
 le-false a b h = grind (arith, nat_tests)
 
 -- after the last stage the tail, or if that is empty the next frame
-last-stage : (sc : Scenario) (hands : List HandIn) (me : Side) (i p : ℕ) (st : NodeState) → HasTicks sc.plan → Closed sc hands me i p st
+pub last-stage : (sc : Scenario) (hands : List HandIn) (me : Side) (i p : ℕ) (st : NodeState) → HasTicks sc.plan → Closed sc hands me i p st
     → (moment sc hands p).window + 1 ≡ stages_in sc.sizes → is_good_at sc (moment sc hands (suc p)) me i ≡ true
     → NextPlace sc hands me i p (st.epoch + last_of sc.sizes sc.plan me st (moment sc hands p).window + 1) (state_after sc (moment sc hands p) me i st)
 last-stage sc hands me i p st ticks h at_last good =
@@ -260,7 +261,7 @@ last-stage sc hands me i p st ticks h at_last good =
     let start : first_of sc.sizes sc.plan me c (stages_in sc.sizes) ≡ tail_start_of sc.sizes sc.plan = tail-first sc.sizes sc.plan me c in
     let known = the-some (new_epoch_of sc.plan me c) (epoch-known sc.sizes sc.plan me c (m.window + 1) (omega arith) (after-knows sc hands me i p st ticks h)) in
     let x : ℕ = known.0 in
-    let low : c.epoch + tail_start_of sc.sizes sc.plan ≤ x = (h.keeps good).next x known.1 in
+    let low : c.epoch + tail_start_of sc.sizes sc.plan ≤ x = (h.keeps (omega arith) good).next x known.1 in
     let last : last_of sc.sizes sc.plan me c (stages_in sc.sizes) ≡ x - c.epoch - 1 =
     tail-last sc.sizes sc.plan me c ∙ ap (λ o. unwrap_or o 0 - c.epoch - 1) known.1 in
     let there : slice_get (of_kind me tail.nodes) i ≡ Some c = get-later sc hands p me i st (omega arith) h.state in
@@ -277,7 +278,7 @@ last-stage sc hands me i p st ticks h at_last good =
             state = there;
             frame = frame;
             window = omega arith;
-            turned = no-turn sc.sizes sc.plan me c (stages_in sc.sizes) k ticks (h.keeps good) (omega arith) at;
+            turned = no-turn sc.sizes sc.plan me c (stages_in sc.sizes) k ticks (h.keeps (omega arith) good) (omega arith) at;
             first = subst (λ j. k ≡ c.epoch + first_of sc.sizes sc.plan me c j) w (omega arith);
             some = subst (λ j. first_of sc.sizes sc.plan me c j ≤ last_of sc.sizes sc.plan me c j) w inside;
           }
@@ -296,7 +297,7 @@ last-stage sc hands me i p st ticks h at_last good =
     ]
 
 -- after the tail the next frame
-after-tail : (sc : Scenario) (hands : List HandIn) (me : Side) (i p x : ℕ) (st : NodeState) → HasTicks sc.plan → Closed sc hands me i p st
+pub after-tail : (sc : Scenario) (hands : List HandIn) (me : Side) (i p x : ℕ) (st : NodeState) → HasTicks sc.plan → Closed sc hands me i p st
     → (moment sc hands p).window ≡ stages_in sc.sizes → new_epoch_of sc.plan me (state_after sc (moment sc hands p) me i st) ≡ Some x
     → x ≡ st.epoch + last_of sc.sizes sc.plan me st (moment sc hands p).window + 1
     → NextPlace sc hands me i p (st.epoch + last_of sc.sizes sc.plan me st (moment sc hands p).window + 1) (state_after sc (moment sc hands p) me i st)

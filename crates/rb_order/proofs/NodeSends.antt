@@ -198,7 +198,7 @@ said-in-tail sizes plan me i st word k ticks inside keeps at =
     ∙ none 2 (omega arith)
 
 -- in the tail nothing is sent
-unsent : (sizes : Sizes) (plan : Plan) (me : Side) (i : ℕ) (st : NodeState) (word : ℕ) → sending sizes plan me i st (sync_slot_of sizes) 4 word ≡ None
+pub unsent : (sizes : Sizes) (plan : Plan) (me : Side) (i : ℕ) (st : NodeState) (word : ℕ) → sending sizes plan me i st (sync_slot_of sizes) 4 word ≡ None
 unfolding sending
 unsent sizes plan Biu i st word = ap (λ b. option_and_then (λ m. option_map (λ tick. let x : Sending = record { tick = tick; message = m } in x) (send_tick_of sizes plan st (sync_slot_of sizes) 4)) (if b then None else option_map (message_of st (sync_slot_of sizes) 4) (says sizes Biu i st (sync_slot_of sizes) 4 word))) (equal-itself (sync_slot_of sizes))
 unsent sizes plan Rmu i st word = ap (λ b. option_and_then (λ m. option_map (λ tick. let x : Sending = record { tick = tick; message = m } in x) (send_tick_of sizes plan st (sync_slot_of sizes) 4)) (if b then None else option_map (message_of st (sync_slot_of sizes) 4) (says sizes Rmu i st (sync_slot_of sizes) 4 word))) (equal-itself (sync_slot_of sizes))

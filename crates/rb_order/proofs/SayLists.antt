@@ -222,7 +222,7 @@ unfolding says_in
 says-come-in sc lawful me i span lengths = every-flat (ComesIn (clock_of sc me i) span) (said_if sc me i span) 0 (count_of (other me) sc.sizes) (said-if-in sc lawful me i span lengths)
 
 -- what is said of source j
-says-now : (sc : Scenario) → IsLawful sc → (me : Side) (i : ℕ) (span : Span) → HasLengths (shortest_of sc.plan) (longest_of sc.plan) (clock_of sc me i)
+pub says-now : (sc : Scenario) → IsLawful sc → (me : Side) (i : ℕ) (span : Span) → HasLengths (shortest_of sc.plan) (longest_of sc.plan) (clock_of sc me i)
     → (j : ℕ) → filter (is_now j (time_of (clock_of sc me i) span.last)) (says_in sc me i span) ≡ said_if sc me i span j
 unfolding says_in
 says-now sc lawful me i span lengths j =
