@@ -13,6 +13,7 @@ pub mod NodeMoves
 pub mod SayLists
 pub mod NodeCloses
 pub mod NodeGoesOn
+pub mod NodeClosing
 pub mod RoundNodes
 pub mod WorldBooks
 pub mod EventsLaw

@@ -57,7 +57,7 @@ unfolding close_sync sync_outcome_of
 tail-sync sizes plan Biu st first sense = refl
 tail-sync sizes plan Rmu st first sense = refl
 
-tail-close : (sizes : Sizes) (plan : Plan) (me : Side) (i : ℕ) (st : NodeState) (w : Window) (arrivals : ℕ → List Arrival)
+pub tail-close : (sizes : Sizes) (plan : Plan) (me : Side) (i : ℕ) (st : NodeState) (w : Window) (arrivals : ℕ → List Arrival)
     → w.slot ≡ sync_slot_of sizes → w.stage ≡ 4 → new_epoch_of plan me (close_window sizes plan me i st w arrivals).state ≡ new_epoch_of plan me st
 tail-close sizes plan me i st w arrivals slot stage =
     let sense : ℕ → Sense = λ j. sense_of (expect_of sizes plan.version st w.slot w.stage) (arrivals j) in

@@ -104,13 +104,13 @@ map-some : (f : ℕ → ℕ) (o : Option ℕ) → is_some (option_map f o) ≡ i
 map-some f None = refl
 map-some f (Some x) = refl
 
-epoch-known : (sizes : Sizes) (plan : Plan) (me : Side) (st : NodeState) (n : ℕ) → stages_in sizes ≤ n → Knows sizes me n st → is_some (new_epoch_of plan me st) ≡ true
+pub epoch-known : (sizes : Sizes) (plan : Plan) (me : Side) (st : NodeState) (n : ℕ) → stages_in sizes ≤ n → Knows sizes me n st → is_some (new_epoch_of plan me st) ≡ true
 epoch-known sizes plan Biu st n h k =
     map-some (λ k2. k2 + plan.v + plan.z + plan.c) st.k2 ∙ k.k2 ∙ lt-known (3 * sync_slot_of sizes + 2 - 1) n (omega arith)
 epoch-known sizes plan Rmu st n h k =
     map-some (λ k3. k3 + plan.z) st.k3 ∙ k.k3 ∙ lt-known (3 * sync_slot_of sizes + 3 - 1) n (omega arith)
 
-the-some : (o : Option ℕ) → is_some o ≡ true → (x : ℕ) × (o ≡ Some x)
+pub the-some : (o : Option ℕ) → is_some o ≡ true → (x : ℕ) × (o ≡ Some x)
 the-some None h = cc
 the-some (Some x) h = (x, refl)
 
