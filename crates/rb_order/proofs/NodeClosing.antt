@@ -50,6 +50,7 @@ pub record OthersKeepUp (sc : Scenario) (hands : List HandIn) (sent : Side → �
   pub all_sent : (j : ℕ) → is_good_at sc (moment sc hands p) (other me) j ≡ true
       → (sent (other me) j p ≡ true) ⊎ (entry_of sc (moment sc hands p) me i j ≡ [])
   pub none_ahead : (q : ℕ) → q ≡ next_stage sc.sizes (moment sc hands p) p → (j : ℕ)
+      → is_good_at sc (moment sc hands (next_stage sc.sizes (moment sc hands q) q)) (other me) j ≡ true
       → sent (other me) j (next_stage sc.sizes (moment sc hands q) q) ≡ false
 
 -- the moments that follow are in time
@@ -99,14 +100,14 @@ ahead-every P sc m me i j sent all = by (is_good_at sc m (other me) j) (sent j) 
     by true false e = tt
     by false c e = tt
 
-ahead-none : (sc : Scenario) (m : Moment) (me : Side) (i j : ℕ) (sent : ℕ → Bool) → sent j ≡ false → ahead_so_far sc m me i sent j ≡ []
-ahead-none sc m me i j sent none =
-    ap (λ (c : Bool). elim (is_good_at sc m (other me) j) as (λ _. List Coming) [ true ↦ elim c as (λ _. List Coming) [ true ↦ entry_of sc m me i j | false ↦ [] ] | false ↦ [] ]) none
-    ∙ by (is_good_at sc m (other me) j)
+ahead-none : (sc : Scenario) (m : Moment) (me : Side) (i j : ℕ) (sent : ℕ → Bool) → (is_good_at sc m (other me) j ≡ true → sent j ≡ false)
+    → ahead_so_far sc m me i sent j ≡ []
+ahead-none sc m me i j sent none = by (is_good_at sc m (other me) j) refl
   where
-    by : (b : Bool) → (elim b as (λ _. List Coming) [ true ↦ [] | false ↦ [] ]) ≡ []
-    by true = refl
-    by false = refl
+    by : (b : Bool) → is_good_at sc m (other me) j ≡ b
+        → (elim b as (λ _. List Coming) [ true ↦ elim (sent j) as (λ _. List Coming) [ true ↦ entry_of sc m me i j | false ↦ [] ] | false ↦ [] ]) ≡ []
+    by true e = ap (λ (c : Bool). elim c as (λ _. List Coming) [ true ↦ entry_of sc m me i j | false ↦ [] ]) (none e)
+    by false e = refl
 
 ahead-tail : (sc : Scenario) (m : Moment) (me : Side) (i j : ℕ) (sent : ℕ → Bool) → m.window ≡ stages_in sc.sizes → ahead_so_far sc m me i sent j ≡ []
 ahead-tail sc m me i j sent w =
@@ -360,7 +361,7 @@ closes-window sc hands sent now ports me i p s st a lawful room known times othe
       behind = every-so (λ c. a.time < c.time) (λ c. (j : ℕ) → a.tick + 1 ≡ suc j → time_of clock j < c.time)
           (λ c lt j e. let same : j ≡ a.tick = omega arith in subst (λ j. time_of clock j < c.time) (sym same) (omega (arith, lt, at_time))) s.coming later;
       soon = omega (arith, at_time, up);
-      before = λ j e. let same : j ≡ a.tick = omega arith in subst (λ j. a.time ≤ time_of clock j) (sym same) (omega (arith, at_time));
+      before = λ j e. let same : j ≡ a.tick = omega arith in subst (λ j. time_of clock j ≡ a.time) (sym same) (sym at_time);
       at_first = λ e. absurd (omega arith);
       hears = opened-lists sc hands sent me i p q np.st t s.got s.coming heard lawful known.lengths np.frame np.place h.stands.window times others np.state good after r.hears;
     }) in

@@ -51,8 +51,8 @@ all-after t None cs all = unmapped t cs all
 all-after t (Some a) cs all = unmapped t cs all.1
 
 pub time-passes : (sc : Scenario) (me : Side) (i last : ℕ) (sent next : ℕ → List Coming) (now t : ℕ) (s : Site) (a : Timed)
-    → Every (λ u. t ≤ u) (times_of s) → Receives sc me i last sent next now s a → Receives sc me i last sent next t s a
-time-passes sc me i last sent next now t s a all r = record {
+    → now ≤ t → Every (λ u. t ≤ u) (times_of s) → Receives sc me i last sent next now s a → Receives sc me i last sent next t s a
+time-passes sc me i last sent next now t s a le all r = record {
   hears = r.hears;
   known = r.known;
   inbox = r.inbox;
@@ -61,18 +61,19 @@ time-passes sc me i last sent next now t s a all r = record {
   is_next = r.is_next;
   in_window = r.in_window;
   behind = r.behind;
+  passed = λ m e. let before : time_of (clock_of sc me i) m ≤ now = r.passed m e in omega arith;
   coming_after = all-after t s.ahead s.coming all;
   tick_after = tick-after t s.ahead a s.coming r.pends all;
 }
 
 pub stands-on : (sc : Scenario) (hands : List HandIn) (sent : Side → ℕ → ℕ → Bool) (now t : ℕ) (me : Side) (i p : ℕ) (s : Site) (st : NodeState) (a : Timed)
-    → Every (λ u. t ≤ u) (times_of s) → NodeStands sc hands sent now me i p s st a → NodeStands sc hands sent t me i p s st a
-stands-on sc hands sent now t me i p s st a all h = record {
+    → now ≤ t → Every (λ u. t ≤ u) (times_of s) → NodeStands sc hands sent now me i p s st a → NodeStands sc hands sent t me i p s st a
+stands-on sc hands sent now t me i p s st a le all h = record {
   state = h.state;
   good = h.good;
   stands = h.stands;
   from = h.from;
-  receives = time-passes sc me i _ _ _ now t s a all h.receives;
+  receives = time-passes sc me i _ _ _ now t s a le all h.receives;
 }
 
 -- An arrival.
@@ -224,6 +225,7 @@ stays-open sc hands sent now ports me i p s st a room below words later before h
           in_window = lands.in_window.to;
           behind = every-so (λ c. a.time < c.time) (λ c. (j : ℕ) → x.core.had ≡ suc j → time_of (clock_of sc me i) j < c.time)
               (λ c lt j e. let same : j ≡ a.tick = omega arith in subst (λ j. time_of (clock_of sc me i) j < c.time) (sym same) (omega (arith, lt, at_time))) s.coming later;
+          passed = λ j e. let same : j ≡ a.tick = omega arith in subst (λ j. time_of (clock_of sc me i) j ≤ a.time) (sym same) (omega (arith, at_time));
           coming_after = every-so (λ c. a.time < c.time) (λ c. a.time ≤ c.time) (λ c lt. omega arith) s.coming later;
           tick_after = omega (arith, at_time, up);
         };

@@ -147,7 +147,7 @@ pub record Enters (sc : Scenario) (hands : List HandIn) (sent : Side → ℕ →
   pub later : Every (λ c. t ≤ c.time) s.coming
   pub behind : Every (λ c. (j : ℕ) → k ≡ suc j → time_of (clock_of sc me i) j < c.time) s.coming
   pub soon : t ≤ time_of (clock_of sc me i) k
-  pub before : (j : ℕ) → k ≡ suc j → t ≤ time_of (clock_of sc me i) j
+  pub before : (j : ℕ) → k ≡ suc j → time_of (clock_of sc me i) j ≡ t
   pub at_first : k ≡ 0 → t ≡ 0
   -- what pends is what was sent ahead for this window, and for the stage after it
   pub hears : (j : ℕ) → Hears j (time_of (clock_of sc me i) (last_tick sc (moment sc hands q) me st)) [] (s.coming ++ says_in sc me i (span_of st (window_in sc (moment sc hands q) me st)))
@@ -217,6 +217,7 @@ enters sc hands sent t me i q k st s lawful room lengths keeps below e =
           behind = every-join (λ c. (j : ℕ) → s.core.had ≡ suc j → time_of clock j < c.time) s.coming says
               (every-so (λ c. (j : ℕ) → k ≡ suc j → time_of clock j < c.time) (λ c. (j : ℕ) → s.core.had ≡ suc j → time_of clock j < c.time) (λ c f j g. f j (sym had ∙ g)) s.coming e.behind)
               (every-so (ComesIn clock span) (λ c. (j : ℕ) → s.core.had ≡ suc j → time_of clock j < c.time) (λ c f j g. f.0 j (sym first ∙ sym had ∙ g)) says in_span);
+          passed = λ j g. let same : time_of clock j ≡ t = e.before j (sym had ∙ g) in omega arith;
           coming_after = every-join (λ c. t ≤ c.time) s.coming says e.later
               (every-so (ComesIn clock span) (λ c. t ≤ c.time) (λ c f. from-first k c t refl (λ j g. f.0 j (sym first ∙ g)) e.before e.at_first) says in_span);
           tick_after = omega arith;
@@ -225,7 +226,7 @@ enters sc hands sent t me i q k st s lawful room lengths keeps below e =
       silent = sym lands.silent ∙ ap (gone (sending_at sc.sizes sc.plan me i st n word)) had ∙ none;
     }
   where
-    from-first : (x : ℕ) (c : Coming) (t : ℕ) → x ≡ k → ((j : ℕ) → x ≡ suc j → time_of (clock_of sc me i) j < c.time) → ((j : ℕ) → x ≡ suc j → t ≤ time_of (clock_of sc me i) j)
+    from-first : (x : ℕ) (c : Coming) (t : ℕ) → x ≡ k → ((j : ℕ) → x ≡ suc j → time_of (clock_of sc me i) j < c.time) → ((j : ℕ) → x ≡ suc j → time_of (clock_of sc me i) j ≡ t)
         → (x ≡ 0 → t ≡ 0) → t ≤ c.time
     from-first zero c t e f before zero_time = let z : t ≡ 0 = zero_time refl in omega arith
     from-first (suc j) c t e f before zero_time = omega (arith, f j refl, before j refl)
