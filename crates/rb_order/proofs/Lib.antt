@@ -14,6 +14,7 @@ pub mod SayLists
 pub mod NodeCloses
 pub mod NodeGoesOn
 pub mod NodeClosing
+pub mod ReceiverHears
 pub mod RoundNodes
 pub mod WorldBooks
 pub mod EventsLaw
