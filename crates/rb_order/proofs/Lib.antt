@@ -15,6 +15,7 @@ pub mod NodeCloses
 pub mod NodeGoesOn
 pub mod NodeClosing
 pub mod ReceiverHears
+pub mod SentChanges
 pub mod RoundNodes
 pub mod WorldBooks
 pub mod EventsLaw
