@@ -16,6 +16,7 @@ pub mod NodeGoesOn
 pub mod NodeClosing
 pub mod ReceiverHears
 pub mod SentChanges
+pub mod WorldStands
 pub mod RoundNodes
 pub mod WorldBooks
 pub mod EventsLaw
