@@ -17,6 +17,7 @@ pub mod NodeClosing
 pub mod ReceiverHears
 pub mod SentChanges
 pub mod WorldStands
+pub mod WorldTicks
 pub mod RoundNodes
 pub mod WorldBooks
 pub mod EventsLaw

@@ -141,7 +141,7 @@ unfolding after_arrival
 arrival-runs sc me i n c s = refl
 
 -- all that pends comes no earlier than the event
-pub AllPend : ℕ → Each Site → Type 0
+unfoldable pub AllPend : ℕ → Each Site → Type 0
 AllPend t sites = (me : Side) (i : ℕ) (s : Site) → slice_get (of_kind me sites) i ≡ Some s → Every (λ u. t ≤ u) (times_of s)
 
 pub arrival-keeps-world : (sc : Scenario) (hands : List HandIn) (now : ℕ) (at : Side → ℕ → ℕ) (sites : Each Site) (me : Side) (i n : ℕ) (c : Coming) (s : Site)
