@@ -18,6 +18,7 @@ pub mod ReceiverHears
 pub mod SentChanges
 pub mod WorldStands
 pub mod WorldTicks
+pub mod MomentSteps
 pub mod RoundNodes
 pub mod WorldBooks
 pub mod EventsLaw
