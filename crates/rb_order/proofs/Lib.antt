@@ -19,6 +19,7 @@ pub mod SentChanges
 pub mod WorldStands
 pub mod WorldTicks
 pub mod MomentSteps
+pub mod Timing
 pub mod RoundNodes
 pub mod WorldBooks
 pub mod EventsLaw

@@ -112,16 +112,16 @@ same-of : (a b : ℕ) → (a == b) ≡ true → a ≡ b
 same-of a b h = grind (arith, nat_tests)
 
 -- what has been sent in an earlier moment, in this one, in a later one
-sent-earlier : (o : Option Sending) (s : Sending) (q p : ℕ) (a : Option Timed) → o ≡ Some s → p < q → has_sent o q a p ≡ true
+pub sent-earlier : (o : Option Sending) (s : Sending) (q p : ℕ) (a : Option Timed) → o ≡ Some s → p < q → has_sent o q a p ≡ true
 sent-earlier None s q p a e h = cc
 sent-earlier (Some x) s q p a e h = ap (λ b. b || ((p == q) && is_past x.tick a)) (lt-is p q h)
 
-sent-here : (o : Option Sending) (q : ℕ) (a : Option Timed) → has_sent o q a q ≡ past o a
+pub sent-here : (o : Option Sending) (q : ℕ) (a : Option Timed) → has_sent o q a q ≡ past o a
 sent-here None q a = refl
 sent-here (Some s) q a =
     ap (λ b. b || ((q == q) && is_past s.tick a)) (lt-not q q (omega arith)) ∙ ap (λ b. b && is_past s.tick a) (itself q)
 
-sent-later : (o : Option Sending) (q p : ℕ) (a : Option Timed) → q < p → has_sent o q a p ≡ false
+pub sent-later : (o : Option Sending) (q p : ℕ) (a : Option Timed) → q < p → has_sent o q a p ≡ false
 sent-later None q p a h = refl
 sent-later (Some s) q p a h =
     ap (λ b. b || ((p == q) && is_past s.tick a)) (lt-not p q (omega arith)) ∙ ap (λ b. b && is_past s.tick a) (differs p q (inr h))
