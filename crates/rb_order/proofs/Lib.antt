@@ -20,6 +20,7 @@ pub mod WorldStands
 pub mod WorldTicks
 pub mod MomentSteps
 pub mod Timing
+pub mod WorldEvents
 pub mod RoundNodes
 pub mod WorldBooks
 pub mod EventsLaw
