@@ -21,6 +21,7 @@ pub mod WorldTicks
 pub mod MomentSteps
 pub mod Timing
 pub mod WorldEvents
+pub mod MomentBooks
 pub mod RoundNodes
 pub mod WorldBooks
 pub mod EventsLaw

@@ -123,7 +123,7 @@ find-none p [] none = refl
 find-none p (y ∷ ys) none =
     ap (λ b. cond b (Some y) (find p ys)) (none 0 y refl) ∙ find-none p ys (λ m z g. none (suc m) z g)
 
-how-many : (sizes : Sizes) (plan : Plan) → length (windows_of_frame sizes plan) ≡ stages_in sizes
+pub how-many : (sizes : Sizes) (plan : Plan) → length (windows_of_frame sizes plan) ≡ stages_in sizes
 how-many sizes plan =
     let a : length (map (exact_window plan) (range_with_len 0 (3 * sync_slot_of sizes))) ≡ 3 * sync_slot_of sizes =
     length-map-range_with_len (exact_window plan) 0 (3 * sync_slot_of sizes) in
