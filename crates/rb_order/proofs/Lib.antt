@@ -22,6 +22,7 @@ pub mod MomentSteps
 pub mod Timing
 pub mod WorldEvents
 pub mod MomentBooks
+pub mod Settling
 pub mod RoundNodes
 pub mod WorldBooks
 pub mod EventsLaw
