@@ -23,6 +23,7 @@ pub mod Timing
 pub mod WorldEvents
 pub mod MomentBooks
 pub mod Settling
+pub mod SettlingFrames
 pub mod RoundNodes
 pub mod WorldBooks
 pub mod EventsLaw

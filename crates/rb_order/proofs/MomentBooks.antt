@@ -108,7 +108,7 @@ next_of sc frame window =
     then (if frame == sc.frames then End else Stage (record { frame = frame; slot = slot_numbered sc.sizes window; stage = window % 3 + 1 }))
     else Begin (frame + 1)
 
-pub SettlesNext : Scenario → Moment → Type 0
+unfoldable pub SettlesNext : Scenario → Moment → Type 0
 SettlesNext sc m = m.book.ended ≡ false → m.book.upcoming ≡ next_of sc m.frame m.window
 
 not-both : {P : Type 0} → true ≡ false → P
@@ -201,7 +201,7 @@ stage-book-next sc place rows b = by b.ended refl
     by true e h = not-both (sym e ∙ h)
     by false e h = judged-next sc place rows (judged_of sc place rows ∷ b.stages) b (verdict_of (judged_of sc place rows ∷ b.stages)) h
 
-end-ended : (b : Book) → (with_end b).ended ≡ true
+pub end-ended : (b : Book) → (with_end b).ended ≡ true
 end-ended b = by b.ended refl
   where
     by : (e : Bool) → b.ended ≡ e → (elim e as (λ _. Book) [ true ↦ b | false ↦ record b { given = b.given ++ Ended ∷ []; ended = true } ]).ended ≡ true

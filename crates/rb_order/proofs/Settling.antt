@@ -45,12 +45,12 @@ same-each {X = X} a b same =
     ap (λ xs. let z : Each X = record { bius = xs; rmus = a.rmus } in z) (same-list a.bius b.bius (same Biu))
     ∙ ap (λ xs. let z : Each X = record { bius = b.bius; rmus = xs } in z) (same-list a.rmus b.rmus (same Rmu))
 
-get-within : {X : Type 0} (xs : List X) (n : ℕ) (x : X) → slice_get xs n ≡ Some x → n < length xs
+pub get-within : {X : Type 0} (xs : List X) (n : ℕ) (x : X) → slice_get xs n ≡ Some x → n < length xs
 get-within [] n x e = cc
 get-within (y ∷ ys) zero x e = omega arith
 get-within (y ∷ ys) (suc n) x e = let more : n < length ys = get-within ys n x e in omega arith
 
-and-true : (a b : Bool) → (a && b) ≡ true → (a ≡ true) × (b ≡ true)
+pub and-true : (a b : Bool) → (a && b) ≡ true → (a ≡ true) × (b ≡ true)
 and-true true b h = (refl, h)
 and-true false b h = cc
 
@@ -71,7 +71,7 @@ all-at (x ∷ xs) zero b h e =
     sym same ∙ (and-true x (list_all (λ b. b) xs) h).0
 all-at (x ∷ xs) (suc i) b h e = all-at xs i b (and-true x (list_all (λ b. b) xs) h).1 e
 
-each-at : (a : Each Bool) (me : Side) (i : ℕ) (b : Bool) → list_all (λ b. b) (in_order a) ≡ true → slice_get (of_kind me a) i ≡ Some b → b ≡ true
+pub each-at : (a : Each Bool) (me : Side) (i : ℕ) (b : Bool) → list_all (λ b. b) (in_order a) ≡ true → slice_get (of_kind me a) i ≡ Some b → b ≡ true
 each-at a Biu i b h e = all-at a.bius i b (all-front a.bius a.rmus h) e
 each-at a Rmu i b h e = all-at a.rmus i b (all-back a.bius a.rmus h) e
 
@@ -86,14 +86,14 @@ pub record RowOfRounds (sc : Scenario) (hands : List HandIn) (me : Side) (i : �
   pub place : row.place ≡ place_at sc.sizes (moment sc hands q)
   pub is : (go_through sc (moment sc hands q) (sent_in sc (moment sc hands q)) me i st (window_in sc (moment sc hands q) me st)).row ≡ Some row
 
-pub RowsOfRounds : Scenario → List HandIn → Each Site → Type 0
+unfoldable pub RowsOfRounds : Scenario → List HandIn → Each Site → Type 0
 RowsOfRounds sc hands sites =
     (me : Side) (i : ℕ) (s : Site) (row : Row) → slice_get (of_kind me sites) i ≡ Some s → s.row ≡ Some row → RowOfRounds sc hands me i row
 
-same-number : (a b : ℕ) → (a == b) ≡ true → a ≡ b
+pub same-number : (a b : ℕ) → (a == b) ≡ true → a ≡ b
 same-number a b h = grind (arith, nat_tests)
 
-some-same : {X : Type 0} (a b : X) → Some a ≡ Some b → a ≡ b
+pub some-same : {X : Type 0} (a b : X) → Some a ≡ Some b → a ≡ b
 some-same a b e = cc
 
 not-good-row : (sc : Scenario) (m : Moment) (me : Side) (i : ℕ) (st : NodeState) → is_good_at sc m me i ≡ false
@@ -137,7 +137,7 @@ told-row sc hands g me i st (Some row) stage there rounds h = by (same_place row
         subst (λ q. (go_through sc (moment sc hands q) (sent_in sc (moment sc hands q)) me i r.st (window_in sc (moment sc hands q) me r.st)).row ≡ Some row) same r.is in
         sym (subst (λ z. (go_through sc mg (sent_in sc mg) me i z (window_in sc mg me z)).row ≡ Some row) st_is is)
 
-or-told : (good told : Bool) → (not good || told) ≡ true → good ≡ true → told ≡ true
+pub or-told : (good told : Bool) → (not good || told) ≡ true → good ≡ true → told ≡ true
 or-told true told h e = h
 or-told false told h e = cc
 

@@ -188,7 +188,7 @@ unfolding happens
 happens-known sc w d known = happens-by sc w d (slice_get (of_kind d.side w.sites) d.node) refl known
 
 -- settling leaves the nodes alone
-next-sites : (sc : Scenario) (way : Way) (w : World) → (settle_next sc way w).sites ≡ w.sites
+pub next-sites : (sc : Scenario) (way : Way) (w : World) → (settle_next sc way w).sites ≡ w.sites
 next-sites sc way w = by (comes_so sc way w.book.upcoming && is_complete sc w.sites w.book.upcoming)
   where
     by : (b : Bool) → (elim b as (λ _. World) [ true ↦ record w { book = book_with sc w.sites w.book w.book.upcoming } | false ↦ w ]).sites ≡ w.sites
