@@ -24,6 +24,7 @@ pub mod WorldEvents
 pub mod MomentBooks
 pub mod Settling
 pub mod SettlingFrames
+pub mod Telling
 pub mod RoundNodes
 pub mod WorldBooks
 pub mod EventsLaw

@@ -8,6 +8,7 @@ use Rattle.rb_base.specs.declared.values.Place.{Place}
 use Rattle.rb_rules.specs.declared.cause.Cause.{Cause}
 use Rattle.rb_rules.specs.declared.plan.Plan.{Plan}
 use Rattle.rb_rules.specs.declared.plan.Window.{Window}
+use Rattle.rb_base.specs.Nodes.{Side}
 use Rattle.rb_base.specs.Nodes.Side.{Biu}
 use Rattle.rb_rules.specs.Book.{Begun, Book, Each, Milestone, Row, after_stage, after_verdict, fresh_book, frame_records, judged_of, with_end, with_frame, with_stage}
 use Rattle.rb_rules.specs.Book.Milestone.{Begin, Stage, End}
@@ -89,6 +90,15 @@ stage-is sizes plan st n h =
           let e : 3 * sync_slot_of sizes + r ≡ n = omega arith in
           subst (λ n. (window_numbered sizes plan Biu st n).stage ≡ n % 3 + 1) e (sync-stage sizes plan st r (omega arith))
     ]
+
+pub stage-is-of : (sizes : Sizes) (plan : Plan) (me : Side) (st : NodeState) (n : ℕ) → n < stages_in sizes → (window_numbered sizes plan me st n).stage ≡ n % 3 + 1
+stage-is-of sizes plan me st n h =
+    let a : slice_get (windows_of_frame sizes plan) n ≡ Some (window_numbered sizes plan me st n) = get-window sizes plan me st n h in
+    let b : slice_get (windows_of_frame sizes plan) n ≡ Some (window_numbered sizes plan Biu st n) = get-window sizes plan Biu st n h in
+    ap (λ (w : Window). w.stage) (one-window (window_numbered sizes plan me st n) (window_numbered sizes plan Biu st n) (sym a ∙ b)) ∙ stage-is sizes plan st n h
+  where
+    one-window : (a b : Window) → Some a ≡ Some b → a ≡ b
+    one-window a b e = cc
 
 -- the window of a stage in the list of windows, with its place
 pub stage-window : (sizes : Sizes) (plan : Plan) (n : ℕ) → n < stages_in sizes

@@ -42,7 +42,7 @@ map-twice : {X Y Z : Type 0} (f : X → Y) (g : Y → Z) (o : Option X) → opti
 map-twice f g None = refl
 map-twice f g (Some x) = refl
 
-get-after : (sc : Scenario) (me : Side) (i frame k : ℕ) (m : Option Message) (change : Site → Site) (sites : Each Site) (side : Side) (j : ℕ)
+pub get-after : (sc : Scenario) (me : Side) (i frame k : ℕ) (m : Option Message) (change : Site → Site) (sites : Each Site) (side : Side) (j : ℕ)
     → slice_get (of_kind side (with_message sc me i frame k m (at_node me i change sites))) j
     ≡ option_map (after_tick sc me i frame k m change side j) (slice_get (of_kind side sites) j)
 get-after sc me i frame k None change sites side j = get-at me side i j change sites
@@ -53,7 +53,7 @@ get-after sc me i frame k (Some m) change sites side j =
     ∙ ap (option_map (sent_to sc me i frame x side j)) (get-at me side i j change sites)
     ∙ map-twice f (sent_to sc me i frame x side j) (slice_get (of_kind side sites) j)
 
-length-after : (sc : Scenario) (me : Side) (i frame k : ℕ) (m : Option Message) (change : Site → Site) (sites : Each Site) (side : Side)
+pub length-after : (sc : Scenario) (me : Side) (i frame k : ℕ) (m : Option Message) (change : Site → Site) (sites : Each Site) (side : Side)
     → length (of_kind side (with_message sc me i frame k m (at_node me i change sites))) ≡ length (of_kind side sites)
 length-after sc me i frame k None change sites side = length-each (λ side n s. elim (is_node me i side n) as (λ _. Site) [ true ↦ change s | false ↦ s ]) sites side
 length-after sc me i frame k (Some m) change sites side =
