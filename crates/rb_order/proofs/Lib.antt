@@ -25,6 +25,7 @@ pub mod MomentBooks
 pub mod Settling
 pub mod SettlingFrames
 pub mod Telling
+pub mod FirstWorld
 pub mod RoundNodes
 pub mod WorldBooks
 pub mod EventsLaw

@@ -82,11 +82,11 @@ pub record AfterTick (sc : Scenario) (hands : List HandIn) (at : Side → ℕ �
   pub node : ((r ≡ at me i) × StaysOpen sc hands (sent_by sc hands at sites) a.time ports me i (at me i) s st a.tick x)
       ⊎ ((at me i < r) × ClosesWindow sc hands (sent_by sc hands at sites) ports me i (at me i) s st a x)
 
-past-gone : (o : Option Sending) (b : Timed) → past o (Some b) ≡ gone o b.tick
+pub past-gone : (o : Option Sending) (b : Timed) → past o (Some b) ≡ gone o b.tick
 past-gone None b = refl
 past-gone (Some s) b = refl
 
-past-none : (o : Option Sending) → past o None ≡ false
+pub past-none : (o : Option Sending) → past o None ≡ false
 past-none None = refl
 past-none (Some s) = refl
 

@@ -237,7 +237,7 @@ choose-known sc w (Take place) known = due-known sc w (slice_get (due_of sc w) p
 choose-known sc w GoOn known = subst (NodesKnown sc) (sym (go-sites sc w w.book.ended)) known
 choose-known sc w (Hand biu state) known = subst (NodesKnown sc) (sym (hand-by sc w biu state (frame_in w.turn))) known
 
-first-counts : {X : Type 0} (sizes : Sizes) (make : Side → ℕ → X) (me : Side) → length (of_kind me (each_of sizes make)) ≡ count_of me sizes
+pub first-counts : {X : Type 0} (sizes : Sizes) (make : Side → ℕ → X) (me : Side) → length (of_kind me (each_of sizes make)) ≡ count_of me sizes
 first-counts sizes make Biu = length-map-range_with_len (make Biu) 0 sizes.bius
 first-counts sizes make Rmu = length-map-range_with_len (make Rmu) 0 sizes.rmus
 
