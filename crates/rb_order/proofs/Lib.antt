@@ -26,6 +26,7 @@ pub mod Settling
 pub mod SettlingFrames
 pub mod Telling
 pub mod FirstWorld
+pub mod TimelyMoments
 pub mod RoundNodes
 pub mod WorldBooks
 pub mod EventsLaw
