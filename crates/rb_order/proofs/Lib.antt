@@ -27,6 +27,7 @@ pub mod SettlingFrames
 pub mod Telling
 pub mod FirstWorld
 pub mod TimelyMoments
+pub mod PortMoments
 pub mod RoundNodes
 pub mod WorldBooks
 pub mod EventsLaw
