@@ -28,6 +28,7 @@ pub mod Telling
 pub mod FirstWorld
 pub mod TimelyMoments
 pub mod PortMoments
+pub mod OneTake
 pub mod RoundNodes
 pub mod WorldBooks
 pub mod EventsLaw

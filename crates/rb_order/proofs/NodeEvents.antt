@@ -36,7 +36,7 @@ use Rattle.rb_order.proofs.TickWindows.{IsTickIn, first_of, here-is}
 -- An event elsewhere.
 
 -- the pending tick of a node is among its times, and so is all that comes to it
-tick-after : (t : ℕ) (o : Option Timed) (a : Timed) (cs : List Coming) → o ≡ Some a
+pub tick-after : (t : ℕ) (o : Option Timed) (a : Timed) (cs : List Coming) → o ≡ Some a
     → Every (λ u. t ≤ u) (option_to_list (option_map (λ (a : Timed). a.time) o) ++ map (λ (c : Coming). c.time) cs) → t ≤ a.time
 tick-after t None a cs e all = cc
 tick-after t (Some b) a cs e all = let same : b ≡ a = cc in subst (λ (b : Timed). t ≤ b.time) same all.0
@@ -45,7 +45,7 @@ unmapped : (t : ℕ) (cs : List Coming) → Every (λ u. t ≤ u) (map (λ (c : 
 unmapped t [] all = tt
 unmapped t (c ∷ cs) all = (all.0, unmapped t cs all.1)
 
-all-after : (t : ℕ) (o : Option Timed) (cs : List Coming)
+pub all-after : (t : ℕ) (o : Option Timed) (cs : List Coming)
     → Every (λ u. t ≤ u) (option_to_list (option_map (λ (a : Timed). a.time) o) ++ map (λ (c : Coming). c.time) cs) → Every (λ (c : Coming). t ≤ c.time) cs
 all-after t None cs all = unmapped t cs all
 all-after t (Some a) cs all = unmapped t cs all.1

@@ -25,7 +25,7 @@ use Rattle.rb_order.specs.Closing.{stages_in}
 use Rattle.rb_order.proofs.CloseOrder.{good-clock}
 use Rattle.rb_order.proofs.Invariant.{InTime, NodeStands, is_good_at, last_tick, next_stage, sending_of, word_at}
 use Rattle.rb_order.proofs.MomentSteps.{NextIsStage, next-is-stage}
-use Rattle.rb_order.proofs.NodeActs.{ActsClose, ActsOpen, HasRoom, HasWord}
+use Rattle.rb_order.proofs.NodeActs.{ActsClose, ActsOpen, HasRoom, HasWord, IsInWindow}
 use Rattle.rb_order.proofs.NodeClosing.{ClosesWindow, GoesOn, KnownInRounds, NextInTime, OthersKeepUp, Stops, closes-window}
 use Rattle.rb_order.proofs.NodeEvents.{StaysOpen, stands-on, stays-open}
 use Rattle.rb_order.proofs.NodeSends.{sending_at, sent-in}
@@ -77,6 +77,8 @@ pub record AfterTick (sc : Scenario) (hands : List HandIn) (at : Side → ℕ �
   pub st : NodeState
   pub there : slice_get (of_kind me (moment sc hands (at me i)).nodes) i ≡ Some st
   pub good : is_good_at sc (moment sc hands (at me i)) me i ≡ true
+  pub frame : st.frame ≡ (moment sc hands (at me i)).frame
+  pub stands : IsInWindow sc.sizes sc.plan me i st (moment sc hands (at me i)).window (word_at sc (moment sc hands (at me i)) me i st) a.tick s.core.state
   pub sites_stand : SitesStand sc hands a.time (moved me i r at) (with_message sc me i x.core.state.frame a.tick x.message (at_node me i (after_act sc ports me i x) sites))
   pub passed : HavePassed sc hands a.time (moved me i r at)
   pub node : ((r ≡ at me i) × StaysOpen sc hands (sent_by sc hands at sites) a.time ports me i (at me i) s st a.tick x)
@@ -182,6 +184,8 @@ tick-event sc hands now at sites ports me i s a lawful room times passed h due =
             st = st;
             there = node.state;
             good = node.good;
+            frame = known.frame;
+            stands = node.stands;
             sites_stand = tick-keeps-world sc hands now at sites me i x.core.state.frame a.tick p x.message (after_act sc ports me i x) s a (Some stays.a) lawful due.later due.first
                 (record {
                   there = due.there;
@@ -258,6 +262,8 @@ tick-event sc hands now at sites ports me i s a lawful room times passed h due =
             st = st;
             there = node.state;
             good = node.good;
+            frame = known.frame;
+            stands = node.stands;
             sites_stand = sites_after;
             passed = has-passed sc hands now a.time at me i r st due.later passed node.state (inr (later, omega (arith, time))) (λ q lt gt. (between q lt gt).0);
             node = inr (later, closes);

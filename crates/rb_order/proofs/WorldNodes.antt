@@ -200,7 +200,7 @@ rest-sites : (sc : Scenario) (way : Way) (n : ℕ) (w next : World) → next.sit
 rest-sites sc way n w next one rest None = rest ∙ one
 rest-sites sc way n w next one rest (Some r) = one
 
-settle-sites : (sc : Scenario) (way : Way) (n : ℕ) (w : World) → (settle sc way n w).sites ≡ w.sites
+pub settle-sites : (sc : Scenario) (way : Way) (n : ℕ) (w : World) → (settle sc way n w).sites ≡ w.sites
 settle-sites sc way zero w = refl
 settle-sites sc way (suc n) w =
     rest-sites sc way n w (settle_next sc way w) (next-sites sc way w) (settle-sites sc way n (settle_next sc way w))
