@@ -315,7 +315,7 @@ next-settled sc way w ticks going tell is = by (comes_so sc way w.book.upcoming 
     by true e = settled (and-true (comes_so sc way w.book.upcoming) (is_complete sc w.sites w.book.upcoming) e).1 is
     by false e = is
 
-next-hands : (sc : Scenario) (way : Way) (w : World) → (settle_next sc way w).hands ≡ w.hands
+pub next-hands : (sc : Scenario) (way : Way) (w : World) → (settle_next sc way w).hands ≡ w.hands
 next-hands sc way w = by (comes_so sc way w.book.upcoming && is_complete sc w.sites w.book.upcoming)
   where
     by : (b : Bool) → (elim b as (λ _. World) [ true ↦ record w { book = book_with sc w.sites w.book w.book.upcoming } | false ↦ w ]).hands ≡ w.hands
