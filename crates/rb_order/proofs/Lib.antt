@@ -29,6 +29,7 @@ pub mod FirstWorld
 pub mod TimelyMoments
 pub mod PortMoments
 pub mod OneTake
+pub mod EveryWorld
 pub mod RoundNodes
 pub mod WorldBooks
 pub mod EventsLaw

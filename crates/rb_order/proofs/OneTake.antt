@@ -196,7 +196,7 @@ pending-happens sc now at w me i t s (Arrival n c) lawful room times h fit there
     let x = arrival-happens sc now at w me i n t c s lawful h there ready.0 ready.1 first in
     record { now = t; at = at; sites = x.0; passed = x.1; tell = x.2; hands = refl }
 
-settle-hands : (sc : Scenario) (way : Way) (n : ℕ) (w : World) → (settle sc way n w).hands ≡ w.hands
+pub settle-hands : (sc : Scenario) (way : Way) (n : ℕ) (w : World) → (settle sc way n w).hands ≡ w.hands
 settle-hands sc way zero w = refl
 settle-hands sc way (suc n) w = by (record_since w (settle_next sc way w)) (settle-hands sc way n (settle_next sc way w) ∙ next-hands sc way w)
   where
