@@ -1,30 +1,29 @@
 -- For the law that events are rounds, which is still to come: it holds of a scenario in whose worlds the nodes are in time where they stand,
 -- their ports are those of the rounds, and what is handed in keeps it so.
-use Rattle.std.proofs.Common.{◌≡◌, ℕ, zero, suc, ◌+◌, ◌*◌, ◌-◌, ◌<◌, ◌≤◌, ◌⊎◌, Bool, true, false, List, [], ◌∷◌, ◌++◌, length, append_assoc, refl, ap, sym, ◌∙◌, subst, arith, inl, inr, Option, Some, None, fold, slice_get}
+use Rattle.std.proofs.Common.{◌≡◌, ℕ, zero, suc, ◌+◌, ◌*◌, ◌-◌, ◌<◌, ◌≤◌, Bool, true, false, List, [], ◌∷◌, ◌++◌, length, append_assoc, refl, ap, sym, ◌∙◌, subst, arith, inl, inr, Option, Some, None, fold, slice_get}
 use Rattle.std.proofs.lemmas.Bool.{cases_lt}
 use Rattle.std.proofs.lemmas.Nat.{mul-le}
 use Rattle.std.proofs.lemmas.List.{append-nil}
 use Rattle.rb_base.specs.Nodes.{Side}
-use Rattle.rb_rules.specs.Book.{Begun, Book, Each, Row, fresh_book, of_kind, each_of}
+use Rattle.rb_rules.specs.Book.{Each, of_kind, each_of}
 use Rattle.rb_rules.specs.Goodness.{Scenario, is_good}
 use Rattle.rb_rules.proofs.WindowNumbers.{get-made}
 use Rattle.rb_rules.specs.Lawful.{IsLawful}
 use Rattle.rb_rules.specs.Ports.{HandIn}
 use Rattle.rb_rules.specs.Rounds.{Moment, moment, steps_of, windows_in}
 use Rattle.rb_rules.specs.Slots.{count_of}
-use Rattle.rb_rules.specs.WorldStep.{Choice, Due, EventsAreRounds, Site, Way, World, await, choose, due_of, enter, says_in, span_from, stop, first_world, fresh_site, go_on, hand, proceed, settle, take, take_if_due, world_after}
+use Rattle.rb_rules.specs.WorldStep.{Choice, Due, EventsAreRounds, Site, World, await, choose, due_of, enter, says_in, span_from, stop, first_world, fresh_site, go_on, hand, proceed, settle, take, take_if_due, world_after}
 use Rattle.rb_rules.specs.WorldStep.Choice.{Take, GoOn, Hand}
 use Rattle.rb_rules.specs.WorldStep.Way.{ByItself}
 use Rattle.rb_rules.proofs.Books.{GoesOn, moments-on}
-use Rattle.rb_order.proofs.DueEvents.{IsDue}
 use Rattle.rb_order.proofs.EventsLaw.{IsBookOfRounds, law-from}
 use Rattle.rb_order.proofs.FirstWorld.{at_begin, first-stands}
 use Rattle.rb_order.proofs.MomentBooks.{number-of}
 use Rattle.rb_order.proofs.NodeActs.{HasRoom}
 use Rattle.rb_order.proofs.OneTake.{NodeIsFit, StandsInRounds, WorldInRounds, settle-hands, take-keeps}
-use Rattle.rb_order.proofs.SettlingFrames.{BegunInRounds, BegunOfRounds, IsOfMoment, RunsIn, TellRounds, all-settled, runs-in}
+use Rattle.rb_order.proofs.SettlingFrames.{BegunOfRounds, IsOfMoment, RunsIn, TellRounds, all-settled, runs-in}
 use Rattle.rb_order.proofs.Timing.{AreInTime, HavePassed}
-use Rattle.rb_order.proofs.Settling.{RowOfRounds, RowsOfRounds}
+use Rattle.rb_order.proofs.Settling.{RowsOfRounds}
 use Rattle.rb_order.proofs.WorldStands.{SitesStand, some-same}
 use Rattle.rb_rules.specs.Hearing.{Span}
 use Rattle.rb_order.proofs.WorldNodes.{events-due, first-counts, settle-sites}

@@ -1,35 +1,29 @@
 -- For the law that events are rounds, which is still to come: in the first world all nodes stand in the first moment.
-use Rattle.std.proofs.Common.{◌≡◌, ℕ, zero, suc, ◌+◌, ◌*◌, ◌-◌, ◌^◌, ◌<◌, ◌≤◌, ◌==◌, ◌⊎◌, Bool, true, false, List, [], ◌∷◌, ◌++◌, length, refl, ap, sym, ◌∙◌, subst, arith, inl, inr, Option, Some, None, slice_get, option_and_then, option_map}
+use Rattle.std.proofs.Common.{◌≡◌, ℕ, zero, suc, ◌+◌, ◌*◌, ◌<◌, ◌≤◌, ◌⊎◌, Bool, true, false, List, [], ◌∷◌, ◌++◌, length, refl, ap, sym, ◌∙◌, subst, arith, inl, inr, Option, Some, None, slice_get, option_and_then}
 use Rattle.std.proofs.lemmas.Bool.{cases_lt}
-use Rattle.std.proofs.lemmas.Option.{slice_get_past}
 use Rattle.rb_base.specs.Nodes.{Side, other}
 use Rattle.rb_base.specs.Nodes.Side.{Biu, Rmu}
-use Rattle.rb_base.specs.Sizes.{Sizes, sync_slot_of}
+use Rattle.rb_base.specs.Sizes.{Sizes}
 use Rattle.rb_rules.specs.declared.plan.Plan.{Plan}
-use Rattle.rb_rules.specs.declared.plan.Window.{Window}
 use Rattle.rb_rules.specs.Book.{Each, each_of, of_kind}
 use Rattle.rb_rules.specs.Clock.{Timeline, time_of}
-use Rattle.rb_rules.specs.Core.{state_at, window_here}
-use Rattle.rb_rules.specs.Goodness.{Scenario, is_good, clock_of}
-use Rattle.rb_rules.specs.Hearing.{Coming, Sending, Span, said_by, span_of}
+use Rattle.rb_rules.specs.Core.{state_at}
+use Rattle.rb_rules.specs.Goodness.{Scenario, clock_of}
+use Rattle.rb_rules.specs.Hearing.{Coming, Span, said_by, span_of}
 use Rattle.rb_rules.specs.Lawful.{IsLawful}
 use Rattle.rb_rules.specs.NodeState.{NodeState, first_state}
 use Rattle.rb_rules.specs.Plan.{longest_of, shortest_of}
 use Rattle.rb_rules.specs.Ports.{HandIn}
 use Rattle.rb_rules.specs.Rounds.{Moment, begin_frame, moment, window_in}
 use Rattle.rb_rules.specs.Slots.{count_of}
-use Rattle.rb_rules.specs.WorldStep.{Site, World, await, enter, first_world, fresh_site, proceed, says_in, span_from, stop}
+use Rattle.rb_rules.specs.WorldStep.{Site, await, enter, first_world, fresh_site, proceed, says_in, span_from, stop}
 use Rattle.rb_rules.proofs.Drift.{HasLengths}
-use Rattle.rb_rules.proofs.RoundStates.{HasTicks}
 use Rattle.rb_rules.proofs.WindowNumbers.{get-made}
-use Rattle.rb_order.specs.Closing.{stages_in}
 use Rattle.rb_order.proofs.CloseOrder.{good-clock}
-use Rattle.rb_order.proofs.Invariant.{InTime, NodeStands, ahead_so_far, entry_of, has_sent, heard_so_far, is_good_at, last_tick, next_stage, sending_of, word_at}
-use Rattle.rb_order.proofs.MomentSteps.{NextIsStage, next-is-stage}
+use Rattle.rb_order.proofs.Invariant.{InTime, ahead_so_far, heard_so_far, is_good_at, last_tick, next_stage, sending_of}
 use Rattle.rb_order.proofs.NodeActs.{HasRoom}
 use Rattle.rb_order.proofs.NodeCloses.{good-span, span-begins}
 use Rattle.rb_order.proofs.NodeGoesOn.{Entered, Enters, enters}
-use Rattle.rb_order.proofs.NodeSends.{sending_at}
 use Rattle.rb_order.proofs.NodeTicks.{gone}
 use Rattle.rb_order.proofs.PendingLists.{Hears}
 use Rattle.rb_order.proofs.ReceiverHears.{stands-same}
@@ -37,7 +31,6 @@ use Rattle.rb_order.proofs.RoundNodes.{good-counts, slot_numbered}
 use Rattle.rb_order.proofs.SameHeard.{Every}
 use Rattle.rb_order.proofs.SayLists.{ComesIn, every-to, said_if, say-more, says-come-in, says-now}
 use Rattle.rb_order.proofs.SentChanges.{past, sending-of-is, sent-here, sent-later}
-use Rattle.rb_order.proofs.StageOrder.{last_of}
 use Rattle.rb_order.proofs.TickWindows.{IsTickIn, Tiles, first_of, first-same, here-is, tiles}
 use Rattle.rb_order.proofs.Timing.{AreInTime, HavePassed}
 use Rattle.rb_order.proofs.WorldEvents.{past-gone, past-none}
@@ -143,7 +136,7 @@ first-node sc hands me i lawful room times counted =
     → FirstNode sc hands me i (elim b as (λ _. Site) [ true ↦ await sc me i (says_in sc me i span) s | false ↦ stop s ])) [
       | true ↦ λ e.
           let en : Enters sc hands none_sent 0 me i 0 0 st s = first-enters sc hands me i lawful room e in
-          let it : InTime sc m (moment sc hands (next_stage sc.sizes m 0)) = times.each me i counted in
+          let it : InTime sc m (moment sc hands (next_stage sc.sizes m 0)) = times.each me i e in
           let lengths : HasLengths (shortest_of sc.plan) (longest_of sc.plan) (clock_of sc me i) = good-clock sc lawful me i 0 (slot_numbered sc.sizes 0) e in
           let ent : Entered sc hands none_sent 0 me i 0 st s =
           enters sc hands none_sent 0 me i 0 0 st s lawful room lengths (it.keeps me i st en.state e) (it.room me i st en.state e) en in

@@ -1,10 +1,10 @@
 -- For the law that events are rounds, which is still to come: the invariant of a run event by event. Each node stands in a moment
 -- of the rounds of its own; its next busy tick is pending; and what has come to it and is pending there of a source is what the
 -- source has sent in the rounds for that moment's window and for the next stage.
-use Rattle.std.proofs.Common.{◌≡◌, ℕ, zero, suc, ◌+◌, ◌-◌, ◌^◌, ◌<◌, ◌≤◌, ◌==◌, ◌&&◌, ◌||◌, nat_lt, Bool, true, false, List, [], Option, Some, None, slice_get, option_and_then, option_map, option_to_list, if◌then◌else◌, length}
+use Rattle.std.proofs.Common.{◌≡◌, ℕ, suc, ◌+◌, ◌-◌, ◌^◌, ◌<◌, ◌≤◌, ◌==◌, ◌&&◌, ◌||◌, nat_lt, Bool, true, false, List, [], Option, Some, None, slice_get, option_map, option_to_list, if◌then◌else◌}
 use Rattle.rb_base.specs.Nodes.{Side, other}
 use Rattle.rb_base.specs.Sizes.{Sizes}
-use Rattle.rb_rules.specs.Book.{of_kind, Each}
+use Rattle.rb_rules.specs.Book.{of_kind}
 use Rattle.rb_rules.specs.Clock.{time_of}
 use Rattle.rb_rules.specs.ExactStage.{at_source}
 use Rattle.rb_rules.specs.Goodness.{Scenario, is_good, clock_of}
@@ -13,7 +13,7 @@ use Rattle.rb_rules.specs.NodeState.{NodeState}
 use Rattle.rb_rules.specs.Ports.{HandIn}
 use Rattle.rb_rules.specs.Rounds.{Moment, window_in, word_for_window, sent_in, moment, windows_in}
 use Rattle.rb_rules.specs.WorldStep.{Timed, Site}
-use Rattle.rb_order.specs.Closing.{stages_in, CloseInOrder}
+use Rattle.rb_order.specs.Closing.{stages_in}
 use Rattle.rb_order.proofs.NodeActs.{IsInWindow}
 use Rattle.rb_order.proofs.NodeSends.{KeepsTime}
 use Rattle.rb_order.proofs.Receiving.{Receives}

@@ -1,5 +1,5 @@
 -- For the law that events are rounds, which is still to come: the number of a moment, and what its book settles next.
-use Rattle.std.proofs.Common.{◌≡◌, ℕ, zero, suc, ◌+◌, ◌*◌, ◌-◌, ◌/◌, ◌%◌, ◌<◌, ◌≤◌, ◌==◌, nat_lt, min, Bool, true, false, refl, ap, sym, ◌∙◌, subst, arith, inl, inr, List, [], ◌∷◌, ◌++◌, Option, Some, None, slice_get, if◌then◌else◌}
+use Rattle.std.proofs.Common.{◌≡◌, ℕ, zero, suc, ◌+◌, ◌*◌, ◌-◌, ◌%◌, ◌<◌, ◌≤◌, ◌==◌, nat_lt, Bool, true, false, refl, ap, sym, ◌∙◌, subst, arith, inl, inr, List, [], ◌∷◌, ◌++◌, Option, Some, None, slice_get, if◌then◌else◌}
 use Rattle.std.proofs.lemmas.Bool.{cases_lt, lt-ltb, le-ltb}
 use Rattle.std.proofs.lemmas.Bool.Decides.{nat_tests}
 use Rattle.std.proofs.lemmas.Option.{slice_get_past}
@@ -17,7 +17,7 @@ use Rattle.rb_rules.specs.Goodness.{Scenario}
 use Rattle.rb_rules.specs.Judging.{JudgedStage, verdict_of}
 use Rattle.rb_rules.specs.NodeState.{NodeState, first_state}
 use Rattle.rb_rules.specs.Ports.{HandIn}
-use Rattle.rb_rules.specs.Rounds.{Moment, after_window, begin_frame, book_after, first_moment, moment, next_frame, results_of, step, windows_in}
+use Rattle.rb_rules.specs.Rounds.{Moment, after_window, begin_frame, book_after, moment, step, windows_in}
 use Rattle.rb_rules.specs.Windows.{windows_of_frame}
 use Rattle.rb_rules.proofs.Books.{stepped}
 use Rattle.rb_rules.proofs.WindowNumbers.{exact-numbered, sync-numbered}

@@ -1,6 +1,5 @@
 -- For the law that events are rounds, which is still to come: the act of a core at a tick of a window, and its next busy tick.
-use Rattle.std.proofs.Common.{◌≡◌, ℕ, zero, suc, ◌+◌, ◌*◌, ◌-◌, ◌^◌, ◌<◌, ◌≤◌, ◌==◌, ◌&&◌, ◌||◌, nat_le, nat_lt, Bool, true, false, cond, refl, ap, sym, ◌∙◌, subst, arith, inl, inr, List, [], Option, Some, None, is_some, option_and_then, option_map, unwrap_or, if◌then◌else◌}
-use Rattle.std.proofs.lemmas.Bool.{cases_lt}
+use Rattle.std.proofs.Common.{◌≡◌, ℕ, ◌+◌, ◌^◌, ◌<◌, ◌≤◌, ◌==◌, nat_lt, Bool, true, false, refl, ap, sym, ◌∙◌, subst, arith, List, [], Option, Some, None}
 use Rattle.std.proofs.lemmas.Bool.Decides.{nat_tests}
 use Rattle.rb_base.specs.Nodes.{Side}
 use Rattle.rb_base.specs.Sizes.{Sizes, sync_slot_of}
@@ -8,8 +7,8 @@ use Rattle.rb_rules.specs.declared.message.Message.{Message}
 use Rattle.rb_rules.specs.declared.plan.Plan.{Plan}
 use Rattle.rb_rules.specs.declared.plan.Window.{Window}
 use Rattle.rb_rules.specs.declared.record.Epoch.{Epoch}
-use Rattle.rb_rules.specs.Core.{Core, Act, if_at, is_busy, is_last, is_spent, is_tick, of_source, said_at, slot_wanted, state_at, state_kept, tick, wants, window_here, act_at, act_on, epoch_at}
-use Rattle.rb_rules.specs.ExactStage.{Outcome, keep_sent, says}
+use Rattle.rb_rules.specs.Core.{Core, Act, if_at, is_last, is_spent, is_tick, of_source, said_at, state_at, state_kept, tick, wants, window_here, act_at, act_on, epoch_at}
+use Rattle.rb_rules.specs.ExactStage.{Outcome}
 use Rattle.rb_rules.specs.Goodness.{Scenario}
 use Rattle.rb_rules.specs.Hearing.{Sending, sending, window_numbered, word_for, close_window}
 use Rattle.rb_rules.specs.NodeState.{NodeState}
@@ -19,14 +18,13 @@ use Rattle.rb_rules.specs.Slots.{role_of}
 use Rattle.rb_rules.specs.SyncStage.{send_tick_of}
 use Rattle.rb_rules.specs.WorldStep.{word_of, wants_in}
 use Rattle.rb_rules.proofs.Lawfulness.{SendsInside}
-use Rattle.rb_rules.proofs.QuietTicks.{IsNext, IsQuiet, quiet-from}
 use Rattle.rb_rules.proofs.RoundStates.{HasTicks}
 use Rattle.rb_order.specs.Closing.{stages_in}
 use Rattle.rb_order.proofs.NodeSends.{KeepsTime, sending_at, said-is, sent-in, keeps-none}
-use Rattle.rb_order.proofs.NodeTicks.{Like, like-in, like-tick, like-keeps, gone, by_said, kept_in, state_in, no-turn, after-say, words-fit, sent-place}
-use Rattle.rb_order.proofs.NodeWords.{SameWords, WordFits, at_its_tick, word_wanted, from-says, said-at-tick, wanted-fits, none-message}
+use Rattle.rb_order.proofs.NodeTicks.{Like, like-in, like-tick, like-keeps, gone, by_said, kept_in, state_in, after-say, words-fit, sent-place}
+use Rattle.rb_order.proofs.NodeWords.{SameWords, WordFits, at_its_tick, word_wanted, from-says, said-at-tick, wanted-fits}
 use Rattle.rb_order.proofs.StageOrder.{last_of}
-use Rattle.rb_order.proofs.TickWindows.{IsTickIn, first_of, here-is, last-is, tiles, Tiles}
+use Rattle.rb_order.proofs.TickWindows.{IsTickIn, here-is, last-is}
 
 -- what the plan of a lawful scenario has
 pub record HasRoom (plan : Plan) : Type 0 where

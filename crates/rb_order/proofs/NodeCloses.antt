@@ -1,32 +1,28 @@
 -- For the law that events are rounds, which is still to come: at the last tick of its window a node does what the rounds do with it, and
 -- goes on in the next window, or stops where it is not good any more.
-use Rattle.std.proofs.Common.{◌≡◌, ℕ, zero, suc, ◌+◌, ◌-◌, ◌^◌, ◌<◌, ◌≤◌, ◌==◌, ◌&&◌, ◌⊎◌, nat_le, nat_lt, min, Bool, true, false, cond, List, [], ◌∷◌, ◌++◌, filter, length, map, refl, ap, sym, ◌∙◌, subst, arith, inl, inr, Option, Some, None, is_some, slice_get, option_map, option_to_list}
-use Rattle.std.proofs.lemmas.Bool.{cases_lt}
+use Rattle.std.proofs.Common.{◌≡◌, ℕ, ◌+◌, ◌<◌, ◌≤◌, ◌==◌, ◌&&◌, ◌⊎◌, nat_le, nat_lt, Bool, true, false, cond, List, [], ◌∷◌, ◌++◌, filter, length, refl, ap, sym, ◌∙◌, subst, arith, inl, inr, Option, Some, None, option_map, option_to_list}
 use Rattle.std.proofs.lemmas.Bool.Decides.{nat_tests}
 use Rattle.std.proofs.lemmas.List.{append-nil}
 use Rattle.rb_base.specs.Nodes.{Side, other}
-use Rattle.rb_base.specs.Sizes.{Sizes, sync_slot_of}
+use Rattle.rb_base.specs.Sizes.{Sizes}
 use Rattle.rb_rules.specs.declared.closing.Closed.{Closed as ClosedStage}
 use Rattle.rb_rules.specs.declared.plan.Plan.{Plan}
 use Rattle.rb_rules.specs.declared.plan.Window.{Window}
-use Rattle.rb_rules.specs.Book.{of_kind, Row, Begun}
-use Rattle.rb_rules.specs.Clock.{time_of}
-use Rattle.rb_rules.specs.Core.{Core, Act, next_tick, state_at, window_here}
-use Rattle.rb_rules.specs.Goodness.{Scenario, is_good, clock_of}
-use Rattle.rb_rules.specs.Hearing.{Coming, Sending, Span, coming_of, heard_from, row_of, said_by, span_of, window_numbered}
+use Rattle.rb_rules.specs.Core.{Act, state_at, window_here}
+use Rattle.rb_rules.specs.Goodness.{Scenario, is_good}
+use Rattle.rb_rules.specs.Hearing.{Coming, Span, coming_of, heard_from, row_of, said_by, span_of, window_numbered}
 use Rattle.rb_rules.specs.NodeState.{NodeState}
 use Rattle.rb_rules.specs.Ports.{PortState}
 use Rattle.rb_rules.specs.Rounds.{Moment, heard_at, sent_in, window_in}
-use Rattle.rb_rules.specs.WorldStep.{Timed, Site, after_act, await, coming_from, enter, proceed, says_in, span_from, stop, with_close, with_epoch}
-use Rattle.rb_order.specs.Closing.{stages_in}
-use Rattle.rb_order.proofs.Invariant.{ComesInWindow, ahead_so_far, entry_of, heard_so_far, is_good_at, last_tick, sending_of}
+use Rattle.rb_rules.specs.WorldStep.{Site, after_act, await, coming_from, enter, proceed, says_in, span_from, stop, with_close, with_epoch}
+use Rattle.rb_order.proofs.Invariant.{ahead_so_far, entry_of, heard_so_far, is_good_at, sending_of}
 use Rattle.rb_order.proofs.NodeEvents.{begun_after, epoch-is}
 use Rattle.rb_order.proofs.PendingLists.{Hears, all-came, is_later, is_now, none-now}
-use Rattle.rb_order.proofs.RoundNodes.{slot-is, slot_numbered}
+use Rattle.rb_order.proofs.RoundNodes.{slot-is}
 use Rattle.rb_order.proofs.SameHeard.{AllOf, Every, IsOneOf}
-use Rattle.rb_order.proofs.SayLists.{every-to, said_if, say-more}
-use Rattle.rb_order.proofs.SendingLists.{OpensFor, opens}
-use Rattle.rb_order.proofs.TickWindows.{IsTickIn, first_of, here-is}
+use Rattle.rb_order.proofs.SayLists.{said_if}
+use Rattle.rb_order.proofs.SendingLists.{opens}
+use Rattle.rb_order.proofs.TickWindows.{first_of}
 
 -- What comes to the node.
 

@@ -1,23 +1,22 @@
 -- For the law that events are rounds, which is still to come: the last tick of a window at its node.
-use Rattle.std.proofs.Common.{◌≡◌, ℕ, zero, suc, ◌+◌, ◌*◌, ◌-◌, ◌/◌, ◌^◌, ◌<◌, ◌≤◌, ◌==◌, ◌⊎◌, nat_le, nat_lt, min, if◌then◌else◌, Bool, true, false, List, [], ◌++◌, refl, ap, sym, ◌∙◌, subst, arith, inl, inr, Option, Some, None, slice_get, unwrap_or}
+use Rattle.std.proofs.Common.{◌≡◌, ℕ, suc, ◌+◌, ◌*◌, ◌-◌, ◌^◌, ◌<◌, ◌≤◌, ◌==◌, ◌⊎◌, nat_le, nat_lt, if◌then◌else◌, Bool, true, false, List, [], ◌++◌, refl, ap, sym, ◌∙◌, subst, arith, inl, inr, Option, Some, None, slice_get, unwrap_or}
 use Rattle.std.proofs.lemmas.Bool.{cases_lt}
 use Rattle.std.proofs.lemmas.Bool.Decides.{nat_tests}
-use Rattle.std.proofs.lemmas.List.{append-nil}
 use Rattle.rb_base.specs.Nodes.{Side, other}
 use Rattle.rb_base.specs.Sizes.{Sizes, sync_slot_of}
 use Rattle.rb_rules.specs.declared.plan.Plan.{Plan}
 use Rattle.rb_rules.specs.declared.plan.Window.{Window}
 use Rattle.rb_rules.specs.Book.{of_kind, Row}
 use Rattle.rb_rules.specs.Clock.{Timeline, time_of}
-use Rattle.rb_rules.specs.Core.{Core, Act, epoch_at, if_at, of_source, pass_to, state_at, window_here}
+use Rattle.rb_rules.specs.Core.{Core, Act, of_source, pass_to, state_at, window_here}
 use Rattle.rb_rules.specs.ExactStage.{Outcome, close_exact, outcome_of}
 use Rattle.rb_rules.specs.Goodness.{Scenario, is_good, clock_of}
-use Rattle.rb_rules.specs.Hearing.{Coming, Span, close_window, row_of, said_by, span_of, window_numbered}
+use Rattle.rb_rules.specs.Hearing.{Coming, Span, close_window, row_of, span_of, window_numbered}
 use Rattle.rb_rules.specs.Lawful.{IsLawful}
 use Rattle.rb_rules.specs.NodeState.{NodeState}
 use Rattle.rb_rules.specs.Plan.{longest_of, shortest_of}
 use Rattle.rb_rules.specs.Ports.{HandIn, PortState}
-use Rattle.rb_rules.specs.Rounds.{Moment, Result, go_through, heard_at, moment, sent_in, window_in, windows_in}
+use Rattle.rb_rules.specs.Rounds.{Moment, Result, go_through, moment, sent_in, window_in, windows_in}
 use Rattle.rb_rules.specs.SyncStage.{new_epoch_of, close_sync, sync_outcome_of}
 use Rattle.rb_rules.specs.Sense.{Arrival, sense_of}
 use Rattle.rb_rules.specs.NodeSteps.{expect_of}
@@ -28,21 +27,21 @@ use Rattle.rb_rules.proofs.WindowNumbers.{sync-numbered}
 use Rattle.rb_order.specs.Closing.{stages_in}
 use Rattle.rb_order.proofs.ClosingTicks.{HoldsHeard, closing_of, result-is, spoken}
 use Rattle.rb_order.proofs.CloseOrder.{IsWindowLater, window-later}
-use Rattle.rb_order.proofs.Invariant.{ComesInWindow, InTime, NodeStands, ahead_so_far, entry_of, heard_so_far, is_good_at, last_tick, next_stage, sending_of, word_at}
+use Rattle.rb_order.proofs.Invariant.{ComesInWindow, InTime, NodeStands, ahead_so_far, entry_of, heard_so_far, is_good_at, last_tick, next_stage, word_at}
 use Rattle.rb_order.proofs.NodeActs.{ActsClose, HasRoom, HasWord, IsInWindow, acts-close}
 use Rattle.rb_order.proofs.NodeCloses.{after-close, all-here, good-span, heard-all, opens-stage, opens-tail, site_closed, span-begins, stage-lists}
 use Rattle.rb_order.proofs.NodeEvents.{begun_after}
-use Rattle.rb_order.proofs.NodeGoesOn.{Entered, Enters, enters, none-in-tail, tail-close}
+use Rattle.rb_order.proofs.NodeGoesOn.{Entered, enters, none-in-tail, tail-close}
 use Rattle.rb_order.proofs.NodeMoves.{Closed, NextPlace, after-tail, epoch-known, get-later, inner, last-stage, state_after, the-some}
 use Rattle.rb_order.proofs.NodeSends.{KeepsTime, sending_at}
-use Rattle.rb_order.proofs.NodeTicks.{Like, gone, like-kept, state_in, tail-last}
+use Rattle.rb_order.proofs.NodeTicks.{Like, gone, like-kept, tail-last}
 use Rattle.rb_order.proofs.PendingLists.{Hears}
 use Rattle.rb_order.proofs.Receiving.{Receives, every-so}
 use Rattle.rb_order.proofs.RoundNodes.{slot-is, slot_numbered}
 use Rattle.rb_order.proofs.SameHeard.{AllOf, Every}
 use Rattle.rb_order.proofs.SayLists.{ComesIn, said_if, say-more, says-come-in, says-now}
 use Rattle.rb_order.proofs.StageOrder.{last_of}
-use Rattle.rb_order.proofs.TickWindows.{IsTickIn, first_of, here-is}
+use Rattle.rb_order.proofs.TickWindows.{first_of, here-is}
 
 -- what the rest of the world has to be like when a node closes the window of moment p: all good sources have sent what they send for it,
 -- and none has sent anything for the stage after the next

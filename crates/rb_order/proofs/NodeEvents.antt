@@ -1,36 +1,31 @@
 -- For the law that events are rounds, which is still to come: a node stays where it stands when something comes to it, when an event
 -- happens elsewhere, and at a tick that is not the last of its window.
-use Rattle.std.proofs.Common.{◌≡◌, ℕ, zero, suc, ◌+◌, ◌-◌, ◌^◌, ◌<◌, ◌≤◌, ◌==◌, max, Bool, true, false, List, [], ◌∷◌, ◌++◌, map, refl, ap, sym, ◌∙◌, subst, arith, inl, inr, Option, Some, None, slice_get, option_map, option_to_list}
+use Rattle.std.proofs.Common.{◌≡◌, ℕ, suc, ◌+◌, ◌^◌, ◌<◌, ◌≤◌, ◌==◌, Bool, true, false, List, [], ◌∷◌, ◌++◌, map, refl, ap, sym, ◌∙◌, subst, arith, Option, Some, None, option_map, option_to_list}
 use Rattle.std.proofs.lemmas.Bool.Decides.{nat_tests}
 use Rattle.std.proofs.lemmas.List.{append-nil}
-use Rattle.rb_base.specs.Nodes.{Side, other}
+use Rattle.rb_base.specs.Nodes.{Side}
 use Rattle.rb_base.specs.Sizes.{Sizes}
-use Rattle.rb_rules.specs.declared.closing.Closed.{Closed}
-use Rattle.rb_rules.specs.declared.message.Message.{Message}
 use Rattle.rb_rules.specs.declared.plan.Plan.{Plan}
-use Rattle.rb_rules.specs.declared.plan.Window.{Window}
 use Rattle.rb_rules.specs.declared.record.Epoch.{Epoch}
-use Rattle.rb_rules.specs.Book.{of_kind, Begun, Row}
+use Rattle.rb_rules.specs.Book.{Begun}
 use Rattle.rb_rules.specs.Clock.{Timeline, time_of, stamp_of}
-use Rattle.rb_rules.specs.Core.{Core, Act, arrive, if_at, next_tick, pass_to, state_at, tick, window_here}
-use Rattle.rb_rules.specs.Goodness.{Scenario, is_good, clock_of}
-use Rattle.rb_rules.specs.Hearing.{Coming, Sending, Span, span_of, begun_of, row_of, window_numbered}
+use Rattle.rb_rules.specs.Core.{Core, Act, arrive, next_tick, pass_to, state_at, window_here}
+use Rattle.rb_rules.specs.Goodness.{Scenario, clock_of}
+use Rattle.rb_rules.specs.Hearing.{Coming, Span, span_of, begun_of, window_numbered}
 use Rattle.rb_rules.specs.NodeState.{NodeState}
 use Rattle.rb_rules.specs.Ports.{HandIn, PortState}
-use Rattle.rb_rules.specs.Rounds.{Moment, window_in, moment}
-use Rattle.rb_rules.specs.WorldStep.{Timed, Site, after_act, after_arrival, await, coming_from, enter, pass_and_tick, proceed, says_in, span_from, stop, times_of, with_close, with_epoch}
+use Rattle.rb_rules.specs.Rounds.{Moment, moment}
+use Rattle.rb_rules.specs.WorldStep.{Timed, Site, after_act, after_arrival, enter, pass_and_tick, proceed, span_from, times_of, with_close, with_epoch}
 use Rattle.rb_rules.proofs.Drift.{times_rise_to}
-use Rattle.rb_rules.proofs.QuietTicks.{IsNext, arrive-same}
+use Rattle.rb_rules.proofs.QuietTicks.{arrive-same}
 use Rattle.rb_rules.proofs.Stamps.{Moves}
-use Rattle.rb_order.specs.Closing.{stages_in}
-use Rattle.rb_order.proofs.Invariant.{NodeStands, last_tick, word_at, sending_of}
+use Rattle.rb_order.proofs.Invariant.{NodeStands, last_tick, word_at}
 use Rattle.rb_order.proofs.NodeActs.{ActsOpen, HasRoom, HasWord, IsInWindow, acts-open}
 use Rattle.rb_order.proofs.NodeNext.{NextIn, next-found, next-in}
-use Rattle.rb_order.proofs.NodeSends.{KeepsTime, sending_at}
+use Rattle.rb_order.proofs.NodeSends.{sending_at}
 use Rattle.rb_order.proofs.NodeTicks.{Like, gone, like-in, like-keeps, like-tick, no-turn, state_in}
 use Rattle.rb_order.proofs.Receiving.{ArrivesNow, Receives, arrival-received, every-so}
-use Rattle.rb_order.proofs.SameHeard.{Every, kept_as}
-use Rattle.rb_order.proofs.StageOrder.{last_of}
+use Rattle.rb_order.proofs.SameHeard.{Every}
 use Rattle.rb_order.proofs.TickWindows.{IsTickIn, first_of, here-is}
 
 -- An event elsewhere.

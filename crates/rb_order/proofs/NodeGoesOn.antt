@@ -1,52 +1,43 @@
 -- For the law that events are rounds, which is still to come: at the last tick of its window a node closes it as the rounds do, and stands
 -- in the next moment, or stops.
-use Rattle.std.proofs.Common.{◌≡◌, ℕ, zero, suc, ◌+◌, ◌*◌, ◌-◌, ◌/◌, ◌^◌, ◌<◌, ◌≤◌, ◌==◌, ◌&&◌, ◌⊎◌, nat_le, nat_lt, min, Bool, true, false, cond, List, [], ◌∷◌, ◌++◌, map, refl, ap, sym, ◌∙◌, subst, arith, inl, inr, Option, Some, None, is_some, slice_get, option_and_then, option_map, option_to_list, get_or, if◌then◌else◌}
-use Rattle.std.proofs.lemmas.Bool.{cases_lt}
+use Rattle.std.proofs.Common.{◌≡◌, ℕ, zero, suc, ◌+◌, ◌^◌, ◌<◌, ◌≤◌, ◌==◌, nat_lt, Bool, true, false, List, [], ◌∷◌, ◌++◌, map, refl, ap, sym, ◌∙◌, subst, arith, Option, Some, None, slice_get, option_map, option_to_list, get_or}
 use Rattle.std.proofs.lemmas.Bool.Decides.{nat_tests}
-use Rattle.std.proofs.lemmas.List.{append-nil}
 use Rattle.rb_base.specs.Nodes.{Side, other}
 use Rattle.rb_base.specs.Nodes.Side.{Biu, Rmu}
 use Rattle.rb_base.specs.Sizes.{Sizes, sync_slot_of}
-use Rattle.rb_rules.specs.declared.closing.Closed.{Closed as ClosedStage}
 use Rattle.rb_rules.specs.declared.plan.Plan.{Plan}
 use Rattle.rb_rules.specs.declared.plan.Window.{Window}
-use Rattle.rb_rules.specs.Book.{of_kind, Row, Each, map_each}
+use Rattle.rb_rules.specs.Book.{of_kind, map_each}
 use Rattle.rb_rules.specs.Clock.{Timeline, time_of}
-use Rattle.rb_rules.specs.Core.{Core, Act, next_tick, of_source, pass_to, state_at, tick, window_here}
-use Rattle.rb_rules.specs.ExactStage.{Outcome, close_exact, keep_sent}
-use Rattle.rb_rules.specs.Goodness.{Scenario, is_good, clock_of}
-use Rattle.rb_rules.specs.Hearing.{Coming, Sending, Span, close_window, coming_of, row_of, sending, span_of, window_numbered}
+use Rattle.rb_rules.specs.Core.{state_at}
+use Rattle.rb_rules.specs.ExactStage.{Outcome, close_exact}
+use Rattle.rb_rules.specs.Goodness.{Scenario, clock_of}
+use Rattle.rb_rules.specs.Hearing.{Coming, Sending, Span, close_window, coming_of, sending, span_of, window_numbered}
 use Rattle.rb_rules.specs.Lawful.{IsLawful}
 use Rattle.rb_rules.specs.NodeState.{NodeState}
 use Rattle.rb_rules.specs.Plan.{longest_of, shortest_of}
-use Rattle.rb_rules.specs.Ports.{HandIn, PortState}
-use Rattle.rb_rules.specs.Rounds.{Moment, go_through, moment, sending_in, sent_in, window_in, word_for_window}
+use Rattle.rb_rules.specs.Ports.{HandIn}
+use Rattle.rb_rules.specs.Rounds.{Moment, moment, sending_in, sent_in, window_in, word_for_window}
 use Rattle.rb_rules.specs.Sense.{Arrival, sense_of}
 use Rattle.rb_rules.specs.declared.sense.Sense.{Sense}
 use Rattle.rb_rules.specs.NodeSteps.{expect_of}
 use Rattle.rb_rules.specs.SyncStage.{new_epoch_of, close_sync, sync_outcome_of}
-use Rattle.rb_rules.specs.WorldStep.{Timed, Site, after_act, await, coming_from, pass_and_tick, says_in, stop}
+use Rattle.rb_rules.specs.WorldStep.{Timed, Site, await, says_in}
 use Rattle.rb_rules.proofs.Drift.{HasLengths, times_rise_to}
-use Rattle.rb_rules.proofs.QuietTicks.{IsNext}
-use Rattle.rb_rules.proofs.RoundStates.{Knows}
 use Rattle.rb_rules.proofs.WindowNumbers.{sync-numbered, get-each}
 use Rattle.rb_order.specs.Closing.{stages_in}
-use Rattle.rb_order.proofs.ClosingTicks.{HoldsHeard, closing_of, result-is}
-use Rattle.rb_order.proofs.CloseOrder.{IsWindowLater, window-later}
-use Rattle.rb_order.proofs.Invariant.{ComesInWindow, InTime, NodeStands, ahead_so_far, entry_of, heard_so_far, is_good_at, last_tick, next_stage, sending_of, word_at}
-use Rattle.rb_order.proofs.NodeActs.{ActsClose, HasRoom, HasWord, IsInWindow, acts-close}
-use Rattle.rb_order.proofs.NodeCloses.{after-close, all-here, good-span, heard-all, opens-stage, opens-tail, site_closed, span-begins, stage-lists}
-use Rattle.rb_order.proofs.NodeMoves.{Closed, NextPlace, after-tail, inner, last-stage, state_after}
+use Rattle.rb_order.proofs.Invariant.{NodeStands, ahead_so_far, entry_of, heard_so_far, is_good_at, last_tick, next_stage, sending_of, word_at}
+use Rattle.rb_order.proofs.NodeActs.{HasRoom, IsInWindow}
 use Rattle.rb_order.proofs.NodeNext.{NextIn, next-found, next-in}
 use Rattle.rb_order.proofs.NodeSends.{KeepsTime, sending_at, sent-in, unsent}
-use Rattle.rb_order.proofs.NodeTicks.{Like, by_said, gone, kept_in, like-kept, state_in, tail-last}
+use Rattle.rb_order.proofs.NodeTicks.{by_said, gone, kept_in}
 use Rattle.rb_order.proofs.PendingLists.{Hears}
-use Rattle.rb_order.proofs.Receiving.{Receives, every-so}
-use Rattle.rb_order.proofs.RoundNodes.{slot-is, slot_numbered}
-use Rattle.rb_order.proofs.SameHeard.{AllOf, Every, kept_as}
-use Rattle.rb_order.proofs.SayLists.{ComesIn, every-to, said_if, say-more, says-come-in, says-now}
+use Rattle.rb_order.proofs.Receiving.{every-so}
+use Rattle.rb_order.proofs.RoundNodes.{slot-is}
+use Rattle.rb_order.proofs.SameHeard.{Every, kept_as}
+use Rattle.rb_order.proofs.SayLists.{ComesIn, says-come-in}
 use Rattle.rb_order.proofs.StageOrder.{last_of}
-use Rattle.rb_order.proofs.TickWindows.{IsTickIn, first_of, here-is}
+use Rattle.rb_order.proofs.TickWindows.{IsTickIn, first_of}
 use Rattle.rb_order.proofs.WorldNodes.{Known, known-append, says-known}
 
 -- The close of a tail leaves the next epoch what it was.

@@ -1,6 +1,6 @@
 -- For the law that events are rounds, which is still to come: where a node stands after it has closed a window: in the next one, or
 -- past an empty tail and the turn in the first one of the next frame.
-use Rattle.std.proofs.Common.{◌≡◌, ℕ, zero, suc, ◌+◌, ◌*◌, ◌-◌, ◌<◌, ◌≤◌, ◌==◌, ◌&&◌, nat_le, nat_lt, Bool, true, false, refl, ap, sym, ◌∙◌, subst, arith, inl, inr, ◌⊎◌, List, length, Option, Some, None, is_some, slice_get, option_map, unwrap_or, if◌then◌else◌}
+use Rattle.std.proofs.Common.{◌≡◌, ℕ, suc, ◌+◌, ◌*◌, ◌-◌, ◌<◌, ◌≤◌, ◌==◌, ◌&&◌, nat_le, nat_lt, Bool, true, false, refl, ap, sym, ◌∙◌, subst, arith, inl, inr, ◌⊎◌, List, Option, Some, None, is_some, slice_get, option_map, unwrap_or, if◌then◌else◌}
 use Rattle.std.proofs.lemmas.Bool.{cases_lt, lt-ltb, le-ltb}
 use Rattle.std.proofs.lemmas.Bool.Decides.{nat_tests}
 use Rattle.rb_base.specs.Nodes.{Side}
@@ -10,28 +10,26 @@ use Rattle.rb_rules.specs.declared.plan.Plan.{Plan}
 use Rattle.rb_rules.specs.declared.plan.Window.{Window}
 use Rattle.rb_rules.specs.Book.{of_kind}
 use Rattle.rb_rules.specs.Conviction.{turn}
-use Rattle.rb_rules.specs.Core.{is_tick, state_at, window_here}
+use Rattle.rb_rules.specs.Core.{is_tick, state_at}
 use Rattle.rb_rules.specs.Goodness.{Scenario, is_good}
-use Rattle.rb_rules.specs.Hearing.{Span, Sending, span_of, window_numbered, tail_at}
+use Rattle.rb_rules.specs.Hearing.{Sending, window_numbered}
 use Rattle.rb_rules.specs.Book.{Each}
 use Rattle.rb_rules.specs.NodeState.{NodeState}
 use Rattle.rb_rules.specs.NodeSteps.{turn_if_known}
 use Rattle.rb_rules.specs.Plan.{tail_start_of}
 use Rattle.rb_rules.specs.Ports.{HandIn}
-use Rattle.rb_rules.specs.Rounds.{Moment, Result, window_in, windows_in, results_of, after_window, next_frame, sent_in, go_through, close_on, step, moment, word_for_window, heard_at}
+use Rattle.rb_rules.specs.Rounds.{Moment, Result, window_in, windows_in, sent_in, go_through, close_on, moment, word_for_window, heard_at}
 use Rattle.rb_rules.specs.ExactStage.{keep_sent}
 use Rattle.rb_rules.specs.SyncStage.{new_epoch_of}
-use Rattle.rb_rules.specs.WorldStep.{span_from}
-use Rattle.rb_rules.proofs.RoundStates.{HasTicks, Knows, Stays, knows, numbered-knows, state-after, state-turned, through-stays}
-use Rattle.rb_rules.proofs.WindowNumbers.{sync-numbered}
+use Rattle.rb_rules.proofs.RoundStates.{HasTicks, Knows, Stays, numbered-knows, state-after, state-turned, through-stays}
 use Rattle.rb_order.specs.Closing.{stages_in}
 use Rattle.rb_order.proofs.CloseOrder.{IsWindowLater, IsFrameLater, window-later, frame-later}
 use Rattle.rb_order.proofs.Invariant.{is_good_at, next_stage}
 use Rattle.rb_order.proofs.NodeSends.{KeepsTime}
-use Rattle.rb_order.proofs.NodeTicks.{no-turn, past-tail, tail-first, tail-last}
-use Rattle.rb_order.proofs.RoundNodes.{Stands, slot-is, slot_numbered}
+use Rattle.rb_order.proofs.NodeTicks.{no-turn, tail-first, tail-last}
+use Rattle.rb_order.proofs.RoundNodes.{slot-is}
 use Rattle.rb_order.proofs.StageOrder.{last_of}
-use Rattle.rb_order.proofs.TickWindows.{IsTickIn, Tiles, first_of, first-same, get-window, here-is, tiles}
+use Rattle.rb_order.proofs.TickWindows.{IsTickIn, Tiles, first_of, first-same, get-window, tiles}
 
 -- One step of a node.
 

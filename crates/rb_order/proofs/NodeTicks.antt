@@ -1,6 +1,6 @@
 -- For the law that events are rounds, which is still to come: what a core does at a tick of a window, whether it has already said
 -- what it has to say in it or not.
-use Rattle.std.proofs.Common.{◌≡◌, ℕ, zero, suc, ◌+◌, ◌*◌, ◌-◌, ◌^◌, ◌<◌, ◌≤◌, ◌==◌, ◌&&◌, ◌||◌, nat_le, nat_lt, Bool, true, false, cond, refl, ap, sym, ◌∙◌, subst, arith, inl, inr, List, [], Option, Some, None, is_some, option_and_then, option_map, unwrap_or, if◌then◌else◌}
+use Rattle.std.proofs.Common.{◌≡◌, ℕ, ◌+◌, ◌*◌, ◌-◌, ◌<◌, ◌≤◌, ◌==◌, ◌&&◌, nat_lt, Bool, true, false, refl, ap, sym, ◌∙◌, subst, arith, inl, inr, Option, Some, None, is_some, option_and_then, option_map, unwrap_or, if◌then◌else◌}
 use Rattle.std.proofs.lemmas.Bool.{cases_lt}
 use Rattle.std.proofs.lemmas.Bool.Decides.{nat_tests}
 use Rattle.rb_base.specs.Nodes.{Side}
@@ -9,26 +9,20 @@ use Rattle.rb_base.specs.Sizes.{Sizes, sync_slot_of}
 use Rattle.rb_rules.specs.declared.message.Message.{Message}
 use Rattle.rb_rules.specs.declared.plan.Plan.{Plan}
 use Rattle.rb_rules.specs.declared.plan.Window.{Window}
-use Rattle.rb_rules.specs.Core.{Core, Act, if_at, is_busy, is_last, is_spent, is_tick, of_source, said_at, slot_wanted, state_at, state_kept, tick, wants, window_here, act_at, act_on, epoch_at}
-use Rattle.rb_rules.specs.ExactStage.{Outcome, keep_sent, says}
-use Rattle.rb_rules.specs.Goodness.{Scenario}
-use Rattle.rb_rules.specs.Hearing.{Sending, sending, window_numbered, tail_at, word_for, close_window}
+use Rattle.rb_rules.specs.Core.{if_at, is_tick, state_at, state_kept}
+use Rattle.rb_rules.specs.ExactStage.{keep_sent, says}
+use Rattle.rb_rules.specs.Hearing.{Sending, sending, window_numbered, tail_at}
 use Rattle.rb_rules.specs.NodeState.{NodeState}
 use Rattle.rb_rules.specs.NodeSteps.{message_said, turn_if_known}
 use Rattle.rb_rules.specs.Plan.{tail_start_of}
-use Rattle.rb_rules.specs.Ports.{PortState}
-use Rattle.rb_rules.specs.Slots.{role_of}
 use Rattle.rb_rules.specs.SyncStage.{new_epoch_of, send_tick_of}
-use Rattle.rb_rules.specs.WorldStep.{word_of}
-use Rattle.rb_rules.proofs.Lawfulness.{SendsInside}
-use Rattle.rb_rules.proofs.QuietTicks.{IsNext}
 use Rattle.rb_rules.proofs.RoundStates.{HasTicks}
 use Rattle.rb_rules.proofs.WindowNumbers.{sync-numbered}
 use Rattle.rb_order.specs.Closing.{stages_in}
-use Rattle.rb_order.proofs.NodeSends.{KeepsTime, sending_at, said-is}
-use Rattle.rb_order.proofs.NodeWords.{SameWords, WordFits, HasPlace, at_its_tick, word_wanted, from-says, message-place, said-at-tick, wanted-fits}
+use Rattle.rb_order.proofs.NodeSends.{KeepsTime, sending_at}
+use Rattle.rb_order.proofs.NodeWords.{SameWords, WordFits, HasPlace, message-place}
 use Rattle.rb_order.proofs.StageOrder.{last_of}
-use Rattle.rb_order.proofs.TickWindows.{IsTickIn, first_of, ends-before-later, here-is, last-is}
+use Rattle.rb_order.proofs.TickWindows.{IsTickIn, first_of, ends-before-later}
 
 -- What a sender keeps of its own value changes nothing of what it does next.
 

@@ -1,33 +1,29 @@
 -- For the law that events are rounds, which is still to come: one due event keeps the whole invariant, as long as the nodes are in time where
 -- they stand and the ports are those of the rounds.
-use Rattle.std.proofs.Common.{◌≡◌, ℕ, zero, suc, ◌+◌, ◌-◌, ◌<◌, ◌≤◌, ◌==◌, ◌⊎◌, Bool, true, false, List, [], ◌∷◌, ◌++◌, length, map, flat_map, refl, ap, sym, ◌∙◌, subst, arith, inl, inr, Option, Some, None, slice_get, option_map, option_to_list}
-use Rattle.rb_base.specs.Nodes.{Side, other}
+use Rattle.std.proofs.Common.{◌≡◌, ℕ, zero, suc, ◌<◌, ◌≤◌, Bool, true, false, List, [], ◌∷◌, ◌++◌, flat_map, refl, ap, sym, ◌∙◌, subst, arith, inl, inr, Option, Some, None, slice_get}
+use Rattle.rb_base.specs.Nodes.{Side}
 use Rattle.rb_base.specs.Nodes.Side.{Biu, Rmu}
-use Rattle.rb_rules.specs.Book.{Begun, Book, Each, Record, Row, in_order, of_kind}
-use Rattle.rb_rules.specs.Clock.{time_of}
+use Rattle.rb_rules.specs.Book.{Begun, Each, Record, Row, in_order, of_kind}
 use Rattle.rb_rules.specs.Core.{Act}
 use Rattle.rb_rules.specs.Goodness.{Scenario, clock_of}
 use Rattle.rb_rules.specs.Hearing.{Coming, port_at, port_line}
 use Rattle.rb_rules.specs.Lawful.{IsLawful}
-use Rattle.rb_rules.specs.NodeState.{NodeState}
 use Rattle.rb_rules.specs.Plan.{longest_of, shortest_of}
 use Rattle.rb_rules.specs.Ports.{HandIn}
-use Rattle.rb_rules.specs.Rounds.{Moment, moment}
+use Rattle.rb_rules.specs.Rounds.{moment}
 use Rattle.rb_rules.specs.WorldStep.{Due, Pending, Site, Timed, Way, World, after_act, after_arrival, at_node, happens, pass_and_tick, record_since, settle, settle_next, take_if_due, times_of, with_act, with_pending}
 use Rattle.rb_rules.specs.WorldStep.Pending.{Tick, Arrival}
 use Rattle.rb_rules.specs.WorldStep.Way.{ByAnEvent}
 use Rattle.rb_rules.proofs.Drift.{HasLengths}
 use Rattle.rb_rules.proofs.Stamps.{Moves}
-use Rattle.rb_order.specs.Closing.{stages_in}
 use Rattle.rb_order.proofs.CloseOrder.{good-clock, shortest-some}
 use Rattle.rb_order.proofs.DueEvents.{IsDue, IsReady, every-at, every-back, every-front, every-unflat}
-use Rattle.rb_order.proofs.Invariant.{NodeStands, is_good_at}
 use Rattle.rb_order.proofs.NodeActs.{HasRoom}
-use Rattle.rb_order.proofs.NodeClosing.{ClosesWindow, NextInTime}
-use Rattle.rb_order.proofs.NodeEvents.{StaysOpen, all-after, tick-after}
+use Rattle.rb_order.proofs.NodeClosing.{NextInTime}
+use Rattle.rb_order.proofs.NodeEvents.{all-after, tick-after}
 use Rattle.rb_order.proofs.PendingLists.{StandsAt}
 use Rattle.rb_order.proofs.PortMoments.{has-word}
-use Rattle.rb_order.proofs.Receiving.{ArrivesNow, every-stands}
+use Rattle.rb_order.proofs.Receiving.{every-stands}
 use Rattle.rb_order.proofs.RoundNodes.{slot_numbered}
 use Rattle.rb_order.proofs.SameHeard.{Every}
 use Rattle.rb_order.proofs.Settling.{RowOfRounds, RowsOfRounds, some-same}
@@ -35,7 +31,7 @@ use Rattle.rb_order.proofs.SettlingFrames.{BegunInRounds, BegunOfRounds, IsOfMom
 use Rattle.rb_order.proofs.Telling.{begun-then, closed-row, still-tell}
 use Rattle.rb_order.proofs.Timing.{AreInTime, HavePassed}
 use Rattle.rb_order.proofs.WorldBooks.{happens-book}
-use Rattle.rb_order.proofs.WorldEvents.{AfterTick, TickIsDue, passed-on, tick-event}
+use Rattle.rb_order.proofs.WorldEvents.{AfterTick, passed-on, tick-event}
 use Rattle.rb_order.proofs.WorldNodes.{settle-sites}
 use Rattle.rb_order.proofs.WorldStands.{AllPend, IsDown, IsUp, SitesStand, arrival-keeps-world, sent_by}
 use Rattle.rb_order.proofs.WorldTicks.{moved}

@@ -1,7 +1,6 @@
 -- For the law that events are rounds, which is still to come: the ports of a world and those of the rounds: the words that they offer, and
 -- what is delivered to them.
-use Rattle.std.proofs.Common.{◌≡◌, ℕ, zero, suc, ◌+◌, ◌<◌, ◌≤◌, ◌==◌, ◌≢◌, Bool, true, false, List, [], ◌∷◌, length, map, refl, ap, sym, ◌∙◌, subst, arith, inl, inr, nat_lt, Option, Some, None, slice_get, slice_set, get_or, option_map, option_and_then, if◌then◌else◌}
-use Rattle.std.proofs.lemmas.Bool.{cases_lt, lt-ltb, le-ltb}
+use Rattle.std.proofs.Common.{◌≡◌, ℕ, zero, suc, ◌+◌, ◌<◌, ◌==◌, ◌≢◌, Bool, true, false, List, [], ◌∷◌, length, map, refl, ap, ◌∙◌, arith, nat_lt, Option, Some, None, slice_get, get_or, option_map, if◌then◌else◌}
 use Rattle.std.proofs.lemmas.List.{get_or-set_same, get_or-set_other}
 use Rattle.std.proofs.lemmas.List.FromFn.{length-map-range_with_len}
 use Rattle.rb_base.specs.Counting.{numbers}
@@ -11,13 +10,13 @@ use Rattle.rb_base.specs.declared.values.Delivery.{Delivery}
 use Rattle.rb_rules.specs.declared.record.SlotLine.{SlotLine}
 use Rattle.rb_rules.specs.declared.role.Role.{Role}
 use Rattle.rb_rules.specs.declared.role.Role.TheVariants.{Schedule, Data, DiagBiu, DiagRmu, Sync}
-use Rattle.rb_rules.specs.Book.{Each, Row, line_in, map_each, map_from, of_kind}
+use Rattle.rb_rules.specs.Book.{Each, Row, line_in}
 use Rattle.rb_rules.specs.ExactStage.{says}
 use Rattle.rb_rules.specs.Goodness.{Scenario}
-use Rattle.rb_rules.specs.Hearing.{port_at, word_for, window_numbered}
+use Rattle.rb_rules.specs.Hearing.{port_at, word_for}
 use Rattle.rb_rules.specs.NodeState.{NodeState}
 use Rattle.rb_rules.specs.Ports.{HandIn, PortState, delivered_to, hand_over, offered_at, with_state}
-use Rattle.rb_rules.specs.Rounds.{Moment, Result, after_window, begin_frame, moment, next_frame, port_after, ports_after, results_of, step, window_in, windows_in}
+use Rattle.rb_rules.specs.Rounds.{Moment, after_window, begin_frame, moment, port_after, ports_after, step, window_in, windows_in}
 use Rattle.rb_rules.specs.Slots.{role_of}
 use Rattle.rb_rules.specs.WorldStep.{with_delivery}
 use Rattle.rb_rules.proofs.Books.{stepped}

@@ -1,5 +1,5 @@
 -- For the law that events are rounds, which is still to come: what a tick of one node does at the nodes that hear of it.
-use Rattle.std.proofs.Common.{◌≡◌, ℕ, zero, suc, ◌+◌, ◌-◌, ◌<◌, ◌≤◌, ◌==◌, ◌⊎◌, nat_lt, Bool, true, false, All, List, [], ◌∷◌, ◌++◌, refl, ap, sym, ◌∙◌, subst, arith, inl, inr, Option, Some, None, slice_get, if◌then◌else◌}
+use Rattle.std.proofs.Common.{◌≡◌, ℕ, suc, ◌+◌, ◌-◌, ◌<◌, ◌≤◌, ◌==◌, ◌⊎◌, nat_lt, Bool, true, false, All, List, [], ◌∷◌, ◌++◌, refl, ap, sym, ◌∙◌, subst, arith, inl, inr, if◌then◌else◌}
 use Rattle.std.proofs.lemmas.Bool.Decides.{nat_tests}
 use Rattle.std.proofs.lemmas.List.Elements.{All-head, All-tail}
 use Rattle.std.proofs.Math.Path.{fun_ext}
@@ -8,9 +8,8 @@ use Rattle.rb_base.specs.Sizes.{Sizes}
 use Rattle.rb_base.specs.declared.node.NodeName.{NodeName}
 use Rattle.rb_base.specs.declared.values.Place.{Place}
 use Rattle.rb_rules.specs.declared.link.Rule.{Rule}
-use Rattle.rb_rules.specs.Book.{of_kind}
 use Rattle.rb_rules.specs.Clock.{time_of}
-use Rattle.rb_rules.specs.Goodness.{Scenario, is_good, clock_of}
+use Rattle.rb_rules.specs.Goodness.{Scenario, clock_of}
 use Rattle.rb_rules.specs.Hearing.{Coming, Sending, coming_of, said_by, span_of}
 use Rattle.rb_rules.specs.Lawful.{IsLawful, IsRuleOf}
 use Rattle.rb_rules.specs.Links.{applies, delay_after, delay_of, name_of}
@@ -22,10 +21,10 @@ use Rattle.rb_rules.specs.Slots.{count_of}
 use Rattle.rb_rules.specs.WorldStep.{Timed, Site}
 use Rattle.rb_order.proofs.Invariant.{NodeStands, ahead_so_far, entry_of, heard_so_far, is_good_at, last_tick, next_stage}
 use Rattle.rb_order.proofs.PendingLists.{Hears}
-use Rattle.rb_order.proofs.Receiving.{Receives, every-so}
+use Rattle.rb_order.proofs.Receiving.{Receives}
 use Rattle.rb_order.proofs.SameHeard.{Every}
 use Rattle.rb_order.proofs.SendingLists.{say-next, say-now, say-other}
-use Rattle.rb_order.proofs.WorldNodes.{Known, known-append}
+use Rattle.rb_order.proofs.WorldNodes.{known-append}
 
 -- Delays.
 

@@ -1,12 +1,11 @@
 -- For the law that events are rounds, which is still to come: what nodes that are not good say in a window that opens: it comes in the
 -- window, and stands together with what good nodes have already sent for it.
-use Rattle.std.proofs.Common.{◌≡◌, ℕ, zero, suc, ◌+◌, ◌-◌, ◌<◌, ◌≤◌, ◌==◌, ◌&&◌, ◌⊎◌, nat_le, nat_lt, Bool, true, false, cond, All, List, [], ◌∷◌, ◌++◌, filter, flat_map, map, length, refl, ap, sym, ◌∙◌, subst, arith, inl, inr}
+use Rattle.std.proofs.Common.{◌≡◌, ℕ, zero, suc, ◌+◌, ◌<◌, ◌≤◌, ◌==◌, ◌&&◌, ◌⊎◌, nat_le, nat_lt, Bool, true, false, cond, All, List, [], ◌∷◌, ◌++◌, filter, flat_map, map, length, refl, ap, sym, ◌∙◌, subst, arith, inl, inr}
 use Rattle.std.specs.List.{range_with_len}
 use Rattle.std.proofs.lemmas.Bool.{cases_lt, and_parts, leb-true}
 use Rattle.std.proofs.lemmas.Bool.Decides.{nat_tests}
 use Rattle.std.proofs.lemmas.List.{append-nil}
 use Rattle.std.proofs.lemmas.List.Elements.{filter-append, All-head, All-tail}
-use Rattle.rb_base.specs.Counting.{numbers}
 use Rattle.rb_base.specs.Nodes.{Side, other}
 use Rattle.rb_base.specs.Nodes.Side.{Biu, Rmu}
 use Rattle.rb_base.specs.Sizes.{Sizes}
@@ -21,7 +20,7 @@ use Rattle.rb_rules.specs.Lawful.{IsLawful, IsNodeOf, IsSayOf}
 use Rattle.rb_rules.specs.Links.{covers, name_of, same_node, stands_for}
 use Rattle.rb_rules.specs.Plan.{shortest_of, longest_of}
 use Rattle.rb_rules.specs.Slots.{count_of}
-use Rattle.rb_rules.specs.WorldStep.{coming_from, says_in}
+use Rattle.rb_rules.specs.WorldStep.{says_in}
 use Rattle.rb_rules.proofs.Drift.{HasLengths, times_rise_to}
 use Rattle.rb_order.proofs.PendingLists.{Hears, is_later, is_now}
 use Rattle.rb_order.proofs.SameHeard.{Every, IsOneOf}

@@ -1,5 +1,5 @@
 -- For the law that events are rounds, which is still to come: what a tick of a node changes of what it has sent in the rounds.
-use Rattle.std.proofs.Common.{◌≡◌, ℕ, zero, suc, ◌+◌, ◌*◌, ◌-◌, ◌<◌, ◌≤◌, ◌==◌, ◌&&◌, ◌||◌, ◌⊎◌, nat_lt, Bool, true, false, List, [], ◌∷◌, refl, ap, sym, ◌∙◌, subst, arith, inl, inr, Option, Some, None, slice_get, option_map, get_or}
+use Rattle.std.proofs.Common.{◌≡◌, ℕ, zero, suc, ◌+◌, ◌*◌, ◌<◌, ◌≤◌, ◌==◌, ◌&&◌, ◌||◌, ◌⊎◌, nat_lt, Bool, true, false, List, [], ◌∷◌, refl, ap, sym, ◌∙◌, subst, arith, inl, inr, Option, Some, None, slice_get, option_map, get_or}
 use Rattle.std.proofs.lemmas.Bool.{cases_lt}
 use Rattle.std.proofs.lemmas.Bool.Decides.{nat_tests}
 use Rattle.rb_base.specs.Nodes.{Side}
@@ -9,9 +9,9 @@ use Rattle.rb_rules.specs.declared.plan.Window.{Window}
 use Rattle.rb_rules.specs.Book.{of_kind, map_each}
 use Rattle.rb_rules.specs.Core.{if_at}
 use Rattle.rb_rules.specs.Goodness.{Scenario}
-use Rattle.rb_rules.specs.Hearing.{Sending, sending, window_numbered}
+use Rattle.rb_rules.specs.Hearing.{Sending, sending}
 use Rattle.rb_rules.specs.NodeState.{NodeState}
-use Rattle.rb_rules.specs.Rounds.{Moment, sending_in, sent_in, window_in, word_for_window, windows_in}
+use Rattle.rb_rules.specs.Rounds.{Moment, sending_in, sent_in, window_in, windows_in}
 use Rattle.rb_rules.specs.WorldStep.{Timed}
 use Rattle.rb_rules.proofs.WindowNumbers.{get-each, sync-numbered}
 use Rattle.rb_order.specs.Closing.{stages_in}

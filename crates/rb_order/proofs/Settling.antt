@@ -1,26 +1,23 @@
 -- For the law that events are rounds, which is still to come: where each node has told what it tells in the rounds, a stage that the world
 -- settles is settled as in the rounds.
-use Rattle.std.proofs.Common.{◌≡◌, ℕ, zero, suc, ◌+◌, ◌*◌, ◌-◌, ◌/◌, ◌%◌, ◌<◌, ◌≤◌, ◌==◌, ◌&&◌, ◌||◌, not, nat_le, nat_lt, min, Bool, true, false, List, [], ◌∷◌, ◌++◌, length, refl, ap, sym, ◌∙◌, subst, arith, inl, inr, Option, Some, None, is_some, slice_get, option_map, if◌then◌else◌}
+use Rattle.std.proofs.Common.{◌≡◌, ℕ, zero, suc, ◌+◌, ◌%◌, ◌<◌, ◌≤◌, ◌==◌, ◌&&◌, ◌||◌, not, nat_le, nat_lt, Bool, true, false, List, [], ◌∷◌, ◌++◌, length, refl, ap, sym, ◌∙◌, subst, arith, Option, Some, None, is_some, slice_get, option_map}
 use Rattle.std.specs.List.{list_all}
-use Rattle.std.proofs.lemmas.Bool.{cases_lt, lt-ltb, le-ltb}
+use Rattle.std.proofs.lemmas.Bool.{lt-ltb}
 use Rattle.std.proofs.lemmas.Bool.Decides.{nat_tests}
 use Rattle.std.proofs.lemmas.Option.{slice_get_past}
 use Rattle.rb_base.specs.Nodes.{Side}
 use Rattle.rb_base.specs.Nodes.Side.{Biu, Rmu}
-use Rattle.rb_base.specs.Sizes.{Sizes, sync_slot_of}
 use Rattle.rb_base.specs.declared.values.Place.{Place}
 use Rattle.rb_rules.specs.declared.plan.Window.{Window}
-use Rattle.rb_rules.specs.Book.{Book, Each, Milestone, Row, in_order, map_each, of_kind, with_end, with_stage}
-use Rattle.rb_rules.specs.Book.Milestone.{Begin, Stage, End}
+use Rattle.rb_rules.specs.Book.{Each, Row, in_order, map_each, of_kind, with_stage}
+use Rattle.rb_rules.specs.Book.Milestone.{Stage, End}
 use Rattle.rb_rules.specs.ExactStage.{keep_sent}
 use Rattle.rb_rules.specs.Goodness.{Scenario, is_good}
-use Rattle.rb_rules.specs.Hearing.{Sending}
 use Rattle.rb_rules.specs.NodeState.{NodeState}
 use Rattle.rb_rules.specs.Ports.{HandIn}
 use Rattle.rb_rules.specs.Rounds.{Moment, Result, after_window, book_after, close_on, go_through, heard_at, moment, results_of, sent_in, step, window_in, windows_in, word_for_window}
 use Rattle.rb_rules.specs.Slots.{count_of}
-use Rattle.rb_rules.specs.Windows.{windows_of_frame}
-use Rattle.rb_rules.specs.WorldStep.{Site, World, all_have_told, book_with, is_complete, row_for, same_place, told_by_good}
+use Rattle.rb_rules.specs.WorldStep.{Site, book_with, is_complete, row_for, same_place, told_by_good}
 use Rattle.rb_rules.proofs.Books.{stepped}
 use Rattle.rb_rules.proofs.RoundStates.{HasTicks}
 use Rattle.rb_rules.proofs.WindowNumbers.{get-each}

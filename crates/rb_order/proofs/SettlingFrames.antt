@@ -1,24 +1,20 @@
 -- For the law that events are rounds, which is still to come: where each node has told what it tells in the rounds, the begin of a frame that
 -- the world settles is settled as in the rounds, and so whatever is settled makes the book one of the rounds'.
-use Rattle.std.proofs.Common.{◌≡◌, ℕ, zero, suc, ◌+◌, ◌-◌, ◌<◌, ◌≤◌, ◌==◌, ◌&&◌, ◌||◌, ◌⊎◌, not, nat_lt, Bool, true, false, List, [], ◌∷◌, ◌++◌, length, map, refl, ap, sym, ◌∙◌, subst, arith, inl, inr, Option, Some, None, is_some, slice_get, option_map, if◌then◌else◌}
+use Rattle.std.proofs.Common.{◌≡◌, ℕ, zero, suc, ◌+◌, ◌<◌, ◌≤◌, ◌==◌, ◌&&◌, ◌||◌, ◌⊎◌, not, nat_lt, Bool, true, false, List, [], ◌∷◌, length, map, refl, ap, sym, ◌∙◌, subst, arith, inl, inr, Option, Some, None, is_some, slice_get, option_map, if◌then◌else◌}
 use Rattle.std.proofs.lemmas.Bool.{cases_lt, lt-ltb, le-ltb}
 use Rattle.std.proofs.lemmas.Bool.Decides.{nat_tests}
 use Rattle.std.proofs.lemmas.Option.{slice_get_past}
 use Rattle.rb_base.specs.Counting.{numbers}
 use Rattle.rb_base.specs.Nodes.{Side}
-use Rattle.rb_base.specs.Sizes.{Sizes}
-use Rattle.rb_base.specs.declared.values.Place.{Place}
-use Rattle.rb_rules.specs.Book.{Begun, Book, Each, Milestone, Record, each_of, fresh_book, in_order, map_each, of_kind, with_frame}
+use Rattle.rb_rules.specs.Book.{Begun, Book, Each, Milestone, Record, fresh_book, in_order, map_each, of_kind, with_frame}
 use Rattle.rb_rules.specs.Book.Milestone.{Begin, Stage, End}
 use Rattle.rb_rules.specs.ExactStage.{present}
 use Rattle.rb_rules.specs.Goodness.{Scenario, is_good}
 use Rattle.rb_rules.specs.Hearing.{begun_of, epoch_of, port_at}
-use Rattle.rb_rules.specs.NodeState.{NodeState, first_state}
-use Rattle.rb_rules.specs.NodeSteps.{turn_if_known}
+use Rattle.rb_rules.specs.NodeState.{NodeState}
 use Rattle.rb_rules.specs.Ports.{HandIn, PortState}
-use Rattle.rb_rules.specs.Rounds.{Moment, after_window, begin_frame, begun_if_good, Result, book_after, first_moment, moment, next_frame, results_of, step, windows_in}
+use Rattle.rb_rules.specs.Rounds.{Moment, after_window, begin_frame, begun_if_good, Result, book_after, moment, next_frame, results_of, step, windows_in}
 use Rattle.rb_rules.specs.Slots.{count_of}
-use Rattle.rb_rules.specs.Windows.{windows_of_frame}
 use Rattle.rb_rules.specs.WorldStep.{Site, Way, World, begun_for, book_with, comes_so, is_complete, record_since, settle, settle_next, told_by_good}
 use Rattle.rb_rules.proofs.Books.{GoesOn, moments-on, stepped}
 use Rattle.rb_rules.proofs.RoundStates.{HasTicks}
@@ -26,7 +22,7 @@ use Rattle.rb_rules.proofs.WindowNumbers.{get-each}
 use Rattle.rb_order.specs.Closing.{stages_in}
 use Rattle.rb_order.proofs.CloseOrder.{IsFrameLater, IsWindowLater, frame-later, window-later}
 use Rattle.rb_order.proofs.MomentBooks.{SettlesNext, end-ended, next_of, no-window, number-of, one-number, place_at, settles-next}
-use Rattle.rb_order.proofs.RoundNodes.{AllStand, item-at, moments-stand, slot_numbered}
+use Rattle.rb_order.proofs.RoundNodes.{AllStand, item-at, moments-stand}
 use Rattle.rb_order.proofs.Settling.{RowsOfRounds, and-true, each-at, end-settled, get-within, or-told, same-each, same-number, some-same, stage-settled}
 use Rattle.rb_order.proofs.WorldBooks.{settle-on}
 use Rattle.rb_order.proofs.WorldNodes.{next-sites}

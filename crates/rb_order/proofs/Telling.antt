@@ -1,5 +1,5 @@
 -- For the law that events are rounds, which is still to come: an event keeps all that the nodes have told what they tell in the rounds.
-use Rattle.std.proofs.Common.{◌≡◌, ℕ, zero, suc, ◌+◌, ◌*◌, ◌-◌, ◌%◌, ◌<◌, ◌≤◌, ◌==◌, ◌&&◌, ◌⊎◌, nat_le, nat_lt, Bool, true, false, List, [], ◌∷◌, ◌++◌, length, map, refl, ap, sym, ◌∙◌, subst, arith, inl, inr, Option, Some, None, is_some, slice_get, option_map, if◌then◌else◌}
+use Rattle.std.proofs.Common.{◌≡◌, ℕ, zero, suc, ◌+◌, ◌<◌, ◌≤◌, ◌==◌, ◌&&◌, nat_le, Bool, true, false, List, [], ◌∷◌, ◌++◌, map, refl, ap, sym, ◌∙◌, subst, arith, inl, inr, Option, Some, None, slice_get}
 use Rattle.std.proofs.lemmas.Bool.{cases_lt}
 use Rattle.std.proofs.lemmas.Bool.Decides.{nat_tests}
 use Rattle.rb_base.specs.Nodes.{Side, other}
@@ -11,21 +11,21 @@ use Rattle.rb_rules.specs.declared.plan.Window.{Window}
 use Rattle.rb_rules.specs.declared.sense.Sense.{Sense}
 use Rattle.rb_rules.specs.declared.record.Epoch.{Epoch}
 use Rattle.rb_rules.specs.Book.{Begun, Each, Row, of_kind}
-use Rattle.rb_rules.specs.Core.{Act, epoch_at, pass_to}
+use Rattle.rb_rules.specs.Core.{Act, epoch_at}
 use Rattle.rb_rules.specs.ExactStage.{Outcome, close_exact, keep_sent, outcome_of}
 use Rattle.rb_rules.specs.Goodness.{Scenario, is_good, clock_of}
-use Rattle.rb_rules.specs.Hearing.{Coming, Sending, arrival_of, begun_of, close_window, coming_of, epoch_of, port_at, port_line, row_of, window_numbered}
+use Rattle.rb_rules.specs.Hearing.{arrival_of, begun_of, coming_of, epoch_of, port_at, port_line, row_of, window_numbered}
 use Rattle.rb_rules.specs.NodeState.{NodeState}
 use Rattle.rb_rules.specs.NodeSteps.{expect_of}
 use Rattle.rb_rules.specs.Ports.{HandIn, PortState}
 use Rattle.rb_rules.specs.Rounds.{Moment, Result, close_on, go_through, heard_at, moment, sent_in, window_in, word_for_window}
 use Rattle.rb_rules.specs.Sense.{sense_of}
 use Rattle.rb_rules.specs.SyncStage.{close_sync, sync_outcome_of}
-use Rattle.rb_rules.specs.WorldStep.{Site, Timed, after_act, after_arrival, at_node, with_message}
+use Rattle.rb_rules.specs.WorldStep.{Site, at_node, with_message}
 use Rattle.rb_rules.proofs.RoundStates.{HasTicks, keeping-stays}
 use Rattle.rb_rules.proofs.WindowNumbers.{sync-numbered}
 use Rattle.rb_order.specs.Closing.{stages_in}
-use Rattle.rb_order.proofs.Invariant.{is_good_at, word_at}
+use Rattle.rb_order.proofs.Invariant.{word_at}
 use Rattle.rb_order.proofs.MomentBooks.{place_at, stage-is-of}
 use Rattle.rb_order.proofs.NodeActs.{HasRoom}
 use Rattle.rb_order.proofs.NodeEvents.{begun_after}
@@ -38,7 +38,7 @@ use Rattle.rb_rules.specs.Slots.{same_side}
 use Rattle.rb_order.proofs.RoundNodes.{slot-is, slot_numbered}
 use Rattle.rb_order.proofs.Settling.{RowOfRounds, RowsOfRounds, some-same}
 use Rattle.rb_order.proofs.SettlingFrames.{BegunInRounds, BegunOfRounds, TellRounds, ports_before}
-use Rattle.rb_order.proofs.WorldStands.{back-from, get-at, is_node, node-is}
+use Rattle.rb_order.proofs.WorldStands.{back-from, is_node, node-is}
 use Rattle.rb_order.proofs.WorldTicks.{after_tick, get-after, length-after, reached}
 
 -- The row of a window has the window's place.

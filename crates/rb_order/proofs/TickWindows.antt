@@ -1,5 +1,5 @@
 -- For the law that events are rounds, which is still to come: which window of its frame a tick lies in, as the core finds it.
-use Rattle.std.proofs.Common.{◌≡◌, ℕ, zero, suc, ◌+◌, ◌*◌, ◌-◌, ◌<◌, ◌≤◌, ◌==◌, ◌&&◌, nat_le, nat_lt, Bool, true, false, List, [], ◌∷◌, ◌++◌, length, map, refl, ap, sym, ◌∙◌, subst, arith, inl, inr, Option, Some, None, slice_get, get_or, unwrap_or, find, cond, length-append}
+use Rattle.std.proofs.Common.{◌≡◌, ℕ, zero, suc, ◌+◌, ◌*◌, ◌-◌, ◌<◌, ◌≤◌, ◌==◌, ◌&&◌, nat_le, Bool, true, false, List, [], ◌∷◌, length, map, refl, ap, sym, ◌∙◌, subst, arith, inl, inr, Some, None, slice_get, get_or, unwrap_or, find, cond, length-append}
 use Rattle.std.proofs.lemmas.Bool.{cases_lt}
 use Rattle.std.proofs.lemmas.Bool.Decides.{nat_tests}
 use Rattle.std.proofs.lemmas.List.FromFn.{length-map-range_with_len}
@@ -14,7 +14,7 @@ use Rattle.rb_rules.specs.Hearing.{window_numbered, tail_at}
 use Rattle.rb_rules.specs.NodeState.{NodeState}
 use Rattle.rb_rules.specs.Plan.{f0_of, tail_start_of}
 use Rattle.std.specs.List.{range_with_len}
-use Rattle.rb_rules.specs.Windows.{exact_window, sync_windows, windows_of_frame, holds_offset, window_at}
+use Rattle.rb_rules.specs.Windows.{exact_window, sync_windows, windows_of_frame, holds_offset}
 use Rattle.rb_rules.proofs.RoundStates.{HasTicks}
 use Rattle.rb_rules.proofs.WindowNumbers.{exact-numbered, sync-numbered}
 use Rattle.rb_order.specs.Closing.{stages_in}

@@ -1,32 +1,25 @@
 -- For the law that events are rounds, which is still to come: what a timely window and epochs that are close together give of being in time.
-use Rattle.std.proofs.Common.{◌≡◌, ℕ, zero, suc, ◌+◌, ◌*◌, ◌-◌, ◌<◌, ◌≤◌, ◌==◌, ◌&&◌, ◌⊎◌, Bool, true, false, All, List, [], ◌∷◌, refl, ap, sym, ◌∙◌, subst, arith, inl, inr, Option, Some, None, slice_get, option_map, option_to_list, if◌then◌else◌}
-use Rattle.std.proofs.lemmas.Bool.{cases_lt}
-use Rattle.std.proofs.lemmas.Bool.Decides.{nat_tests}
+use Rattle.std.proofs.Common.{◌≡◌, ℕ, suc, ◌+◌, ◌*◌, ◌<◌, ◌≤◌, true, false, All, List, [], ◌∷◌, refl, ap, sym, ◌∙◌, subst, arith, inl, Some, slice_get}
 use Rattle.std.proofs.lemmas.List.Elements.{All-head, All-tail}
 use Rattle.std.proofs.Math.Nat.{add-mul, mul-add}
-use Rattle.std.proofs.lemmas.Nat.{mul-le}
 use Rattle.rb_base.specs.Nodes.{Side, other}
-use Rattle.rb_base.specs.Sizes.{Sizes, sync_slot_of}
-use Rattle.rb_rules.specs.declared.plan.Plan.{Plan}
 use Rattle.rb_rules.specs.declared.plan.Window.{Window}
 use Rattle.rb_rules.specs.Book.{of_kind}
 use Rattle.rb_rules.specs.Clock.{IsStamp, Timeline, stamp_of, time_of}
 use Rattle.rb_rules.specs.Goodness.{Scenario, is_good, clock_of}
-use Rattle.rb_rules.specs.Hearing.{Coming, Sending, coming_of, said_by, span_of, window_numbered}
+use Rattle.rb_rules.specs.Hearing.{Coming, said_by, span_of}
 use Rattle.rb_rules.specs.Lawful.{IsLawful}
 use Rattle.rb_rules.specs.NodeState.{NodeState}
-use Rattle.rb_rules.specs.Plan.{f0_of, longest_of, shortest_of, skew_of}
 use Rattle.rb_rules.specs.Ports.{HandIn}
 use Rattle.rb_rules.specs.Rounds.{IsGoodIn, IsTickOf, IsTimely, Moment, heard_at, moment, sent_in, window_in}
-use Rattle.rb_rules.proofs.Drift.{HasLengths, drift, times_rise_to}
+use Rattle.rb_rules.proofs.Drift.{times_rise_to}
 use Rattle.rb_rules.proofs.Stamps.{Moves, stamp_of-is}
-use Rattle.rb_order.specs.Closing.{CloseInOrder, HaveBegunAFrame, HaveBegunTogether, closing_time, stages_in}
+use Rattle.rb_order.specs.Closing.{CloseInOrder, HaveBegunAFrame, HaveBegunTogether, stages_in}
 use Rattle.rb_order.proofs.CloseOrder.{next-in-order, turn-in-order}
-use Rattle.rb_order.proofs.Invariant.{ComesInWindow, entry_of, heard_so_far, is_good_at, last_tick, next_stage, sending_of}
+use Rattle.rb_order.proofs.Invariant.{ComesInWindow, entry_of, is_good_at, last_tick}
 use Rattle.rb_order.proofs.NodeCloses.{heard-all}
 use Rattle.rb_order.proofs.RoundNodes.{slot-is}
 use Rattle.rb_order.proofs.SameHeard.{Every}
-use Rattle.rb_order.proofs.TickWindows.{first_of}
 
 -- Good nodes.
 

@@ -1,10 +1,9 @@
 -- For the law that events are rounds, which is still to come: where all good nodes are in time, each message lands in the window that it is
 -- for, and a node that closes a window has been sent all that is sent for it.
-use Rattle.std.proofs.Common.{◌≡◌, ℕ, zero, suc, ◌+◌, ◌-◌, ◌<◌, ◌≤◌, ◌==◌, ◌&&◌, ◌||◌, ◌⊎◌, nat_lt, Bool, true, false, List, [], ◌∷◌, length, refl, ap, sym, ◌∙◌, subst, arith, inl, inr, Option, Some, None, slice_get, option_and_then, option_map, option_to_list}
+use Rattle.std.proofs.Common.{◌≡◌, ℕ, zero, suc, ◌<◌, ◌≤◌, ◌⊎◌, nat_lt, Bool, true, false, List, [], ◌∷◌, length, refl, ap, sym, ◌∙◌, subst, arith, inl, inr, Option, Some, None, slice_get, option_and_then, option_map, option_to_list}
 use Rattle.std.proofs.lemmas.Bool.{cases_lt}
 use Rattle.std.proofs.lemmas.Bool.Decides.{nat_tests}
 use Rattle.rb_base.specs.Nodes.{Side, other}
-use Rattle.rb_base.specs.Sizes.{Sizes}
 use Rattle.rb_rules.specs.Book.{Each, of_kind}
 use Rattle.rb_rules.specs.Clock.{Timeline, time_of}
 use Rattle.rb_rules.specs.Goodness.{Scenario, clock_of}
@@ -14,18 +13,18 @@ use Rattle.rb_rules.specs.NodeState.{NodeState}
 use Rattle.rb_rules.specs.Ports.{HandIn}
 use Rattle.rb_rules.specs.Rounds.{Moment, moment, windows_in}
 use Rattle.rb_rules.specs.Slots.{count_of}
-use Rattle.rb_rules.specs.WorldStep.{Timed, Site, times_of}
+use Rattle.rb_rules.specs.WorldStep.{Timed, Site}
 use Rattle.rb_rules.proofs.Drift.{times_rise_to}
 use Rattle.rb_rules.proofs.RoundStates.{HasTicks}
 use Rattle.rb_order.specs.Closing.{stages_in}
 use Rattle.rb_order.proofs.Invariant.{ComesInWindow, InTime, NodeStands, entry_of, has_sent, is_good_at, is_past, last_tick, next_stage, sending_of}
 use Rattle.rb_order.proofs.MomentSteps.{NextIsStage, good-back, good-state, next-is-stage}
 use Rattle.rb_order.proofs.NodeClosing.{OthersKeepUp}
-use Rattle.rb_order.proofs.ReceiverHears.{Lands, comes-after}
+use Rattle.rb_order.proofs.ReceiverHears.{comes-after}
 use Rattle.rb_order.proofs.RoundNodes.{good-counts, item-at, slot_numbered}
 use Rattle.rb_order.proofs.SameHeard.{Every}
 use Rattle.rb_order.proofs.SentChanges.{none-of-tail, past, sent-earlier, sent-here, sent-later}
-use Rattle.rb_order.proofs.WorldStands.{AllPend, IsDown, IsUp, SitesStand, ahead_in, other-twice, sent_by, some-same}
+use Rattle.rb_order.proofs.WorldStands.{IsDown, IsUp, SitesStand, ahead_in, other-twice, sent_by, some-same}
 use Rattle.rb_order.proofs.WorldTicks.{AllLand, on_way}
 
 -- the nodes have passed the windows before those in which they stand
@@ -34,9 +33,9 @@ pub record HavePassed (sc : Scenario) (hands : List HandIn) (now : ℕ) (at : Si
       → slice_get (of_kind me (moment sc hands q).nodes) i ≡ Some st → is_good_at sc (moment sc hands q) me i ≡ true
       → time_of (clock_of sc me i) (last_tick sc (moment sc hands q) me st) ≤ now
 
--- all nodes are in time where they stand
+-- all nodes that are good where they stand are in time there
 pub record AreInTime (sc : Scenario) (hands : List HandIn) (at : Side → ℕ → ℕ) : Type 0 where
-  pub each : (me : Side) (i : ℕ) → i < count_of me sc.sizes
+  pub each : (me : Side) (i : ℕ) → is_good_at sc (moment sc hands (at me i)) me i ≡ true
       → InTime sc (moment sc hands (at me i)) (moment sc hands (next_stage sc.sizes (moment sc hands (at me i)) (at me i)))
 
 get-within : {X : Type 0} (xs : List X) (n : ℕ) (x : X) → slice_get xs n ≡ Some x → n < length xs
@@ -89,8 +88,8 @@ all-land sc hands now at sites me i frame k t lawful ticks later time counted go
     (comes-after sc lawful (other me) j i frame (record { tick = k; message = x.message })) in
     let within : j < length (of_kind (other me) sites) = get-within (of_kind (other me) sites) j z there in
     let long : length (of_kind (other me) sites) ≡ count_of (other me) sc.sizes = counts (other me) in
-    let here : InTime sc mp (moment sc hands (next_stage sc.sizes mp p)) = times.each (other me) j (omega arith) in
-    let source : InTime sc mq (moment sc hands (next_stage sc.sizes mq q)) = times.each me i counted in
+    let here : InTime sc mp (moment sc hands (next_stage sc.sizes mp p)) = times.each (other me) j stands.good in
+    let source : InTime sc mq (moment sc hands (next_stage sc.sizes mq q)) = times.each me i good in
     let twice : is_good_at sc mq (other (other me)) i ≡ true = ap (λ y. is_good_at sc mq y i) (other-twice me) ∙ good in
     let next : NextIsStage sc hands p = next-is-stage sc hands p stands.stands.window in
     let stage : mq.window < stages_in sc.sizes = elim (cases_lt mq.window (stages_in sc.sizes)) [
@@ -161,8 +160,7 @@ source-sent sc hands t at sites me i j st z lawful ticks there good time within 
     let m : Moment = moment sc hands p in
     let mq : Moment = moment sc hands q in
     let clock : Timeline = clock_of sc (other me) j in
-    let here : InTime sc m (moment sc hands (next_stage sc.sizes m p)) = times.each me i counted in
-    let source : InTime sc mq (moment sc hands (next_stage sc.sizes mq q)) = times.each (other me) j counted_j in
+    let here : InTime sc m (moment sc hands (next_stage sc.sizes m p)) = times.each me i good in
     let pend : ahead_in (of_kind (other me) sites) j ≡ z.ahead = ap (option_and_then (λ (s : Site). s.ahead)) site in
     let stage : m.window < stages_in sc.sizes = elim (cases_lt m.window (stages_in sc.sizes)) [
       | inl lt ↦ lt
@@ -176,6 +174,7 @@ source-sent sc hands t at sites me i j st z lawful ticks there good time within 
             absurd (true-false (sym good_q ∙ off.1.not_good))
         | inl on ↦
             let up : IsUp sc hands (sent_by sc hands at sites) t (other me) j q z = on.1 in
+            let source : InTime sc mq (moment sc hands (next_stage sc.sizes mq q)) = times.each (other me) j up.stands.good in
             let a : Timed = up.a in
             let at_time : a.time ≡ time_of clock a.tick = up.stands.receives.at_time in
             let after : t ≤ a.time = up.stands.receives.tick_after in
@@ -244,7 +243,7 @@ pub keep-up : (sc : Scenario) (hands : List HandIn) (t : ℕ) (at : Side → ℕ
 keep-up sc hands t at sites me i st lawful ticks there good time within passed times counted h =
     let p : ℕ = at me i in
     let m : Moment = moment sc hands p in
-    let here : InTime sc m (moment sc hands (next_stage sc.sizes m p)) = times.each me i counted in
+    let here : InTime sc m (moment sc hands (next_stage sc.sizes m p)) = times.each me i good in
     let next : NextIsStage sc hands p = next-is-stage sc hands p within in
     record {
       all_sent = λ j good_j.

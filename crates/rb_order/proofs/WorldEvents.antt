@@ -1,43 +1,38 @@
 -- For the law that events are rounds, which is still to come: a due event keeps all nodes of the world in the rounds: each stands in a
 -- moment, and has passed the windows before.
-use Rattle.std.proofs.Common.{◌≡◌, ℕ, zero, suc, ◌+◌, ◌-◌, ◌^◌, ◌<◌, ◌≤◌, ◌==◌, ◌&&◌, ◌⊎◌, nat_lt, Bool, true, false, List, [], length, refl, ap, sym, ◌∙◌, subst, arith, inl, inr, Option, Some, None, is_some, slice_get, if◌then◌else◌}
+use Rattle.std.proofs.Common.{◌≡◌, ℕ, ◌+◌, ◌^◌, ◌<◌, ◌≤◌, ◌⊎◌, Bool, true, false, List, refl, ap, sym, ◌∙◌, subst, arith, inl, inr, Option, Some, None, slice_get}
 use Rattle.std.proofs.lemmas.Bool.{cases_lt}
-use Rattle.std.proofs.lemmas.Bool.Decides.{nat_tests}
-use Rattle.rb_base.specs.Nodes.{Side, other}
-use Rattle.rb_base.specs.Sizes.{Sizes}
-use Rattle.rb_rules.specs.Book.{Each, of_kind, Row}
+use Rattle.rb_base.specs.Nodes.{Side}
+use Rattle.rb_rules.specs.Book.{Each, of_kind}
 use Rattle.rb_rules.specs.Clock.{time_of}
-use Rattle.rb_rules.specs.Core.{Act, Core, if_at, of_source, pass_to}
-use Rattle.rb_rules.specs.ExactStage.{keep_sent, says}
+use Rattle.rb_rules.specs.Core.{Act, Core, if_at}
 use Rattle.rb_rules.specs.Goodness.{Scenario, clock_of}
-use Rattle.rb_rules.specs.Hearing.{Coming, Sending, close_window, window_numbered}
+use Rattle.rb_rules.specs.Hearing.{Sending, window_numbered}
 use Rattle.rb_rules.specs.Lawful.{IsLawful}
 use Rattle.rb_rules.specs.NodeState.{NodeState}
 use Rattle.rb_rules.specs.Plan.{longest_of, shortest_of}
 use Rattle.rb_rules.specs.Ports.{HandIn, PortState}
 use Rattle.rb_rules.specs.Rounds.{Moment, moment, windows_in}
 use Rattle.rb_rules.specs.Slots.{count_of}
-use Rattle.rb_rules.specs.WorldStep.{Timed, Site, after_act, after_arrival, at_node, pass_and_tick, times_of, with_message}
-use Rattle.rb_rules.proofs.Drift.{HasLengths, clock_moves}
-use Rattle.rb_rules.proofs.RoundStates.{HasTicks, Stays, close-stays, keeping-stays}
-use Rattle.rb_rules.proofs.Stamps.{Moves}
+use Rattle.rb_rules.specs.WorldStep.{Timed, Site, after_act, at_node, pass_and_tick, with_message}
+use Rattle.rb_rules.proofs.Drift.{HasLengths}
+use Rattle.rb_rules.proofs.RoundStates.{close-stays, keeping-stays}
 use Rattle.rb_order.specs.Closing.{stages_in}
 use Rattle.rb_order.proofs.CloseOrder.{good-clock}
 use Rattle.rb_order.proofs.Invariant.{InTime, NodeStands, is_good_at, last_tick, next_stage, sending_of, word_at}
 use Rattle.rb_order.proofs.MomentSteps.{NextIsStage, next-is-stage}
-use Rattle.rb_order.proofs.NodeActs.{ActsClose, ActsOpen, HasRoom, HasWord, IsInWindow}
-use Rattle.rb_order.proofs.NodeClosing.{ClosesWindow, GoesOn, KnownInRounds, NextInTime, OthersKeepUp, Stops, closes-window}
+use Rattle.rb_order.proofs.NodeActs.{HasRoom, HasWord, IsInWindow}
+use Rattle.rb_order.proofs.NodeClosing.{ClosesWindow, NextInTime, OthersKeepUp, closes-window}
 use Rattle.rb_order.proofs.NodeEvents.{StaysOpen, stands-on, stays-open}
 use Rattle.rb_order.proofs.NodeSends.{sending_at, sent-in}
 use Rattle.rb_order.proofs.NodeTicks.{by_said, gone, kept_in, state_in}
-use Rattle.rb_order.proofs.Receiving.{ArrivesNow}
 use Rattle.rb_order.proofs.RoundNodes.{AllStand, Stands, good-counts, moments-stand, slot_numbered}
 use Rattle.rb_order.proofs.SameHeard.{Every}
 use Rattle.rb_order.proofs.SentChanges.{Steps, none-of-tail, past, sending-of-is}
 use Rattle.rb_order.proofs.StageOrder.{last_of}
 use Rattle.rb_order.proofs.TickWindows.{IsTickIn}
 use Rattle.rb_order.proofs.Timing.{AreInTime, HavePassed, all-land, keep-up}
-use Rattle.rb_order.proofs.WorldStands.{AllPend, IsDown, IsUp, SitesStand, arrival-keeps-world, is_node, node-is, sent_by, some-same}
+use Rattle.rb_order.proofs.WorldStands.{AllPend, IsUp, SitesStand, is_node, node-is, sent_by, some-same}
 use Rattle.rb_order.proofs.WorldTicks.{AllLand, TicksNow, moved, tick-keeps-world}
 
 -- Time passes.
@@ -155,7 +150,7 @@ tick-event sc hands now at sites ports me i s a lawful room times passed h due =
     let same : up.a ≡ a = some-same up.a a (sym up.stands.receives.pends ∙ due.pend) in
     let node : NodeStands sc hands old a.time me i p s st a = subst (NodeStands sc hands old a.time me i p s st) same up.stands in
     let counted : i < count_of me sc.sizes = good-counts sc me i m.frame (slot_numbered sc.sizes m.window) node.good in
-    let here : InTime sc m (moment sc hands (next_stage sc.sizes m p)) = times.each me i counted in
+    let here : InTime sc m (moment sc hands (next_stage sc.sizes m p)) = times.each me i node.good in
     let stand : AllStand sc m = moments-stand sc hands p room.ticks in
     let known : Stands sc m me st = stand.stands me i st node.state node.good in
     let lengths : HasLengths (shortest_of sc.plan) (longest_of sc.plan) (clock_of sc me i) = good-clock sc lawful me i m.frame (slot_numbered sc.sizes m.window) node.good in

@@ -1,32 +1,24 @@
 -- For the law that events are rounds, which is still to come: all nodes of a world, each in its own moment of the rounds. One arrival, and
 -- one tick of a node that goes on or stops, keep it.
-use Rattle.std.proofs.Common.{◌≡◌, ℕ, zero, suc, ◌+◌, ◌-◌, ◌<◌, ◌≤◌, ◌==◌, ◌&&◌, ◌||◌, ◌⊎◌, nat_lt, Bool, true, false, List, [], ◌∷◌, ◌++◌, length, refl, ap, sym, ◌∙◌, subst, arith, inl, inr, Option, Some, None, slice_get, option_and_then, option_map, option_to_list}
+use Rattle.std.proofs.Common.{◌≡◌, ℕ, ◌≤◌, ◌==◌, ◌&&◌, Bool, true, false, List, [], length, refl, ap, sym, ◌∙◌, subst, arith, Option, Some, None, slice_get, option_and_then, option_map}
 use Rattle.std.proofs.lemmas.Bool.Decides.{nat_tests}
 use Rattle.std.proofs.Math.Path.{fun_ext}
 use Rattle.rb_base.specs.Nodes.{Side, other}
 use Rattle.rb_base.specs.Nodes.Side.{Biu, Rmu}
-use Rattle.rb_base.specs.Sizes.{Sizes}
-use Rattle.rb_rules.specs.declared.message.Message.{Message}
-use Rattle.rb_rules.specs.Book.{Each, of_kind, map_each}
-use Rattle.rb_rules.specs.Clock.{time_of}
-use Rattle.rb_rules.specs.Core.{Act, if_at}
+use Rattle.rb_rules.specs.Book.{Each, of_kind}
 use Rattle.rb_rules.specs.Goodness.{Scenario, clock_of}
-use Rattle.rb_rules.specs.Hearing.{Coming, Sending, coming_of}
-use Rattle.rb_rules.specs.Lawful.{IsLawful}
+use Rattle.rb_rules.specs.Hearing.{Coming}
 use Rattle.rb_rules.specs.NodeState.{NodeState}
-use Rattle.rb_rules.specs.Ports.{HandIn, PortState}
-use Rattle.rb_rules.specs.Rounds.{Moment, moment}
+use Rattle.rb_rules.specs.Ports.{HandIn}
+use Rattle.rb_rules.specs.Rounds.{moment}
 use Rattle.rb_rules.specs.Slots.{count_of, same_side}
-use Rattle.rb_rules.specs.WorldStep.{Timed, Site, after_act, after_arrival, at_node, sent_to, times_of, with_message}
+use Rattle.rb_rules.specs.WorldStep.{Timed, Site, after_arrival, at_node, times_of}
 use Rattle.rb_rules.proofs.Stamps.{Moves}
 use Rattle.rb_rules.proofs.WindowNumbers.{get-each, length-each}
-use Rattle.rb_order.specs.Closing.{stages_in}
-use Rattle.rb_order.proofs.Invariant.{NodeStands, entry_of, has_sent, is_good_at, last_tick, sending_of}
+use Rattle.rb_order.proofs.Invariant.{NodeStands, has_sent, is_good_at, sending_of}
 use Rattle.rb_order.proofs.NodeEvents.{stands-arrival, stands-on}
 use Rattle.rb_order.proofs.Receiving.{ArrivesNow}
-use Rattle.rb_order.proofs.ReceiverHears.{Lands, SendsFor, comes-after, stands-more, stands-same}
 use Rattle.rb_order.proofs.SameHeard.{Every}
-use Rattle.rb_order.proofs.SentChanges.{SaysNothing, SaysNow, Steps, sent-changes}
 
 -- the pending tick of node j among these
 abbrev pub ahead_in : List Site → ℕ → Option Timed
