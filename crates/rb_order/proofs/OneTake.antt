@@ -10,6 +10,7 @@ use Rattle.rb_rules.specs.Hearing.{Coming, port_at, port_line}
 use Rattle.rb_rules.specs.Lawful.{IsLawful}
 use Rattle.rb_rules.specs.Plan.{longest_of, shortest_of}
 use Rattle.rb_rules.specs.Ports.{HandIn}
+use Rattle.rb_rules.specs.NodeState.{NodeState}
 use Rattle.rb_rules.specs.Rounds.{moment}
 use Rattle.rb_rules.specs.WorldStep.{Due, Pending, Site, Timed, Way, World, after_act, after_arrival, at_node, happens, pass_and_tick, record_since, settle, settle_next, take_if_due, times_of, with_act, with_pending}
 use Rattle.rb_rules.specs.WorldStep.Pending.{Tick, Arrival}
@@ -46,7 +47,10 @@ pub record WorldInRounds (sc : Scenario) (now : ℕ) (at : Side → ℕ → ℕ)
 -- what is still asked of the node of the event: its port is that of the rounds, and the moments that follow are in time
 pub record NodeIsFit (sc : Scenario) (w : World) (at : Side → ℕ → ℕ) (me : Side) (i : ℕ) : Type 0 where
   pub port : me ≡ Biu → port_at sc w.ports i ≡ port_at sc (moment sc w.hands (at me i)).ports i
-  pub begun : (moment sc w.hands (at me i)).window ≡ 0 → port_line me i (port_at sc w.ports i) ≡ port_line me i (port_at sc (ports_before sc w.hands (at me i)) i)
+  -- at the tick with which a frame begins, nothing has been handed in for it
+  pub begun : (s : Site) (a : Timed) (st : NodeState) → slice_get (of_kind me w.sites) i ≡ Some s → s.ahead ≡ Some a
+      → slice_get (of_kind me (moment sc w.hands (at me i)).nodes) i ≡ Some st → (moment sc w.hands (at me i)).window ≡ 0 → st.epoch ≡ a.tick
+      → port_line me i (port_at sc w.ports i) ≡ port_line me i (port_at sc (ports_before sc w.hands (at me i)) i)
   pub next : NextInTime sc w.hands (at me i)
 
 -- all that pends comes no earlier than a due event
@@ -114,10 +118,10 @@ tick-happens sc now at w me i k t s a lawful room times h fit there pend tick ti
     let begun : (b : Begun) → (after_act sc w.ports me i x s).begun ≡ Some b → BegunInRounds sc hands me i b = λ b e. elim after.node [
       | inl stays ↦
           begun-then sc hands w.ports me i (at me i) a.tick after.st x s.begun b room after.there after.frame after.stands.window after.stands.keeps after.stands.at stays.1.act.epoch
-          fit.begun before.1 (sym (ap (λ (z : Site). z.begun) stays.1.site) ∙ e)
+          (fit.begun s a after.st there pend after.there) before.1 (sym (ap (λ (z : Site). z.begun) stays.1.site) ∙ e)
       | inr closes ↦
           begun-then sc hands w.ports me i (at me i) a.tick after.st x s.begun b room after.there after.frame after.stands.window after.stands.keeps after.stands.at closes.1.act.epoch
-          fit.begun before.1 (sym closes.1.begun ∙ e)
+          (fit.begun s a after.st there pend after.there) before.1 (sym closes.1.begun ∙ e)
     ] in
     let tell : TellRounds sc hands _ = still-tell sc hands w.sites me i x.core.state.frame a.tick x.message (after_act sc w.ports me i x) s there rows begun h.tell in
     subst (λ k. (r : ℕ) × (SitesStand sc w.hands t (moved me i r at) (with_act sc w me i k (pass_and_tick sc w.ports me i k s.core)).sites

@@ -134,7 +134,7 @@ pub begun-then : (sc : Scenario) (hands : List HandIn) (ports : List PortState) 
     → slice_get (of_kind me (moment sc hands p).nodes) i ≡ Some st → st.frame ≡ (moment sc hands p).frame
     → (moment sc hands p).window ≤ stages_in sc.sizes → KeepsTime sc.sizes sc.plan me st → IsTickIn sc.sizes sc.plan me st (moment sc hands p).window k
     → x.epoch ≡ epoch_at sc.sizes me (state_in sc.sizes sc.plan me i st (moment sc hands p).window (word_at sc (moment sc hands p) me i st) k) k
-    → ((moment sc hands p).window ≡ 0 → port_line me i (port_at sc ports i) ≡ port_line me i (port_at sc (ports_before sc hands p) i))
+    → ((moment sc hands p).window ≡ 0 → st.epoch ≡ k → port_line me i (port_at sc ports i) ≡ port_line me i (port_at sc (ports_before sc hands p) i))
     → ((b : Begun) → old ≡ Some b → BegunInRounds sc hands me i b)
     → begun_after sc ports me i x.epoch old ≡ Some b → BegunInRounds sc hands me i b
 begun-then sc hands ports me i p k st x old b room there frame le keeps at epoch same_port before e =
@@ -155,7 +155,7 @@ begun-then sc hands ports me i p k st x old b room there frame le keeps at epoch
           epoch ∙ ap (λ t. elim t as (λ _. Option Epoch) [ true ↦ Some (epoch_of sc.sizes me y) | false ↦ None ]) f ∙ ap (λ z. Some (epoch_of sc.sizes me z)) y_is in
           let told : begun_of sc ports me i (epoch_of sc.sizes me st) ≡ b = some-same _ b (sym (ap (λ o. begun_after sc ports me i o old) began) ∙ e) in
           let rounds : begun_of sc ports me i (epoch_of sc.sizes me st) ≡ begun_of sc (ports_before sc hands p) me i (epoch_of sc.sizes me st) =
-          ap (λ l. record (begun_of sc ports me i (epoch_of sc.sizes me st)) { port = l }) (same_port zero_window) in
+          ap (λ l. record (begun_of sc ports me i (epoch_of sc.sizes me st)) { port = l }) (same_port zero_window at_epoch) in
           record {
             q = p;
             st = st;
