@@ -1,6 +1,7 @@
 -- For the law that events are rounds, which is still to come: the ports of a world and those of the rounds: the words that they offer, and
 -- what is delivered to them.
-use Rattle.std.proofs.Common.{◌≡◌, ℕ, zero, suc, ◌+◌, ◌<◌, ◌==◌, ◌≢◌, Bool, true, false, List, [], ◌∷◌, length, map, refl, ap, ◌∙◌, arith, nat_lt, Option, Some, None, slice_get, get_or, option_map, if◌then◌else◌}
+use Rattle.std.proofs.Common.{◌≡◌, ℕ, zero, suc, ◌+◌, ◌<◌, ◌==◌, ◌≢◌, Bool, true, false, List, [], ◌∷◌, length, map, refl, ap, ◌∙◌, arith, nat_lt, Option, Some, None, slice_get, get_or, option_map, if◌then◌else◌, option_and_then}
+use Rattle.std.proofs.lemmas.Bool.{lt-ltb}
 use Rattle.std.proofs.lemmas.List.{get_or-set_same, get_or-set_other}
 use Rattle.std.proofs.lemmas.List.FromFn.{length-map-range_with_len}
 use Rattle.rb_base.specs.Counting.{numbers}
@@ -10,13 +11,14 @@ use Rattle.rb_base.specs.declared.values.Delivery.{Delivery}
 use Rattle.rb_rules.specs.declared.record.SlotLine.{SlotLine}
 use Rattle.rb_rules.specs.declared.role.Role.{Role}
 use Rattle.rb_rules.specs.declared.role.Role.TheVariants.{Schedule, Data, DiagBiu, DiagRmu, Sync}
-use Rattle.rb_rules.specs.Book.{Each, Row, line_in}
+use Rattle.rb_rules.specs.Book.{Each, Row, line_in, map_each, of_kind}
 use Rattle.rb_rules.specs.ExactStage.{says}
 use Rattle.rb_rules.specs.Goodness.{Scenario}
-use Rattle.rb_rules.specs.Hearing.{port_at, word_for}
+use Rattle.rb_rules.specs.Hearing.{Coming, port_at, row_of, word_for}
+use Rattle.rb_rules.specs.declared.closing.Closed.{Closed}
 use Rattle.rb_rules.specs.NodeState.{NodeState}
 use Rattle.rb_rules.specs.Ports.{HandIn, PortState, delivered_to, hand_over, offered_at, with_state}
-use Rattle.rb_rules.specs.Rounds.{Moment, after_window, begin_frame, moment, port_after, ports_after, step, window_in, windows_in}
+use Rattle.rb_rules.specs.Rounds.{Moment, Result, after_window, begin_frame, go_through, moment, port_after, ports_after, results_of, sent_in, step, window_in, windows_in}
 use Rattle.rb_rules.specs.Slots.{role_of}
 use Rattle.rb_rules.specs.WorldStep.{with_delivery}
 use Rattle.rb_rules.proofs.Books.{stepped}
@@ -116,3 +118,36 @@ pub port-kept : (sc : Scenario) (i j : ℕ) (d : Option Delivery) (ports : List 
 port-kept sc i j None ports h = refl
 port-kept sc i j (Some d) ports h =
     get_or-set_other ports i j (delivered_to (port_at sc ports i) d.value) (record { app = get_or sc.apps j 0; state = get_or sc.words j 0; faults = [] }) h
+
+-- A window at the port of its BIU.
+
+in-window-ports : (sc : Scenario) (hands : List HandIn) (p : ℕ) → (moment sc hands p).window < windows_in sc.sizes
+    → (moment sc hands (suc p)).ports ≡ ports_after (map_each (λ me i (r : Result). r.row) (results_of sc (moment sc hands p))).bius (moment sc hands p).ports
+unfolding step after_window
+in-window-ports sc hands p inside =
+    ap (λ b. (stepped sc hands (moment sc hands p) ((moment sc hands p).frame == sc.frames) b).ports) (lt-ltb (moment sc hands p).window (windows_in sc.sizes) inside)
+
+-- what the rounds make of it is what is delivered by the row of the window
+pub port-after-window : (sc : Scenario) (hands : List HandIn) (p i : ℕ) (st : NodeState) → (moment sc hands p).window < windows_in sc.sizes → i < sc.sizes.bius
+    → slice_get (of_kind Biu (moment sc hands p).nodes) i ≡ Some st
+    → port_at sc (moment sc hands (suc p)).ports i
+    ≡ port_after (line_in (go_through sc (moment sc hands p) (sent_in sc (moment sc hands p)) Biu i st (window_in sc (moment sc hands p) Biu st)).row) (port_at sc (moment sc hands p).ports i)
+unfolding results_of
+port-after-window sc hands p i st inside counted there =
+    let m : Moment = moment sc hands p in
+    let go : Side → ℕ → NodeState → Result = λ me i st. go_through sc m (sent_in sc m) me i st (window_in sc m me st) in
+    let rows : List (Option Row) = (map_each (λ me i (r : Result). r.row) (map_each go m.nodes)).bius in
+    let many : length m.ports ≡ sc.sizes.bius = ports-count sc hands p in
+    let row : get_or rows i None ≡ (go Biu i st).row =
+    got-there rows i (go Biu i st).row None
+    (get-each (λ me i (r : Result). r.row) (map_each go m.nodes) Biu i
+    ∙ ap (option_map (λ (r : Result). r.row)) (get-each go m.nodes Biu i ∙ ap (option_map (go Biu i)) there)) in
+    ap (λ ports. port_at sc ports i) (in-window-ports sc hands p inside)
+    ∙ port-delivered sc rows m.ports i (omega arith)
+    ∙ ap (λ row. port_after (line_in row) (port_at sc m.ports i)) row
+
+-- and so does a close in the world that gave that row
+pub port-after-close : (sc : Scenario) (i : ℕ) (ports : List PortState) (st : NodeState) (heard : ℕ → List Coming) (c : Closed) → i < length ports
+    → port_at sc (with_delivery sc i (option_and_then (λ (c : Closed). c.delivered) (Some c)) ports) i ≡ port_after (line_in (Some (row_of Biu i st heard c))) (port_at sc ports i)
+unfolding row_of
+port-after-close sc i ports st heard c h = port-given sc i c.delivered ports h
