@@ -352,3 +352,33 @@ keeps-none sizes plan me i st slot stage word le e =
           (nothing-kept sizes me i st (sync_slot_of sizes) stage word
           (ap (λ role. says_of me i st (sync_slot_of sizes) role (sender_in (trusted_of me Biu st) (trusted_of me Rmu st) st.owners role) stage word) (sync-role sizes)))
     ]
+
+-- up to stage 1 of the sync slot the message of window n goes out h ticks after its first
+pub sent-exactly : (sizes : Sizes) (plan : Plan) (me : Side) (i : ℕ) (st : NodeState) (n word : ℕ) (s : Sending) → n ≤ 3 * sync_slot_of sizes
+    → sending_at sizes plan me i st n word ≡ Some s → s.tick ≡ st.epoch + n * plan.l + plan.h
+sent-exactly sizes plan me i st n word s le e =
+    let tick : send_tick_of sizes plan st (window_numbered sizes plan me st n).slot (window_numbered sizes plan me st n).stage ≡ Some s.tick =
+    sent-at sizes plan me i st (window_numbered sizes plan me st n).slot (window_numbered sizes plan me st n).stage word s e in
+    elim (cases_lt n (3 * sync_slot_of sizes)) [
+      | inl lt ↦
+          let w : window_numbered sizes plan me st n ≡ _ = exact-numbered sizes plan me st n lt in
+          let at : send_tick_of sizes plan st (n / 3) (n % 3 + 1) ≡ Some s.tick = sym (ap (λ (w : Window). send_tick_of sizes plan st w.slot w.stage) w) ∙ tick in
+          let below : n / 3 < sync_slot_of sizes = omega arith in
+          let exact : send_tick_of sizes plan st (n / 3) (n % 3 + 1) ≡ Some (st.epoch + send_offset_of plan (n / 3) (n % 3 + 1)) =
+          ap (λ b. if b then call_tick_of sizes plan st (n % 3 + 1) else Some (st.epoch + send_offset_of plan (n / 3) (n % 3 + 1))) (differs (n / 3) (sync_slot_of sizes) below) in
+          let is : st.epoch + send_offset_of plan (n / 3) (n % 3 + 1) ≡ s.tick = some-same _ _ (sym exact ∙ at) in
+          let k : 3 * (n / 3) + (n % 3 + 1) - 1 ≡ n = omega arith in
+          let offset : send_offset_of plan (n / 3) (n % 3 + 1) ≡ n * plan.l + plan.h = ap (λ n. n * plan.l + plan.h) k in
+          omega (arith, is, offset)
+      | inr ge ↦
+          let same : 3 * sync_slot_of sizes + 0 ≡ n = omega arith in
+          let plain : n ≡ 3 * sync_slot_of sizes = omega arith in
+          let at : send_tick_of sizes plan st (sync_slot_of sizes) 1 ≡ Some s.tick =
+          sym (ap (λ (w : Window). send_tick_of sizes plan st w.slot w.stage) (sync-numbered sizes plan me st 0))
+          ∙ ap (λ n. send_tick_of sizes plan st (window_numbered sizes plan me st n).slot (window_numbered sizes plan me st n).stage) same ∙ tick in
+          let call : send_tick_of sizes plan st (sync_slot_of sizes) 1 ≡ Some (st.epoch + f0_of sizes plan + plan.h) =
+          ap (λ b. if b then call_tick_of sizes plan st 1 else Some (st.epoch + send_offset_of plan (sync_slot_of sizes) 1)) (equal-itself (sync_slot_of sizes)) in
+          let is : st.epoch + f0_of sizes plan + plan.h ≡ s.tick = some-same _ _ (sym call ∙ at) in
+          let f : n * plan.l ≡ f0_of sizes plan = ap (λ n. n * plan.l) plain in
+          omega (arith, is, f)
+    ]

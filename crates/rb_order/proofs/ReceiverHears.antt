@@ -47,6 +47,10 @@ on-its-way sc lawful from to place =
     delay-least sc sc.delays.base sc.delays.rules from to place lawful.base_delay.least lawful.rules in
     omega arith
 
+pub way-least : (sc : Scenario) → IsLawful sc → (from to : NodeName) (place : Place) → sc.plan.dmin ≤ delay_of sc.delays from to place
+unfolding delay_of
+way-least sc lawful from to place = delay-least sc sc.delays.base sc.delays.rules from to place lawful.base_delay.least lawful.rules
+
 pub comes-after : (sc : Scenario) → IsLawful sc → (me : Side) (i j frame : ℕ) (x : Sending) → time_of (clock_of sc (other me) j) x.tick < (coming_of sc me i j frame x).time
 comes-after sc lawful me i j frame x =
     let place : Place = record { frame = frame; slot = x.message.slot; stage = x.message.stage } in

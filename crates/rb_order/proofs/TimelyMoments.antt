@@ -1,5 +1,5 @@
 -- For the law that events are rounds, which is still to come: what a timely window and epochs that are close together give of being in time.
-use Rattle.std.proofs.Common.{◌≡◌, ℕ, suc, ◌+◌, ◌*◌, ◌<◌, ◌≤◌, true, false, All, List, [], ◌∷◌, refl, ap, sym, ◌∙◌, subst, arith, inl, Some, slice_get}
+use Rattle.std.proofs.Common.{◌≡◌, ℕ, suc, ◌+◌, ◌*◌, ◌<◌, ◌≤◌, true, false, All, List, [], ◌∷◌, refl, ap, sym, ◌∙◌, subst, arith, inl, Some, slice_get, Option, None, option_map, option_to_list, ◌-◌}
 use Rattle.std.proofs.lemmas.List.Elements.{All-head, All-tail}
 use Rattle.std.proofs.Math.Nat.{add-mul, mul-add}
 use Rattle.rb_base.specs.Nodes.{Side, other}
@@ -7,19 +7,29 @@ use Rattle.rb_rules.specs.declared.plan.Window.{Window}
 use Rattle.rb_rules.specs.Book.{of_kind}
 use Rattle.rb_rules.specs.Clock.{IsStamp, Timeline, stamp_of, time_of}
 use Rattle.rb_rules.specs.Goodness.{Scenario, is_good, clock_of}
-use Rattle.rb_rules.specs.Hearing.{Coming, said_by, span_of}
+use Rattle.rb_rules.specs.Hearing.{Coming, said_by, span_of, Sending, coming_of}
 use Rattle.rb_rules.specs.Lawful.{IsLawful}
 use Rattle.rb_rules.specs.NodeState.{NodeState}
 use Rattle.rb_rules.specs.Ports.{HandIn}
 use Rattle.rb_rules.specs.Rounds.{IsGoodIn, IsTickOf, IsTimely, Moment, heard_at, moment, sent_in, window_in}
-use Rattle.rb_rules.proofs.Drift.{times_rise_to}
+use Rattle.rb_rules.proofs.Drift.{times_rise_to, HasLengths, drift}
 use Rattle.rb_rules.proofs.Stamps.{Moves, stamp_of-is}
 use Rattle.rb_order.specs.Closing.{CloseInOrder, HaveBegunAFrame, HaveBegunTogether, stages_in}
-use Rattle.rb_order.proofs.CloseOrder.{next-in-order, turn-in-order}
-use Rattle.rb_order.proofs.Invariant.{ComesInWindow, entry_of, is_good_at, last_tick}
+use Rattle.rb_order.proofs.CloseOrder.{next-in-order, turn-in-order, IsWindowLater, WasGood, good-clock, has-ticks, shortest-some, was-good, window-later}
+use Rattle.rb_order.proofs.Invariant.{ComesInWindow, entry_of, is_good_at, last_tick, word_at, sending_of}
 use Rattle.rb_order.proofs.NodeCloses.{heard-all}
-use Rattle.rb_order.proofs.RoundNodes.{slot-is}
+use Rattle.rb_order.proofs.RoundNodes.{slot-is, moments-stand, slot_numbered}
 use Rattle.rb_order.proofs.SameHeard.{Every}
+use Rattle.rb_order.proofs.PlanNumbers.{Fits, fits}
+use Rattle.rb_order.proofs.StageOrder.{last_of, last-same}
+use Rattle.rb_order.proofs.NodeSends.{sending_at, sent-exactly}
+use Rattle.rb_order.proofs.SentChanges.{sending-of-is}
+use Rattle.rb_order.proofs.ReceiverHears.{way-least}
+use Rattle.rb_rules.specs.Links.{delay_of, name_of}
+use Rattle.rb_base.specs.declared.values.Place.{Place}
+use Rattle.rb_base.specs.Sizes.{sync_slot_of}
+use Rattle.rb_rules.specs.Plan.{f0_of, longest_of, shortest_of, skew_of}
+use Rattle.std.proofs.lemmas.Nat.{mul-le}
 
 -- Good nodes.
 
@@ -95,3 +105,63 @@ comes-later u d o h p dmin s t last sent e some room apart early late way =
     let c : (o + 1) * u ≡ o * u + 1 * u = add-mul o 1 u in
     let f : o * d ≡ d * o = omega arith in
     omega (arith, a, b, c, f, some, room, apart, early, late, way)
+
+-- up to stage 1 of the sync slot what is sent in the next window comes later, if the nodes began the frame at most p apart
+pub later-exact : (sc : Scenario) (hands : List HandIn) → IsLawful sc → (p : ℕ) → HaveBegunTogether sc (moment sc hands p) → (moment sc hands p).window + 1 ≤ 3 * sync_slot_of sc.sizes
+    → (me : Side) (i j : ℕ) (st source : NodeState) → slice_get (of_kind me (moment sc hands p).nodes) i ≡ Some st → is_good_at sc (moment sc hands p) me i ≡ true
+    → slice_get (of_kind (other me) (moment sc hands (suc p)).nodes) j ≡ Some source → is_good_at sc (moment sc hands (suc p)) (other me) j ≡ true
+    → Every (λ c. time_of (clock_of sc me i) (last_tick sc (moment sc hands p) me st) < c.time) (entry_of sc (moment sc hands (suc p)) me i j)
+later-exact sc hands lawful p together below me i j st source there good source_there source_good =
+    let m : Moment = moment sc hands p in
+    let m2 : Moment = moment sc hands (suc p) in
+    let n : ℕ = m.window in
+    let u : ℕ = shortest_of sc.plan in
+    let d : ℕ = 2 * sc.plan.r in
+    let next : IsWindowLater sc m m2 = window-later sc hands m (omega arith) in
+    let w : m2.window ≡ n + 1 = next.window in
+    let was : WasGood sc m (other me) j source.epoch =
+    was-good sc hands m (other me) j source (omega arith) (moments-stand sc hands p (has-ticks sc lawful)) (good-in sc m2 (other me) j source source_there source_good) in
+    let lengths_i : HasLengths u (longest_of sc.plan) (clock_of sc me i) = good-clock sc lawful me i m.frame (slot_numbered sc.sizes n) good in
+    let lengths_j : HasLengths u (longest_of sc.plan) (clock_of sc (other me) j) = good-clock sc lawful (other me) j m2.frame (slot_numbered sc.sizes m2.window) source_good in
+    let epoch : source.epoch ≡ was.st.epoch = was.epoch_is in
+    let apart : time_of (clock_of sc me i) st.epoch ≤ time_of (clock_of sc (other me) j) source.epoch + sc.plan.p =
+    subst (λ k. time_of (clock_of sc me i) st.epoch ≤ time_of (clock_of sc (other me) j) k + sc.plan.p) (sym epoch)
+    (together me (other me) i j st was.st (good-in sc m me i st there good) was.good) in
+    let o : ℕ = last_of sc.sizes sc.plan me st n in
+    let last : o ≡ n * sc.plan.l + sc.plan.l - 1 = last-same sc.sizes sc.plan me st n (omega arith) in
+    let some_l : 1 ≤ sc.plan.l = lawful.plan.l.0 in
+    let some_u : 1 ≤ u = shortest-some sc lawful in
+    let steps : (n + 1) * sc.plan.l ≡ n * sc.plan.l + 1 * sc.plan.l = add-mul n 1 sc.plan.l in
+    let bound : (n + 1) * sc.plan.l ≤ 3 * sync_slot_of sc.sizes * sc.plan.l = mul-le (n + 1) sc.plan.l (3 * sync_slot_of sc.sizes) sc.plan.l below (omega arith) in
+    let fit : Fits sc.sizes sc.plan = fits sc.sizes sc.plan lawful.plan lawful.feasible in
+    let up : d * o ≤ d * (f0_of sc.sizes sc.plan + sc.plan.h) = mul-le d o d (f0_of sc.sizes sc.plan + sc.plan.h) (omega arith) (omega arith) in
+    let before : skew_of sc.sizes sc.plan ≤ sc.plan.h * u + sc.plan.dmin = fit.before in
+    let room : sc.plan.p + d * o ≤ sc.plan.h * u + sc.plan.dmin = omega (arith, up, before) in
+    let r : sc.plan.r < sc.plan.u = lawful.plan.r in
+    let g : longest_of sc.plan ≡ u + d = omega arith in
+    let high : time_of (clock_of sc me i) (st.epoch + o) ≤ time_of (clock_of sc me i) st.epoch + o * longest_of sc.plan = (drift (clock_of sc me i) u (longest_of sc.plan) lengths_i st.epoch o).1 in
+    let early : time_of (clock_of sc me i) (st.epoch + o) ≤ time_of (clock_of sc me i) st.epoch + o * (u + d) =
+    subst (λ g. time_of (clock_of sc me i) (st.epoch + o) ≤ time_of (clock_of sc me i) st.epoch + o * g) g high in
+    let so_is : sending_of sc m2 (other me) j ≡ sending_at sc.sizes sc.plan (other me) j source m2.window (word_at sc m2 (other me) j source) = sending-of-is sc m2 (other me) j source source_there in
+    let by : (s : Option Sending) → sending_of sc m2 (other me) j ≡ s
+    → Every (λ c. time_of (clock_of sc me i) (st.epoch + o) < c.time) (option_to_list (option_map (coming_of sc me i j m2.frame) s)) =
+    λ s. elim s as (λ s. sending_of sc m2 (other me) j ≡ s
+    → Every (λ c. time_of (clock_of sc me i) (st.epoch + o) < c.time) (option_to_list (option_map (coming_of sc me i j m2.frame) s))) [
+      | None ↦ λ e. tt
+      | Some x ↦ λ e.
+          let tick : x.tick ≡ source.epoch + m2.window * sc.plan.l + sc.plan.h =
+          sent-exactly sc.sizes sc.plan (other me) j source m2.window (word_at sc m2 (other me) j source) x (omega arith) (sym so_is ∙ e) in
+          let start : m2.window * sc.plan.l ≡ (n + 1) * sc.plan.l = ap (λ k. k * sc.plan.l) w in
+          let tick_is : source.epoch + (o + 1 + sc.plan.h) ≡ x.tick = omega (arith, tick, start, steps, last, some_l) in
+          let low : time_of (clock_of sc (other me) j) source.epoch + (o + 1 + sc.plan.h) * u ≤ time_of (clock_of sc (other me) j) x.tick =
+          subst (λ k. time_of (clock_of sc (other me) j) source.epoch + (o + 1 + sc.plan.h) * u ≤ time_of (clock_of sc (other me) j) k) tick_is
+          (drift (clock_of sc (other me) j) u (longest_of sc.plan) lengths_j source.epoch (o + 1 + sc.plan.h)).0 in
+          let place : Place = record { frame = m2.frame; slot = x.message.slot; stage = x.message.stage } in
+          let delay : sc.plan.dmin ≤ delay_of sc.delays (name_of (other me) j) (name_of me i) place = way-least sc lawful (name_of (other me) j) (name_of me i) place in (
+            comes-later u d o sc.plan.h sc.plan.p sc.plan.dmin (time_of (clock_of sc me i) st.epoch) (time_of (clock_of sc (other me) j) source.epoch)
+                (time_of (clock_of sc me i) (st.epoch + o)) (time_of (clock_of sc (other me) j) x.tick) (coming_of sc me i j m2.frame x).time
+                some_u room apart early low (omega arith),
+            tt,
+          )
+    ] in
+    by (sending_of sc m2 (other me) j) refl
