@@ -51,6 +51,20 @@ pub way-least : (sc : Scenario) → IsLawful sc → (from to : NodeName) (place 
 unfolding delay_of
 way-least sc lawful from to place = delay-least sc sc.delays.base sc.delays.rules from to place lawful.base_delay.least lawful.rules
 
+delay-most : (sc : Scenario) (delay : ℕ) (rules : List Rule) (from to : NodeName) (place : Place) → delay ≤ sc.plan.dmax → All (IsRuleOf sc) rules
+    → delay_after delay rules from to place ≤ sc.plan.dmax
+delay-most sc delay [] from to place high all = high
+delay-most sc delay (r ∷ rs) from to place high all =
+    delay-most sc (if applies r from to place then r.delay else delay) rs from to place (by (applies r from to place)) (All-tail (IsRuleOf sc) r rs all)
+  where
+    by : (b : Bool) → (if b then r.delay else delay) ≤ sc.plan.dmax
+    by true = let its : IsRuleOf sc r = All-head (IsRuleOf sc) r rs all in its.delay.greatest
+    by false = high
+
+pub way-most : (sc : Scenario) → IsLawful sc → (from to : NodeName) (place : Place) → delay_of sc.delays from to place ≤ sc.plan.dmax
+unfolding delay_of
+way-most sc lawful from to place = delay-most sc sc.delays.base sc.delays.rules from to place lawful.base_delay.greatest lawful.rules
+
 pub comes-after : (sc : Scenario) → IsLawful sc → (me : Side) (i j frame : ℕ) (x : Sending) → time_of (clock_of sc (other me) j) x.tick < (coming_of sc me i j frame x).time
 comes-after sc lawful me i j frame x =
     let place : Place = record { frame = frame; slot = x.message.slot; stage = x.message.stage } in

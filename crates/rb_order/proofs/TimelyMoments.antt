@@ -24,12 +24,13 @@ use Rattle.rb_order.proofs.PlanNumbers.{Fits, fits}
 use Rattle.rb_order.proofs.StageOrder.{last_of, last-same}
 use Rattle.rb_order.proofs.NodeSends.{sending_at, sent-exactly}
 use Rattle.rb_order.proofs.SentChanges.{sending-of-is}
-use Rattle.rb_order.proofs.ReceiverHears.{way-least}
+use Rattle.rb_order.proofs.ReceiverHears.{way-least, way-most}
 use Rattle.rb_rules.specs.Links.{delay_of, name_of}
 use Rattle.rb_base.specs.declared.values.Place.{Place}
 use Rattle.rb_base.specs.Sizes.{sync_slot_of}
 use Rattle.rb_rules.specs.Plan.{f0_of, longest_of, shortest_of, skew_of}
 use Rattle.std.proofs.lemmas.Nat.{mul-le}
+use Rattle.rb_order.proofs.TickWindows.{first-same, first_of}
 
 -- Good nodes.
 
@@ -165,3 +166,96 @@ later-exact sc hands lawful p together below me i j st source there good source_
           )
     ] in
     by (sending_of sc m2 (other me) j) refl
+
+-- a message that the one sends a and h ticks after its begin of the frame comes no later than with the last of the other's l ticks from tick a on
+comes-in-time : (u d a h l p dmax s t last sent e : ℕ) → p + d * (a + h) + dmax + u + h * u ≤ l * u → 1 ≤ l → t ≤ s + p
+    → s + (a + l - 1) * u ≤ last → sent ≤ t + (a + h) * (u + d) → e ≤ sent + dmax → e ≤ last
+comes-in-time u d a h l p dmax s t last sent e room some apart early late way =
+    let x : (a + h) * (u + d) ≡ (a + h) * u + (a + h) * d = mul-add (a + h) u d in
+    let y : (a + h) * u ≡ a * u + h * u = add-mul a h u in
+    let z : (a + h) * d ≡ d * (a + h) = omega arith in
+    let k : a + l - 1 + 1 ≡ a + l = omega arith in
+    let v : (a + l - 1 + 1) * u ≡ (a + l - 1) * u + 1 * u = add-mul (a + l - 1) 1 u in
+    let w : (a + l - 1 + 1) * u ≡ (a + l) * u = ap (λ n. n * u) k in
+    let q : (a + l) * u ≡ a * u + l * u = add-mul a l u in
+    omega (arith, x, y, z, v, w, q, room, apart, early, late, way)
+
+-- and after the tick before tick a of the other
+comes-not-before : (u d a h p dmin s t before first sent e : ℕ) → 1 ≤ u → p + d * a ≤ h * u + dmin → s ≤ t + p → before + u ≤ first → first ≤ s + a * (u + d)
+    → t + (a + h) * u ≤ sent → sent + dmin ≤ e → before < e
+comes-not-before u d a h p dmin s t before first sent e some room apart step early late way =
+    let x : a * (u + d) ≡ a * u + a * d = mul-add a u d in
+    let y : (a + h) * u ≡ a * u + h * u = add-mul a h u in
+    let z : a * d ≡ d * a = omega arith in
+    omega (arith, x, y, z, some, room, apart, step, early, late, way)
+
+-- up to stage 1 of the sync slot what good nodes send comes in its window, if they began the frame at most p apart
+pub heard-exact : (sc : Scenario) (hands : List HandIn) → IsLawful sc → (p : ℕ) → HaveBegunTogether sc (moment sc hands p) → (moment sc hands p).window ≤ 3 * sync_slot_of sc.sizes
+    → (me : Side) (i j : ℕ) (st source : NodeState) → slice_get (of_kind me (moment sc hands p).nodes) i ≡ Some st → is_good_at sc (moment sc hands p) me i ≡ true
+    → slice_get (of_kind (other me) (moment sc hands p).nodes) j ≡ Some source → is_good_at sc (moment sc hands p) (other me) j ≡ true
+    → Every (ComesInWindow sc (moment sc hands p) me i st) (entry_of sc (moment sc hands p) me i j)
+heard-exact sc hands lawful p together below me i j st source there good source_there source_good =
+    let m : Moment = moment sc hands p in
+    let n : ℕ = m.window in
+    let a : ℕ = n * sc.plan.l in
+    let h : ℕ = sc.plan.h in
+    let u : ℕ = shortest_of sc.plan in
+    let d : ℕ = 2 * sc.plan.r in
+    let mine : Timeline = clock_of sc me i in
+    let yours : Timeline = clock_of sc (other me) j in
+    let lengths_i : HasLengths u (longest_of sc.plan) mine = good-clock sc lawful me i m.frame (slot_numbered sc.sizes n) good in
+    let lengths_j : HasLengths u (longest_of sc.plan) yours = good-clock sc lawful (other me) j m.frame (slot_numbered sc.sizes n) source_good in
+    let apart : time_of mine st.epoch ≤ time_of yours source.epoch + sc.plan.p =
+    together me (other me) i j st source (good-in sc m me i st there good) (good-in sc m (other me) j source source_there source_good) in
+    let apart2 : time_of yours source.epoch ≤ time_of mine st.epoch + sc.plan.p =
+    together (other me) me j i source st (good-in sc m (other me) j source source_there source_good) (good-in sc m me i st there good) in
+    let last : last_of sc.sizes sc.plan me st n ≡ a + sc.plan.l - 1 = last-same sc.sizes sc.plan me st n below in
+    let first : first_of sc.sizes sc.plan me st n ≡ a = first-same sc.sizes sc.plan me st n below in
+    let some_l : 1 ≤ sc.plan.l = lawful.plan.l.0 in
+    let some_u : 1 ≤ u = shortest-some sc lawful in
+    let bound : a ≤ 3 * sync_slot_of sc.sizes * sc.plan.l = mul-le n sc.plan.l (3 * sync_slot_of sc.sizes) sc.plan.l below (omega arith) in
+    let fit : Fits sc.sizes sc.plan = fits sc.sizes sc.plan lawful.plan lawful.feasible in
+    let up : d * (a + h) ≤ d * (f0_of sc.sizes sc.plan + h) = mul-le d (a + h) d (f0_of sc.sizes sc.plan + h) (omega arith) (omega arith) in
+    let up_a : d * a ≤ d * (f0_of sc.sizes sc.plan + h) = mul-le d a d (f0_of sc.sizes sc.plan + h) (omega arith) (omega arith) in
+    let in_l : skew_of sc.sizes sc.plan + sc.plan.dmax + u + h * u ≤ sc.plan.l * u = fit.in_l in
+    let before : skew_of sc.sizes sc.plan ≤ h * u + sc.plan.dmin = fit.before in
+    let room : sc.plan.p + d * (a + h) + sc.plan.dmax + u + h * u ≤ sc.plan.l * u = omega (arith, up, in_l) in
+    let room_a : sc.plan.p + d * a ≤ h * u + sc.plan.dmin = omega (arith, up_a, before) in
+    let r : sc.plan.r < sc.plan.u = lawful.plan.r in
+    let g : longest_of sc.plan ≡ u + d = omega arith in
+    let end_is : st.epoch + (a + sc.plan.l - 1) ≡ last_tick sc m me st = omega (arith, last) in
+    let early : time_of mine st.epoch + (a + sc.plan.l - 1) * u ≤ time_of mine (last_tick sc m me st) =
+    subst (λ k. time_of mine st.epoch + (a + sc.plan.l - 1) * u ≤ time_of mine k) end_is (drift mine u (longest_of sc.plan) lengths_i st.epoch (a + sc.plan.l - 1)).0 in
+    let begin : time_of mine (st.epoch + a) ≤ time_of mine st.epoch + a * (u + d) =
+    subst (λ g. time_of mine (st.epoch + a) ≤ time_of mine st.epoch + a * g) g (drift mine u (longest_of sc.plan) lengths_i st.epoch a).1 in
+    let so_is : sending_of sc m (other me) j ≡ sending_at sc.sizes sc.plan (other me) j source n (word_at sc m (other me) j source) = sending-of-is sc m (other me) j source source_there in
+    let by : (s : Option Sending) → sending_of sc m (other me) j ≡ s → Every (ComesInWindow sc m me i st) (option_to_list (option_map (coming_of sc me i j m.frame) s)) =
+    λ s. elim s as (λ s. sending_of sc m (other me) j ≡ s → Every (ComesInWindow sc m me i st) (option_to_list (option_map (coming_of sc me i j m.frame) s))) [
+      | None ↦ λ e. tt
+      | Some x ↦ λ e.
+          let tick : x.tick ≡ source.epoch + a + h = sent-exactly sc.sizes sc.plan (other me) j source n (word_at sc m (other me) j source) x below (sym so_is ∙ e) in
+          let tick_is : source.epoch + (a + h) ≡ x.tick = omega (arith, tick) in
+          let both = drift yours u (longest_of sc.plan) lengths_j source.epoch (a + h) in
+          let low : time_of yours source.epoch + (a + h) * u ≤ time_of yours x.tick =
+          subst (λ k. time_of yours source.epoch + (a + h) * u ≤ time_of yours k) tick_is both.0 in
+          let high : time_of yours x.tick ≤ time_of yours source.epoch + (a + h) * (u + d) =
+          subst (λ g. time_of yours x.tick ≤ time_of yours source.epoch + (a + h) * g) g
+          (subst (λ k. time_of yours k ≤ time_of yours source.epoch + (a + h) * longest_of sc.plan) tick_is both.1) in
+          let place : Place = record { frame = m.frame; slot = x.message.slot; stage = x.message.stage } in
+          let least : sc.plan.dmin ≤ delay_of sc.delays (name_of (other me) j) (name_of me i) place = way-least sc lawful (name_of (other me) j) (name_of me i) place in
+          let most : delay_of sc.delays (name_of (other me) j) (name_of me i) place ≤ sc.plan.dmax = way-most sc lawful (name_of (other me) j) (name_of me i) place in
+          let time : ℕ = (coming_of sc me i j m.frame x).time in (
+            (
+              λ k f.
+                  let step_is : suc k ≡ st.epoch + a = omega (arith, f, first) in
+                  let step : time_of mine k + u ≤ time_of mine (st.epoch + a) =
+                  subst (λ z. time_of mine k + u ≤ time_of mine z) step_is (let length = (lengths_i k).0 in omega (arith, length)) in
+                  comes-not-before u d a h sc.plan.p sc.plan.dmin (time_of mine st.epoch) (time_of yours source.epoch) (time_of mine k) (time_of mine (st.epoch + a))
+                  (time_of yours x.tick) time some_u room_a apart step begin low (omega arith),
+              comes-in-time u d a h sc.plan.l sc.plan.p sc.plan.dmax (time_of mine st.epoch) (time_of yours source.epoch) (time_of mine (last_tick sc m me st))
+                  (time_of yours x.tick) time room some_l apart2 early high (omega arith),
+            ),
+            tt,
+          )
+    ] in
+    by (sending_of sc m (other me) j) refl
