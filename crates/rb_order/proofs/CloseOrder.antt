@@ -118,7 +118,7 @@ was-good sc hands m me i st inside stand good =
       epoch_is = ap (λ s. s.epoch) (sym same) ∙ (through-stays sc m (sent_in sc m) me i old.0 (window_in sc m me old.0)).epoch;
     }
 
-shortest-some : (sc : Scenario) → IsLawful sc → 1 ≤ shortest_of sc.plan
+pub shortest-some : (sc : Scenario) → IsLawful sc → 1 ≤ shortest_of sc.plan
 shortest-some sc lawful = let r : sc.plan.r < sc.plan.u = lawful.plan.r in omega arith
 
 -- In a frame.

@@ -23,11 +23,11 @@ every-append : {X : Type 0} (P : X → Type 0) (xs ys : List X) → Every P xs �
 every-append P [] ys a b = b
 every-append P (x ∷ xs) ys a b = (a.0, every-append P xs ys a.1 b)
 
-every-front : {X : Type 0} (P : X → Type 0) (xs ys : List X) → Every P (xs ++ ys) → Every P xs
+pub every-front : {X : Type 0} (P : X → Type 0) (xs ys : List X) → Every P (xs ++ ys) → Every P xs
 every-front P [] ys a = tt
 every-front P (x ∷ xs) ys a = (a.0, every-front P xs ys a.1)
 
-every-back : {X : Type 0} (P : X → Type 0) (xs ys : List X) → Every P (xs ++ ys) → Every P ys
+pub every-back : {X : Type 0} (P : X → Type 0) (xs ys : List X) → Every P (xs ++ ys) → Every P ys
 every-back P [] ys a = a
 every-back P (x ∷ xs) ys a = every-back P xs ys a.1
 
@@ -60,7 +60,7 @@ every-from Q i make (x ∷ xs) all =
       every-from Q (i + 1) make xs (λ n y e. let s : i + suc n ≡ i + 1 + n = omega arith in subst (λ k. Q (make k y)) s (all (suc n) y e)),
     )
 
-every-at : {X : Type 0} (P : X → Type 0) (xs : List X) (n : ℕ) (x : X) → slice_get xs n ≡ Some x → Every P xs → P x
+pub every-at : {X : Type 0} (P : X → Type 0) (xs : List X) (n : ℕ) (x : X) → slice_get xs n ≡ Some x → Every P xs → P x
 every-at P [] n x e a = cc
 every-at P (y ∷ ys) zero x e a = let same : y ≡ x = cc in subst P same a.0
 every-at P (y ∷ ys) (suc n) x e a = every-at P ys n x e a.1
@@ -188,7 +188,7 @@ every-unmap : {X Y : Type 0} (P : Y → Type 0) (f : X → Y) (xs : List X) → 
 every-unmap P f [] a = tt
 every-unmap P f (x ∷ xs) a = (a.0, every-unmap P f xs a.1)
 
-every-unflat : {X Y : Type 0} (P : Y → Type 0) (f : X → List Y) (xs : List X) → Every P (flat_map f xs) → Every (λ x. Every P (f x)) xs
+pub every-unflat : {X Y : Type 0} (P : Y → Type 0) (f : X → List Y) (xs : List X) → Every P (flat_map f xs) → Every (λ x. Every P (f x)) xs
 every-unflat P f [] a = tt
 every-unflat P f (x ∷ xs) a = (every-front P (f x) (flat_map f xs) a, every-unflat P f xs (every-back P (f x) (flat_map f xs) a))
 

@@ -1,116 +1,110 @@
--- For the law that events are rounds, which is still to come: the invariant of a run event by event: each node stands in a
--- moment of the rounds of its own, and what has come to it and is pending there is what the rounds' nodes have sent.
-use Rattle.std.proofs.Common.{◌≡◌, ℕ, zero, suc, ◌+◌, ◌-◌, ◌<◌, ◌≤◌, ◌⊎◌, nat_lt, Bool, true, false, List, [], Option, Some, None, slice_get, option_and_then}
+-- For the law that events are rounds, which is still to come: the invariant of a run event by event. Each node stands in a moment
+-- of the rounds of its own; its next busy tick is pending; and what has come to it and is pending there of a source is what the
+-- source has sent in the rounds for that moment's window and for the next stage.
+use Rattle.std.proofs.Common.{◌≡◌, ℕ, suc, ◌+◌, ◌-◌, ◌^◌, ◌<◌, ◌≤◌, ◌==◌, ◌&&◌, ◌||◌, nat_lt, Bool, true, false, List, [], Option, Some, None, slice_get, option_map, option_to_list, if◌then◌else◌}
 use Rattle.rb_base.specs.Nodes.{Side, other}
-use Rattle.rb_base.specs.Nodes.Side.{Biu}
-use Rattle.rb_rules.specs.Book.{of_kind, Book, fresh_book}
-use Rattle.rb_rules.specs.ExactStage.{at_source, keep_sent}
-use Rattle.rb_rules.specs.Goodness.{Scenario, is_good}
-use Rattle.rb_rules.specs.Hearing.{Coming, Sending, Span, span_of, heard_from, port_at}
+use Rattle.rb_base.specs.Sizes.{Sizes}
+use Rattle.rb_rules.specs.Book.{of_kind}
+use Rattle.rb_rules.specs.Clock.{time_of}
+use Rattle.rb_rules.specs.ExactStage.{at_source}
+use Rattle.rb_rules.specs.Goodness.{Scenario, is_good, clock_of}
+use Rattle.rb_rules.specs.Hearing.{Coming, Sending, Span, coming_of, said_by, span_of}
 use Rattle.rb_rules.specs.NodeState.{NodeState}
 use Rattle.rb_rules.specs.Ports.{HandIn}
-use Rattle.rb_rules.specs.Rounds.{Moment, window_in, word_for_window, sent_in, go_through, moment, windows_in}
-use Rattle.rb_rules.specs.SyncStage.{new_epoch_of}
-use Rattle.rb_rules.specs.WorldStep.{Timed, Site, World}
+use Rattle.rb_rules.specs.Rounds.{Moment, window_in, word_for_window, sent_in, moment, windows_in}
+use Rattle.rb_rules.specs.WorldStep.{Timed, Site}
+use Rattle.rb_order.specs.Closing.{stages_in}
+use Rattle.rb_order.proofs.NodeActs.{IsInWindow}
+use Rattle.rb_order.proofs.NodeSends.{KeepsTime}
 use Rattle.rb_order.proofs.Receiving.{Receives}
+use Rattle.rb_order.proofs.RoundNodes.{slot_numbered}
+use Rattle.rb_order.proofs.SameHeard.{Every}
+use Rattle.rb_order.proofs.StageOrder.{last_of}
+use Rattle.rb_order.proofs.TickWindows.{first_of}
+
+-- Moments.
+
+-- the number of the moment of the stage after that of moment p. Tails and ends of frames are no stages
+abbrev pub next_stage : Sizes → Moment → ℕ → ℕ
+next_stage sizes m p = p + (if nat_lt (m.window + 1) (stages_in sizes) then 1 else windows_in sizes + 1 - m.window)
+
+-- node i of a kind is good in a moment's window
+abbrev pub is_good_at : Scenario → Moment → Side → ℕ → Bool
+is_good_at sc m me i = is_good sc me i m.frame (slot_numbered sc.sizes m.window)
 
 -- what node j of a kind sends in a moment's window
 abbrev pub sending_of : Scenario → Moment → Side → ℕ → Option Sending
 sending_of sc m side j = at_source (of_kind side (sent_in sc m)) j
 
--- it has been sent: its tick comes before the node's pending one. A node without a pending tick has stopped, and has sent all
-abbrev pub went_out : Option Sending → Option Timed → Bool
-went_out None a = false
-went_out (Some x) None = true
-went_out (Some x) (Some a) = nat_lt x.tick a.tick
+-- and how it comes to node i of kind me
+abbrev pub entry_of : Scenario → Moment → Side → ℕ → ℕ → List Coming
+entry_of sc m me i j = option_to_list (option_map (coming_of sc me i j m.frame) (sending_of sc m (other me) j))
 
--- the state of a node in a moment's window, before or after it has said what it has to say
-abbrev pub state_with : Bool → NodeState → NodeState → NodeState
-state_with said st kept = elim said [ true ↦ kept | false ↦ st ]
+-- What has been sent.
 
--- the node stands in the window of moment m, in which `st` is its state
-pub record Stands (sc : Scenario) (m : Moment) (me : Side) (i : ℕ) (st : NodeState) (s : Site) : Type 0 where
-  pub state : slice_get (of_kind me m.nodes) i ≡ Some st
-  pub in_frame : nat_lt m.window (windows_in sc.sizes) ≡ true
-  pub good : is_good sc me i m.frame (window_in sc m me st).slot ≡ true
-  pub from : st.epoch + (window_in sc m me st).first ≤ s.core.had
-  pub core : s.core.state
-      ≡ state_with (went_out (sending_of sc m me i) s.ahead) st
-      (keep_sent sc.sizes me i st (window_in sc m me st).slot (window_in sc m me st).stage (word_for_window sc m i (window_in sc m me st)))
+-- the tick comes before the pending one. A node without a pending tick has stopped
+abbrev pub is_past : ℕ → Option Timed → Bool
+is_past tick None = false
+is_past tick (Some a) = nat_lt tick a.tick
 
--- or it has closed all windows of the moment's frame, and the tick that is pending begins the next
-pub record Waits (sc : Scenario) (m : Moment) (me : Side) (i : ℕ) (st : NodeState) (s : Site) (a : Timed) : Type 0 where
-  pub state : slice_get (of_kind me m.nodes) i ≡ Some st
-  pub at_end : nat_lt m.window (windows_in sc.sizes) ≡ false
-  pub good : is_good sc me i (m.frame + 1) 0 ≡ true
-  pub epoch : new_epoch_of sc.plan me st ≡ Some a.tick
-  pub had : s.core.had ≡ a.tick
-  pub core : s.core.state ≡ st
+-- a node that stands in moment q, `a` being its pending tick, has sent what it sends in moment p
+abbrev pub has_sent : Option Sending → ℕ → Option Timed → ℕ → Bool
+has_sent None q a p = false
+has_sent (Some s) q a p = nat_lt p q || ((p == q) && is_past s.tick a)
 
--- the number of the moment for whose window the node listens: at the end of a frame the next
-abbrev pub listening : Scenario → Moment → ℕ → ℕ
-listening sc m n = elim (nat_lt m.window (windows_in sc.sizes)) [ true ↦ n | false ↦ n + 1 ]
+-- what source j has sent to node i of kind me for a moment's window. A source that is not good has said all that it says for the
+-- window when the window opens
+abbrev pub heard_so_far : Scenario → Moment → Side → ℕ → Span → (ℕ → Bool) → ℕ → List Coming
+heard_so_far sc m me i span sent j =
+    elim (is_good_at sc m (other me) j) [ true ↦ elim (sent j) [ true ↦ entry_of sc m me i j | false ↦ [] ] | false ↦ said_by sc me i span j ]
 
--- the number of the moment of the stage after that of moment n; tails and ends of frames have none
-abbrev pub next_stage : Scenario → Moment → ℕ → ℕ
-next_stage sc m n = elim (nat_lt (m.window + 2) (windows_in sc.sizes)) [ true ↦ n + 1 | false ↦ (n - m.window) + windows_in sc.sizes + 1 ]
+-- and for that of the next stage, for which a source that is not good has said nothing
+abbrev pub ahead_so_far : Scenario → Moment → Side → ℕ → (ℕ → Bool) → ℕ → List Coming
+ahead_so_far sc m me i sent j =
+    elim (is_good_at sc m (other me) j) [ true ↦ elim (sent j) [ true ↦ entry_of sc m me i j | false ↦ [] ] | false ↦ [] ]
 
--- a moment's window at a receiver
-abbrev pub span_in : Scenario → Moment → Side → ℕ → Span
-span_in sc m me i =
-    elim (slice_get (of_kind me m.nodes) i) [
-      | None ↦ record { place = record { frame = m.frame; slot = 0; stage = 1 }; first = 0; last = 0 }
-      | Some st ↦ span_of st (window_in sc m me st)
-    ]
+-- Nodes.
 
--- what source j has sent to node i of kind me for a moment's window so far, `a` being the source's pending tick
-abbrev pub heard_if : Scenario → Moment → Side → ℕ → ℕ → Bool → List Coming
-heard_if sc m me i j said = elim said [ true ↦ heard_from sc me i (span_in sc m me i) (of_kind (other me) (sent_in sc m)) j | false ↦ [] ]
+-- the word of a node in a moment's window
+abbrev pub word_at : Scenario → Moment → Side → ℕ → NodeState → ℕ
+word_at sc m me i st = word_for_window sc m i (window_in sc m me st)
 
--- a source that is not good has said all that it says for a window when the window opens
-abbrev pub sent_so_far : Scenario → Moment → Side → ℕ → ℕ → Option Timed → List Coming
-sent_so_far sc m me i j a =
-    elim (is_good sc (other me) j m.frame (span_in sc m me i).place.slot) [
-      | true ↦ heard_if sc m me i j (went_out (sending_of sc m (other me) j) a)
-      | false ↦ heard_if sc m me i j true
-    ]
+-- the time of the last tick of a moment's window
+abbrev pub last_tick : Scenario → Moment → Side → NodeState → ℕ
+last_tick sc m me st = st.epoch + last_of sc.sizes sc.plan me st m.window
 
--- and for the next stage nothing
-abbrev pub sent_ahead : Scenario → Moment → Side → ℕ → ℕ → Option Timed → List Coming
-sent_ahead sc m me i j a =
-    elim (is_good sc (other me) j m.frame (span_in sc m me i).place.slot) [
-      | true ↦ heard_if sc m me i j (went_out (sending_of sc m (other me) j) a)
-      | false ↦ []
-    ]
+-- a node that runs, in moment p of the rounds, in which `st` is its state, and in which its pending tick is `a`. `sent` tells
+-- which nodes have sent what they send in which moments, `now` is the time of the last event
+pub record NodeStands (sc : Scenario) (hands : List HandIn) (sent : Side → ℕ → ℕ → Bool) (now : ℕ) (me : Side) (i p : ℕ) (s : Site) (st : NodeState) (a : Timed) : Type 0 where
+  pub state : slice_get (of_kind me (moment sc hands p).nodes) i ≡ Some st
+  pub good : is_good_at sc (moment sc hands p) me i ≡ true
+  pub stands : IsInWindow sc.sizes sc.plan me i st (moment sc hands p).window (word_at sc (moment sc hands p) me i st) a.tick s.core.state
+  pub from : st.epoch + first_of sc.sizes sc.plan me st (moment sc hands p).window ≤ s.core.had
+  pub receives : Receives sc me i (last_tick sc (moment sc hands p) me st)
+      (heard_so_far sc (moment sc hands p) me i (span_of st (window_in sc (moment sc hands p) me st)) (λ j. sent (other me) j p))
+      (ahead_so_far sc (moment sc hands (next_stage sc.sizes (moment sc hands p) p)) me i
+      (λ j. sent (other me) j (next_stage sc.sizes (moment sc hands p) p)))
+      now s a
 
--- the pending tick of node j among these
-abbrev pub ahead_in : List Site → ℕ → Option Timed
-ahead_in sites j = option_and_then (λ s. s.ahead) (slice_get sites j)
+-- What is taken of synchrony: in moment p the good nodes are in time.
 
--- a node that runs and stands in moment n. `ahead` gives the pending ticks of the nodes of the other kind, `now` is the time of
--- the last event
-pub record NodeInvariant (sc : Scenario) (hands : List HandIn) (now : ℕ) (ahead : ℕ → Option Timed) (me : Side) (i n : ℕ) (s : Site) : Type 0 where
-  pub st : NodeState
-  pub a : Timed
-  pub place : Stands sc (moment sc hands n) me i st s ⊎ Waits sc (moment sc hands n) me i st s a
-  pub receives : let l : ℕ = listening sc (moment sc hands n) n in
-      let x : ℕ = next_stage sc (moment sc hands l) l in
-      Receives sc me i (span_in sc (moment sc hands l) me i).last (λ j. sent_so_far sc (moment sc hands l) me i j (ahead j))
-      (λ j. sent_ahead sc (moment sc hands x) me i j (ahead j)) now s a
+-- the message of a source comes after the last tick of the window before, at the latest with this window's last tick
+abbrev pub ComesInWindow : Scenario → Moment → Side → ℕ → NodeState → Coming → Type 0
+ComesInWindow sc m me i st c =
+    ((k : ℕ) → st.epoch + first_of sc.sizes sc.plan me st m.window ≡ suc k → time_of (clock_of sc me i) k < c.time)
+    × (c.time ≤ time_of (clock_of sc me i) (last_tick sc m me st))
 
--- the book before milestone number n is settled
-abbrev pub book_before : Scenario → List HandIn → ℕ → Book
-book_before sc hands zero = fresh_book
-book_before sc hands (suc n) = (moment sc hands n).book
-
--- all nodes, each in its own moment; `milestone` is the number of the first moment whose stage isn't settled
-pub record Invariant (sc : Scenario) (now : ℕ) (at : Side → ℕ → ℕ) (milestone : ℕ) (w : World) : Type 0 where
-  pub nodes : (me : Side) (i : ℕ) (s : Site) → slice_get (of_kind me w.sites) i ≡ Some s → s.runs ≡ true
-      → NodeInvariant sc w.hands now (ahead_in (of_kind (other me) w.sites)) me i (at me i) s
-  pub stopped : (me : Side) (i : ℕ) (s : Site) → slice_get (of_kind me w.sites) i ≡ Some s → s.runs ≡ false → (s.coming ≡ []) × (s.ahead ≡ None)
-  pub ports : (i : ℕ) → port_at sc w.ports i ≡ port_at sc (moment sc w.hands (at Biu i)).ports i
-  pub book : w.book ≡ book_before sc w.hands milestone
-  pub rows : (me : Side) (i : ℕ) (s : Site) (n : ℕ) (st : NodeState) → milestone ≡ suc n → slice_get (of_kind me w.sites) i ≡ Some s → n < at me i
-      → slice_get (of_kind me (moment sc w.hands n).nodes) i ≡ Some st
-      → s.row ≡ (go_through sc (moment sc w.hands n) (sent_in sc (moment sc w.hands n)) me i st (window_in sc (moment sc w.hands n) me st)).row
-  pub order : (me : Side) (i : ℕ) (s : Site) → slice_get (of_kind me w.sites) i ≡ Some s → s.runs ≡ true → milestone ≤ suc (at me i)
+pub record InTime (sc : Scenario) (m next : Moment) : Type 0 where
+  pub keeps : (me : Side) (i : ℕ) (st : NodeState) → slice_get (of_kind me m.nodes) i ≡ Some st → is_good_at sc m me i ≡ true
+      → KeepsTime sc.sizes sc.plan me st
+  pub room : (me : Side) (i : ℕ) (st : NodeState) → slice_get (of_kind me m.nodes) i ≡ Some st → is_good_at sc m me i ≡ true
+      → last_tick sc m me st < 2 ^ 31
+  pub heard : (me : Side) (i j : ℕ) (st : NodeState) → slice_get (of_kind me m.nodes) i ≡ Some st → is_good_at sc m me i ≡ true
+      → is_good_at sc m (other me) j ≡ true → Every (ComesInWindow sc m me i st) (entry_of sc m me i j)
+  -- what is sent in the next stage comes later
+  pub later : (me : Side) (i j : ℕ) (st : NodeState) → slice_get (of_kind me m.nodes) i ≡ Some st → is_good_at sc m me i ≡ true
+      → is_good_at sc next (other me) j ≡ true → Every (λ c. time_of (clock_of sc me i) (last_tick sc m me st) < c.time) (entry_of sc next me i j)
+  -- no node closes the next stage before all have closed this window
+  pub order : (me you : Side) (i j : ℕ) (mine yours : NodeState) → slice_get (of_kind me m.nodes) i ≡ Some mine → is_good_at sc m me i ≡ true
+      → slice_get (of_kind you next.nodes) j ≡ Some yours → is_good_at sc next you j ≡ true
+      → time_of (clock_of sc me i) (last_tick sc m me mine) < time_of (clock_of sc you j) (last_tick sc next you yours)

@@ -26,6 +26,7 @@ pub record Receives (sc : Scenario) (me : Side) (i last : ℕ) (sent next : ℕ 
   pub is_next : IsNext sc.sizes sc.plan me i s.core.state s.core.had a.tick
   pub in_window : a.tick ≤ last
   pub behind : Every (λ c. (m : ℕ) → s.core.had ≡ suc m → time_of (clock_of sc me i) m < c.time) s.coming
+  pub passed : (m : ℕ) → s.core.had ≡ suc m → time_of (clock_of sc me i) m ≤ now
   pub coming_after : Every (λ c. now ≤ c.time) s.coming
   pub tick_after : now ≤ a.time
 
@@ -109,6 +110,7 @@ arrival-received sc me i last sent next now n c s a moves due r =
       behind = every-so (λ x. c.time ≤ x.time) (λ x. (m : ℕ) → core.had ≡ suc m → time_of clock m < x.time)
           (λ x le m q. let hk : k ≡ suc m = sym (e.1 ∙ had) ∙ q in let lt : time_of clock m < c.time = is.least m (omega arith) in omega arith)
           (remove s.coming n) (every-without (λ x. c.time ≤ x.time) n s.coming due.least);
+      passed = λ m q. let hk : k ≡ suc m = sym (e.1 ∙ had) ∙ q in let lt : time_of clock m < c.time = is.least m (omega arith) in omega arith;
       coming_after = every-without (λ x. c.time ≤ x.time) n s.coming due.least;
       tick_after = before;
     }

@@ -33,16 +33,16 @@ last-first-call : (sizes : Sizes) (plan : Plan) (me : Side) (st : NodeState)
     → last_of sizes plan me st (3 * sync_slot_of sizes + 0) ≡ f0_of sizes plan + plan.l - 1
 last-first-call sizes plan me st = ap (λ w. w.last) (sync-numbered sizes plan me st 0)
 
-last-second-call : (sizes : Sizes) (plan : Plan) (me : Side) (st : NodeState)
+pub last-second-call : (sizes : Sizes) (plan : Plan) (me : Side) (st : NodeState)
     → last_of sizes plan me st (3 * sync_slot_of sizes + 1) ≡ f0_of sizes plan + plan.l + plan.v - 1
 last-second-call sizes plan me st = ap (λ w. w.last) (sync-numbered sizes plan me st 1)
 
-last-third-call : (sizes : Sizes) (plan : Plan) (me : Side) (st : NodeState)
+pub last-third-call : (sizes : Sizes) (plan : Plan) (me : Side) (st : NodeState)
     → last_of sizes plan me st (3 * sync_slot_of sizes + 2) ≡ f0_of sizes plan + plan.l + plan.v + plan.z - 1
 last-third-call sizes plan me st = ap (λ w. w.last) (sync-numbered sizes plan me st 2)
 
 -- up to stage 1 of the sync slot all stages have the same length
-last-same : (sizes : Sizes) (plan : Plan) (me : Side) (st : NodeState) (n : ℕ) → n ≤ 3 * sync_slot_of sizes
+pub last-same : (sizes : Sizes) (plan : Plan) (me : Side) (st : NodeState) (n : ℕ) → n ≤ 3 * sync_slot_of sizes
     → last_of sizes plan me st n ≡ n * plan.l + plan.l - 1
 last-same sizes plan me st n h =
     elim (cases_lt n (3 * sync_slot_of sizes)) [

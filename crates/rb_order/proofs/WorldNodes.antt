@@ -30,7 +30,7 @@ use Rattle.rb_order.proofs.SameHeard.{Every}
 abbrev pub Known : Sizes → Side → List Coming → Type 0
 Known sizes me cs = Every (λ c. c.from < count_of (other me) sizes) cs
 
-known-append : (sizes : Sizes) (me : Side) (xs ys : List Coming) → Known sizes me xs → Known sizes me ys → Known sizes me (xs ++ ys)
+pub known-append : (sizes : Sizes) (me : Side) (xs ys : List Coming) → Known sizes me xs → Known sizes me ys → Known sizes me (xs ++ ys)
 known-append sizes me [] ys a b = b
 known-append sizes me (x ∷ xs) ys a b = (a.0, known-append sizes me xs ys a.1 b)
 
@@ -59,7 +59,7 @@ flat-known sizes me f a (suc n) all =
 said-known : (sc : Scenario) (me : Side) (i : ℕ) (span : Span) (j : ℕ) → j < count_of (other me) sc.sizes → Known sc.sizes me (said_by sc me i span j)
 said-known sc me i span j h = map-known sc.sizes me j (coming_said sc.plan.version (clock_of sc me i) j span) (λ s. refl) h (filter (is_said me i j span) sc.says)
 
-says-known : (sc : Scenario) (me : Side) (i : ℕ) (span : Span) → Known sc.sizes me (says_in sc me i span)
+pub says-known : (sc : Scenario) (me : Side) (i : ℕ) (span : Span) → Known sc.sizes me (says_in sc me i span)
 unfolding says_in
 says-known sc me i span =
     flat-known sc.sizes me (λ j. elim (is_good sc (other me) j span.place.frame span.place.slot) [ true ↦ [] | false ↦ said_by sc me i span j ]) 0
@@ -188,7 +188,7 @@ unfolding happens
 happens-known sc w d known = happens-by sc w d (slice_get (of_kind d.side w.sites) d.node) refl known
 
 -- settling leaves the nodes alone
-next-sites : (sc : Scenario) (way : Way) (w : World) → (settle_next sc way w).sites ≡ w.sites
+pub next-sites : (sc : Scenario) (way : Way) (w : World) → (settle_next sc way w).sites ≡ w.sites
 next-sites sc way w = by (comes_so sc way w.book.upcoming && is_complete sc w.sites w.book.upcoming)
   where
     by : (b : Bool) → (elim b as (λ _. World) [ true ↦ record w { book = book_with sc w.sites w.book w.book.upcoming } | false ↦ w ]).sites ≡ w.sites
@@ -200,7 +200,7 @@ rest-sites : (sc : Scenario) (way : Way) (n : ℕ) (w next : World) → next.sit
 rest-sites sc way n w next one rest None = rest ∙ one
 rest-sites sc way n w next one rest (Some r) = one
 
-settle-sites : (sc : Scenario) (way : Way) (n : ℕ) (w : World) → (settle sc way n w).sites ≡ w.sites
+pub settle-sites : (sc : Scenario) (way : Way) (n : ℕ) (w : World) → (settle sc way n w).sites ≡ w.sites
 settle-sites sc way zero w = refl
 settle-sites sc way (suc n) w =
     rest-sites sc way n w (settle_next sc way w) (next-sites sc way w) (settle-sites sc way n (settle_next sc way w))
@@ -237,7 +237,7 @@ choose-known sc w (Take place) known = due-known sc w (slice_get (due_of sc w) p
 choose-known sc w GoOn known = subst (NodesKnown sc) (sym (go-sites sc w w.book.ended)) known
 choose-known sc w (Hand biu state) known = subst (NodesKnown sc) (sym (hand-by sc w biu state (frame_in w.turn))) known
 
-first-counts : {X : Type 0} (sizes : Sizes) (make : Side → ℕ → X) (me : Side) → length (of_kind me (each_of sizes make)) ≡ count_of me sizes
+pub first-counts : {X : Type 0} (sizes : Sizes) (make : Side → ℕ → X) (me : Side) → length (of_kind me (each_of sizes make)) ≡ count_of me sizes
 first-counts sizes make Biu = length-map-range_with_len (make Biu) 0 sizes.bius
 first-counts sizes make Rmu = length-map-range_with_len (make Rmu) 0 sizes.rmus
 

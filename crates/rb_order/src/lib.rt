@@ -32,7 +32,8 @@ pub fn quiet_ticks_count()
 
 /// Every good node closes a stage before any good node closes the next stage. So of each stage a world need keep only what was
 /// seen in it last. The tail is no stage: some nodes may be through it, and in the next frame, while others are still in the
-/// last stage. It is enough that the frame's first ticks come at most `p` apart.
+/// last stage. It is enough that good nodes begin the frame at most `p` apart and, over the turn, that none begins the next frame
+/// before the ticks of all its stages have passed.
 pub fn close_order()
     ensures { GoodNodesCloseInOrder }
 {}

@@ -1,0 +1,236 @@
+-- For the law that events are rounds, which is still to come: one due event keeps the whole invariant, as long as the nodes are in time where
+-- they stand and the ports are those of the rounds.
+use Rattle.std.proofs.Common.{◌≡◌, ℕ, zero, suc, ◌<◌, ◌≤◌, Bool, true, false, List, [], ◌∷◌, ◌++◌, flat_map, refl, ap, sym, ◌∙◌, subst, arith, inl, inr, Option, Some, None, slice_get}
+use Rattle.rb_base.specs.Nodes.{Side}
+use Rattle.rb_base.specs.Nodes.Side.{Biu, Rmu}
+use Rattle.rb_rules.specs.Book.{Begun, Each, Record, Row, in_order, of_kind}
+use Rattle.rb_rules.specs.Core.{Act}
+use Rattle.rb_rules.specs.Goodness.{Scenario, clock_of}
+use Rattle.rb_rules.specs.Hearing.{Coming, port_at, port_line}
+use Rattle.rb_rules.specs.Lawful.{IsLawful}
+use Rattle.rb_rules.specs.Plan.{longest_of, shortest_of}
+use Rattle.rb_rules.specs.Ports.{HandIn}
+use Rattle.rb_rules.specs.NodeState.{NodeState}
+use Rattle.rb_rules.specs.Rounds.{moment}
+use Rattle.rb_rules.specs.WorldStep.{Due, Pending, Site, Timed, Way, World, after_act, after_arrival, at_node, happens, pass_and_tick, record_since, settle, settle_next, take_if_due, times_of, with_act, with_pending}
+use Rattle.rb_rules.specs.WorldStep.Pending.{Tick, Arrival}
+use Rattle.rb_rules.specs.WorldStep.Way.{ByAnEvent}
+use Rattle.rb_rules.proofs.Drift.{HasLengths}
+use Rattle.rb_rules.proofs.Stamps.{Moves}
+use Rattle.rb_order.proofs.CloseOrder.{good-clock, shortest-some}
+use Rattle.rb_order.proofs.DueEvents.{IsDue, IsReady, every-at, every-back, every-front, every-unflat}
+use Rattle.rb_order.proofs.NodeActs.{HasRoom}
+use Rattle.rb_order.proofs.NodeClosing.{NextInTime}
+use Rattle.rb_order.proofs.NodeEvents.{all-after, tick-after}
+use Rattle.rb_order.proofs.PendingLists.{StandsAt}
+use Rattle.rb_order.proofs.PortMoments.{has-word}
+use Rattle.rb_order.proofs.Receiving.{every-stands}
+use Rattle.rb_order.proofs.RoundNodes.{slot_numbered}
+use Rattle.rb_order.proofs.SameHeard.{Every}
+use Rattle.rb_order.proofs.Settling.{RowOfRounds, RowsOfRounds, some-same}
+use Rattle.rb_order.proofs.SettlingFrames.{BegunInRounds, BegunOfRounds, IsOfMoment, TellRounds, all-settled, next-hands, ports_before}
+use Rattle.rb_order.proofs.Telling.{begun-then, closed-row, still-tell}
+use Rattle.rb_order.proofs.Timing.{AreInTime, HavePassed}
+use Rattle.rb_order.proofs.WorldBooks.{happens-book}
+use Rattle.rb_order.proofs.WorldEvents.{AfterTick, passed-on, tick-event}
+use Rattle.rb_order.proofs.WorldNodes.{settle-sites}
+use Rattle.rb_order.proofs.WorldStands.{AllPend, IsDown, IsUp, SitesStand, arrival-keeps-world, sent_by}
+use Rattle.rb_order.proofs.WorldTicks.{moved}
+
+-- the world stands in the rounds: each node in its moment, what they have told is what they tell there, and the book is a moment's
+pub record WorldInRounds (sc : Scenario) (now : ℕ) (at : Side → ℕ → ℕ) (w : World) : Type 0 where
+  pub sites : SitesStand sc w.hands now at w.sites
+  pub passed : HavePassed sc w.hands now at
+  pub tell : TellRounds sc w.hands w.sites
+  pub book : IsOfMoment sc w.hands w.book
+
+-- what is still asked of the node of the event: its port is that of the rounds, and the moments that follow are in time
+pub record NodeIsFit (sc : Scenario) (w : World) (at : Side → ℕ → ℕ) (me : Side) (i : ℕ) : Type 0 where
+  pub port : me ≡ Biu → port_at sc w.ports i ≡ port_at sc (moment sc w.hands (at me i)).ports i
+  -- at the tick with which a frame begins, nothing has been handed in for it
+  pub begun : (s : Site) (a : Timed) (st : NodeState) → slice_get (of_kind me w.sites) i ≡ Some s → s.ahead ≡ Some a
+      → slice_get (of_kind me (moment sc w.hands (at me i)).nodes) i ≡ Some st → (moment sc w.hands (at me i)).window ≡ 0 → st.epoch ≡ a.tick
+      → port_line me i (port_at sc w.ports i) ≡ port_line me i (port_at sc (ports_before sc w.hands (at me i)) i)
+  pub next : NextInTime sc w.hands (at me i)
+
+-- all that pends comes no earlier than a due event
+all-pend : (w : World) (t : ℕ) → Every (λ u. t ≤ u) (flat_map times_of (in_order w.sites)) → AllPend t w.sites
+unfolding AllPend
+all-pend w t all = at
+  where
+    nodes : Every (λ s. Every (λ u. t ≤ u) (times_of s)) (w.sites.bius ++ w.sites.rmus)
+    nodes = every-unflat (λ u. t ≤ u) times_of (in_order w.sites) all
+
+    at : (me : Side) (i : ℕ) (s : Site) → slice_get (of_kind me w.sites) i ≡ Some s → Every (λ u. t ≤ u) (times_of s)
+    at Biu i s e = every-at (λ s. Every (λ u. t ≤ u) (times_of s)) w.sites.bius i s e (every-front (λ s. Every (λ u. t ≤ u) (times_of s)) w.sites.bius w.sites.rmus (every-unflat (λ u. t ≤ u) times_of (in_order w.sites) all))
+    at Rmu i s e = every-at (λ s. Every (λ u. t ≤ u) (times_of s)) w.sites.rmus i s e (every-back (λ s. Every (λ u. t ≤ u) (times_of s)) w.sites.bius w.sites.rmus (every-unflat (λ u. t ≤ u) times_of (in_order w.sites) all))
+
+pend-of : (t : ℕ) (sites : Each Site) → AllPend t sites → (me : Side) (i : ℕ) (s : Site) → slice_get (of_kind me sites) i ≡ Some s → Every (λ u. t ≤ u) (times_of s)
+unfolding AllPend
+pend-of t sites all = all
+
+some-none : {X : Type 0} (x : X) → None ≡ Some x → ⊥
+some-none x e = cc
+
+none-stands : (n : ℕ) (c : Coming) (cs : List Coming) → cs ≡ [] → StandsAt n c cs → ⊥
+none-stands n c [] e s = s
+none-stands n c (x ∷ xs) e s = cc
+
+-- the clock of a good node moves
+moves-of : (sc : Scenario) → IsLawful sc → (me : Side) (i : ℕ) → HasLengths (shortest_of sc.plan) (longest_of sc.plan) (clock_of sc me i) → Moves (clock_of sc me i)
+moves-of sc lawful me i lengths tick = let low = (lengths tick).0 in let some : 1 ≤ shortest_of sc.plan = shortest-some sc lawful in omega arith
+
+tell-rows : (sc : Scenario) (hands : List HandIn) (sites : Each Site) → TellRounds sc hands sites → (me : Side) (i : ℕ) (s : Site) → slice_get (of_kind me sites) i ≡ Some s
+    → ((row : Row) → s.row ≡ Some row → RowOfRounds sc hands me i row) × ((b : Begun) → s.begun ≡ Some b → BegunInRounds sc hands me i b)
+unfolding RowsOfRounds BegunOfRounds
+tell-rows sc hands sites h me i s there = (λ row e. h.rows me i s row there e, λ b e. h.begun me i s b there e)
+
+-- a tick of a node, in the world
+tick-happens : (sc : Scenario) (now : ℕ) (at : Side → ℕ → ℕ) (w : World) (me : Side) (i k t : ℕ) (s : Site) (a : Timed) → IsLawful sc → HasRoom sc.plan
+    → AreInTime sc w.hands at → WorldInRounds sc now at w → NodeIsFit sc w at me i → slice_get (of_kind me w.sites) i ≡ Some s → s.ahead ≡ Some a → a.tick ≡ k → a.time ≡ t
+    → Every (λ c. t < c.time) s.coming → AllPend t w.sites
+    → (r : ℕ) × (SitesStand sc w.hands t (moved me i r at) (with_act sc w me i k (pass_and_tick sc w.ports me i k s.core)).sites
+    × HavePassed sc w.hands t (moved me i r at) × TellRounds sc w.hands (with_act sc w me i k (pass_and_tick sc w.ports me i k s.core)).sites)
+unfolding with_act
+tick-happens sc now at w me i k t s a lawful room times h fit there pend tick time alone first =
+    let hands : List HandIn = w.hands in
+    let x : Act = pass_and_tick sc w.ports me i a.tick s.core in
+    let runs : s.runs ≡ true = is-up s.runs refl in
+    let up : IsUp sc hands (sent_by sc hands at w.sites) now me i (at me i) s = h.sites.up me i s there runs in
+    let same : up.a ≡ a = some-same up.a a (sym up.stands.receives.pends ∙ pend) in
+    let later : now ≤ a.time = subst (λ (b : Timed). now ≤ b.time) same up.stands.receives.tick_after in
+    let after : AfterTick sc hands at w.sites w.ports me i s a x =
+    tick-event sc hands now at w.sites w.ports me i s a lawful room times h.passed h.sites (record {
+      there = there;
+      runs = runs;
+      pend = pend;
+      alone = subst (λ t. Every (λ c. t < c.time) s.coming) (sym time) alone;
+      first = subst (λ t. AllPend t w.sites) (sym time) first;
+      later = later;
+      word = λ st e. has-word sc w.ports (moment sc hands (at me i)) me i st fit.port;
+      next = fit.next;
+    }) in
+    let before = tell-rows sc hands w.sites h.tell me i s there in
+    let rows : (row : Row) → (after_act sc w.ports me i x s).row ≡ Some row → RowOfRounds sc hands me i row = λ row e. elim after.node [
+      | inl stays ↦ before.0 row (sym (ap (λ (z : Site). z.row) stays.1.site) ∙ e)
+      | inr closes ↦ closed-row sc hands me i (at me i) after.st s row after.stands.window after.there after.frame before.0 (sym closes.1.row ∙ e)
+    ] in
+    let begun : (b : Begun) → (after_act sc w.ports me i x s).begun ≡ Some b → BegunInRounds sc hands me i b = λ b e. elim after.node [
+      | inl stays ↦
+          begun-then sc hands w.ports me i (at me i) a.tick after.st x s.begun b room after.there after.frame after.stands.window after.stands.keeps after.stands.at stays.1.act.epoch
+          (fit.begun s a after.st there pend after.there) before.1 (sym (ap (λ (z : Site). z.begun) stays.1.site) ∙ e)
+      | inr closes ↦
+          begun-then sc hands w.ports me i (at me i) a.tick after.st x s.begun b room after.there after.frame after.stands.window after.stands.keeps after.stands.at closes.1.act.epoch
+          (fit.begun s a after.st there pend after.there) before.1 (sym closes.1.begun ∙ e)
+    ] in
+    let tell : TellRounds sc hands _ = still-tell sc hands w.sites me i x.core.state.frame a.tick x.message (after_act sc w.ports me i x) s there rows begun h.tell in
+    subst (λ k. (r : ℕ) × (SitesStand sc w.hands t (moved me i r at) (with_act sc w me i k (pass_and_tick sc w.ports me i k s.core)).sites
+    × HavePassed sc w.hands t (moved me i r at) × TellRounds sc w.hands (with_act sc w me i k (pass_and_tick sc w.ports me i k s.core)).sites)) tick
+    (subst (λ t. (r : ℕ) × (SitesStand sc w.hands t (moved me i r at) (with_act sc w me i a.tick (pass_and_tick sc w.ports me i a.tick s.core)).sites
+    × HavePassed sc w.hands t (moved me i r at) × TellRounds sc w.hands (with_act sc w me i a.tick (pass_and_tick sc w.ports me i a.tick s.core)).sites)) time
+    (after.r, (after.sites_stand, after.passed, tell)))
+  where
+    is-up : (b : Bool) → s.runs ≡ b → s.runs ≡ true
+    is-up true e = e
+    is-up false e = let down : IsDown sc w.hands me i (at me i) s = h.sites.down me i s there e in absurd (some-none a (sym down.ahead ∙ pend))
+
+-- an arrival, in the world
+arrival-told : (sc : Scenario) (hands : List HandIn) (sites : Each Site) (me : Side) (i n : ℕ) (c : Coming) (s : Site) → slice_get (of_kind me sites) i ≡ Some s
+    → TellRounds sc hands sites → TellRounds sc hands (at_node me i (after_arrival sc me i n c) sites)
+unfolding after_arrival
+arrival-told sc hands sites me i n c s there h =
+    let before = tell-rows sc hands sites h me i s there in
+    still-tell sc hands sites me i 0 0 None (after_arrival sc me i n c) s there before.0 before.1 h
+
+arrival-happens : (sc : Scenario) (now : ℕ) (at : Side → ℕ → ℕ) (w : World) (me : Side) (i n t : ℕ) (c : Coming) (s : Site) → IsLawful sc
+    → WorldInRounds sc now at w → slice_get (of_kind me w.sites) i ≡ Some s → StandsAt n c s.coming → c.time ≡ t → AllPend t w.sites
+    → SitesStand sc w.hands t at (at_node me i (after_arrival sc me i n c) w.sites)
+    × HavePassed sc w.hands t at × TellRounds sc w.hands (at_node me i (after_arrival sc me i n c) w.sites)
+arrival-happens sc now at w me i n t c s lawful h there stands time first =
+    let hands : List HandIn = w.hands in
+    let runs : s.runs ≡ true = is-up s.runs refl in
+    let up : IsUp sc hands (sent_by sc hands at w.sites) now me i (at me i) s = h.sites.up me i s there runs in
+    let later : now ≤ c.time = every-stands (λ c. now ≤ c.time) n c s.coming stands up.stands.receives.coming_after in
+    let pend : AllPend c.time w.sites = subst (λ t. AllPend t w.sites) (sym time) first in
+    let own : Every (λ u. c.time ≤ u) (times_of s) = pend-of c.time w.sites pend me i s there in
+    let lengths : HasLengths (shortest_of sc.plan) (longest_of sc.plan) (clock_of sc me i) =
+    good-clock sc lawful me i (moment sc hands (at me i)).frame (slot_numbered sc.sizes (moment sc hands (at me i)).window) up.stands.good in
+    subst (λ t. SitesStand sc hands t at (at_node me i (after_arrival sc me i n c) w.sites)
+    × HavePassed sc hands t at × TellRounds sc hands (at_node me i (after_arrival sc me i n c) w.sites)) time (
+      arrival-keeps-world sc hands now at w.sites me i n c s (moves-of sc lawful me i lengths) there runs later pend
+          (λ a e. record { at = stands; least = all-after c.time s.ahead s.coming own; before_tick = tick-after c.time s.ahead a s.coming e own }) h.sites,
+      passed-on sc hands now c.time at later h.passed,
+      arrival-told sc hands w.sites me i n c s there h.tell,
+    )
+  where
+    is-up : (b : Bool) → s.runs ≡ b → s.runs ≡ true
+    is-up true e = e
+    is-up false e = let down : IsDown sc w.hands me i (at me i) s = h.sites.down me i s there e in absurd (none-stands n c s.coming down.coming stands)
+
+-- One take.
+
+happens-is : (sc : Scenario) (w : World) (d : Due) (s : Site) → slice_get (of_kind d.side w.sites) d.node ≡ Some s → happens sc w d ≡ with_pending sc w d.side d.node s d.pending
+unfolding happens
+happens-is sc w d s there = ap (λ o. elim o as (λ _. World) [ None ↦ w | Some s ↦ with_pending sc w d.side d.node s d.pending ]) there
+
+act-hands : (sc : Scenario) (w : World) (me : Side) (i k : ℕ) (x : Act) → (with_act sc w me i k x).hands ≡ w.hands
+unfolding with_act
+act-hands sc w me i k x = refl
+
+-- the sites after an event, each in its moment
+pub record AfterEvent (sc : Scenario) (w x : World) : Type 0 where
+  pub now : ℕ
+  pub at : Side → ℕ → ℕ
+  pub sites : SitesStand sc w.hands now at x.sites
+  pub passed : HavePassed sc w.hands now at
+  pub tell : TellRounds sc w.hands x.sites
+  pub hands : x.hands ≡ w.hands
+
+pending-happens : (sc : Scenario) (now : ℕ) (at : Side → ℕ → ℕ) (w : World) (me : Side) (i t : ℕ) (s : Site) (p : Pending) → IsLawful sc → HasRoom sc.plan
+    → AreInTime sc w.hands at → WorldInRounds sc now at w → NodeIsFit sc w at me i → slice_get (of_kind me w.sites) i ≡ Some s → IsReady t s p → AllPend t w.sites
+    → AfterEvent sc w (with_pending sc w me i s p)
+pending-happens sc now at w me i t s (Tick k) lawful room times h fit there ready first =
+    let x = tick-happens sc now at w me i k t s ready.0 lawful room times h fit there ready.1.0 ready.1.1.0 ready.1.1.1.0 ready.1.1.1.1 first in
+    record { now = t; at = moved me i x.0 at; sites = x.1.0; passed = x.1.1; tell = x.1.2; hands = act-hands sc w me i k (pass_and_tick sc w.ports me i k s.core) }
+pending-happens sc now at w me i t s (Arrival n c) lawful room times h fit there ready first =
+    let x = arrival-happens sc now at w me i n t c s lawful h there ready.0 ready.1 first in
+    record { now = t; at = at; sites = x.0; passed = x.1; tell = x.2; hands = refl }
+
+pub settle-hands : (sc : Scenario) (way : Way) (n : ℕ) (w : World) → (settle sc way n w).hands ≡ w.hands
+settle-hands sc way zero w = refl
+settle-hands sc way (suc n) w = by (record_since w (settle_next sc way w)) (settle-hands sc way n (settle_next sc way w) ∙ next-hands sc way w)
+  where
+    by : (r : Option Record) → (settle sc way n (settle_next sc way w)).hands ≡ w.hands
+        → (elim r as (λ _. World) [ None ↦ settle sc way n (settle_next sc way w) | Some r ↦ record (settle_next sc way w) { turn = Some r } ]).hands ≡ w.hands
+    by None rest = rest
+    by (Some r) rest = next-hands sc way w
+
+-- a world that stands in the rounds, in some moments, at some time
+pub record StandsInRounds (sc : Scenario) (w : World) : Type 0 where
+  pub now : ℕ
+  pub at : Side → ℕ → ℕ
+  pub stands : WorldInRounds sc now at w
+
+-- a due event that is taken keeps it, and leaves the book one of the rounds'
+pub take-keeps : (sc : Scenario) (now : ℕ) (at : Side → ℕ → ℕ) (w : World) (d : Due) → IsLawful sc → HasRoom sc.plan → AreInTime sc w.hands at
+    → WorldInRounds sc now at w → NodeIsFit sc w at d.side d.node → IsDue w d → StandsInRounds sc (take_if_due sc w (Some d))
+take-keeps sc now at w d lawful room times h fit due =
+    let x : World = happens sc w d in
+    let y : World = settle sc ByAnEvent 2 x in
+    let event : AfterEvent sc w (with_pending sc w d.side d.node due.s d.pending) =
+    pending-happens sc now at w d.side d.node due.t due.s d.pending lawful room times h fit due.there due.ready (all-pend w due.t due.first) in
+    let after : AfterEvent sc w x = subst (AfterEvent sc w) (sym (happens-is sc w d due.s due.there)) event in
+    let sites : y.sites ≡ x.sites = settle-sites sc ByAnEvent 2 x in
+    let hands : y.hands ≡ w.hands = settle-hands sc ByAnEvent 2 x ∙ after.hands in
+    let book : IsOfMoment sc w.hands y.book =
+    all-settled sc ByAnEvent 2 x w.hands x.sites room.ticks after.hands refl after.tell (subst (IsOfMoment sc w.hands) (sym (happens-book sc w d)) h.book) in
+    record {
+      now = after.now;
+      at = after.at;
+      stands = record {
+        sites = subst (λ hs. SitesStand sc hs after.now after.at y.sites) (sym hands) (subst (SitesStand sc w.hands after.now after.at) (sym sites) after.sites);
+        passed = subst (λ hs. HavePassed sc hs after.now after.at) (sym hands) after.passed;
+        tell = subst (λ hs. TellRounds sc hs y.sites) (sym hands) (subst (TellRounds sc w.hands) (sym sites) after.tell);
+        book = subst (λ hs. IsOfMoment sc hs y.book) (sym hands) book;
+      };
+    }
