@@ -15,3 +15,6 @@ pub mod LaterStages
 pub mod LastStage
 pub mod Synchrony
 pub mod SyncLaws
+pub mod CallTicks
+pub mod EpochTicks
+pub mod NextMessages

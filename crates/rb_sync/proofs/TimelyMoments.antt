@@ -103,11 +103,11 @@ only Biu Rmu stage h k = let both : true ≡ false = sym h ∙ k in absurd (cc)
 only Rmu Biu stage h k = let both : true ≡ false = sym h ∙ k in absurd (cc)
 only Rmu Rmu stage h k = refl
 
-timely-stage : (sc : Scenario) (m : Moment) (q : ℕ) (c : IsSet sc m (sync_slot_of sc.sizes) (q + 1)) (kind : Side) (first ticks from to : ℕ)
+pub timely_stage : (sc : Scenario) (m : Moment) (q : ℕ) (c : IsSet sc m (sync_slot_of sc.sizes) (q + 1)) (kind : Side) (first ticks from to : ℕ)
     → listens (other (other kind)) Sync (q + 1) ≡ false → 1 ≤ ticks
     → IsAt sc m (sync_slot_of sc.sizes) (q + 1) c.ws first ticks → CallWell sc m kind (q + 1) first (first + ticks) from to
     → LieAbout sc m (sync_slot_of sc.sizes) (q + 1) c.ws from to → IsTimely sc m
-timely-stage sc m q c kind first ticks from to deaf some at calls about =
+timely_stage sc m q c kind first ticks from to deaf some at calls about =
     timely sc m (sync_slot_of sc.sizes) (q + 1) c from to (record {
       own = λ me i st h sent is.
           let sends = call_sent sc.sizes sc.plan me i st (q + 1) (word_at sc m (sync_slot_of sc.sizes) i) sent is in
@@ -158,15 +158,15 @@ timely_moment sc hands n m s low law agree sync inside =
     in_sync : (q : ℕ) → q < 4 → m.window ≡ 3 * sync_slot_of sc.sizes + q → IsTimely sc m
     in_sync zero small at =
         let c : IsStage sc hands n m s 0 = stage-of sc hands n m s 0 law agree (lit< tt) at in
-        timely-stage sc m 0 (is_set sc hands n m s 0 c) Biu (f0_of sc.sizes sc.plan) sc.plan.l (from_1 sc low) (to_1 sc low) refl law.plan.l.0
+        timely_stage sc m 0 (is_set sc hands n m s 0 c) Biu (f0_of sc.sizes sc.plan) sc.plan.l (from_1 sc low) (to_1 sc low) refl law.plan.l.0
         (first_at sc m (is_set sc hands n m s 0 c).ws at) (first_calls sc law m low sync.begun) (first_about sc m (is_set sc hands n m s 0 c) at low sync.begun)
     in_sync (suc zero) small at =
         let c : IsStage sc hands n m s 1 = stage-of sc hands n m s 1 law agree (lit< tt) at in
-        timely-stage sc m 1 (is_set sc hands n m s 1 c) Rmu (f0_of sc.sizes sc.plan + sc.plan.l) sc.plan.v (from_2 sc low) (to_2 sc low) refl law.plan.v.0
+        timely_stage sc m 1 (is_set sc hands n m s 1 c) Rmu (f0_of sc.sizes sc.plan + sc.plan.l) sc.plan.v (from_2 sc low) (to_2 sc low) refl law.plan.v.0
         (second_at sc m (is_set sc hands n m s 1 c).ws at) (second_calls sc law m s low sync at) (second_about sc m (is_set sc hands n m s 1 c) at low sync.begun)
     in_sync (suc (suc zero)) small at =
         let c : IsStage sc hands n m s 2 = stage-of sc hands n m s 2 law agree (lit< tt) at in
-        timely-stage sc m 2 (is_set sc hands n m s 2 c) Biu (f0_of sc.sizes sc.plan + sc.plan.l + sc.plan.v) sc.plan.z (from_3 sc low) (to_3 sc low) refl law.plan.z.0
+        timely_stage sc m 2 (is_set sc hands n m s 2 c) Biu (f0_of sc.sizes sc.plan + sc.plan.l + sc.plan.v) sc.plan.z (from_3 sc low) (to_3 sc low) refl law.plan.z.0
         (third_at sc m (is_set sc hands n m s 2 c).ws at) (third_calls sc law m s low sync at) (third_about sc m (is_set sc hands n m s 2 c) at low sync.begun)
     in_sync (suc (suc (suc zero))) small at = timely-tail sc hands n m s law agree at
     in_sync (suc (suc (suc (suc q)))) small at = absurd (omega arith)
