@@ -7,9 +7,10 @@ ghost use Rattle.rb_rules.specs.Spelling.{message_in};
 ghost use Rattle.rb_base.specs.declared.values.Heard.{Heard};
 ghost use Rattle.rb_eligible.specs.Readings.{IsReading, Says, bytes_of, high_of, len_of};
 
+use crate::words::message_in;
 use byteorder::{ByteOrder, LittleEndian};
 use rb_base::{Heard, See};
-use rb_frame::{Message, Tag, decode};
+use rb_frame::{Message, Tag};
 use rb_rules::{Expect, Sense};
 
 // The bytes of the longest message.
@@ -160,33 +161,22 @@ fn value_in(sense: &Sense) -> Option<Heard>
     }
 }
 
-// Room with the bytes of an arrival.
-fn room_of(low: u64, high: u32) -> [u8; 12]
-    ensures { result ≡ to_le_bytes w64 low ++ to_le_bytes w32 high }
-{
-    let mut room = [0; 12];
-    LittleEndian::write_u64(&mut room[..8], low);
-    LittleEndian::write_u32(&mut room[8..], high);
-    room
-}
-
 /// The sense of an arrival that is the only one of its source.
-#[tactic(auto, unfolding(crate::specs::Readings::spelled))]
 pub(crate) fn sense_of_sole(sole: &Sole, expect: &Expect) -> Sense
     requires { len_of sole.now.tail ≤ 12 }
     ensures { result
         ≡ sense_of_one expect.now sole.now.at (message_in expect.now.version (bytes_of sole.now)) }
 {
-    let len = (sole.tail >> 32) as usize;
-    let room = room_of(sole.low, (sole.tail % 0x1_0000_0000) as u32);
-    sense_of_one(expect, sole.at, &room[..len])
+    let len = sole.tail >> 32;
+    let high = (sole.tail % 0x1_0000_0000) as u32;
+    sense_of_one(expect, sole.at, message_in(expect.version, sole.low, high, len))
 }
 
-// The sense of a sole arrival.
-fn sense_of_one(expect: &Expect, at: u64, bytes: &[u8]) -> Sense
-    ensures sense { result ≡ sense_of_one expect.now at (message_in expect.now.version bytes.now) }
+// The sense of a sole arrival, by the message that it is.
+fn sense_of_one(expect: &Expect, at: u64, message: Option<Message>) -> Sense
+    ensures sense { result ≡ sense_of_one expect.now at message }
 {
-    match decode(expect.version, bytes) {
+    match message {
         Some(message) => {
             if suits(expect, message) {
                 Sense::One { at, message }
