@@ -8,3 +8,4 @@ pub mod Seeing
 pub mod Quiet
 pub mod Checks
 pub mod Forms
+pub mod Onlys

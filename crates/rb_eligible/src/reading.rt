@@ -40,6 +40,13 @@ pub struct Reading {
     pub agrees: bool,
 }
 
+/// Whether bytes are exactly one message that is meant for the window, and its value.
+#[derive(Clone, Copy, Debug, PartialEq, Eq)]
+pub(crate) struct Said {
+    pub one: bool,
+    pub value: Option<Heard>,
+}
+
 /// The reading before the first: no arrival that is kept has 13 bytes.
 pub(crate) fn nothing_read(expect: &Expect) -> Reading
     ensures reading { IsReading expect.now result }
@@ -78,28 +85,40 @@ pub(crate) fn read(sole: &Sole, expect: &Expect, last: &mut Reading)
     }
 }
 
-// What an arrival says.
-#[inline(never)]
+/// Whether an arrival is one message that is meant for the window, and its value.
+#[inline(always)]
 #[tactic(auto, using(crate::proofs::Sensed::says_sense))]
+pub(crate) fn words_of(sole: &Sole, expect: &Expect) -> Said
+    requires { len_of sole.now.tail ≤ 12 }
+    ensures { Says expect.now (bytes_of sole.now) result.one result.value }
+{
+    let sense = sense_of_sole(sole, expect);
+    Said {
+        one: is_one(&sense),
+        value: value_in(&sense),
+    }
+}
+
+// Reads an arrival that is unlike the one before.
+#[inline(never)]
 fn read_anew(sole: &Sole, expect: &Expect, last: &mut Reading)
     requires { len_of sole.now.tail ≤ 12 }
     ensures reading { IsReading expect.now last.new }
     ensures says { Says expect.now (bytes_of sole.now) last.new.one last.new.value }
     ensures candidate { (h : Heard) → last.old.candidate ≡ Some h → last.new.candidate ≡ Some h }
 {
-    let sense = sense_of_sole(sole, expect);
-    let value = value_in(&sense);
+    let Said { one, value } = words_of(sole, expect);
     last.candidate = first_of(last.candidate, value);
     last.agrees = agrees(last.candidate, value);
     last.low = sole.low;
     last.tail = sole.tail;
-    last.one = is_one(&sense);
+    last.one = one;
     last.value = value;
     last.see = see_value(value);
 }
 
 // What is shown of a source, by the value that was taken of it.
-fn see_value(taken: Option<Heard>) -> See
+pub(crate) fn see_value(taken: Option<Heard>) -> See
     ensures { result ≡ see_value taken }
 {
     match taken {
