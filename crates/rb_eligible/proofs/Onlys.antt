@@ -1,5 +1,5 @@
 -- A set of one source.
-use Rattle.std.proofs.Common.{◌≡◌, ℕ, ◌+◌, ◌*◌, ◌<◌, ◌^◌, Bool, true, false, not, ◌&&◌, ◌==◌, if◌then◌else◌, lit<, Option, Some, None, is_some, unwrap_or, List, length, get_or, set, inl, inr, refl, sym, ◌∙◌, ap, arith}
+use Rattle.std.proofs.Common.{◌≡◌, ℕ, ◌+◌, ◌*◌, ◌<◌, ◌^◌, Bool, true, false, not, ◌&&◌, ◌==◌, if◌then◌else◌, lit<, Option, Some, None, unwrap_or, List, [], ◌∷◌, suc, length, get_or, set, inl, inr, refl, sym, ◌∙◌, ap, arith}
 use Rattle.std.proofs.Math.ListN.{length-set}
 use Rattle.std.proofs.lemmas.Bool.{cases_eq, eqb-true}
 use Rattle.std.proofs.lemmas.List.{get_or-set_other, get_or-set_same}
@@ -74,8 +74,17 @@ one_vote due k taken h below all only rest =
     (λ j less out. get_or-set_other taken k j (Some h) None (λ here. let e : true ≡ false = sym inside ∙ ap (has due) (sym here) ∙ out in absurd cc) ∙ rest j less out)
     (omega (arith, size_some due k below inside))
 
--- the vote over one value is that value
+no_values : (taken : List (Option Heard)) → ((j : ℕ) → j < length taken → get_or taken j None ≡ None) → present taken ≡ []
+no_values [] none = refl
+no_values (None ∷ taken) none = no_values taken (λ j h. none (suc j) (omega (arith, h)))
+no_values (Some x ∷ taken) none = let e : Some x ≡ None = none 0 (omega arith) in absurd cc
+
+-- the vote over one value is that value, and over none Fault
 pub only_vote : (due k : ℕ) (taken : List (Option Heard)) (v : Option Heard) → k < 16 → length taken ≡ 16 → ((j : ℕ) → j < 16 → has due j ≡ (j == k))
-    → ((j : ℕ) → j < 16 → has due j ≡ false → get_or taken j None ≡ None) → is_some v ≡ true → majority_of (present (set taken k v)) ≡ unwrap_or v Fault
-only_vote due k taken None below all only rest there = absurd cc
-only_vote due k taken (Some h) below all only rest there = one_vote due k taken h below all only rest
+    → ((j : ℕ) → j < 16 → has due j ≡ false → get_or taken j None ≡ None) → majority_of (present (set taken k v)) ≡ unwrap_or v Fault
+only_vote due k taken None below all only rest =
+    ap majority_of (no_values (set taken k None) (λ j h. elim (cases_eq j k) [
+      | inl here ↦ ap (λ i. get_or (set taken k None) i None) here ∙ get_or-set_same taken k None None (omega (arith, below, all))
+      | inr apart ↦ get_or-set_other taken k j None None apart ∙ rest j (omega (arith, h, all, length-set taken k None)) (only j (omega (arith, h, all, length-set taken k None)) ∙ eq_other j k apart)
+    ]))
+only_vote due k taken (Some h) below all only rest = one_vote due k taken h below all only rest

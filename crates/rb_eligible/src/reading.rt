@@ -181,6 +181,7 @@ fn value_in(sense: &Sense) -> Option<Heard>
 }
 
 /// The sense of an arrival that is the only one of its source.
+#[inline(always)]
 pub(crate) fn sense_of_sole(sole: &Sole, expect: &Expect) -> Sense
     requires { len_of sole.now.tail ≤ 12 }
     ensures { result

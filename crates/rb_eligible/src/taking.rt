@@ -129,13 +129,13 @@ fn take_only<K: Copy>(
     sees[at] = see_value(value);
     Taking {
         ones: set_if(due, one),
-        alike: value.is_some(),
+        alike: true,
         value,
     }
 }
 
 // Takes what came of the sources of the set, of each of which there is one arrival.
-#[inline(never)]
+#[inline(always)]
 fn take_some<K: Copy>(
     inbox: &Inbox<K>,
     due: NodeSet<K>,
@@ -242,13 +242,9 @@ fn ones_barred<K: Copy>(inbox: &Inbox<K>, barred: NodeSet<K>, expect: &Expect) -
     }
 }
 
-/// Takes what came in a window of each source that is expected and eligible, if exactly one message came and it is meant for
-/// the window: `taken` is by source the value of that message, which a call to resynchronise has not, and `sees` is what is
-/// shown of it. Then each trusted source is accused that was expected and of which not exactly that came, or that wasn't
-/// expected and of which something came. What was taken and shown of an earlier window is written over: only of the sources in
-/// `written` there may be something.
+// Takes and accuses.
 #[inline(always)]
-pub fn take_with_evidence<K: Copy>(
+fn take_all<K: Copy>(
     inbox: &Inbox<K>,
     standing: &mut Standing<K>,
     expect: &Expect,
@@ -277,6 +273,75 @@ pub fn take_with_evidence<K: Copy>(
     let evidence = standing.evidence(expected, ones, inbox.came());
     standing.accuse_each(evidence);
     taking
+}
+
+// The same, for several sources.
+#[inline(never)]
+fn take_many<K: Copy>(
+    inbox: &Inbox<K>,
+    standing: &mut Standing<K>,
+    expect: &Expect,
+    expected: NodeSet<K>,
+    written: &mut NodeSet<K>,
+    taken: &mut [Option<Heard>; 16],
+    sees: &mut [See; 16],
+) -> Taking<K>
+    requires { IsSheet written.old taken.old sees.old }
+    ensures ones { (received : List Received) → HoldsArrivals inbox.now received
+        → result.ones ≡ set_of (λ j. (has expected j && is_eligible (standing_of standing.old) j)
+        && is_one (sense_in expect.now received j)) }
+    ensures taken { (received : List Received) → HoldsArrivals inbox.now received
+        → taken.new ≡ each_node (taken_of value_in (standing_of standing.old) (has expected) (sense_in expect.now received)) }
+    ensures accused { (received : List Received) → HoldsArrivals inbox.now received
+        → standing_of standing.new
+        ≡ with_evidence (has_evidence (standing_of standing.old) (has expected) (sense_in expect.now received))
+        (standing_of standing.old) }
+    ensures alike { IsTrue result.alike → majority_of (present taken.new) ≡ unwrap_or result.value Heard.Fault }
+    ensures sheet { IsSheet written.new taken.new sees.new }
+{
+    take_all(inbox, standing, expect, expected, written, taken, sees)
+}
+
+// Whether one source is expected and may be taken, and no other that is expected is accused. This is for speed alone.
+#[inline(always)]
+fn is_simple<K: Copy>(inbox: &Inbox<K>, standing: &Standing<K>, expected: NodeSet<K>) -> bool {
+    let due = standing.eligible_of(expected).intersection(inbox.soles());
+    only_of(due).is_some() && expected.intersection(standing.direct).is_empty()
+}
+
+/// Takes what came in a window of each source that is expected and eligible, if exactly one message came and it is meant for
+/// the window: `taken` is by source the value of that message, which a call to resynchronise has not, and `sees` is what is
+/// shown of it. Then each trusted source is accused that was expected and of which not exactly that came, or that wasn't
+/// expected and of which something came. What was taken and shown of an earlier window is written over: only of the sources in
+/// `written` there may be something.
+#[inline(always)]
+pub fn take_with_evidence<K: Copy>(
+    inbox: &Inbox<K>,
+    standing: &mut Standing<K>,
+    expect: &Expect,
+    expected: NodeSet<K>,
+    written: &mut NodeSet<K>,
+    taken: &mut [Option<Heard>; 16],
+    sees: &mut [See; 16],
+) -> Taking<K>
+    requires { IsSheet written.old taken.old sees.old }
+    ensures ones { (received : List Received) → HoldsArrivals inbox.now received
+        → result.ones ≡ set_of (λ j. (has expected j && is_eligible (standing_of standing.old) j)
+        && is_one (sense_in expect.now received j)) }
+    ensures taken { (received : List Received) → HoldsArrivals inbox.now received
+        → taken.new ≡ each_node (taken_of value_in (standing_of standing.old) (has expected) (sense_in expect.now received)) }
+    ensures accused { (received : List Received) → HoldsArrivals inbox.now received
+        → standing_of standing.new
+        ≡ with_evidence (has_evidence (standing_of standing.old) (has expected) (sense_in expect.now received))
+        (standing_of standing.old) }
+    ensures alike { IsTrue result.alike → majority_of (present taken.new) ≡ unwrap_or result.value Heard.Fault }
+    ensures sheet { IsSheet written.new taken.new sees.new }
+{
+    if is_simple(inbox, standing, expected) {
+        take_all(inbox, standing, expect, expected, written, taken, sees)
+    } else {
+        take_many(inbox, standing, expect, expected, written, taken, sees)
+    }
 }
 
 /// Whether a window is quiet: nothing came, and no trusted source is expected. Then nothing is taken, and nobody accused.

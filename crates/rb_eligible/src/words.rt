@@ -106,6 +106,7 @@ fn value_in(low: u64, high: u32) -> u32
 }
 
 /// The message that so many bytes spell, if there is one.
+#[inline(always)]
 pub(crate) fn message_in(version: Version, low: u64, high: u32, len: u64) -> Option<Message>
     requires { len ≤ 12 }
     ensures { result ≡ message_in version (spelled low high len) }

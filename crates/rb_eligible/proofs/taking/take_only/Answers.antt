@@ -42,11 +42,11 @@ returns-clause-taken g c = λ received shown j h.
     (read_value c.args.expect.now kept received k c.words_of-one.result.one c.words_of-one.result.value shown below sole says) (c.requires.sheet.rest j h))
 
 pub returns-clause-alike : goal.returns-clause-alike
-returns-clause-alike g c = λ there.
+returns-clause-alike g c = λ always.
     let due = c.args.due in
     let k = c.index.result in
     let only : (j : ℕ) → j < 16 → has due j ≡ (j == k) = rw c.index.ensures.value c.requires.only in
-    rw c.from-at.ensures (only_vote due k c.args.taken.now c.words_of-one.result.value c.index.ensures.range c.requires.sheet.all only c.requires.sheet.rest (sym c.is_some.ensures ∙ there))
+    rw c.from-at.ensures (only_vote due k c.args.taken.now c.words_of-one.result.value c.index.ensures.range c.requires.sheet.all only c.requires.sheet.rest)
 
 pub returns-clause-sheet : goal.returns-clause-sheet
 returns-clause-sheet g c =

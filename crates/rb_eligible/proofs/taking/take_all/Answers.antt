@@ -8,7 +8,7 @@ use Rattle.rb_eligible.specs.Inboxes.{sense_in}
 use Rattle.rb_eligible.specs.Standings.{standing_of}
 use Rattle.rb_eligible.proofs.Evidence.{either_one, evidence_is}
 use Rattle.rb_eligible.proofs.Sensed.{came_is}
-use Rattle.rb_eligible.proofs.taking.take_with_evidence.Goals as goal
+use Rattle.rb_eligible.proofs.taking.take_all.Goals as goal
 
 pub returns-clause-ones : goal.returns-clause-ones
 returns-clause-ones g c = λ received shown.
