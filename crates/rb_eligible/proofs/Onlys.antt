@@ -1,5 +1,5 @@
 -- A set of one source.
-use Rattle.std.proofs.Common.{◌≡◌, ℕ, ◌+◌, ◌*◌, ◌<◌, ◌^◌, Bool, true, false, not, ◌&&◌, ◌==◌, if◌then◌else◌, lit<, Option, Some, None, unwrap_or, List, [], ◌∷◌, suc, length, get_or, set, inl, inr, refl, sym, ◌∙◌, ap, arith}
+use Rattle.std.proofs.Common.{◌≡◌, ℕ, ◌+◌, ◌*◌, ◌<◌, ◌^◌, Bool, true, false, not, ◌&&◌, ◌==◌, if◌then◌else◌, lit<, Option, Some, None, IfSome, unwrap_or, List, [], ◌∷◌, suc, length, get_or, set, inl, inr, refl, sym, ◌∙◌, ap, arith}
 use Rattle.std.proofs.Math.ListN.{length-set}
 use Rattle.std.proofs.lemmas.Bool.{cases_eq, eqb-true}
 use Rattle.std.proofs.lemmas.List.{get_or-set_other, get_or-set_same}
@@ -11,6 +11,10 @@ use Rattle.rb_base.proofs.SetSizes.{size_some}
 use Rattle.rb_rules.specs.ExactStage.{present}
 use Rattle.rb_rules.specs.Majority.{majority_of}
 use Rattle.rb_eligible.proofs.Alike.{leading_vote}
+
+pub if_some_then : {P Q : ℕ → Type 0} (o : Option ℕ) → ((k : ℕ) → P k → Q k) → IfSome o P → IfSome o Q
+if_some_then None gives there = tt
+if_some_then (Some k) gives there = gives k there
 
 -- where none is left once it is taken out
 pub only_is : (before after j k : ℕ) → has before k ≡ true → has after j ≡ (has before j && not (j == k)) → has after j ≡ false → has before j ≡ (j == k)

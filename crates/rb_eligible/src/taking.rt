@@ -170,16 +170,18 @@ fn take_some<K: Copy>(
     }
 }
 
-// The same, quicker where there is one source.
+// The same, where the only source of the set may be known.
 #[inline(always)]
 fn take_due<K: Copy>(
     inbox: &Inbox<K>,
     due: NodeSet<K>,
+    only: Option<NodeId<K>>,
     expect: &Expect,
     taken: &mut [Option<Heard>; 16],
     sees: &mut [See; 16],
 ) -> Taking<K>
     requires fits { due < 2 ^ 16 }
+    requires only { IfSome only (λ source. (j : ℕ) → j < 16 → has due j ≡ (j == source)) }
     requires due { (j : ℕ) → j < 16 → has due j ≡ true → is_sole inbox.now j ≡ true }
     requires sheet { IsSheet due taken.old sees.old }
     ensures ones { (received : List Received) → HoldsArrivals inbox.now received
@@ -189,7 +191,7 @@ fn take_due<K: Copy>(
     ensures alike { IsTrue result.alike → majority_of (present taken.new) ≡ unwrap_or result.value Heard.Fault }
     ensures sheet { IsSheet due taken.new sees.new }
 {
-    match only_of(due) {
+    match only {
         Some(source) => take_only(inbox, due, source, expect, taken, sees),
         None => take_some(inbox, due, expect, taken, sees),
     }
@@ -200,12 +202,14 @@ fn take_due<K: Copy>(
 fn take_each<K: Copy>(
     inbox: &Inbox<K>,
     takable: NodeSet<K>,
+    only: Option<NodeId<K>>,
     expect: &Expect,
     written: &mut NodeSet<K>,
     taken: &mut [Option<Heard>; 16],
     sees: &mut [See; 16],
 ) -> Taking<K>
-    requires { IsSheet written.old taken.old sees.old }
+    requires only { IfSome only (λ source. (j : ℕ) → j < 16 → (has takable j && is_sole inbox.now j) ≡ (j == source)) }
+    requires sheet { IsSheet written.old taken.old sees.old }
     ensures ones { (received : List Received) → HoldsArrivals inbox.now received
         → result.ones ≡ set_of (λ j. has takable j && is_one (sense_in expect.now received j)) }
     ensures taken { (received : List Received) → HoldsArrivals inbox.now received → (j : ℕ) → j < 16
@@ -215,7 +219,7 @@ fn take_each<K: Copy>(
 {
     let due = takable.intersection(inbox.soles());
     make_room(due, written, taken, sees);
-    take_due(inbox, due, expect, taken, sees)
+    take_due(inbox, due, only, expect, taken, sees)
 }
 
 // The sources of the set of which exactly one message came that is meant for the window.
@@ -227,7 +231,7 @@ fn ones_among<K: Copy>(inbox: &Inbox<K>, set: NodeSet<K>, expect: &Expect) -> No
     let mut written = NodeSet::empty();
     let mut taken = [None; 16];
     let mut sees = [See::Nothing; 16];
-    take_each(inbox, set, expect, &mut written, &mut taken, &mut sees).ones
+    take_each(inbox, set, None, expect, &mut written, &mut taken, &mut sees).ones
 }
 
 // The same of the sources that are expected and accused already.
@@ -249,11 +253,14 @@ fn take_all<K: Copy>(
     standing: &mut Standing<K>,
     expect: &Expect,
     expected: NodeSet<K>,
+    only: Option<NodeId<K>>,
     written: &mut NodeSet<K>,
     taken: &mut [Option<Heard>; 16],
     sees: &mut [See; 16],
 ) -> Taking<K>
-    requires { IsSheet written.old taken.old sees.old }
+    requires only { IfSome only (λ source. (j : ℕ) → j < 16
+        → ((has expected j && is_eligible (standing_of standing.old) j) && is_sole inbox.now j) ≡ (j == source)) }
+    requires sheet { IsSheet written.old taken.old sees.old }
     ensures ones { (received : List Received) → HoldsArrivals inbox.now received
         → result.ones ≡ set_of (λ j. (has expected j && is_eligible (standing_of standing.old) j)
         && is_one (sense_in expect.now received j)) }
@@ -267,7 +274,7 @@ fn take_all<K: Copy>(
     ensures sheet { IsSheet written.new taken.new sees.new }
 {
     let takable = standing.eligible_of(expected);
-    let taking = take_each(inbox, takable, expect, written, taken, sees);
+    let taking = take_each(inbox, takable, only, expect, written, taken, sees);
     let barred = expected.intersection(standing.direct);
     let ones = taking.ones.union(ones_barred(inbox, barred, expect));
     let evidence = standing.evidence(expected, ones, inbox.came());
@@ -299,14 +306,26 @@ fn take_many<K: Copy>(
     ensures alike { IsTrue result.alike → majority_of (present taken.new) ≡ unwrap_or result.value Heard.Fault }
     ensures sheet { IsSheet written.new taken.new sees.new }
 {
-    take_all(inbox, standing, expect, expected, written, taken, sees)
+    take_all(inbox, standing, expect, expected, None, written, taken, sees)
 }
 
-// Whether one source is expected and may be taken, and no other that is expected is accused. This is for speed alone.
+// The only source of which something may be taken, where no other that is expected is accused.
 #[inline(always)]
-fn is_simple<K: Copy>(inbox: &Inbox<K>, standing: &Standing<K>, expected: NodeSet<K>) -> bool {
-    let due = standing.eligible_of(expected).intersection(inbox.soles());
-    only_of(due).is_some() && expected.intersection(standing.direct).is_empty()
+fn single_of<K: Copy>(
+    inbox: &Inbox<K>,
+    standing: &Standing<K>,
+    expected: NodeSet<K>,
+) -> Option<NodeId<K>>
+    ensures { IfSome result (λ source. (j : ℕ) → j < 16
+        → ((has expected j && is_eligible (standing_of standing.now) j) && is_sole inbox.now j) ≡ (j == source)) }
+{
+    let takable = standing.eligible_of(expected);
+    let due = takable.intersection(inbox.soles());
+    if expected.intersection(standing.direct).is_empty() {
+        only_of(due)
+    } else {
+        None
+    }
 }
 
 /// Takes what came in a window of each source that is expected and eligible, if exactly one message came and it is meant for
@@ -337,10 +356,18 @@ pub fn take_with_evidence<K: Copy>(
     ensures alike { IsTrue result.alike → majority_of (present taken.new) ≡ unwrap_or result.value Heard.Fault }
     ensures sheet { IsSheet written.new taken.new sees.new }
 {
-    if is_simple(inbox, standing, expected) {
-        take_all(inbox, standing, expect, expected, written, taken, sees)
-    } else {
-        take_many(inbox, standing, expect, expected, written, taken, sees)
+    match single_of(inbox, standing, expected) {
+        Some(source) => take_all(
+            inbox,
+            standing,
+            expect,
+            expected,
+            Some(source),
+            written,
+            taken,
+            sees,
+        ),
+        None => take_many(inbox, standing, expect, expected, written, taken, sees),
     }
 }
 
