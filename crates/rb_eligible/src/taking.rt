@@ -274,8 +274,8 @@ fn take_all<K: Copy>(
     ensures sheet { IsSheet written.new taken.new sees.new }
 {
     let takable = standing.eligible_of(expected);
-    let taking = take_each(inbox, takable, only, expect, written, taken, sees);
     let barred = expected.intersection(standing.direct);
+    let taking = take_each(inbox, takable, only, expect, written, taken, sees);
     let ones = taking.ones.union(ones_barred(inbox, barred, expect));
     let evidence = standing.evidence(expected, ones, inbox.came());
     standing.accuse_each(evidence);
@@ -319,8 +319,8 @@ fn single_of<K: Copy>(
     ensures { IfSome result (λ source. (j : ℕ) → j < 16
         → ((has expected j && is_eligible (standing_of standing.now) j) && is_sole inbox.now j) ≡ (j == source)) }
 {
-    let takable = standing.eligible_of(expected);
-    let due = takable.intersection(inbox.soles());
+    let eligible = standing.eligible_of(expected);
+    let due = eligible.intersection(inbox.soles());
     if expected.intersection(standing.direct).is_empty() {
         only_of(due)
     } else {

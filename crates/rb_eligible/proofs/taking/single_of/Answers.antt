@@ -14,6 +14,6 @@ returns-then-is_empty g c =
     let takable : ℕ → Bool = λ j. has c.args.expected j && is_eligible s j in
     if_some_then c.only_of.result
     (λ k only j h.
-    sym (common_has c.eligible_of-takable.result c.soles.result c.intersection-due.result j (is_sole c.args.inbox.now) c.intersection-due.ensures c.soles.ensures h
-    ∙ ap (λ b. b && is_sole c.args.inbox.now j) (has-is c.eligible_of-takable.result j takable c.eligible_of-takable.ensures h))
+    sym (common_has c.eligible_of-eligible.result c.soles.result c.intersection-due.result j (is_sole c.args.inbox.now) c.intersection-due.ensures c.soles.ensures h
+    ∙ ap (λ b. b && is_sole c.args.inbox.now j) (has-is c.eligible_of-eligible.result j takable c.eligible_of-eligible.ensures h))
     ∙ only j h) c.only_of.ensures
