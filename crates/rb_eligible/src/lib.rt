@@ -10,6 +10,6 @@ pub mod inbox;
 pub mod reading;
 pub mod standing;
 pub mod taking;
-mod words;
 #[cfg(test)]
 mod tests;
+mod words;

@@ -189,7 +189,11 @@ pub(crate) fn sense_of_sole(sole: &Sole, expect: &Expect) -> Sense
 {
     let len = sole.tail >> 32;
     let high = (sole.tail % 0x1_0000_0000) as u32;
-    sense_of_one(expect, sole.at, message_in(expect.version, sole.low, high, len))
+    sense_of_one(
+        expect,
+        sole.at,
+        message_in(expect.version, sole.low, high, len),
+    )
 }
 
 // The sense of a sole arrival, by the message that it is.

@@ -231,7 +231,16 @@ fn ones_among<K: Copy>(inbox: &Inbox<K>, set: NodeSet<K>, expect: &Expect) -> No
     let mut written = NodeSet::empty();
     let mut taken = [None; 16];
     let mut sees = [See::Nothing; 16];
-    take_each(inbox, set, None, expect, &mut written, &mut taken, &mut sees).ones
+    take_each(
+        inbox,
+        set,
+        None,
+        expect,
+        &mut written,
+        &mut taken,
+        &mut sees,
+    )
+    .ones
 }
 
 // The same of the sources that are expected and accused already.
@@ -306,7 +315,9 @@ fn take_many<K: Copy>(
     ensures alike { IsTrue result.alike → majority_of (present taken.new) ≡ unwrap_or result.value Heard.Fault }
     ensures sheet { IsSheet written.new taken.new sees.new }
 {
-    take_all(inbox, standing, expect, expected, None, written, taken, sees)
+    take_all(
+        inbox, standing, expect, expected, None, written, taken, sees,
+    )
 }
 
 // The only source of which something may be taken, where no other that is expected is accused.
