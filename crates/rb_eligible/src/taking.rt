@@ -9,6 +9,7 @@ ghost use Rattle.rb_rules.specs.Standing.{has_evidence, is_eligible, taken_of, w
 ghost use Rattle.rb_eligible.specs.Inboxes.{Received, HoldsArrivals, is_sole, sense_in};
 ghost use Rattle.rb_eligible.specs.Sheets.{IsSheet};
 ghost use Rattle.rb_eligible.specs.Standings.{standing_of};
+ghost use Rattle.rb_eligible.specs.Takings.{AccusesBy, AreOnesOf, AreTakenOf, AreValuesOf};
 
 use crate::inbox::Inbox;
 use crate::reading::{Said, nothing_read, read, see_value, words_of};
@@ -116,10 +117,8 @@ fn take_only<K: Copy>(
     requires only { (j : ℕ) → j < 16 → has due j ≡ (j == source) }
     requires due { (j : ℕ) → j < 16 → has due j ≡ true → is_sole inbox.now j ≡ true }
     requires sheet { IsSheet due taken.old sees.old }
-    ensures ones { (received : List Received) → HoldsArrivals inbox.now received
-        → result.ones ≡ set_of (λ j. has due j && is_one (sense_in expect.now received j)) }
-    ensures taken { (received : List Received) → HoldsArrivals inbox.now received → (j : ℕ) → j < 16
-        → at_source taken.new j ≡ (if has due j then value_in (sense_in expect.now received j) else None) }
+    ensures ones { AreOnesOf inbox.now expect.now (has due) result.ones }
+    ensures taken { AreValuesOf inbox.now expect.now due taken.new }
     ensures alike { IsTrue result.alike → majority_of (present taken.new) ≡ unwrap_or result.value Heard.Fault }
     ensures sheet { IsSheet due taken.new sees.new }
 {
@@ -146,10 +145,8 @@ fn take_some<K: Copy>(
     requires fits { due < 2 ^ 16 }
     requires due { (j : ℕ) → j < 16 → has due j ≡ true → is_sole inbox.now j ≡ true }
     requires sheet { IsSheet due taken.old sees.old }
-    ensures ones { (received : List Received) → HoldsArrivals inbox.now received
-        → result.ones ≡ set_of (λ j. has due j && is_one (sense_in expect.now received j)) }
-    ensures taken { (received : List Received) → HoldsArrivals inbox.now received → (j : ℕ) → j < 16
-        → at_source taken.new j ≡ (if has due j then value_in (sense_in expect.now received j) else None) }
+    ensures ones { AreOnesOf inbox.now expect.now (has due) result.ones }
+    ensures taken { AreValuesOf inbox.now expect.now due taken.new }
     ensures alike { IsTrue result.alike → majority_of (present taken.new) ≡ unwrap_or result.value Heard.Fault }
     ensures sheet { IsSheet due taken.new sees.new }
 {
@@ -184,10 +181,8 @@ fn take_due<K: Copy>(
     requires only { IfSome only (λ source. (j : ℕ) → j < 16 → has due j ≡ (j == source)) }
     requires due { (j : ℕ) → j < 16 → has due j ≡ true → is_sole inbox.now j ≡ true }
     requires sheet { IsSheet due taken.old sees.old }
-    ensures ones { (received : List Received) → HoldsArrivals inbox.now received
-        → result.ones ≡ set_of (λ j. has due j && is_one (sense_in expect.now received j)) }
-    ensures taken { (received : List Received) → HoldsArrivals inbox.now received → (j : ℕ) → j < 16
-        → at_source taken.new j ≡ (if has due j then value_in (sense_in expect.now received j) else None) }
+    ensures ones { AreOnesOf inbox.now expect.now (has due) result.ones }
+    ensures taken { AreValuesOf inbox.now expect.now due taken.new }
     ensures alike { IsTrue result.alike → majority_of (present taken.new) ≡ unwrap_or result.value Heard.Fault }
     ensures sheet { IsSheet due taken.new sees.new }
 {
@@ -210,10 +205,8 @@ fn take_each<K: Copy>(
 ) -> Taking<K>
     requires only { IfSome only (λ source. (j : ℕ) → j < 16 → (has takable j && is_sole inbox.now j) ≡ (j == source)) }
     requires sheet { IsSheet written.old taken.old sees.old }
-    ensures ones { (received : List Received) → HoldsArrivals inbox.now received
-        → result.ones ≡ set_of (λ j. has takable j && is_one (sense_in expect.now received j)) }
-    ensures taken { (received : List Received) → HoldsArrivals inbox.now received → (j : ℕ) → j < 16
-        → at_source taken.new j ≡ (if has takable j then value_in (sense_in expect.now received j) else None) }
+    ensures ones { AreOnesOf inbox.now expect.now (has takable) result.ones }
+    ensures taken { AreValuesOf inbox.now expect.now takable taken.new }
     ensures alike { IsTrue result.alike → majority_of (present taken.new) ≡ unwrap_or result.value Heard.Fault }
     ensures sheet { IsSheet written.new taken.new sees.new }
 {
@@ -225,8 +218,7 @@ fn take_each<K: Copy>(
 // The sources of the set of which exactly one message came that is meant for the window.
 #[inline(never)]
 fn ones_among<K: Copy>(inbox: &Inbox<K>, set: NodeSet<K>, expect: &Expect) -> NodeSet<K>
-    ensures { (received : List Received) → HoldsArrivals inbox.now received
-        → result ≡ set_of (λ j. has set j && is_one (sense_in expect.now received j)) }
+    ensures { AreOnesOf inbox.now expect.now (has set) result }
 {
     let mut written = NodeSet::empty();
     let mut taken = [None; 16];
@@ -245,8 +237,7 @@ fn ones_among<K: Copy>(inbox: &Inbox<K>, set: NodeSet<K>, expect: &Expect) -> No
 
 // The same of the sources that are expected and accused already.
 fn ones_barred<K: Copy>(inbox: &Inbox<K>, barred: NodeSet<K>, expect: &Expect) -> NodeSet<K>
-    ensures { (received : List Received) → HoldsArrivals inbox.now received
-        → result ≡ set_of (λ j. has barred j && is_one (sense_in expect.now received j)) }
+    ensures { AreOnesOf inbox.now expect.now (has barred) result }
 {
     if barred.is_empty() {
         barred
@@ -270,15 +261,9 @@ fn take_all<K: Copy>(
     requires only { IfSome only (λ source. (j : ℕ) → j < 16
         → ((has expected j && is_eligible (standing_of standing.old) j) && is_sole inbox.now j) ≡ (j == source)) }
     requires sheet { IsSheet written.old taken.old sees.old }
-    ensures ones { (received : List Received) → HoldsArrivals inbox.now received
-        → result.ones ≡ set_of (λ j. (has expected j && is_eligible (standing_of standing.old) j)
-        && is_one (sense_in expect.now received j)) }
-    ensures taken { (received : List Received) → HoldsArrivals inbox.now received
-        → taken.new ≡ each_node (taken_of value_in (standing_of standing.old) (has expected) (sense_in expect.now received)) }
-    ensures accused { (received : List Received) → HoldsArrivals inbox.now received
-        → standing_of standing.new
-        ≡ with_evidence (has_evidence (standing_of standing.old) (has expected) (sense_in expect.now received))
-        (standing_of standing.old) }
+    ensures ones { AreOnesOf inbox.now expect.now (λ j. has expected j && is_eligible (standing_of standing.old) j) result.ones }
+    ensures taken { AreTakenOf inbox.now (standing_of standing.old) expect.now expected taken.new }
+    ensures accused { AccusesBy inbox.now (standing_of standing.old) expect.now expected (standing_of standing.new) }
     ensures alike { IsTrue result.alike → majority_of (present taken.new) ≡ unwrap_or result.value Heard.Fault }
     ensures sheet { IsSheet written.new taken.new sees.new }
 {
@@ -291,38 +276,10 @@ fn take_all<K: Copy>(
     taking
 }
 
-// The same, for several sources.
-#[inline(never)]
-fn take_many<K: Copy>(
-    inbox: &Inbox<K>,
-    standing: &mut Standing<K>,
-    expect: &Expect,
-    expected: NodeSet<K>,
-    written: &mut NodeSet<K>,
-    taken: &mut [Option<Heard>; 16],
-    sees: &mut [See; 16],
-) -> Taking<K>
-    requires { IsSheet written.old taken.old sees.old }
-    ensures ones { (received : List Received) → HoldsArrivals inbox.now received
-        → result.ones ≡ set_of (λ j. (has expected j && is_eligible (standing_of standing.old) j)
-        && is_one (sense_in expect.now received j)) }
-    ensures taken { (received : List Received) → HoldsArrivals inbox.now received
-        → taken.new ≡ each_node (taken_of value_in (standing_of standing.old) (has expected) (sense_in expect.now received)) }
-    ensures accused { (received : List Received) → HoldsArrivals inbox.now received
-        → standing_of standing.new
-        ≡ with_evidence (has_evidence (standing_of standing.old) (has expected) (sense_in expect.now received))
-        (standing_of standing.old) }
-    ensures alike { IsTrue result.alike → majority_of (present taken.new) ≡ unwrap_or result.value Heard.Fault }
-    ensures sheet { IsSheet written.new taken.new sees.new }
-{
-    take_all(
-        inbox, standing, expect, expected, None, written, taken, sees,
-    )
-}
-
-// The only source of which something may be taken, where no other that is expected is accused.
+/// The only source of which something may be taken in a window, if there is exactly one and nobody who is expected is accused.
+/// None says nothing.
 #[inline(always)]
-fn single_of<K: Copy>(
+pub fn single_of<K: Copy>(
     inbox: &Inbox<K>,
     standing: &Standing<K>,
     expected: NodeSet<K>,
@@ -355,31 +312,48 @@ pub fn take_with_evidence<K: Copy>(
     sees: &mut [See; 16],
 ) -> Taking<K>
     requires { IsSheet written.old taken.old sees.old }
-    ensures ones { (received : List Received) → HoldsArrivals inbox.now received
-        → result.ones ≡ set_of (λ j. (has expected j && is_eligible (standing_of standing.old) j)
-        && is_one (sense_in expect.now received j)) }
-    ensures taken { (received : List Received) → HoldsArrivals inbox.now received
-        → taken.new ≡ each_node (taken_of value_in (standing_of standing.old) (has expected) (sense_in expect.now received)) }
-    ensures accused { (received : List Received) → HoldsArrivals inbox.now received
-        → standing_of standing.new
-        ≡ with_evidence (has_evidence (standing_of standing.old) (has expected) (sense_in expect.now received))
-        (standing_of standing.old) }
+    ensures ones { AreOnesOf inbox.now expect.now (λ j. has expected j && is_eligible (standing_of standing.old) j) result.ones }
+    ensures taken { AreTakenOf inbox.now (standing_of standing.old) expect.now expected taken.new }
+    ensures accused { AccusesBy inbox.now (standing_of standing.old) expect.now expected (standing_of standing.new) }
     ensures alike { IsTrue result.alike → majority_of (present taken.new) ≡ unwrap_or result.value Heard.Fault }
     ensures sheet { IsSheet written.new taken.new sees.new }
 {
-    match single_of(inbox, standing, expected) {
-        Some(source) => take_all(
-            inbox,
-            standing,
-            expect,
-            expected,
-            Some(source),
-            written,
-            taken,
-            sees,
-        ),
-        None => take_many(inbox, standing, expect, expected, written, taken, sees),
-    }
+    take_all(
+        inbox, standing, expect, expected, None, written, taken, sees,
+    )
+}
+
+/// The same, quicker, where `source` is the only one of which something may be taken, as `single_of` gives it.
+#[inline(always)]
+pub fn take_single<K: Copy>(
+    inbox: &Inbox<K>,
+    standing: &mut Standing<K>,
+    expect: &Expect,
+    expected: NodeSet<K>,
+    source: NodeId<K>,
+    written: &mut NodeSet<K>,
+    taken: &mut [Option<Heard>; 16],
+    sees: &mut [See; 16],
+) -> Taking<K>
+    requires only { (j : ℕ) → j < 16
+        → ((has expected j && is_eligible (standing_of standing.old) j) && is_sole inbox.now j) ≡ (j == source) }
+    requires sheet { IsSheet written.old taken.old sees.old }
+    ensures ones { AreOnesOf inbox.now expect.now (λ j. has expected j && is_eligible (standing_of standing.old) j) result.ones }
+    ensures taken { AreTakenOf inbox.now (standing_of standing.old) expect.now expected taken.new }
+    ensures accused { AccusesBy inbox.now (standing_of standing.old) expect.now expected (standing_of standing.new) }
+    ensures alike { IsTrue result.alike → majority_of (present taken.new) ≡ unwrap_or result.value Heard.Fault }
+    ensures sheet { IsSheet written.new taken.new sees.new }
+{
+    take_all(
+        inbox,
+        standing,
+        expect,
+        expected,
+        Some(source),
+        written,
+        taken,
+        sees,
+    )
 }
 
 /// Whether a window is quiet: nothing came, and no trusted source is expected. Then nothing is taken, and nobody accused.
