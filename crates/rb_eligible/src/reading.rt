@@ -1,6 +1,6 @@
 //! What the bytes of an arrival say, in a window.
-ghost use Rattle.std.specs.Prelude.{◌≡◌, ◌≤◌, ◌++◌, ℕ, IsTrue, Some, ◌<◌, drop, length, slice_index, take, true};
-ghost use Rattle.std.specs.Int.{from_le_bytes, to_le_bytes, w32, w64};
+ghost use Rattle.std.specs.Prelude.{◌≡◌, ◌≤◌, ℕ, IsTrue, Some, ◌<◌, drop, length, slice_index, take, true};
+ghost use Rattle.std.specs.Int.{from_le_bytes, w32, w64};
 ghost use Rattle.rb_rules.specs.ExactStage.{see_value};
 ghost use Rattle.rb_rules.specs.Sense.{is_one, sense_of_one, suits, tag_suits, value_in, value_of};
 ghost use Rattle.rb_rules.specs.Spelling.{message_in};

@@ -1,12 +1,11 @@
 //! What a node takes in a window, and whom it accuses for what came.
-ghost use Rattle.std.specs.Prelude.{◌≡◌, ℕ, ◌<◌, ◌*◌, ◌^◌, List, ◌&&◌, ◌==◌, not, true, if◌then◌else◌, None, unwrap_or, IfSome, IsTrue};
+ghost use Rattle.std.specs.Prelude.{◌≡◌, ℕ, ◌<◌, ◌*◌, ◌^◌, ◌&&◌, ◌==◌, not, true, if◌then◌else◌, None, unwrap_or, IfSome, IsTrue};
 ghost use Rattle.rb_base.specs.Nodes.{has, set_of, size};
 ghost use Rattle.rb_base.specs.declared.values.Heard.{Heard};
-ghost use Rattle.rb_rules.specs.ExactStage.{at_source, each_node, present};
+ghost use Rattle.rb_rules.specs.ExactStage.{present};
 ghost use Rattle.rb_rules.specs.Majority.{majority_of};
-ghost use Rattle.rb_rules.specs.Sense.{is_one, value_in};
-ghost use Rattle.rb_rules.specs.Standing.{has_evidence, is_eligible, taken_of, with_evidence};
-ghost use Rattle.rb_eligible.specs.Inboxes.{Received, HoldsArrivals, is_sole, sense_in};
+ghost use Rattle.rb_rules.specs.Standing.{is_eligible};
+ghost use Rattle.rb_eligible.specs.Inboxes.{is_sole};
 ghost use Rattle.rb_eligible.specs.Sheets.{IsSheet};
 ghost use Rattle.rb_eligible.specs.Standings.{standing_of};
 ghost use Rattle.rb_eligible.specs.Takings.{AccusesBy, AreOnesOf, AreTakenOf, AreValuesOf};

@@ -9,7 +9,6 @@ ghost use Rattle.rb_eligible.specs.Standings.{standing_of};
 ghost use Rattle.rb_eligible.specs.Takings.{AccusesBy};
 ghost use Rattle.rb_rules.specs.ExactStage.{present};
 ghost use Rattle.rb_rules.specs.NodeState.{NodeState};
-ghost use Rattle.rb_rules.specs.Standing.{has_evidence, with_evidence};
 ghost use Rattle.rb_rules.specs.SyncStage.{new_epoch_of, sync_closing_of};
 
 use arrayvec::ArrayVec;
