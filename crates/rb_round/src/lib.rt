@@ -85,7 +85,7 @@ fn close_many<K: Copy>(
 }
 
 // The close of a stage in which the message of one source may be taken.
-#[inline(never)]
+#[inline(always)]
 fn close_single<K: Copy>(
     inbox: &Inbox<K>,
     standing: &mut Standing<K>,
@@ -111,7 +111,7 @@ fn close_single<K: Copy>(
 }
 
 // The close of a stage in which something came or somebody is expected.
-#[inline(always)]
+#[inline(never)]
 pub(crate) fn close_busy<K: Copy>(
     inbox: &Inbox<K>,
     standing: &mut Standing<K>,
