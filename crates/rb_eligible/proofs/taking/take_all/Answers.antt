@@ -4,11 +4,19 @@ use Rattle.rb_base.specs.Nodes.{has}
 use Rattle.rb_base.proofs.Sets.{has-is, same_set_of}
 use Rattle.rb_rules.specs.Sense.{is_one, value_in}
 use Rattle.rb_rules.specs.Standing.{is_eligible, taken_of}
-use Rattle.rb_eligible.specs.Inboxes.{sense_in}
+use Rattle.rb_eligible.specs.Inboxes.{is_sole, sense_in}
 use Rattle.rb_eligible.specs.Standings.{standing_of}
 use Rattle.rb_eligible.proofs.Evidence.{either_one, evidence_is}
+use Rattle.rb_eligible.proofs.Onlys.{if_some_then}
 use Rattle.rb_eligible.proofs.Sensed.{came_is}
-use Rattle.rb_eligible.proofs.taking.take_with_evidence.Goals as goal
+use Rattle.rb_eligible.proofs.taking.take_all.Goals as goal
+
+pub take_each-taking-requires-clause-only : goal.take_each-taking-requires-clause-only
+take_each-taking-requires-clause-only g c =
+    let s = standing_of c.args.standing.now in
+    let takable : ℕ → Bool = λ j. has c.args.expected j && is_eligible s j in
+    if_some_then c.args.only
+    (λ k only j h. ap (λ b. b && is_sole c.args.inbox.now j) (has-is c.eligible_of-takable.result j takable c.eligible_of-takable.ensures h) ∙ only j h) c.requires.only
 
 pub returns-clause-ones : goal.returns-clause-ones
 returns-clause-ones g c = λ received shown.
