@@ -28,6 +28,7 @@ pub mod Telling
 pub mod FirstWorld
 pub mod TimelyMoments
 pub mod PortMoments
+pub mod PortsKept
 pub mod OneTake
 pub mod EveryWorld
 pub mod RoundNodes
