@@ -29,6 +29,7 @@ pub mod FirstWorld
 pub mod TimelyMoments
 pub mod PortMoments
 pub mod PortsKept
+pub mod ToldInOrder
 pub mod OneTake
 pub mod EveryWorld
 pub mod RoundNodes
