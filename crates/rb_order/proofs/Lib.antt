@@ -30,6 +30,7 @@ pub mod TimelyMoments
 pub mod PortMoments
 pub mod PortsKept
 pub mod ToldInOrder
+pub mod HandedMoments
 pub mod OneTake
 pub mod EveryWorld
 pub mod RoundNodes

@@ -237,7 +237,7 @@ told-after sc hands at sites ports me i s a x pend after h =
 pub one-changes : (P : Side → ℕ → ℕ → Site → Type 0) (sc : Scenario) (at : Side → ℕ → ℕ) (sites : Each Site) (me : Side) (i frame k r : ℕ) (m : Option Message) (change : Site → Site) (s : Site)
     → ((side : Side) (j p : ℕ) (z : Site) → P side j p z → P side j p (reached sc me i frame k m side j z))
     → slice_get (of_kind me sites) i ≡ Some s → P me i r (change s)
-    → ((side : Side) (j : ℕ) (z : Site) → slice_get (of_kind side sites) j ≡ Some z → P side j (at side j) z)
+    → ((side : Side) (j : ℕ) (z : Site) → is_node me i side j ≡ false → slice_get (of_kind side sites) j ≡ Some z → P side j (at side j) z)
     → (side : Side) (j : ℕ) (z : Site) → slice_get (of_kind side (with_message sc me i frame k m (at_node me i change sites))) j ≡ Some z → P side j (moved me i r at side j) z
 one-changes P sc at sites me i frame k r m change s on there new all side j z e =
     let was = back-from (after_tick sc me i frame k m change side j) (slice_get (of_kind side sites) j) z (sym (get-after sc me i frame k m change sites side j) ∙ e) in
@@ -252,7 +252,7 @@ one-changes P sc at sites me i frame k r m change s on there new all side j z e 
           let own : P side j r (change was.0) =
           subst (λ z. P side j r (change z)) s_is (subst (λ y. P y j r (change s)) (sym is.0) (subst (λ n. P me n r (change s)) (sym is.1) new)) in
           subst (P side j r) g (on side j r (change was.0) own)
-      | false ↦ λ f g. subst (P side j (at side j)) g (on side j (at side j) was.0 (all side j was.0 was.1.0))
+      | false ↦ λ f g. subst (P side j (at side j)) g (on side j (at side j) was.0 (all side j was.0 f was.1.0))
     ] in
     go (is_node me i side j) refl was.1.1
 
@@ -275,7 +275,8 @@ pub all-told : (sc : Scenario) (hands : List HandIn) (at : Side → ℕ → ℕ)
     → slice_get (of_kind me sites) i ≡ Some s → NodeTold sc hands me i r (change s) → AllTold sc hands at sites
     → AllTold sc hands (moved me i r at) (with_message sc me i frame k m (at_node me i change sites))
 all-told sc hands at sites me i frame k r m change s there new all =
-    one-changes (NodeTold sc hands) sc at sites me i frame k r m change s (told-reached sc hands me i frame k m) there new all
+    one-changes (NodeTold sc hands) sc at sites me i frame k r m change s (told-reached sc hands me i frame k m) there new
+    (λ side j z other e. all side j z e)
 
 -- Nobody is far ahead.
 
