@@ -31,6 +31,7 @@ pub mod PortMoments
 pub mod PortsKept
 pub mod ToldInOrder
 pub mod HandedMoments
+pub mod HandedIn
 pub mod OneTake
 pub mod EveryWorld
 pub mod RoundNodes
