@@ -32,6 +32,7 @@ pub mod PortsKept
 pub mod ToldInOrder
 pub mod HandedMoments
 pub mod HandedIn
+pub mod Waiting
 pub mod OneTake
 pub mod EveryWorld
 pub mod RoundNodes
