@@ -33,6 +33,7 @@ pub mod ToldInOrder
 pub mod HandedMoments
 pub mod HandedIn
 pub mod Waiting
+pub mod Completing
 pub mod OneTake
 pub mod EveryWorld
 pub mod RoundNodes

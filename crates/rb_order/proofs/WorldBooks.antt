@@ -131,7 +131,7 @@ IsTurn before w =
 pub none-past : (xs ys : List Record) → ys ≡ xs → slice_get ys (length xs) ≡ None
 none-past xs ys e = ap (λ l. slice_get l (length xs)) e ∙ slice_get_past xs (length xs) (omega arith)
 
-last-one : (xs ys : List Record) (r : Record) → ys ≡ xs ++ r ∷ [] → slice_get ys (length xs) ≡ Some r
+pub last-one : (xs ys : List Record) (r : Record) → ys ≡ xs ++ r ∷ [] → slice_get ys (length xs) ≡ Some r
 last-one xs ys r e =
     let z : length xs + 0 ≡ length xs = omega arith in
     ap (λ l. slice_get l (length xs)) e ∙ ap (slice_get (xs ++ r ∷ [])) (sym z) ∙ get-back xs (r ∷ []) 0
