@@ -34,6 +34,7 @@ pub mod HandedMoments
 pub mod HandedIn
 pub mod Waiting
 pub mod Completing
+pub mod PortsInRounds
 pub mod OneTake
 pub mod EveryWorld
 pub mod RoundNodes
