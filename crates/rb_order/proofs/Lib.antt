@@ -35,6 +35,7 @@ pub mod HandedIn
 pub mod Waiting
 pub mod Completing
 pub mod PortsInRounds
+pub mod EventNodes
 pub mod OneTake
 pub mod EveryWorld
 pub mod RoundNodes

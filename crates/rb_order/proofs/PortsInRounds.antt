@@ -258,7 +258,7 @@ ports-after sc hands at sites ports me i frame k m s a x ticks many all told the
 
 -- What is handed in.
 
-every-all : {X : Type 0} (P Q : X → Type 0) → ((x : X) → P x → Q x) → (xs : List X) → Every P xs → Every Q xs
+pub every-all : {X : Type 0} (P Q : X → Type 0) → ((x : X) → P x → Q x) → (xs : List X) → Every P xs → Every Q xs
 every-all P Q go [] all = tt
 every-all P Q go (x ∷ xs) all = (go x all.0, every-all P Q go xs all.1)
 
@@ -266,7 +266,7 @@ some-after : (sc : Scenario) (ports : List PortState) (me : Side) (i : ℕ) (e :
 some-after sc ports me i None b = (b, refl)
 some-after sc ports me i (Some e) b = (begun_of sc ports me i e, refl)
 
-begun-is : (sc : Scenario) (hands : List HandIn) (at : Side → ℕ → ℕ) (sites : Each Site) (ports : List PortState) (me : Side) (i : ℕ) (s : Site) (a : Timed) (x : Act)
+pub begun-is : (sc : Scenario) (hands : List HandIn) (at : Side → ℕ → ℕ) (sites : Each Site) (ports : List PortState) (me : Side) (i : ℕ) (s : Site) (a : Timed) (x : Act)
     → (after : AfterTick sc hands at sites ports me i s a x)
     → ((after_act sc ports me i x s).begun ≡ begun_after sc ports me i x.epoch s.begun)
     × ((b : Begun) → (after_act sc ports me i x s).begun ≡ Some b → ((b.frame ≡ (moment sc hands (at me i)).frame) × (after.st.epoch ≡ a.tick)) ⊎ (s.begun ≡ Some b))
