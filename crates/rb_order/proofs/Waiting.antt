@@ -103,7 +103,7 @@ untold sc frame slot tells sites me i s there good none = by (all_have_told sc f
         true-false e = cc
     by false e = e
 
-no-good : (sc : Scenario) (side : Side) (frame slot : ℕ) → ((i : ℕ) → is_good sc side i frame slot ≡ false) → good_at sc side frame slot ≡ 0
+pub no-good : (sc : Scenario) (side : Side) (frame slot : ℕ) → ((i : ℕ) → is_good sc side i frame slot ≡ false) → good_at sc side frame slot ≡ 0
 no-good sc side frame slot none =
     same_set_of (λ i. is_good sc side i frame slot) (λ i. false) (λ i h. none i) ∙ sym (is_set_of 0 (λ i. false) (lit≤ tt) (λ i h. has_none i))
 
