@@ -3,20 +3,20 @@
 use Rattle.std.proofs.Common.{◌≡◌, ℕ, zero, suc, ◌+◌, ◌*◌, ◌<◌, ◌≤◌, ◌==◌, ◌&&◌, ◌⊎◌, not, nat_lt, Bool, true, false, List, [], ◌∷◌, ◌++◌, length, refl, ap, sym, ◌∙◌, subst, arith, inl, inr, Option, Some, None, slice_get, if◌then◌else◌}
 use Rattle.std.proofs.lemmas.Bool.{cases_lt}
 use Rattle.std.proofs.lemmas.Bool.Decides.{nat_tests}
-use Rattle.rb_base.specs.Nodes.{Side, has, set_of}
+use Rattle.rb_base.specs.Nodes.{Side, has}
 use Rattle.rb_base.specs.Nodes.Side.{Biu, Rmu}
-use Rattle.rb_base.specs.Sizes.{IsShape, Sizes, sync_slot_of}
+use Rattle.rb_base.specs.Sizes.{IsShape, sync_slot_of}
 use Rattle.rb_base.specs.declared.values.Place.{Place}
 use Rattle.rb_base.proofs.Sets.{has-set_of, has_none}
-use Rattle.rb_rules.specs.Book.{Begun, Book, Each, Milestone, Record, after_stage, of_kind, with_frame, with_stage}
+use Rattle.rb_rules.specs.Book.{Book, Each, Milestone, Record, after_stage, of_kind}
 use Rattle.rb_rules.specs.Book.Milestone.{Begin, Stage, End}
 use Rattle.rb_rules.specs.Book.Record.{Ended}
 use Rattle.rb_rules.specs.Goodness.{Scenario, good_at, is_good}
 use Rattle.rb_rules.specs.Ports.{HandIn}
-use Rattle.rb_rules.specs.Rounds.{Moment, moment, windows_in}
+use Rattle.rb_rules.specs.Rounds.{moment, windows_in}
 use Rattle.rb_rules.specs.Slots.{count_of}
-use Rattle.rb_rules.specs.WorldStep.{Site, Way, World, book_with, comes_so, frame_in, is_complete, needs_no_event, nobody_good, record_since, settle, settle_next}
-use Rattle.rb_rules.specs.WorldStep.Way.{ByAnEvent, ByItself}
+use Rattle.rb_rules.specs.WorldStep.{Site, World, book_with, comes_so, frame_in, is_complete, needs_no_event, nobody_good, record_since, settle, settle_next}
+use Rattle.rb_rules.specs.WorldStep.Way.{ByItself}
 use Rattle.rb_order.proofs.Completing.{FrameGiven, Settled, frame-given, frame-record, next_world, none-turn, ended-still, settle-still, stage-silent, still-settled}
 use Rattle.rb_order.proofs.HandedMoments.{place-of}
 use Rattle.rb_order.proofs.Invariant.{is_good_at}
@@ -26,7 +26,6 @@ use Rattle.rb_order.proofs.Settling.{and-true}
 use Rattle.rb_order.proofs.ToldInOrder.{AllTold}
 use Rattle.rb_order.proofs.Waiting.{AfterRecord, Waits, is_due, no-good}
 use Rattle.rb_order.proofs.WorldBooks.{last-one, settle_rest}
-use Rattle.rb_order.proofs.WorldNodes.{next-sites}
 
 -- Nobody is good.
 

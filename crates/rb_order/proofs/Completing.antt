@@ -1,15 +1,15 @@
 -- For the law that events are rounds, which is still to come: what an event completes is settled, and what comes next by an event waits again.
 -- While the record of a frame's begin is the turn, all nodes that are good there have begun the frame, and none is beyond its second window.
-use Rattle.std.proofs.Common.{◌≡◌, ℕ, zero, suc, ◌+◌, ◌-◌, ◌*◌, ◌%◌, ◌<◌, ◌≤◌, ◌==◌, ◌&&◌, ◌⊎◌, not, nat_lt, Bool, true, false, List, [], ◌∷◌, ◌++◌, length, refl, ap, sym, ◌∙◌, subst, arith, inl, inr, Option, Some, None, is_some, slice_get, if◌then◌else◌}
+use Rattle.std.proofs.Common.{◌≡◌, ℕ, zero, suc, ◌+◌, ◌-◌, ◌*◌, ◌%◌, ◌<◌, ◌≤◌, ◌==◌, ◌&&◌, ◌⊎◌, nat_lt, Bool, true, false, List, [], ◌∷◌, ◌++◌, length, refl, ap, sym, ◌∙◌, subst, arith, inl, inr, Option, Some, None, is_some, slice_get, if◌then◌else◌}
 use Rattle.std.proofs.lemmas.Bool.{cases_lt, lt-ltb, le-ltb}
 use Rattle.std.proofs.lemmas.Bool.Decides.{nat_tests}
 use Rattle.std.proofs.lemmas.List.{append-nil}
 use Rattle.rb_base.specs.Nodes.{Side}
-use Rattle.rb_base.specs.Sizes.{Sizes, sync_slot_of}
+use Rattle.rb_base.specs.Sizes.{sync_slot_of}
 use Rattle.rb_base.specs.declared.values.Place.{Place}
 use Rattle.rb_rules.specs.declared.cause.Cause.{Cause}
 use Rattle.rb_rules.specs.declared.message.Message.{Message}
-use Rattle.rb_rules.specs.Book.{Begun, Book, Each, Milestone, Record, Row, after_stage, after_verdict, fresh_book, frame_records, judged_of, of_kind, with_frame, with_stage}
+use Rattle.rb_rules.specs.Book.{Begun, Book, Each, Milestone, Record, Row, after_stage, after_verdict, frame_records, judged_of, of_kind, with_frame, with_stage}
 use Rattle.rb_rules.specs.Book.Milestone.{Begin, Stage, End}
 use Rattle.rb_rules.specs.Book.Record.{Breach, Slot}
 use Rattle.rb_rules.specs.Goodness.{Scenario, is_good}
@@ -25,12 +25,11 @@ use Rattle.rb_order.proofs.Invariant.{next_stage}
 use Rattle.rb_order.proofs.MomentBooks.{next_of, number-of, place_at, settles-next, stage-book-next, stage-next, SettlesNext}
 use Rattle.rb_order.proofs.RoundNodes.{slot_numbered}
 use Rattle.rb_order.proofs.Settling.{and-true}
-use Rattle.rb_order.proofs.SettlingFrames.{IsOfMoment, RunsIn, runs-in}
+use Rattle.rb_order.proofs.SettlingFrames.{IsOfMoment}
 use Rattle.rb_order.proofs.Telling.{reached-tells}
-use Rattle.rb_order.proofs.ToldInOrder.{AllTold, NodeTold, number-is, number_at}
-use Rattle.rb_order.proofs.Waiting.{AfterRecord, Completes, HasBegun, Waits, begun-there, completes, good-told, is_due, row-there, stage-waits, untold}
+use Rattle.rb_order.proofs.ToldInOrder.{AllTold, number-is, number_at}
+use Rattle.rb_order.proofs.Waiting.{AfterRecord, Completes, Waits, begun-there, completes, good-told, is_due, row-there, stage-waits, untold}
 use Rattle.rb_order.proofs.WorldBooks.{last-one, next-on, none-past, settle_rest}
-use Rattle.rb_order.proofs.WorldTicks.{reached}
 
 -- The event.
 

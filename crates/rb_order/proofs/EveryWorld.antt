@@ -12,7 +12,7 @@ use Rattle.rb_rules.specs.Lawful.{IsLawful}
 use Rattle.rb_rules.specs.Ports.{HandIn}
 use Rattle.rb_rules.specs.Rounds.{Moment, begin_frame, moment, steps_of, windows_in}
 use Rattle.rb_rules.specs.Slots.{count_of}
-use Rattle.rb_rules.specs.WorldStep.{begun_for, due_at, least, needs_no_event, times_of, Choice, Due, EventsAreRounds, Site, World, await, choose, due_of, enter, says_in, span_from, stop, first_world, fresh_site, go_on, hand, proceed, settle, take, take_if_due, world_after}
+use Rattle.rb_rules.specs.WorldStep.{begun_for, due_at, least, needs_no_event, times_of, Choice, Due, EventsAreRounds, Site, World, await, choose, due_of, enter, says_in, span_from, stop, first_world, fresh_site, go_on, proceed, settle, take, take_if_due, world_after}
 use Rattle.rb_rules.specs.WorldStep.Choice.{Take, GoOn, Hand}
 use Rattle.rb_rules.specs.WorldStep.Way.{ByItself}
 use Rattle.rb_rules.proofs.Books.{GoesOn, moments-on}
@@ -26,11 +26,11 @@ use Rattle.rb_order.proofs.NodeClosing.{NextInTime}
 use Rattle.rb_order.proofs.OneHandIn.{hand-keeps}
 use Rattle.rb_order.proofs.OneTake.{StandsInRounds, WorldInRounds, settle-hands, settle-ports, settled-stands, take-keeps}
 use Rattle.rb_order.proofs.SettlingFrames.{BegunOfRounds, IsOfMoment, RunsIn, TellRounds, all-settled, runs-in}
-use Rattle.rb_order.proofs.Timing.{AreInTime, HavePassed}
+use Rattle.rb_order.proofs.Timing.{AreInTime}
 use Rattle.rb_order.proofs.Settling.{RowsOfRounds}
-use Rattle.rb_order.proofs.ToldInOrder.{AllTold, NodeTold}
+use Rattle.rb_order.proofs.ToldInOrder.{AllTold}
 use Rattle.rb_order.proofs.Waiting.{none-told}
-use Rattle.rb_order.proofs.WorldStands.{SitesStand, some-same}
+use Rattle.rb_order.proofs.WorldStands.{some-same}
 use Rattle.rb_rules.specs.Hearing.{Span, port_at}
 use Rattle.rb_order.proofs.WorldNodes.{events-due, first-counts, settle-sites}
 

@@ -1,19 +1,18 @@
 -- For the law that events are rounds, which is still to come: what is handed in keeps the whole invariant.
-use Rattle.std.proofs.Common.{◌≡◌, ◌≢◌, ℕ, zero, suc, ◌+◌, ◌*◌, ◌/◌, ◌%◌, ◌<◌, ◌≤◌, ◌==◌, nat_lt, min, Bool, true, false, List, [], ◌∷◌, ◌++◌, length, refl, ap, sym, ◌∙◌, subst, arith, inl, inr, Option, Some, None, slice_get, if◌then◌else◌}
+use Rattle.std.proofs.Common.{◌≡◌, ℕ, ◌+◌, ◌*◌, ◌%◌, ◌<◌, ◌≤◌, ◌==◌, nat_lt, Bool, true, false, List, [], ◌∷◌, ◌++◌, length, refl, ap, sym, ◌∙◌, subst, arith, inl, inr, Option, Some, None, if◌then◌else◌}
 use Rattle.std.proofs.lemmas.Bool.Decides.{nat_tests}
 use Rattle.std.proofs.lemmas.Nat.{mul-le}
 use Rattle.rb_base.specs.Nodes.{Side}
 use Rattle.rb_base.specs.Nodes.Side.{Biu}
 use Rattle.rb_base.specs.declared.values.Place.{Place}
-use Rattle.rb_rules.specs.Book.{Book, Milestone, of_kind}
+use Rattle.rb_rules.specs.Book.{Book, of_kind}
 use Rattle.rb_rules.specs.Book.Milestone.{Begin, Stage, End}
 use Rattle.rb_rules.specs.Goodness.{Scenario, is_good}
 use Rattle.rb_rules.specs.Lawful.{IsLawful}
-use Rattle.rb_rules.specs.Ports.{HandIn, PortState, with_state}
+use Rattle.rb_rules.specs.Ports.{HandIn, with_state}
 use Rattle.rb_rules.specs.Rounds.{Moment, moment, windows_in}
-use Rattle.rb_rules.specs.WorldStep.{Site, World, frame_in, hand}
+use Rattle.rb_rules.specs.WorldStep.{World, frame_in, hand}
 use Rattle.rb_order.specs.Closing.{stages_in}
-use Rattle.rb_order.proofs.Completing.{Settled}
 use Rattle.rb_order.proofs.HandedIn.{AreEarly, length-handed, passed-handed, port-handed, sites-handed, tell-handed, told-handed}
 use Rattle.rb_order.proofs.HandedMoments.{Alike, handed-alike}
 use Rattle.rb_order.proofs.MomentBooks.{next_of, number-of, place_at, settles-next, SettlesNext}

@@ -12,7 +12,6 @@ use Rattle.rb_rules.specs.Hearing.{Coming, port_at, port_line}
 use Rattle.rb_rules.specs.Lawful.{IsLawful}
 use Rattle.rb_rules.specs.Plan.{longest_of, shortest_of}
 use Rattle.rb_rules.specs.Ports.{HandIn, PortState, delivered_to}
-use Rattle.rb_rules.specs.NodeState.{NodeState}
 use Rattle.rb_rules.specs.Rounds.{moment}
 use Rattle.rb_rules.specs.WorldStep.{Due, Pending, Site, Timed, Way, World, after_act, after_arrival, at_node, happens, pass_and_tick, record_since, settle, settle_next, take_if_due, times_of, with_act, with_delivery, with_pending}
 use Rattle.rb_rules.specs.WorldStep.Pending.{Tick, Arrival}
@@ -37,7 +36,7 @@ use Rattle.rb_order.proofs.SettlingFrames.{BegunInRounds, BegunOfRounds, IsOfMom
 use Rattle.rb_order.proofs.Telling.{begun-then, closed-row, still-tell}
 use Rattle.rb_order.proofs.Timing.{AreInTime, HavePassed}
 use Rattle.rb_order.proofs.ToldInOrder.{AllTold}
-use Rattle.rb_order.proofs.Waiting.{Waits, is_due}
+use Rattle.rb_order.proofs.Waiting.{is_due}
 use Rattle.rb_order.proofs.WorldBooks.{happens-book}
 use Rattle.rb_order.proofs.WorldEvents.{AfterTick, passed-on, tick-event}
 use Rattle.rb_order.proofs.WorldNodes.{settle-sites}
