@@ -221,7 +221,7 @@ choice-keeps sc choices (Take i) lawful room pace h = by (slice_get (due_of sc (
 choice-keeps sc choices GoOn lawful room pace h = go-on-keeps sc h.now h.at (world_after sc choices) lawful room h.stands
 choice-keeps sc choices (Hand biu state) lawful room pace h = hand-keeps sc h.now h.at (world_after sc choices) biu state lawful room h.stands
 
-after-more : (sc : Scenario) (choices : List Choice) (c : Choice) → world_after sc (choices ++ c ∷ []) ≡ choose sc (world_after sc choices) c
+pub after-more : (sc : Scenario) (choices : List Choice) (c : Choice) → world_after sc (choices ++ c ∷ []) ≡ choose sc (world_after sc choices) c
 after-more sc choices c = more choices (first_world sc)
   where
     more : (cs : List Choice) (w : World) → fold (choose sc) w (cs ++ c ∷ []) ≡ choose sc (fold (choose sc) w cs) c

@@ -40,6 +40,7 @@ pub mod Alone
 pub mod OneTake
 pub mod OneHandIn
 pub mod EveryWorld
+pub mod Turns
 pub mod RoundNodes
 pub mod WorldBooks
 pub mod EventsLaw

@@ -1,13 +1,14 @@
 -- What is proved of rounds and of single events so far.
-use Rattle.std.specs.Prelude.{ℕ, ◌≡◌, ◌+◌, ◌^◌, ◌<◌, ◌≤◌, true, Some, List, [], ◌∷◌, ◌++◌}
+use Rattle.std.specs.Prelude.{ℕ, ◌≡◌, ◌+◌, ◌^◌, ◌<◌, ◌≤◌, ◌⊎◌, true, false, Some, None, List, [], ◌∷◌, ◌++◌, length, slice_get}
 use Rattle.rb_base.specs.Nodes.{Side}
 use Rattle.rb_base.specs.Sizes.{Sizes}
 use Rattle.rb_rules.specs.declared.plan.Plan.{Plan}
+use Rattle.rb_rules.specs.Book.{Record}
 use Rattle.rb_rules.specs.Core.{Core, next_tick, ticks}
 use Rattle.rb_rules.specs.Goodness.{Scenario}
 use Rattle.rb_rules.specs.Ports.{HandIn}
 use Rattle.rb_rules.specs.Rounds.{moment, steps_of, records_of}
-use Rattle.rb_rules.specs.WorldStep.{World, Choice, IsPrefix, choose}
+use Rattle.rb_rules.specs.WorldStep.{World, Choice, Due, IsPrefix, choose, due_of, go_on, take, world_after}
 
 -- the records of a scenario are those of the moment after all steps: that the run stops at its end changes nothing
 abbrev pub RecordsAreOfAllSteps : Type 0
@@ -37,3 +38,17 @@ abbrev pub QuietTicksCount : Type 0
 QuietTicksCount =
     (sizes : Sizes) (plan : Plan) (me : Side) (index n : ℕ) (c : Core) (k : ℕ) → c.had ≤ 2 ^ 31
     → next_tick sizes plan me index c ≡ Some k → c.had + n ≤ k → ticks sizes plan me index n c ≡ record c { had = c.had + n }
+
+-- a call gave no record, and then the turn is none; or it gave the next record of the rounds, and then the turn is that record
+abbrev pub IsNextTurn : Scenario → World → World → Type 0
+IsNextTurn sc before after =
+    ((after.turn ≡ None) × (after.book.given ≡ before.book.given))
+    ⊎ ((r : Record) × (after.turn ≡ Some r) × (after.book.given ≡ before.book.given ++ r ∷ [])
+    × (slice_get (records_of sc after.hands) (length before.book.given) ≡ Some r))
+
+-- whatever was chosen before, a due event that is taken, and what is given without an event, gives no record or the next of the rounds
+abbrev pub OneTurnARecord : Scenario → Type 0
+OneTurnARecord sc =
+    (choices : List Choice)
+    → ((i : ℕ) (d : Due) → slice_get (due_of sc (world_after sc choices)) i ≡ Some d → IsNextTurn sc (world_after sc choices) (take sc (world_after sc choices) i))
+    × ((world_after sc choices).book.ended ≡ false → IsNextTurn sc (world_after sc choices) (go_on sc (world_after sc choices)))
