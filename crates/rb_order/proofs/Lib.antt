@@ -41,6 +41,7 @@ pub mod OneTake
 pub mod OneHandIn
 pub mod EveryWorld
 pub mod Turns
+pub mod Progress
 pub mod RoundNodes
 pub mod WorldBooks
 pub mod EventsLaw

@@ -8,7 +8,7 @@ use Rattle.rb_rules.specs.Core.{Core, next_tick, ticks}
 use Rattle.rb_rules.specs.Goodness.{Scenario}
 use Rattle.rb_rules.specs.Ports.{HandIn}
 use Rattle.rb_rules.specs.Rounds.{moment, steps_of, records_of}
-use Rattle.rb_rules.specs.WorldStep.{World, Choice, Due, IsPrefix, choose, due_of, go_on, take, world_after}
+use Rattle.rb_rules.specs.WorldStep.{World, Choice, Due, IsPrefix, choose, due_of, go_on, needs_no_event, take, world_after}
 
 -- the records of a scenario are those of the moment after all steps: that the run stops at its end changes nothing
 abbrev pub RecordsAreOfAllSteps : Type 0
@@ -52,3 +52,9 @@ OneTurnARecord sc =
     (choices : List Choice)
     → ((i : ℕ) (d : Due) → slice_get (due_of sc (world_after sc choices)) i ≡ Some d → IsNextTurn sc (world_after sc choices) (take sc (world_after sc choices) i))
     × ((world_after sc choices).book.ended ≡ false → IsNextTurn sc (world_after sc choices) (go_on sc (world_after sc choices)))
+
+-- whatever was chosen: as long as the run has not ended, and where its next record needs an event, some event is due
+abbrev pub SomethingIsDue : Scenario → Type 0
+SomethingIsDue sc =
+    (choices : List Choice) → (world_after sc choices).book.ended ≡ false → needs_no_event sc (world_after sc choices).book.upcoming ≡ false
+    → 1 ≤ length (due_of sc (world_after sc choices))
