@@ -42,6 +42,7 @@ pub mod OneHandIn
 pub mod EveryWorld
 pub mod Turns
 pub mod Progress
+pub mod Takes
 pub mod RoundNodes
 pub mod WorldBooks
 pub mod EventsLaw

@@ -1,14 +1,15 @@
 -- What is proved of rounds and of single events so far.
-use Rattle.std.specs.Prelude.{ℕ, ◌≡◌, ◌+◌, ◌^◌, ◌<◌, ◌≤◌, ◌⊎◌, true, false, Some, None, List, [], ◌∷◌, ◌++◌, length, slice_get}
+use Rattle.std.specs.Prelude.{ℕ, ◌≡◌, ◌+◌, ◌*◌, ◌^◌, ◌<◌, ◌≤◌, ◌⊎◌, true, false, Some, None, List, [], ◌∷◌, ◌++◌, length, slice_get}
 use Rattle.rb_base.specs.Nodes.{Side}
 use Rattle.rb_base.specs.Sizes.{Sizes}
 use Rattle.rb_rules.specs.declared.plan.Plan.{Plan}
-use Rattle.rb_rules.specs.Book.{Record}
+use Rattle.rb_rules.specs.Book.{Record, of_kind}
 use Rattle.rb_rules.specs.Core.{Core, next_tick, ticks}
 use Rattle.rb_rules.specs.Goodness.{Scenario}
 use Rattle.rb_rules.specs.Ports.{HandIn}
 use Rattle.rb_rules.specs.Rounds.{moment, steps_of, records_of}
-use Rattle.rb_rules.specs.WorldStep.{World, Choice, Due, IsPrefix, choose, due_of, go_on, needs_no_event, take, world_after}
+use Rattle.rb_rules.specs.WorldStep.{Site, World, Choice, Due, IsPrefix, choose, due_of, first_world, go_on, needs_no_event, take, world_after}
+use Rattle.rb_rules.specs.WorldStep.Choice.{Take, GoOn, Hand}
 
 -- the records of a scenario are those of the moment after all steps: that the run stops at its end changes nothing
 abbrev pub RecordsAreOfAllSteps : Type 0
@@ -58,3 +59,31 @@ abbrev pub SomethingIsDue : Scenario → Type 0
 SomethingIsDue sc =
     (choices : List Choice) → (world_after sc choices).book.ended ≡ false → needs_no_event sc (world_after sc choices).book.upcoming ≡ false
     → 1 ≤ length (due_of sc (world_after sc choices))
+
+-- 1 where the choice takes a due event
+abbrev pub taken_by : Scenario → World → Choice → ℕ
+taken_by sc w (Take i) = elim (slice_get (due_of sc w) i) [ None ↦ 0 | Some d ↦ 1 ]
+taken_by sc w GoOn = 0
+taken_by sc w (Hand biu state) = 0
+
+-- how many of the choices take a due event, the first being made in this world
+abbrev pub takes_from : Scenario → World → List Choice → ℕ
+takes_from sc w [] = 0
+takes_from sc w (c ∷ cs) = taken_by sc w c + takes_from sc (choose sc w c) cs
+
+abbrev pub nodes_of : Sizes → ℕ
+nodes_of sizes = sizes.bius + sizes.rmus
+
+-- what a tick may make pending at most: a message at each node, and all that is said to its node in a window
+abbrev pub most_at_once : Scenario → ℕ
+most_at_once sc = nodes_of sc.sizes + nodes_of sc.sizes * length sc.says
+
+-- no run takes more events: each node has fewer than 2^31 ticks
+abbrev pub most_takes : Scenario → ℕ
+most_takes sc = nodes_of sc.sizes * (2 ^ 31 * (most_at_once sc + 1) + most_at_once sc)
+
+-- Whatever is chosen, only so many events are taken, and no node that runs has had 2^31 ticks. As something is due until the run has ended,
+-- every run ends
+pub record EveryRunEnds (sc : Scenario) : Type 0 where
+  pub few : (choices : List Choice) → takes_from sc (first_world sc) choices ≤ most_takes sc
+  pub room : (choices : List Choice) (me : Side) (i : ℕ) (s : Site) → slice_get (of_kind me (world_after sc choices).sites) i ≡ Some s → s.runs ≡ true → s.core.had < 2 ^ 31
