@@ -43,6 +43,7 @@ pub mod EveryWorld
 pub mod Turns
 pub mod Progress
 pub mod Takes
+pub mod RunsEnd
 pub mod RoundNodes
 pub mod WorldBooks
 pub mod EventsLaw

@@ -91,7 +91,7 @@ sum-more most make k (x ∷ xs) each =
     omega (arith, head, rest)
 
 -- a change of one node that leaves less
-one-less : (most : ℕ) (change : Site → Site) (me : Side) (i d : ℕ) (sites : Each Site) (s : Site) → slice_get (of_kind me sites) i ≡ Some s → left_of most (change s) + d ≤ left_of most s
+pub one-less : (most : ℕ) (change : Site → Site) (me : Side) (i d : ℕ) (sites : Each Site) (s : Site) → slice_get (of_kind me sites) i ≡ Some s → left_of most (change s) + d ≤ left_of most s
     → all_left most (at_node me i change sites) + d ≤ all_left most sites
 one-less most change Biu i d sites s there h =
     let one = sum-one most change 0 i i d sites.bius s (omega arith) there h in
@@ -116,7 +116,7 @@ sent-left most sc me j frame x side i s = by (same_side side (other me) && s.run
     by true = let more = length-one s.coming (coming_of sc side i j frame x) in omega (arith, more)
     by false = omega arith
 
-message-left : (most : ℕ) (sc : Scenario) (me : Side) (j frame k : ℕ) (m : Option Message) (sites : Each Site)
+pub message-left : (most : ℕ) (sc : Scenario) (me : Side) (j frame k : ℕ) (m : Option Message) (sites : Each Site)
     → all_left most (with_message sc me j frame k m sites) ≤ all_left most sites + (length sites.bius + length sites.rmus)
 message-left most sc me j frame k None sites = omega arith
 message-left most sc me j frame k (Some m) sites =
@@ -221,9 +221,9 @@ next-left had f its (Some k) later =
     omega (arith, le, same)
 
 -- a node that goes on has fewer ticks left, and only so much more on its way to it
-record LeavesFew (sc : Scenario) (had : ℕ) (s z : Site) : Type 0 where
-  ticks : ticks_left z.ahead ≤ 2 ^ 31 - had
-  coming : length z.coming ≤ length s.coming + nodes_of sc.sizes * length sc.says
+pub record LeavesFew (sc : Scenario) (had : ℕ) (s z : Site) : Type 0 where
+  pub ticks : ticks_left z.ahead ≤ 2 ^ 31 - had
+  pub coming : length z.coming ≤ length s.coming + nodes_of sc.sizes * length sc.says
 
 await-few : (sc : Scenario) (me : Side) (i : ℕ) (more : List Coming) (s : Site) → length more ≤ nodes_of sc.sizes * length sc.says → LeavesFew sc s.core.had s (await sc me i more s)
 await-few sc me i more s few =
@@ -234,7 +234,7 @@ await-few sc me i more s few =
       coming = omega (arith, both, few);
     }
 
-enter-few : (sc : Scenario) (me : Side) (i : ℕ) (o : Option Span) (s : Site) → LeavesFew sc s.core.had s (enter sc me i o s)
+pub enter-few : (sc : Scenario) (me : Side) (i : ℕ) (o : Option Span) (s : Site) → LeavesFew sc s.core.had s (enter sc me i o s)
 enter-few sc me i None s = await-few sc me i [] s (omega arith)
 enter-few sc me i (Some span) s = by (is_good sc me i span.place.frame span.place.slot)
   where
@@ -268,7 +268,7 @@ act-few sc ports me i x s =
     }
 
 -- the node of a tick is left with less
-tick-left : (sc : Scenario) (ports : List PortState) (me : Side) (i : ℕ) (a : Timed) (s : Site) → s.ahead ≡ Some a → s.core.had ≤ a.tick → a.tick < 2 ^ 31
+pub tick-left : (sc : Scenario) (ports : List PortState) (me : Side) (i : ℕ) (a : Timed) (s : Site) → s.ahead ≡ Some a → s.core.had ≤ a.tick → a.tick < 2 ^ 31
     → left_of (most_at_once sc) (after_act sc ports me i (pass_and_tick sc ports me i a.tick s.core) s) + (nodes_of sc.sizes + 1) ≤ left_of (most_at_once sc) s
 unfolding left_of pass_and_tick
 tick-left sc ports me i a s pend had small =
@@ -295,7 +295,7 @@ length-without n c [] h = absurd h
 length-without zero c (x ∷ xs) h = omega arith
 length-without (suc n) c (x ∷ xs) h = let rest = length-without n c xs h in omega (arith, rest)
 
-arrival-left : (sc : Scenario) (me : Side) (i n : ℕ) (c : Coming) (s : Site) → StandsAt n c s.coming
+pub arrival-left : (sc : Scenario) (me : Side) (i n : ℕ) (c : Coming) (s : Site) → StandsAt n c s.coming
     → left_of (most_at_once sc) (after_arrival sc me i n c s) + 1 ≤ left_of (most_at_once sc) s
 unfolding left_of after_arrival
 arrival-left sc me i n c s h = let less = length-without n c s.coming h in omega (arith, less)
