@@ -140,8 +140,6 @@ line-at-begin sc hands at sites ports Biu i s a st all told stand there runs pen
 
 -- A tick.
 
-rmu-delivery : (st : NodeState) (slot : ℕ) (role : Role) (sender : Sender) (stage : ℕ) (voted : Heard) → delivery_of Rmu st slot role sender stage voted ≡ None
-rmu-delivery st slot role sender stage voted = refl
 
 rmu-none : (sc : Scenario) (i : ℕ) (st : NodeState) (slot stage first : ℕ) (sense : ℕ → Sense) (b : Bool)
     → (elim b as (λ _. Outcome) [ true ↦ close_sync sc.sizes Rmu st stage first sense | false ↦ close_exact sc.sizes Rmu i st slot stage sense ]).closed.delivered ≡ None
