@@ -37,6 +37,7 @@ pub mod Completing
 pub mod PortsInRounds
 pub mod EventNodes
 pub mod Alone
+pub mod GivenAlone
 pub mod OneTake
 pub mod OneHandIn
 pub mod EveryWorld

@@ -8,23 +8,20 @@ use Rattle.rb_base.specs.Nodes.{Side}
 use Rattle.rb_base.specs.Nodes.Side.{Biu, Rmu}
 use Rattle.rb_base.specs.Sizes.{sync_slot_of}
 use Rattle.rb_base.specs.declared.values.Delivery.{Delivery}
-use Rattle.rb_base.specs.declared.values.Heard.{Heard}
 use Rattle.rb_rules.specs.declared.closing.Closed.{Closed}
 use Rattle.rb_rules.specs.declared.message.Message.{Message}
 use Rattle.rb_rules.specs.declared.plan.Window.{Window}
 use Rattle.rb_rules.specs.declared.record.Epoch.{Epoch}
 use Rattle.rb_rules.specs.declared.record.SlotLine.{SlotLine}
-use Rattle.rb_rules.specs.declared.role.Role.{Role}
 use Rattle.rb_rules.specs.declared.sense.Sense.{Sense}
 use Rattle.rb_rules.specs.Book.{Begun, Each, line_in, of_kind}
 use Rattle.rb_rules.specs.Core.{Act}
-use Rattle.rb_rules.specs.ExactStage.{Outcome, close_exact, delivery_of, keep_sent, outcome_of}
+use Rattle.rb_rules.specs.ExactStage.{Outcome, close_exact, keep_sent, outcome_of}
 use Rattle.rb_rules.specs.Goodness.{Scenario, is_good}
 use Rattle.rb_rules.specs.Hearing.{Coming, begun_of, port_at, port_line, row_of}
 use Rattle.rb_rules.specs.NodeState.{NodeState}
 use Rattle.rb_rules.specs.Ports.{HandIn, PortState}
 use Rattle.rb_rules.specs.Rounds.{Moment, Result, begin_frame, close_on, go_through, heard_at, moment, sent_in, window_in, windows_in, word_for_window}
-use Rattle.rb_rules.specs.Slots.{Sender}
 use Rattle.rb_rules.specs.SyncStage.{close_sync, sync_outcome_of}
 use Rattle.rb_rules.specs.WorldStep.{Site, Timed, after_act, at_node, with_delivery, with_message}
 use Rattle.rb_rules.proofs.RoundStates.{HasTicks}
@@ -139,7 +136,6 @@ line-at-begin sc hands at sites ports Biu i s a st all told stand there runs pen
     ap (port_line Biu i) (stand i s there runs ∙ ap (λ ports. port_at sc ports i) (before-is sc hands (at Biu i) first none))
 
 -- A tick.
-
 
 rmu-none : (sc : Scenario) (i : ℕ) (st : NodeState) (slot stage first : ℕ) (sense : ℕ → Sense) (b : Bool)
     → (elim b as (λ _. Outcome) [ true ↦ close_sync sc.sizes Rmu st stage first sense | false ↦ close_exact sc.sizes Rmu i st slot stage sense ]).closed.delivered ≡ None

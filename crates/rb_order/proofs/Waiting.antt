@@ -61,7 +61,7 @@ list-both (x ∷ xs) ys a b =
 abbrev has_told : {X : Type 0} → Scenario → ℕ → ℕ → (Site → Option X) → Side → ℕ → Site → Bool
 has_told sc frame slot tells me i s = not (is_good sc me i frame slot) || is_some (tells s)
 
-told-all : {X : Type 0} (sc : Scenario) (frame slot : ℕ) (tells : Site → Option X) (sites : Each Site)
+pub told-all : {X : Type 0} (sc : Scenario) (frame slot : ℕ) (tells : Site → Option X) (sites : Each Site)
     → ((me : Side) (i : ℕ) (s : Site) → slice_get (of_kind me sites) i ≡ Some s → has_told sc frame slot tells me i s ≡ true) → all_have_told sc frame slot tells sites ≡ true
 told-all sc frame slot tells sites all =
     let has : Side → ℕ → Site → Bool = has_told sc frame slot tells in

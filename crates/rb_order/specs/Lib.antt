@@ -1,2 +1,3 @@
+pub mod ByItself
 pub mod Closing
 pub mod Laws

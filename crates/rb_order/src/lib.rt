@@ -2,6 +2,7 @@
 //! of a function that does nothing.
 #![tactic(none)]
 
+ghost use Rattle.rb_order.specs.ByItself.{WhatNeedsNoEventIsGiven};
 ghost use Rattle.rb_order.specs.Closing.{GoodNodesCloseInOrder};
 ghost use Rattle.rb_order.specs.Laws.{EventsOnlyAdd, HandInsComeLate, QuietTicksCount, RecordsAreOfAllSteps, RoundsOnlyAdd};
 
@@ -28,6 +29,11 @@ pub fn hand_ins_come_late()
 /// Quiet ticks are only counted, so that a core may be moved to its next busy tick at once.
 pub fn quiet_ticks_count()
     ensures { QuietTicksCount }
+{}
+
+/// A record that needs no event, as the end of the run or a stage in which no node is good, is given by the call that asks for it.
+pub fn what_needs_no_event_is_given()
+    ensures { WhatNeedsNoEventIsGiven }
 {}
 
 /// Every good node closes a stage before any good node closes the next stage. So of each stage a world need keep only what was
