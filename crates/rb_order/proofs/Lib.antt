@@ -40,3 +40,8 @@ pub mod ClosingTicks
 pub mod DueEvents
 pub mod WorldNodes
 pub mod Receiving
+pub mod TickRooms
+pub mod FrameTimes
+pub mod StageTimes
+pub mod TurnTimes
+pub mod RunTimes

@@ -123,7 +123,7 @@ ahead-tail sc m me i j sent w =
 same-slot : (sizes : Sizes) (n : ℕ) → 3 * sync_slot_of sizes ≤ n → slot_numbered sizes n ≡ slot_numbered sizes (n + 1)
 same-slot sizes n h = omega arith
 
-good-in-sync : (sc : Scenario) (hands : List HandIn) (me : Side) (i p : ℕ) → (moment sc hands p).window < stages_in sc.sizes
+pub good-in-sync : (sc : Scenario) (hands : List HandIn) (me : Side) (i p : ℕ) → (moment sc hands p).window < stages_in sc.sizes
     → 3 * sync_slot_of sc.sizes ≤ (moment sc hands p).window → is_good_at sc (moment sc hands p) me i ≡ true → is_good_at sc (moment sc hands (suc p)) me i ≡ true
 good-in-sync sc hands me i p below from good =
     let m : Moment = moment sc hands p in
