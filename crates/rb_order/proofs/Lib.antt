@@ -28,6 +28,9 @@ pub mod Telling
 pub mod FirstWorld
 pub mod TimelyMoments
 pub mod PortMoments
+pub mod PortsKept
+pub mod ToldInOrder
+pub mod HandedMoments
 pub mod OneTake
 pub mod EveryWorld
 pub mod RoundNodes

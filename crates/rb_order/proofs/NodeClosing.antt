@@ -4,6 +4,7 @@ use Rattle.std.proofs.lemmas.Bool.{cases_lt}
 use Rattle.std.proofs.lemmas.Bool.Decides.{nat_tests}
 use Rattle.rb_base.specs.Nodes.{Side, other}
 use Rattle.rb_base.specs.Sizes.{Sizes, sync_slot_of}
+use Rattle.rb_rules.specs.declared.closing.Closed.{Closed as Shown}
 use Rattle.rb_rules.specs.declared.plan.Plan.{Plan}
 use Rattle.rb_rules.specs.declared.plan.Window.{Window}
 use Rattle.rb_rules.specs.Book.{of_kind, Row}
@@ -85,6 +86,9 @@ pub record ClosesWindow (sc : Scenario) (hands : List HandIn) (sent : Side → �
   pub row : (after_act sc ports me i x s).row
       ≡ (elim ((window_in sc (moment sc hands p) me st).stage == 4) as (λ _. Option Row) [ true ↦ s.row | false ↦ (go_through sc (moment sc hands p) (sent_in sc (moment sc hands p)) me i st (window_in sc (moment sc hands p) me st)).row ])
   pub begun : (after_act sc ports me i x s).begun ≡ begun_after sc ports me i x.epoch s.begun
+  -- what it shows is what the rounds tell of the window
+  pub told : (c : Shown) × ((x.closed ≡ Some c)
+      × ((go_through sc (moment sc hands p) (sent_in sc (moment sc hands p)) me i st (window_in sc (moment sc hands p) me st)).row ≡ Some (row_of me i x.core.state (coming_from s.got) c)))
   pub act : ActsClose sc me i st (moment sc hands p).window (word_at sc (moment sc hands p) me i st) a.tick (pass_to a.tick s.core) x
 
 -- Lists.
@@ -380,6 +384,7 @@ closes-window sc hands sent now ports me i p s st a lawful room known times othe
             runs = λ g. ap (λ (z : Site). z.runs) (site true e);
             row = ap (λ (z : Site). z.row) (site true e) ∙ kept_row;
             begun = ap (λ (z : Site). z.begun) (site true e);
+            told = (outcome.closed, (acts.closed, sym told));
             act = acts;
           }
       | false ↦ λ e.
@@ -395,6 +400,7 @@ closes-window sc hands sent now ports me i p s st a lawful room known times othe
             runs = λ g. absurd (true-false (sym g ∙ e));
             row = ap (λ (z : Site). z.row) (site false e) ∙ kept_row;
             begun = ap (λ (z : Site). z.begun) (site false e);
+            told = (outcome.closed, (acts.closed, sym told));
             act = acts;
           }
     ] in

@@ -113,15 +113,15 @@ tick-happens sc now at w me i k t s a lawful room times h fit there pend tick ti
     let before = tell-rows sc hands w.sites h.tell me i s there in
     let rows : (row : Row) → (after_act sc w.ports me i x s).row ≡ Some row → RowOfRounds sc hands me i row = λ row e. elim after.node [
       | inl stays ↦ before.0 row (sym (ap (λ (z : Site). z.row) stays.1.site) ∙ e)
-      | inr closes ↦ closed-row sc hands me i (at me i) after.st s row after.stands.window after.there after.frame before.0 (sym closes.1.row ∙ e)
+      | inr closes ↦ closed-row sc hands me i (at me i) after.st s row after.stands.window after.there after.frame before.0 (sym closes.1.0.row ∙ e)
     ] in
     let begun : (b : Begun) → (after_act sc w.ports me i x s).begun ≡ Some b → BegunInRounds sc hands me i b = λ b e. elim after.node [
       | inl stays ↦
           begun-then sc hands w.ports me i (at me i) a.tick after.st x s.begun b room after.there after.frame after.stands.window after.stands.keeps after.stands.at stays.1.act.epoch
           (fit.begun s a after.st there pend after.there) before.1 (sym (ap (λ (z : Site). z.begun) stays.1.site) ∙ e)
       | inr closes ↦
-          begun-then sc hands w.ports me i (at me i) a.tick after.st x s.begun b room after.there after.frame after.stands.window after.stands.keeps after.stands.at closes.1.act.epoch
-          (fit.begun s a after.st there pend after.there) before.1 (sym closes.1.begun ∙ e)
+          begun-then sc hands w.ports me i (at me i) a.tick after.st x s.begun b room after.there after.frame after.stands.window after.stands.keeps after.stands.at closes.1.0.act.epoch
+          (fit.begun s a after.st there pend after.there) before.1 (sym closes.1.0.begun ∙ e)
     ] in
     let tell : TellRounds sc hands _ = still-tell sc hands w.sites me i x.core.state.frame a.tick x.message (after_act sc w.ports me i x) s there rows begun h.tell in
     subst (λ k. (r : ℕ) × (SitesStand sc w.hands t (moved me i r at) (with_act sc w me i k (pass_and_tick sc w.ports me i k s.core)).sites

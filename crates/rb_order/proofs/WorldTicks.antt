@@ -63,7 +63,7 @@ pub record Same (s z : Site) : Type 0 where
   pub runs : z.runs ≡ s.runs
   pub ahead : z.ahead ≡ s.ahead
 
-reached-same : (sc : Scenario) (me : Side) (i frame k : ℕ) (m : Option Message) (side : Side) (j : ℕ) (s : Site) → Same s (reached sc me i frame k m side j s)
+pub reached-same : (sc : Scenario) (me : Side) (i frame k : ℕ) (m : Option Message) (side : Side) (j : ℕ) (s : Site) → Same s (reached sc me i frame k m side j s)
 reached-same sc me i frame k None side j s = record { runs = refl; ahead = refl }
 reached-same sc me i frame k (Some m) side j s = by (same_side side (other me) && s.runs)
   where
