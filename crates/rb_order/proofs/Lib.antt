@@ -48,3 +48,4 @@ pub mod FrameTimes
 pub mod StageTimes
 pub mod TurnTimes
 pub mod RunTimes
+pub mod ToldSoFar

@@ -71,6 +71,7 @@ pub record GoesOn (sc : Scenario) (hands : List HandIn) (sent : Side → ℕ →
   pub a : Timed
   pub stands : NodeStands sc hands sent t me i q s st a
   pub silent : gone (sending_at sc.sizes sc.plan me i st (moment sc hands q).window (word_at sc (moment sc hands q) me i st)) a.tick ≡ false
+  pub had : s.core.had ≡ st.epoch + first_of sc.sizes sc.plan me st (moment sc hands q).window
 
 pub record Stops (sc : Scenario) (hands : List HandIn) (me : Side) (i q : ℕ) (s : Site) : Type 0 where
   pub not_good : is_good_at sc (moment sc hands q) me i ≡ false
@@ -380,6 +381,7 @@ closes-window sc hands sent now ports me i p s st a lawful room known times othe
               a = ent.a;
               stands = subst (λ z. NodeStands sc hands sent a.time me i q z np.st ent.a) (sym (site true e)) ent.stands;
               silent = ent.silent;
+              had = ap (λ (z : Site). z.core.had) (site true e) ∙ xhad ∙ first;
             });
             runs = λ g. ap (λ (z : Site). z.runs) (site true e);
             row = ap (λ (z : Site). z.row) (site true e) ∙ kept_row;
