@@ -49,3 +49,4 @@ pub mod StageTimes
 pub mod TurnTimes
 pub mod RunTimes
 pub mod ToldSoFar
+pub mod Untold

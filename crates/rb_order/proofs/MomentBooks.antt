@@ -124,7 +124,7 @@ SettlesNext sc m = m.book.ended ≡ false → m.book.upcoming ≡ next_of sc m.f
 not-both : {P : Type 0} → true ≡ false → P
 not-both e = absurd (cc)
 
-frame-next : (sc : Scenario) (frame : ℕ) (begun : List Begun) (b : Book) → (with_frame sc frame begun b).ended ≡ false → (with_frame sc frame begun b).upcoming ≡ next_of sc frame 0
+pub frame-next : (sc : Scenario) (frame : ℕ) (begun : List Begun) (b : Book) → (with_frame sc frame begun b).ended ≡ false → (with_frame sc frame begun b).upcoming ≡ next_of sc frame 0
 unfolding with_frame
 frame-next sc frame begun b = by b.ended refl
   where
@@ -199,7 +199,7 @@ judged-next : (sc : Scenario) (place : Place) (rows : Each (Option Row)) (stages
 judged-next sc place rows stages b None h = refl
 judged-next sc place rows stages b (Some cause) h = not-both h
 
-stage-book-next : (sc : Scenario) (place : Place) (rows : Each (Option Row)) (b : Book)
+pub stage-book-next : (sc : Scenario) (place : Place) (rows : Each (Option Row)) (b : Book)
     → (with_stage sc place rows b).ended ≡ false → (with_stage sc place rows b).upcoming ≡ after_stage sc.sizes place
 unfolding with_stage
 stage-book-next sc place rows b = by b.ended refl

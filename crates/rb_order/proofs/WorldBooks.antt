@@ -71,7 +71,7 @@ book-more sc sites b (Begin frame) = frame-more sc frame _ b
 book-more sc sites b (Stage place) = stage-more sc place _ b
 book-more sc sites b End = end-more b
 
-book-on : (sc : Scenario) (sites : Each Site) (b : Book) (m : Milestone) → GoesOn b (book_with sc sites b m)
+pub book-on : (sc : Scenario) (sites : Each Site) (b : Book) (m : Milestone) → GoesOn b (book_with sc sites b m)
 book-on sc sites b (Begin frame) = frame-on sc frame _ b
 book-on sc sites b (Stage place) = stage-on sc place _ b
 book-on sc sites b End = end-on b
@@ -128,7 +128,7 @@ abbrev pub IsTurn : List Record → World → Type 0
 IsTurn before w =
     ((w.book.given ≡ before) × (w.turn ≡ None)) ⊎ ((r : Record) × ((w.book.given ≡ before ++ r ∷ []) × (w.turn ≡ Some r)))
 
-none-past : (xs ys : List Record) → ys ≡ xs → slice_get ys (length xs) ≡ None
+pub none-past : (xs ys : List Record) → ys ≡ xs → slice_get ys (length xs) ≡ None
 none-past xs ys e = ap (λ l. slice_get l (length xs)) e ∙ slice_get_past xs (length xs) (omega arith)
 
 last-one : (xs ys : List Record) (r : Record) → ys ≡ xs ++ r ∷ [] → slice_get ys (length xs) ≡ Some r
