@@ -50,3 +50,4 @@ pub mod TurnTimes
 pub mod RunTimes
 pub mod ToldSoFar
 pub mod Untold
+pub mod Pace

@@ -124,7 +124,7 @@ SettlesNext sc m = m.book.ended ≡ false → m.book.upcoming ≡ next_of sc m.f
 not-both : {P : Type 0} → true ≡ false → P
 not-both e = absurd (cc)
 
-pub frame-next : (sc : Scenario) (frame : ℕ) (begun : List Begun) (b : Book) → (with_frame sc frame begun b).ended ≡ false → (with_frame sc frame begun b).upcoming ≡ next_of sc frame 0
+frame-next : (sc : Scenario) (frame : ℕ) (begun : List Begun) (b : Book) → (with_frame sc frame begun b).ended ≡ false → (with_frame sc frame begun b).upcoming ≡ next_of sc frame 0
 unfolding with_frame
 frame-next sc frame begun b = by b.ended refl
   where
