@@ -51,3 +51,4 @@ pub mod RunTimes
 pub mod ToldSoFar
 pub mod Untold
 pub mod Pace
+pub mod Waiting
