@@ -1,13 +1,15 @@
 -- What is proved of rounds and of single events so far.
-use Rattle.std.specs.Prelude.{ℕ, ◌≡◌, ◌+◌, ◌^◌, ◌<◌, ◌≤◌, true, Some, List, [], ◌∷◌, ◌++◌}
+use Rattle.std.specs.Prelude.{ℕ, ◌≡◌, ◌+◌, ◌*◌, ◌^◌, ◌<◌, ◌≤◌, true, Some, List, [], ◌∷◌, ◌++◌}
 use Rattle.rb_base.specs.Nodes.{Side}
-use Rattle.rb_base.specs.Sizes.{Sizes}
+use Rattle.rb_base.specs.Sizes.{Sizes, sync_slot_of}
 use Rattle.rb_rules.specs.declared.plan.Plan.{Plan}
 use Rattle.rb_rules.specs.Core.{Core, next_tick, ticks}
 use Rattle.rb_rules.specs.Goodness.{Scenario}
+use Rattle.rb_rules.specs.Moments.{IsRunning}
 use Rattle.rb_rules.specs.Ports.{HandIn}
 use Rattle.rb_rules.specs.Rounds.{moment, steps_of, records_of}
 use Rattle.rb_rules.specs.WorldStep.{World, Choice, IsPrefix, choose}
+use Rattle.rb_order.specs.Closing.{stages_in}
 
 -- the records of a scenario are those of the moment after all steps: that the run stops at its end changes nothing
 abbrev pub RecordsAreOfAllSteps : Type 0
@@ -37,3 +39,9 @@ abbrev pub QuietTicksCount : Type 0
 QuietTicksCount =
     (sizes : Sizes) (plan : Plan) (me : Side) (index n : ℕ) (c : Core) (k : ℕ) → c.had ≤ 2 ^ 31
     → next_tick sizes plan me index c ≡ Some k → c.had + n ≤ k → ticks sizes plan me index n c ≡ record c { had = c.had + n }
+
+-- whatever is handed in, the premise on faults holds in each sync slot that is reached, and in the stage before it
+abbrev pub SyncSlotsHold : Scenario → Type 0
+SyncSlotsHold sc =
+    (hands : List HandIn) (n : ℕ) → IsRunning (moment sc hands n) → 3 * sync_slot_of sc.sizes ≤ (moment sc hands n).window + 1
+    → (moment sc hands n).window < stages_in sc.sizes → IsRunning (moment sc hands (n + 1))

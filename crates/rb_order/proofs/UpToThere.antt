@@ -1,0 +1,142 @@
+-- For the law that events are rounds: all nodes are in time in each moment up to where the book waits.
+use Rattle.std.proofs.Common.{◌≡◌, ℕ, suc, ◌+◌, ◌*◌, ◌-◌, ◌<◌, ◌≤◌, ◌⊎◌, List, refl, ap, sym, ◌∙◌, subst, arith, inl, inr}
+use Rattle.std.proofs.lemmas.Bool.{cases_lt}
+use Rattle.rb_base.specs.Sizes.{sync_slot_of}
+use Rattle.rb_rules.specs.Goodness.{Scenario}
+use Rattle.rb_rules.specs.Lawful.{IsLawful}
+use Rattle.rb_rules.specs.Moments.{IsRunning}
+use Rattle.rb_rules.specs.Ports.{HandIn}
+use Rattle.rb_rules.specs.Rounds.{Moment, moment, windows_in}
+use Rattle.rb_agree.proofs.Places.{running_earlier}
+use Rattle.rb_agree.proofs.FrameBegins.{reached}
+use Rattle.rb_order.specs.Closing.{stages_in}
+use Rattle.rb_order.specs.Laws.{SyncSlotsHold}
+use Rattle.rb_order.proofs.CloseOrder.{IsFrameLater, IsWindowLater, frame-later, has-ticks, window-later}
+use Rattle.rb_order.proofs.FrameTimes.{BegunWell, begun-well, well-on}
+use Rattle.rb_order.proofs.Invariant.{InTime, next_stage}
+use Rattle.rb_order.proofs.MomentBooks.{number-of}
+use Rattle.rb_order.proofs.MomentSteps.{NextIsStage, next-inner, next-is-stage, next-outer}
+use Rattle.rb_order.proofs.NodeClosing.{NextInTime}
+use Rattle.rb_order.proofs.RunTimes.{first-running, in-exact, in-running, in-time-first}
+
+-- the run goes on from the tail to the next frame
+
+turn-number : (s frame n w : ℕ) → n ≡ frame * (3 * s + 4 + 1) + w → w ≡ 3 * s + 3 → n ≡ frame * (3 * s + 4 + 1) + 3 * s + 4 - 1
+turn-number s frame n w e f = omega arith
+
+then-number : (s frame n w : ℕ) → n ≡ frame * (3 * s + 4 + 1) + w → w ≡ 3 * s + 3 → suc (suc n) ≡ suc frame * (3 * s + 4 + 1) + 3 * 0 + 1 - 1
+then-number s frame n w e f =
+    let more : suc frame * (3 * s + 4 + 1) ≡ (3 * s + 4 + 1) + frame * (3 * s + 4 + 1) = omega arith in
+    omega (arith, more)
+
+pub runs-on : (sc : Scenario) (hands : List HandIn) → IsLawful sc → (t : ℕ) → (moment sc hands t).window ≡ stages_in sc.sizes → IsRunning (moment sc hands t)
+    → IsRunning (moment sc hands (suc (suc t)))
+runs-on sc hands lawful t at running =
+    let s : ℕ = sync_slot_of sc.sizes in
+    let frame : ℕ = (moment sc hands t).frame in
+    let number = number-of sc hands t in
+    let is : t ≡ frame * (windows_in sc.sizes + 1) + 3 * s + 4 - 1 = turn-number s frame t (moment sc hands t).window number.0 at in
+    let then_is : suc (suc t) ≡ suc frame * (windows_in sc.sizes + 1) + 3 * 0 + 1 - 1 = then-number s frame t (moment sc hands t).window number.0 at in
+    let then_runs : IsRunning (moment sc hands (suc frame * (windows_in sc.sizes + 1) + 3 * 0 + 1 - 1)) =
+    reached sc hands lawful (suc frame) (ap (λ n. (moment sc hands n).book.ended) (sym is) ∙ running) in
+    ap (λ n. (moment sc hands n).book.ended) then_is ∙ then_runs
+
+-- so it goes on from the last stage of a frame that holds
+last-on : (sc : Scenario) (hands : List HandIn) → IsLawful sc → (g : ℕ) → (moment sc hands g).window + 1 ≡ stages_in sc.sizes → IsRunning (moment sc hands (suc g))
+    → IsRunning (moment sc hands (suc (suc (suc g))))
+last-on sc hands lawful g last running =
+    let w : IsWindowLater sc (moment sc hands g) (moment sc hands (suc g)) = window-later sc hands (moment sc hands g) (omega arith) in
+    let e : (moment sc hands (suc g)).window ≡ (moment sc hands g).window + 1 = w.window in
+    runs-on sc hands lawful (suc g) (omega arith) running
+
+-- the next stage of a moment of the run runs, where it comes in a sync slot or after one
+holds-next : (sc : Scenario) (hands : List HandIn) → IsLawful sc → SyncSlotsHold sc → (g : ℕ) → IsRunning (moment sc hands g) → (moment sc hands g).window ≤ stages_in sc.sizes
+    → 3 * sync_slot_of sc.sizes ≤ (moment sc hands g).window + 1 → IsRunning (moment sc hands (next_stage sc.sizes (moment sc hands g) g))
+holds-next sc hands lawful holds g running within late =
+    let m : Moment = moment sc hands g in
+    elim (cases_lt m.window (stages_in sc.sizes)) [
+      | inl stage ↦
+          let e : g + 1 ≡ suc g = omega arith in
+          let on : IsRunning (moment sc hands (suc g)) = ap (λ n. (moment sc hands n).book.ended) (sym e) ∙ holds hands g running late stage in
+          elim (cases_lt (m.window + 1) (stages_in sc.sizes)) [
+            | inl inner ↦ subst (λ q. IsRunning (moment sc hands q)) (sym (next-inner sc.sizes m g inner)) on
+            | inr outer ↦
+                let is : next_stage sc.sizes m g ≡ suc (suc (suc g)) = next-outer sc.sizes m g outer ∙ omega arith in
+                subst (λ q. IsRunning (moment sc hands q)) (sym is) (last-on sc hands lawful g (omega arith) on)
+          ]
+      | inr tail ↦
+          let is : next_stage sc.sizes m g ≡ suc (suc g) = next-outer sc.sizes m g (omega arith) ∙ omega arith in
+          subst (λ q. IsRunning (moment sc hands q)) (sym is) (runs-on sc hands lawful g (omega arith) running)
+    ]
+
+-- in a moment of the run nodes are in time
+in-here : (sc : Scenario) (hands : List HandIn) → IsLawful sc → SyncSlotsHold sc → (p : ℕ) → IsRunning (moment sc hands p) → (moment sc hands p).window ≤ stages_in sc.sizes
+    → InTime sc (moment sc hands p) (moment sc hands (next_stage sc.sizes (moment sc hands p) p))
+in-here sc hands lawful holds p running within =
+    elim (cases_lt (moment sc hands p).window (3 * sync_slot_of sc.sizes)) [
+      | inl exact ↦ in-exact sc hands lawful p (begun-well sc hands lawful p running) (omega arith)
+      | inr late ↦ in-running sc hands lawful p within (holds-next sc hands lawful holds p running within (omega arith))
+    ]
+
+-- what is known of the moment after which the run may not go on
+pub record UpTo (sc : Scenario) (hands : List HandIn) (n : ℕ) : Type 0 where
+  pub times : (p : ℕ) → p ≤ n → (moment sc hands p).window ≤ stages_in sc.sizes → InTime sc (moment sc hands p) (moment sc hands (next_stage sc.sizes (moment sc hands p) p))
+  pub well : BegunWell sc (moment sc hands n)
+
+from-running : (sc : Scenario) (hands : List HandIn) → IsLawful sc → SyncSlotsHold sc → (n : ℕ) → IsRunning (moment sc hands n) → UpTo sc hands n
+from-running sc hands lawful holds n running = record {
+  times = λ p le within. in-here sc hands lawful holds p (running_earlier sc hands p n le running) within;
+  well = begun-well sc hands lawful n running;
+}
+
+pub up-to : (sc : Scenario) (hands : List HandIn) → IsLawful sc → SyncSlotsHold sc → (n : ℕ)
+    → (n ≡ 0) ⊎ ((g : ℕ) × (IsRunning (moment sc hands g) × (n ≡ next_stage sc.sizes (moment sc hands g) g))) → UpTo sc hands n
+up-to sc hands lawful holds n (inl first) = from-running sc hands lawful holds n (subst (λ n. IsRunning (moment sc hands n)) (sym first) (first-running sc hands))
+up-to sc hands lawful holds n (inr from) =
+    let g : ℕ = from.0 in
+    let m : Moment = moment sc hands g in
+    let running : IsRunning m = from.1.0 in
+    let number = number-of sc hands g in
+    elim (cases_lt (m.window + 1) (3 * sync_slot_of sc.sizes)) [
+      | inl exact ↦
+          let is : n ≡ suc g = from.1.1 ∙ next-inner sc.sizes m g (omega arith) in
+          let later : IsWindowLater sc m (moment sc hands (suc g)) = window-later sc hands m (omega arith) in
+          let w : (moment sc hands (suc g)).window ≡ m.window + 1 = later.window in
+          let well : BegunWell sc (moment sc hands (suc g)) = well-on sc hands lawful g (omega arith) (begun-well sc hands lawful g running) in
+          record {
+            times = λ p le within. elim (cases_lt g p) [
+              | inl after ↦
+                  let same : suc g ≡ p = omega (arith, is, le, after) in
+                  subst (λ p. InTime sc (moment sc hands p) (moment sc hands (next_stage sc.sizes (moment sc hands p) p))) same (in-exact sc hands lawful (suc g) well (omega arith))
+              | inr not_after ↦ in-here sc hands lawful holds p (running_earlier sc hands p g not_after running) within
+            ];
+            well = subst (λ n. BegunWell sc (moment sc hands n)) (sym is) well;
+          }
+      | inr late ↦ elim (cases_lt (stages_in sc.sizes) m.window) [
+        | inr within ↦
+            from-running sc hands lawful holds n (subst (λ n. IsRunning (moment sc hands n)) (sym from.1.1) (holds-next sc hands lawful holds g running within late))
+        | inl at_end ↦
+            let is : n ≡ suc g = from.1.1 ∙ next-outer sc.sizes m g (omega arith) ∙ omega (arith, number.1) in
+            from-running sc hands lawful holds n (subst (λ n. IsRunning (moment sc hands n)) (sym is) (end-on sc hands g running (omega arith)))
+      ]
+    ]
+
+-- and so in the moments that follow one before it
+pub next-up-to : (sc : Scenario) (hands : List HandIn) (n p : ℕ) → UpTo sc hands n → (moment sc hands n).window < stages_in sc.sizes → p < n → (moment sc hands p).window ≤ stages_in sc.sizes
+    → NextInTime sc hands p
+next-up-to sc hands n p up stage lt within =
+    let m : Moment = moment sc hands p in
+    let next : NextIsStage sc hands p = next-is-stage sc hands p within in
+    record {
+      tail = λ below.
+          let later : IsWindowLater sc m (moment sc hands (suc p)) = window-later sc hands m (omega arith) in
+          let w : (moment sc hands (suc p)).window ≡ m.window + 1 = later.window in
+          up.times (suc p) (omega arith) (omega arith);
+      stage = λ q e.
+          let le : q ≤ n = elim (cases_lt n q) [
+            | inr ge ↦ ge
+            | inl past ↦ let tail = next.between n lt (omega (arith, past, e)) in absurd (omega (arith, tail.0, stage))
+          ] in
+          let w : (moment sc hands q).window < stages_in sc.sizes = subst (λ q. (moment sc hands q).window < stages_in sc.sizes) (sym e) next.window in
+          up.times q le (omega arith);
+    }
