@@ -31,6 +31,11 @@ pub mod PortMoments
 pub mod PortsKept
 pub mod ToldInOrder
 pub mod HandedMoments
+pub mod HandedIn
+pub mod Waiting
+pub mod Completing
+pub mod PortsInRounds
+pub mod EventNodes
 pub mod OneTake
 pub mod EveryWorld
 pub mod RoundNodes
@@ -51,4 +56,5 @@ pub mod RunTimes
 pub mod ToldSoFar
 pub mod Untold
 pub mod Pace
-pub mod Waiting
+pub mod Behind
+pub mod UpToThere

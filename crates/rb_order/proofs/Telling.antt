@@ -121,7 +121,7 @@ closed-row sc hands me i p st s row within there frame before =
 -- The begin of a frame.
 
 -- the first tick of a frame is one of its first window
-first-window : (sizes : Sizes) (plan : Plan) (me : Side) (st : NodeState) (n k : ℕ) → HasTicks plan → n ≤ stages_in sizes → IsTickIn sizes plan me st n k → st.epoch ≡ k → n ≡ 0
+pub first-window : (sizes : Sizes) (plan : Plan) (me : Side) (st : NodeState) (n k : ℕ) → HasTicks plan → n ≤ stages_in sizes → IsTickIn sizes plan me st n k → st.epoch ≡ k → n ≡ 0
 first-window sizes plan me st zero k ticks le at e = refl
 first-window sizes plan me st (suc n) k ticks le at e =
     let before : last_of sizes plan me st 0 < first_of sizes plan me st (suc n) = ends-before-later sizes plan me st 0 (suc n) ticks (omega arith) le in

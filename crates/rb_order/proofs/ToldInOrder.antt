@@ -129,16 +129,14 @@ good-between sc hands p r me i within (inl stage) good q after before =
 
 -- A tick.
 
--- the row of a window comes before the moment after it
-row-before : (sc : Scenario) (hands : List HandIn) (me : Side) (i p r : ℕ) (st : NodeState) (s : Site) (row : Row) → (moment sc hands p).window ≤ stages_in sc.sizes
-    → st.frame ≡ (moment sc hands p).frame → p < r → ((row : Row) → s.row ≡ Some row → number_at sc.sizes row.place < p)
+-- the row of a window is of its moment
+pub row-of-window : (sc : Scenario) (hands : List HandIn) (me : Side) (i p : ℕ) (st : NodeState) (s : Site) (row : Row) → (moment sc hands p).window ≤ stages_in sc.sizes
+    → st.frame ≡ (moment sc hands p).frame
     → (elim ((window_in sc (moment sc hands p) me st).stage == 4) as (λ _. Option Row) [
       | true ↦ s.row
       | false ↦ (go_through sc (moment sc hands p) (sent_in sc (moment sc hands p)) me i st (window_in sc (moment sc hands p) me st)).row
-    ]) ≡ Some row → number_at sc.sizes row.place < r
-row-before sc hands me i p r st s row within frame later before =
-    let m : Moment = moment sc hands p in
-    by ((window_in sc m me st).stage == 4) refl
+    ]) ≡ Some row → (s.row ≡ Some row) ⊎ (number_at sc.sizes row.place ≡ p)
+row-of-window sc hands me i p st s row within frame = by ((window_in sc (moment sc hands p) me st).stage == 4) refl
   where
     four-not : (n : ℕ) → n ≡ 4 → (n == 4) ≡ false → ⊥
     four-not n e f = grind (arith, nat_tests)
@@ -147,8 +145,8 @@ row-before sc hands me i p r st s row within frame later before =
         → (elim b as (λ _. Option Row) [
           | true ↦ s.row
           | false ↦ (go_through sc (moment sc hands p) (sent_in sc (moment sc hands p)) me i st (window_in sc (moment sc hands p) me st)).row
-        ]) ≡ Some row → number_at sc.sizes row.place < r
-    by true f e = let lt : number_at sc.sizes row.place < p = before row e in omega (arith, lt, later)
+        ]) ≡ Some row → (s.row ≡ Some row) ⊎ (number_at sc.sizes row.place ≡ p)
+    by true f e = inl e
     by false f e =
         let m : Moment = moment sc hands p in
         let stage : m.window < stages_in sc.sizes = elim (cases_lt m.window (stages_in sc.sizes)) [
@@ -156,8 +154,7 @@ row-before sc hands me i p r st s row within frame later before =
           | inr ge ↦ absurd (four-not (window_in sc m me st).stage (tail-stage sc.sizes sc.plan me st m.window (omega arith)) f)
         ] in
         let place : row.place ≡ place_at sc.sizes m = row-place sc m me i st (window_in sc m me st) row e ∙ place-is sc m me st stage frame in
-        let is : number_at sc.sizes row.place ≡ p = ap (number_at sc.sizes) place ∙ number-is sc hands p stage in
-        omega (arith, is, later)
+        inr (ap (number_at sc.sizes) place ∙ number-is sc hands p stage)
 
 told-open : (sc : Scenario) (hands : List HandIn) (sent : Side → ℕ → ℕ → Bool) (ports : List PortState) (me : Side) (i p : ℕ) (s : Site) (st : NodeState) (a : Timed) (x : Act)
     → slice_get (of_kind me (moment sc hands p).nodes) i ≡ Some st → st.frame ≡ (moment sc hands p).frame → s.ahead ≡ Some a
@@ -202,7 +199,10 @@ told-closed sc hands sent ports me i p s st a x within good frame closes later h
       | inr old ↦ h.begun b old
     ] in
     record {
-      row = λ row e. row-before sc hands me i p q st s row within frame later h.row (sym closes.row ∙ e);
+      row = λ row e. elim (row-of-window sc hands me i p st s row within frame (sym closes.row ∙ e)) [
+        | inl old ↦ let lt : number_at sc.sizes row.place < p = h.row row old in omega (arith, lt, later)
+        | inr is ↦ omega (arith, is, later)
+      ];
       begun = λ b e. let le : b.frame * (windows_in sc.sizes + 1) ≤ p = before b e in omega (arith, le, later);
       fresh = λ b a2 st2 e same first pend2 there2.
           let le : b.frame * (windows_in sc.sizes + 1) ≤ p = before b e in
@@ -226,9 +226,9 @@ told-after sc hands at sites ports me i s a x pend after h =
           subst (λ r. NodeTold sc hands me i r (after_act sc ports me i x s)) (sym stays.0)
           (told-open sc hands (sent_by sc hands at sites) ports me i (at me i) s after.st a x after.there after.frame pend stays.1 h)
       | inr closes ↦
-          subst (λ r. NodeTold sc hands me i r (after_act sc ports me i x s)) closes.1.1
+          subst (λ r. NodeTold sc hands me i r (after_act sc ports me i x s)) closes.1.1.0
           (told-closed sc hands (sent_by sc hands at sites) ports me i (at me i) s after.st a x after.stands.window after.good after.frame closes.1.0
-          (subst (λ r. at me i < r) (sym closes.1.1) closes.0) h)
+          (subst (λ r. at me i < r) (sym closes.1.1.0) closes.0) h)
     ]
 
 -- All nodes.

@@ -77,7 +77,7 @@ pub record AfterTick (sc : Scenario) (hands : List HandIn) (at : Side → ℕ �
   pub sites_stand : SitesStand sc hands a.time (moved me i r at) (with_message sc me i x.core.state.frame a.tick x.message (at_node me i (after_act sc ports me i x) sites))
   pub passed : HavePassed sc hands a.time (moved me i r at)
   pub node : ((r ≡ at me i) × StaysOpen sc hands (sent_by sc hands at sites) a.time ports me i (at me i) s st a.tick x)
-      ⊎ ((at me i < r) × ((closes : ClosesWindow sc hands (sent_by sc hands at sites) ports me i (at me i) s st a x) × (closes.q ≡ r)))
+      ⊎ ((at me i < r) × ((closes : ClosesWindow sc hands (sent_by sc hands at sites) ports me i (at me i) s st a x) × ((closes.q ≡ r) × (a.tick ≡ last_tick sc (moment sc hands (at me i)) me st))))
 
 pub past-gone : (o : Option Sending) (b : Timed) → past o (Some b) ≡ gone o b.tick
 past-gone None b = refl
@@ -261,6 +261,6 @@ tick-event sc hands now at sites ports me i s a lawful room times passed h due =
             stands = node.stands;
             sites_stand = sites_after;
             passed = has-passed sc hands now a.time at me i r st due.later passed node.state (inr (later, omega (arith, time))) (λ q lt gt. (between q lt gt).0);
-            node = inr (later, (closes, refl));
+            node = inr (later, (closes, (refl, last)));
           }
     ]
