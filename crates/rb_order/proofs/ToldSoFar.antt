@@ -233,9 +233,9 @@ so-far-after sc hands at sites ports me i s a x pend after h =
           subst (λ r. HasTold sc hands me i r (after_act sc ports me i x s)) (sym stays.0)
           (told-open sc hands (sent_by sc hands at sites) ports me i (at me i) s after.st a x after.there after.frame pend stays.1 h)
       | inr closes ↦
-          subst (λ r. HasTold sc hands me i r (after_act sc ports me i x s)) closes.1.1
+          subst (λ r. HasTold sc hands me i r (after_act sc ports me i x s)) closes.1.1.0
           (told-closed sc hands (sent_by sc hands at sites) ports me i (at me i) s after.st a x after.stands.window after.frame closes.1.0
-          (subst (λ r. at me i < r) (sym closes.1.1) closes.0) h)
+          (subst (λ r. at me i < r) (sym closes.1.1.0) closes.0) h)
     ]
 
 -- All nodes.
