@@ -24,7 +24,7 @@ use Rattle.rb_sync.proofs.Synchronous.{KnowNext, KnowsEpoch}
 use Rattle.rb_order.specs.Closing.{HaveBegunAFrame, stages_in}
 use Rattle.rb_order.proofs.CloseOrder.{IsWindowLater, TurnsAfter, WasGood, has-ticks, turns-after, was-good, window-later}
 use Rattle.rb_order.proofs.FrameTimes.{BegunWell, KnewEpoch, begun-well, good-node, knew-epoch, node-in}
-use Rattle.rb_order.proofs.Invariant.{ComesInWindow, InTime, entry_of, is_good_at, last_tick, next_stage}
+use Rattle.rb_order.proofs.Invariant.{ComesInWindow, ComesLater, InTime, entry_of, is_good_at, last_tick, next_stage}
 use Rattle.rb_order.proofs.MomentSteps.{NextIsStage, good-back, good-state, next-inner, next-is-stage, next-outer}
 use Rattle.rb_order.proofs.NodeClosing.{good-in-sync}
 use Rattle.rb_order.proofs.NodeTicks.{tail-first}
@@ -37,12 +37,27 @@ use Rattle.rb_order.proofs.TickWindows.{Tiles, first_of, get-window, tiles, ends
 use Rattle.rb_order.proofs.TimelyMoments.{good-in, heard-exact, later-exact, order-inner, order-outer, timely-heard}
 use Rattle.rb_order.proofs.TurnTimes.{Turns, before-next, closes-after-all, sent-after-all, tail-ends}
 
+-- what good sources send in the next stage comes after a moment's window
+abbrev pub AllLater : Scenario → List HandIn → ℕ → Type 0
+AllLater sc hands p =
+    (me : Side) (i j : ℕ) (st : NodeState) → slice_get (of_kind me (moment sc hands p).nodes) i ≡ Some st → is_good_at sc (moment sc hands p) me i ≡ true
+    → is_good_at sc (moment sc hands (next_stage sc.sizes (moment sc hands p) p)) (other me) j ≡ true
+    → ComesLater sc (moment sc hands p) (moment sc hands (next_stage sc.sizes (moment sc hands p) p)) me i j st
+
+later-is : (sc : Scenario) (hands : List HandIn) (p q : ℕ) → next_stage sc.sizes (moment sc hands p) p ≡ q
+    → ((me : Side) (i j : ℕ) (st : NodeState) → slice_get (of_kind me (moment sc hands p).nodes) i ≡ Some st → is_good_at sc (moment sc hands p) me i ≡ true
+    → is_good_at sc (moment sc hands q) (other me) j ≡ true → ComesLater sc (moment sc hands p) (moment sc hands q) me i j st)
+    → AllLater sc hands p
+later-is sc hands p q e all =
+    subst (λ q. (me : Side) (i j : ℕ) (st : NodeState) → slice_get (of_kind me (moment sc hands p).nodes) i ≡ Some st → is_good_at sc (moment sc hands p) me i ≡ true
+    → is_good_at sc (moment sc hands q) (other me) j ≡ true → ComesLater sc (moment sc hands p) (moment sc hands q) me i j st) (sym e) all
+
 -- Up to stage 1 of the sync slot.
 
--- good nodes that have begun the frame together are in time in each window below the sync slot, whatever comes of the run
-pub in-exact : (sc : Scenario) (hands : List HandIn) → IsLawful sc → (p : ℕ) → BegunWell sc (moment sc hands p) → (moment sc hands p).window + 1 ≤ 3 * sync_slot_of sc.sizes
+-- good nodes that have begun the frame together are in time in each window up to there, whatever comes of the run
+pub in-exact : (sc : Scenario) (hands : List HandIn) → IsLawful sc → (p : ℕ) → BegunWell sc (moment sc hands p) → (moment sc hands p).window ≤ 3 * sync_slot_of sc.sizes
     → InTime sc (moment sc hands p) (moment sc hands (next_stage sc.sizes (moment sc hands p) p))
-in-exact sc hands lawful p well below =
+in-exact sc hands lawful p well early =
     let m : Moment = moment sc hands p in
     let ticks : HasTicks sc.plan = has-ticks sc lawful in
     let is : next_stage sc.sizes m p ≡ suc p = next-inner sc.sizes m p (omega arith) in
@@ -53,12 +68,17 @@ in-exact sc hands lawful p well below =
       room = stage-room sc hands lawful p well (omega arith);
       heard = λ me i j st there good source_good.
           let source = good-state sc hands p (other me) j ticks source_good in
-          heard-exact sc hands lawful p well.together (omega arith) me i j st source.0 there good source.1 source_good;
-      later = λ me i j st there good source_good.
-          let source = good-state sc hands (suc p) (other me) j ticks source_good in
-          later-exact sc hands lawful p well.together below me i j st source.0 there good source.1 source_good;
+          heard-exact sc hands lawful p well.together early me i j st source.0 there good source.1 source_good;
       order = order-inner sc hands lawful p well.together (omega arith);
     })
+
+pub exact-later : (sc : Scenario) (hands : List HandIn) → IsLawful sc → (p : ℕ) → BegunWell sc (moment sc hands p) → (moment sc hands p).window + 1 ≤ 3 * sync_slot_of sc.sizes
+    → AllLater sc hands p
+exact-later sc hands lawful p well below =
+    later-is sc hands p (suc p) (next-inner sc.sizes (moment sc hands p) p (omega arith))
+    (λ me i j st there good source_good.
+    let source = good-state sc hands (suc p) (other me) j (has-ticks sc lawful) source_good in
+    later-exact sc hands lawful p well.together below me i j st source.0 there good source.1 source_good)
 
 -- In the sync slot.
 
@@ -116,7 +136,6 @@ in-sync sc hands lawful p running from below =
       keeps = keeps-running sc hands lawful p open_now;
       room = stage-room sc hands lawful p well (omega arith);
       heard = heard-running sc hands lawful p open_now (omega arith);
-      later = later-sync sc hands lawful p running from below;
       order = order-inner sc hands lawful p well.together below;
     })
 
@@ -182,13 +201,34 @@ in-last sc hands lawful p last running =
       keeps = keeps-running sc hands lawful p open_now;
       room = stage-room sc hands lawful p well (omega arith);
       heard = heard-running sc hands lawful p open_now (omega arith);
-      later = λ me i j st there good source_good.
-          let source = good-state sc hands (suc (suc (suc p))) (other me) j (has-ticks sc lawful) source_good in
-          let end : time_of (clock_of sc me i) (last_tick sc m me st) < turns.next.0 + sc.plan.p = stage-ends sc hands lawful p last turns me i st there good in
-          every-so (λ c. turns.next.0 + sc.plan.p ≤ c.time) (λ c. time_of (clock_of sc me i) (last_tick sc m me st) < c.time) (λ c le. omega arith)
-          (entry_of sc (moment sc hands (suc (suc (suc p)))) me i j) (sent-after-all sc hands lawful (suc p) turns me i j source.0 source.1 source_good);
       order = order-outer sc hands lawful p well.together last (begins-frame sc hands lawful p last running);
     })
+
+last-later : (sc : Scenario) (hands : List HandIn) → IsLawful sc → (p : ℕ) → (moment sc hands p).window + 1 ≡ stages_in sc.sizes → IsRunning (moment sc hands (suc (suc (suc p)))) → AllLater sc hands p
+last-later sc hands lawful p last running =
+    let m : Moment = moment sc hands p in
+    let later : IsWindowLater sc m (moment sc hands (suc p)) = window-later sc hands m (omega arith) in
+    let w : (moment sc hands (suc p)).window ≡ m.window + 1 = later.window in
+    let is : next_stage sc.sizes m p ≡ suc (suc (suc p)) = next-outer sc.sizes m p (omega arith) ∙ omega arith in
+    let turns : Turns sc hands (suc p) = turns-at sc hands lawful (suc p) (omega arith) running in
+    later-is sc hands p (suc (suc (suc p))) is
+    (λ me i j st there good source_good.
+    let source = good-state sc hands (suc (suc (suc p))) (other me) j (has-ticks sc lawful) source_good in
+    let end : time_of (clock_of sc me i) (last_tick sc m me st) < turns.next.0 + sc.plan.p = stage-ends sc hands lawful p last turns me i st there good in
+    every-so (λ c. turns.next.0 + sc.plan.p ≤ c.time) (λ c. time_of (clock_of sc me i) (last_tick sc m me st) < c.time) (λ c le. omega arith)
+    (entry_of sc (moment sc hands (suc (suc (suc p)))) me i j) (sent-after-all sc hands lawful (suc p) turns me i j source.0 source.1 source_good))
+
+tail-later : (sc : Scenario) (hands : List HandIn) → IsLawful sc → (p : ℕ) → (moment sc hands p).window ≡ stages_in sc.sizes → IsRunning (moment sc hands (suc (suc p))) → AllLater sc hands p
+tail-later sc hands lawful p at running =
+    let m : Moment = moment sc hands p in
+    let is : next_stage sc.sizes m p ≡ suc (suc p) = next-outer sc.sizes m p (omega arith) ∙ omega arith in
+    let turns : Turns sc hands p = turns-at sc hands lawful p at running in
+    later-is sc hands p (suc (suc p)) is
+    (λ me i j st there good source_good.
+    let source = good-state sc hands (suc (suc p)) (other me) j (has-ticks sc lawful) source_good in
+    let end : time_of (clock_of sc me i) (last_tick sc m me st) < turns.next.0 + sc.plan.p = tail-ends sc hands lawful p turns me i st there good in
+    every-so (λ c. turns.next.0 + sc.plan.p ≤ c.time) (λ c. time_of (clock_of sc me i) (last_tick sc m me st) < c.time) (λ c le. omega arith)
+    (entry_of sc (moment sc hands (suc (suc p))) me i j) (sent-after-all sc hands lawful p turns me i j source.0 source.1 source_good))
 
 in-tail : (sc : Scenario) (hands : List HandIn) → IsLawful sc → (p : ℕ) → (moment sc hands p).window ≡ stages_in sc.sizes → IsRunning (moment sc hands (suc (suc p)))
     → InTime sc (moment sc hands p) (moment sc hands (next_stage sc.sizes (moment sc hands p) p))
@@ -201,11 +241,6 @@ in-tail sc hands lawful p at running =
       keeps = keeps-running sc hands lawful p open_now;
       room = tail-room sc hands lawful p open_now at;
       heard = heard-running sc hands lawful p open_now (omega arith);
-      later = λ me i j st there good source_good.
-          let source = good-state sc hands (suc (suc p)) (other me) j (has-ticks sc lawful) source_good in
-          let end : time_of (clock_of sc me i) (last_tick sc m me st) < turns.next.0 + sc.plan.p = tail-ends sc hands lawful p turns me i st there good in
-          every-so (λ c. turns.next.0 + sc.plan.p ≤ c.time) (λ c. time_of (clock_of sc me i) (last_tick sc m me st) < c.time) (λ c le. omega arith)
-          (entry_of sc (moment sc hands (suc (suc p))) me i j) (sent-after-all sc hands lawful p turns me i j source.0 source.1 source_good);
       order = λ me you i j mine yours there good other_there other_good.
           let end : time_of (clock_of sc me i) (last_tick sc m me mine) < turns.next.0 + sc.plan.p = tail-ends sc hands lawful p turns me i mine there good in
           let begin : turns.next.0 + sc.plan.p ≤ time_of (clock_of sc you j) (last_tick sc (moment sc hands (suc (suc p))) you yours) =
@@ -213,37 +248,47 @@ in-tail sc hands lawful p at running =
           omega arith;
     })
 
--- in a run that has not ended by the next stage good nodes are in time in each window
+-- in a run that has not ended by the next stage good nodes are in time in each window, and what is sent in the next stage comes later
+pub record Running (sc : Scenario) (hands : List HandIn) (p : ℕ) : Type 0 where
+  pub times : InTime sc (moment sc hands p) (moment sc hands (next_stage sc.sizes (moment sc hands p) p))
+  pub later : AllLater sc hands p
+
 pub in-running : (sc : Scenario) (hands : List HandIn) → IsLawful sc → (p : ℕ) → (moment sc hands p).window ≤ stages_in sc.sizes
-    → IsRunning (moment sc hands (next_stage sc.sizes (moment sc hands p) p)) → InTime sc (moment sc hands p) (moment sc hands (next_stage sc.sizes (moment sc hands p) p))
+    → IsRunning (moment sc hands (next_stage sc.sizes (moment sc hands p) p)) → Running sc hands p
 in-running sc hands lawful p within running =
     let m : Moment = moment sc hands p in
     let stage : NextIsStage sc hands p = next-is-stage sc hands p within in
     let open_now : IsRunning m = running_earlier sc hands p (next_stage sc.sizes m p) (omega (arith, stage.later)) running in
     elim (cases_lt (m.window + 1) (stages_in sc.sizes)) [
       | inl inner ↦ elim (cases_lt m.window (3 * sync_slot_of sc.sizes)) [
-        | inl exact ↦ in-exact sc hands lawful p (begun-well sc hands lawful p open_now) (omega arith)
-        | inr sync ↦ in-sync sc hands lawful p (subst (λ q. IsRunning (moment sc hands q)) (next-inner sc.sizes m p inner) running) sync inner
+        | inl exact ↦
+            let well : BegunWell sc m = begun-well sc hands lawful p open_now in
+            record { times = in-exact sc hands lawful p well (omega arith); later = exact-later sc hands lawful p well (omega arith) }
+        | inr sync ↦
+            let on : IsRunning (moment sc hands (suc p)) = subst (λ q. IsRunning (moment sc hands q)) (next-inner sc.sizes m p inner) running in
+            record { times = in-sync sc hands lawful p on sync inner; later = later-is sc hands p (suc p) (next-inner sc.sizes m p inner) (later-sync sc hands lawful p on sync inner) }
       ]
       | inr outer ↦ elim (cases_lt m.window (stages_in sc.sizes)) [
         | inl last ↦
             let is : next_stage sc.sizes m p ≡ suc (suc (suc p)) = next-outer sc.sizes m p outer ∙ omega arith in
-            in-last sc hands lawful p (omega arith) (subst (λ q. IsRunning (moment sc hands q)) is running)
+            let on : IsRunning (moment sc hands (suc (suc (suc p)))) = subst (λ q. IsRunning (moment sc hands q)) is running in
+            record { times = in-last sc hands lawful p (omega arith) on; later = last-later sc hands lawful p (omega arith) on }
         | inr tail ↦
             let is : next_stage sc.sizes m p ≡ suc (suc p) = next-outer sc.sizes m p outer ∙ omega arith in
-            in-tail sc hands lawful p (omega arith) (subst (λ q. IsRunning (moment sc hands q)) is running)
+            let on : IsRunning (moment sc hands (suc (suc p))) = subst (λ q. IsRunning (moment sc hands q)) is running in
+            record { times = in-tail sc hands lawful p (omega arith) on; later = tail-later sc hands lawful p (omega arith) on }
       ]
     ]
 
 -- At the begin.
 
-begins-early : (sc : Scenario) (hands : List HandIn) → 1 ≤ sc.sizes.data_slots → (moment sc hands 0).window + 1 ≤ 3 * sync_slot_of sc.sizes
+first-window : (sc : Scenario) (hands : List HandIn) → (moment sc hands 0).window ≤ 3 * sync_slot_of sc.sizes
 unfolding begin_frame
-begins-early sc hands some = omega arith
+first-window sc hands = omega arith
 
 pub first-running : (sc : Scenario) (hands : List HandIn) → IsRunning (moment sc hands 0)
 unfolding begin_frame with_frame
 first-running sc hands = refl
 
 pub in-time-first : (sc : Scenario) (hands : List HandIn) → IsLawful sc → InTime sc (moment sc hands 0) (moment sc hands (next_stage sc.sizes (moment sc hands 0) 0))
-in-time-first sc hands lawful = in-exact sc hands lawful 0 (begun-well sc hands lawful 0 (first-running sc hands)) (begins-early sc hands lawful.sizes.some_slot)
+in-time-first sc hands lawful = in-exact sc hands lawful 0 (begun-well sc hands lawful 0 (first-running sc hands)) (first-window sc hands)

@@ -21,7 +21,7 @@ use Rattle.rb_order.proofs.MomentSteps.{NextIsStage, next-inner, next-is-stage, 
 use Rattle.rb_order.proofs.NodeClosing.{NextInTime}
 use Rattle.rb_order.proofs.Settling.{same-number}
 use Rattle.rb_order.proofs.SettlingFrames.{RunsIn, runs-in}
-use Rattle.rb_order.proofs.RunTimes.{first-running, in-exact, in-running, in-time-first}
+use Rattle.rb_order.proofs.RunTimes.{AllLater, Running, exact-later, first-running, in-exact, in-running}
 
 -- the run goes on from the tail to the next frame
 
@@ -78,7 +78,7 @@ end-on sc hands g running at_end =
 
 -- the next stage of a moment of the run runs, where it comes in a sync slot or after one
 holds-next : (sc : Scenario) (hands : List HandIn) → IsLawful sc → SyncSlotsHold sc → (g : ℕ) → IsRunning (moment sc hands g) → (moment sc hands g).window ≤ stages_in sc.sizes
-    → 3 * sync_slot_of sc.sizes ≤ (moment sc hands g).window + 1 → IsRunning (moment sc hands (next_stage sc.sizes (moment sc hands g) g))
+    → 3 * sync_slot_of sc.sizes ≤ (moment sc hands g).window → IsRunning (moment sc hands (next_stage sc.sizes (moment sc hands g) g))
 holds-next sc hands lawful holds g running within late =
     let m : Moment = moment sc hands g in
     elim (cases_lt m.window (stages_in sc.sizes)) [
@@ -100,51 +100,77 @@ holds-next sc hands lawful holds g running within late =
 in-here : (sc : Scenario) (hands : List HandIn) → IsLawful sc → SyncSlotsHold sc → (p : ℕ) → IsRunning (moment sc hands p) → (moment sc hands p).window ≤ stages_in sc.sizes
     → InTime sc (moment sc hands p) (moment sc hands (next_stage sc.sizes (moment sc hands p) p))
 in-here sc hands lawful holds p running within =
-    elim (cases_lt (moment sc hands p).window (3 * sync_slot_of sc.sizes)) [
-      | inl exact ↦ in-exact sc hands lawful p (begun-well sc hands lawful p running) (omega arith)
-      | inr late ↦ in-running sc hands lawful p within (holds-next sc hands lawful holds p running within (omega arith))
+    elim (cases_lt (3 * sync_slot_of sc.sizes) (moment sc hands p).window) [
+      | inr exact ↦ in-exact sc hands lawful p (begun-well sc hands lawful p running) exact
+      | inl late ↦
+          let on : Running sc hands p = in-running sc hands lawful p within (holds-next sc hands lawful holds p running within (omega arith)) in
+          on.times
     ]
 
--- what is known of the moment after which the run may not go on
+-- in each moment up to n all nodes are in time, and before it what is sent in the next stage comes later
 pub record UpTo (sc : Scenario) (hands : List HandIn) (n : ℕ) : Type 0 where
   pub times : (p : ℕ) → p ≤ n → (moment sc hands p).window ≤ stages_in sc.sizes → InTime sc (moment sc hands p) (moment sc hands (next_stage sc.sizes (moment sc hands p) p))
+  pub later : (p : ℕ) → p < n → (moment sc hands p).window ≤ stages_in sc.sizes → AllLater sc hands p
   pub well : BegunWell sc (moment sc hands n)
 
-from-running : (sc : Scenario) (hands : List HandIn) → IsLawful sc → SyncSlotsHold sc → (n : ℕ) → IsRunning (moment sc hands n) → UpTo sc hands n
-from-running sc hands lawful holds n running = record {
+-- a stage after a moment does not come before its next stage
+next-le : (sc : Scenario) (hands : List HandIn) (p n : ℕ) → (moment sc hands p).window ≤ stages_in sc.sizes → (moment sc hands n).window < stages_in sc.sizes → p < n
+    → next_stage sc.sizes (moment sc hands p) p ≤ n
+next-le sc hands p n within stage lt =
+    elim (cases_lt n (next_stage sc.sizes (moment sc hands p) p)) [
+      | inr ge ↦ ge
+      | inl past ↦ let tail = (next-is-stage sc hands p within).between n lt past in absurd (omega (arith, tail.0, stage))
+    ]
+
+from-running : (sc : Scenario) (hands : List HandIn) → IsLawful sc → SyncSlotsHold sc → (n : ℕ) → (moment sc hands n).window < stages_in sc.sizes → IsRunning (moment sc hands n) → UpTo sc hands n
+from-running sc hands lawful holds n stage running = record {
   times = λ p le within. in-here sc hands lawful holds p (running_earlier sc hands p n le running) within;
+  later = λ p lt within.
+      let on : Running sc hands p =
+      in-running sc hands lawful p within (running_earlier sc hands (next_stage sc.sizes (moment sc hands p) p) n (next-le sc hands p n within stage lt) running) in
+      on.later;
   well = begun-well sc hands lawful n running;
 }
 
-pub up-to : (sc : Scenario) (hands : List HandIn) → IsLawful sc → SyncSlotsHold sc → (n : ℕ)
+pub up-to : (sc : Scenario) (hands : List HandIn) → IsLawful sc → SyncSlotsHold sc → (n : ℕ) → (moment sc hands n).window < stages_in sc.sizes
     → (n ≡ 0) ⊎ ((g : ℕ) × (IsRunning (moment sc hands g) × (n ≡ next_stage sc.sizes (moment sc hands g) g))) → UpTo sc hands n
-up-to sc hands lawful holds n (inl first) = from-running sc hands lawful holds n (subst (λ n. IsRunning (moment sc hands n)) (sym first) (first-running sc hands))
-up-to sc hands lawful holds n (inr from) =
+up-to sc hands lawful holds n stage (inl first) = from-running sc hands lawful holds n stage (subst (λ n. IsRunning (moment sc hands n)) (sym first) (first-running sc hands))
+up-to sc hands lawful holds n stage (inr from) =
     let g : ℕ = from.0 in
     let m : Moment = moment sc hands g in
     let running : IsRunning m = from.1.0 in
     let number = number-of sc hands g in
-    elim (cases_lt (m.window + 1) (3 * sync_slot_of sc.sizes)) [
+    elim (cases_lt m.window (3 * sync_slot_of sc.sizes)) [
       | inl exact ↦
           let is : n ≡ suc g = from.1.1 ∙ next-inner sc.sizes m g (omega arith) in
           let later : IsWindowLater sc m (moment sc hands (suc g)) = window-later sc hands m (omega arith) in
           let w : (moment sc hands (suc g)).window ≡ m.window + 1 = later.window in
-          let well : BegunWell sc (moment sc hands (suc g)) = well-on sc hands lawful g (omega arith) (begun-well sc hands lawful g running) in
+          let well : BegunWell sc m = begun-well sc hands lawful g running in
+          let well_then : BegunWell sc (moment sc hands (suc g)) = well-on sc hands lawful g (omega arith) well in
           record {
             times = λ p le within. elim (cases_lt g p) [
               | inl after ↦
                   let same : suc g ≡ p = omega (arith, is, le, after) in
-                  subst (λ p. InTime sc (moment sc hands p) (moment sc hands (next_stage sc.sizes (moment sc hands p) p))) same (in-exact sc hands lawful (suc g) well (omega arith))
+                  subst (λ p. InTime sc (moment sc hands p) (moment sc hands (next_stage sc.sizes (moment sc hands p) p))) same (in-exact sc hands lawful (suc g) well_then (omega arith))
               | inr not_after ↦ in-here sc hands lawful holds p (running_earlier sc hands p g not_after running) within
             ];
-            well = subst (λ n. BegunWell sc (moment sc hands n)) (sym is) well;
+            later = λ p lt within. elim (cases_lt p g) [
+              | inl before ↦
+                  let on : Running sc hands p =
+                  in-running sc hands lawful p within (running_earlier sc hands (next_stage sc.sizes (moment sc hands p) p) g (next-le sc hands p g within (omega arith) before) running) in
+                  on.later
+              | inr not_before ↦
+                  let same : g ≡ p = omega (arith, is, lt, not_before) in
+                  subst (AllLater sc hands) same (exact-later sc hands lawful g well (omega arith))
+            ];
+            well = subst (λ n. BegunWell sc (moment sc hands n)) (sym is) well_then;
           }
       | inr late ↦ elim (cases_lt (stages_in sc.sizes) m.window) [
         | inr within ↦
-            from-running sc hands lawful holds n (subst (λ n. IsRunning (moment sc hands n)) (sym from.1.1) (holds-next sc hands lawful holds g running within late))
+            from-running sc hands lawful holds n stage (subst (λ n. IsRunning (moment sc hands n)) (sym from.1.1) (holds-next sc hands lawful holds g running within late))
         | inl at_end ↦
             let is : n ≡ suc g = from.1.1 ∙ next-outer sc.sizes m g (omega arith) ∙ omega (arith, number.1) in
-            from-running sc hands lawful holds n (subst (λ n. IsRunning (moment sc hands n)) (sym is) (end-on sc hands g running (omega arith)))
+            from-running sc hands lawful holds n stage (subst (λ n. IsRunning (moment sc hands n)) (sym is) (end-on sc hands g running (omega arith)))
       ]
     ]
 
@@ -166,4 +192,15 @@ next-up-to sc hands n p up stage lt within =
           ] in
           let w : (moment sc hands q).window < stages_in sc.sizes = subst (λ q. (moment sc hands q).window < stages_in sc.sizes) (sym e) next.window in
           up.times q le (omega arith);
+      later = λ last.
+          let later : IsWindowLater sc m (moment sc hands (suc p)) = window-later sc hands m (omega arith) in
+          let w : (moment sc hands (suc p)).window ≡ m.window + 1 = later.window in
+          let before : suc p < n = elim (cases_lt (suc p) n) [
+            | inl less ↦ less
+            | inr ge ↦
+                let same : suc p ≡ n = omega arith in
+                let tail : (moment sc hands (suc p)).window < stages_in sc.sizes = subst (λ n. (moment sc hands n).window < stages_in sc.sizes) (sym same) stage in
+                absurd (omega (arith, tail, w, last))
+          ] in
+          up.later (suc p) before (omega arith);
     }

@@ -40,8 +40,8 @@ QuietTicksCount =
     (sizes : Sizes) (plan : Plan) (me : Side) (index n : ℕ) (c : Core) (k : ℕ) → c.had ≤ 2 ^ 31
     → next_tick sizes plan me index c ≡ Some k → c.had + n ≤ k → ticks sizes plan me index n c ≡ record c { had = c.had + n }
 
--- whatever is handed in, the premise on faults holds in each sync slot that is reached, and in the stage before it
+-- whatever is handed in, the premise on faults holds in each sync slot that is reached
 abbrev pub SyncSlotsHold : Scenario → Type 0
 SyncSlotsHold sc =
-    (hands : List HandIn) (n : ℕ) → IsRunning (moment sc hands n) → 3 * sync_slot_of sc.sizes ≤ (moment sc hands n).window + 1
+    (hands : List HandIn) (n : ℕ) → IsRunning (moment sc hands n) → 3 * sync_slot_of sc.sizes ≤ (moment sc hands n).window
     → (moment sc hands n).window < stages_in sc.sizes → IsRunning (moment sc hands (n + 1))
