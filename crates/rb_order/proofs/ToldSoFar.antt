@@ -1,6 +1,6 @@
 -- For the law that events are rounds: each node has told of all windows that it has closed and, but for a first tick that pends, of the
 -- begin of its frame.
-use Rattle.std.proofs.Common.{◌≡◌, ℕ, zero, suc, ◌+◌, ◌*◌, ◌<◌, ◌≤◌, ◌==◌, ◌%◌, ◌⊎◌, Bool, true, false, List, refl, ap, sym, ◌∙◌, subst, arith, inl, inr, Option, Some, None, slice_get}
+use Rattle.std.proofs.Common.{◌≡◌, ℕ, zero, suc, ◌+◌, ◌*◌, ◌<◌, ◌≤◌, ◌==◌, ◌%◌, ◌⊎◌, Bool, true, false, List, [], ◌∷◌, ◌++◌, length, refl, ap, sym, ◌∙◌, subst, arith, inl, inr, Option, Some, None, slice_get}
 use Rattle.std.proofs.lemmas.Bool.{cases_lt}
 use Rattle.std.proofs.lemmas.Bool.Decides.{nat_tests}
 use Rattle.rb_base.specs.Nodes.{Side}
@@ -8,17 +8,24 @@ use Rattle.rb_base.specs.Sizes.{Sizes, sync_slot_of}
 use Rattle.rb_rules.specs.declared.message.Message.{Message}
 use Rattle.rb_rules.specs.declared.plan.Plan.{Plan}
 use Rattle.rb_rules.specs.declared.record.Epoch.{Epoch}
-use Rattle.rb_rules.specs.Book.{Begun, Each, Row, of_kind}
+use Rattle.rb_rules.specs.Book.{Begun, Each, Row, each_of, of_kind}
 use Rattle.rb_rules.specs.Conviction.{turn}
-use Rattle.rb_rules.specs.Core.{Act, epoch_at, is_tick, state_at}
-use Rattle.rb_rules.specs.Goodness.{Scenario}
-use Rattle.rb_rules.specs.Hearing.{Coming, begun_of, epoch_of}
+use Rattle.rb_rules.specs.Core.{Act, Core, epoch_at, is_tick, state_at}
+use Rattle.rb_rules.specs.Goodness.{Scenario, is_good}
+use Rattle.rb_rules.specs.Hearing.{Coming, Span, begun_of, epoch_of}
 use Rattle.rb_rules.specs.NodeState.{NodeState}
 use Rattle.rb_rules.specs.NodeSteps.{turn_if_known}
 use Rattle.rb_rules.specs.Ports.{HandIn, PortState}
-use Rattle.rb_rules.specs.Rounds.{Moment, go_through, moment, sent_in, window_in}
+use Rattle.rb_rules.specs.Rounds.{Moment, go_through, moment, sent_in, window_in, windows_in}
 use Rattle.rb_rules.specs.SyncStage.{new_epoch_of}
-use Rattle.rb_rules.specs.WorldStep.{Site, Timed, after_act, after_arrival, at_node, with_message}
+use Rattle.rb_rules.specs.WorldStep.{Site, Timed, after_act, after_arrival, at_node, await, enter, first_world, fresh_site, proceed, says_in, span_from, stop, with_message}
+use Rattle.rb_rules.specs.Slots.{count_of}
+use Rattle.std.proofs.lemmas.Option.{slice_get_within}
+use Rattle.rb_rules.proofs.WindowNumbers.{get-made}
+use Rattle.rb_order.proofs.FirstWorld.{at_begin}
+use Rattle.rb_order.proofs.HandedIn.{AreEarly}
+use Rattle.rb_order.proofs.HandedMoments.{Alike, handed-alike}
+use Rattle.rb_order.proofs.WorldNodes.{first-counts}
 use Rattle.rb_rules.proofs.QuietTicks.{IsNext, IsQuiet, quiet-from}
 use Rattle.rb_order.specs.Closing.{stages_in}
 use Rattle.rb_order.proofs.Invariant.{NodeStands, next_stage, word_at}
@@ -32,7 +39,7 @@ use Rattle.rb_order.proofs.Telling.{place-is, reached-tells, row-place, tail-sta
 use Rattle.rb_order.proofs.TickWindows.{first-same, first_of}
 use Rattle.rb_order.proofs.ToldInOrder.{one-changes}
 use Rattle.rb_order.proofs.WorldEvents.{AfterTick, state-frame}
-use Rattle.rb_order.proofs.WorldStands.{back-from, get-at, is_node, node-is, sent_by}
+use Rattle.rb_order.proofs.WorldStands.{IsUp, SitesStand, back-from, get-at, is_node, sent_by}
 use Rattle.rb_order.proofs.WorldTicks.{moved, reached, reached-same}
 
 -- the pending tick of a node in moment p is the frame's first
@@ -240,22 +247,23 @@ so-far-after sc hands at sites ports me i s a x pend after h =
 
 -- All nodes.
 
+-- what a node has told stays, where nothing changes of it
+kept : (sc : Scenario) (hands : List HandIn) (side : Side) (j p : ℕ) (z y : Site) → y.row ≡ z.row → y.begun ≡ z.begun → y.ahead ≡ z.ahead → y.runs ≡ z.runs
+    → HasTold sc hands side j p z → HasTold sc hands side j p y
+kept sc hands side j p z y row begun ahead runs h = record {
+  row = λ q stage before near. let old = h.row q stage before near in (old.0, (row ∙ old.1.0, old.1.1));
+  begun = λ first on. elim (h.begun first (sym runs ∙ on)) [
+    | inl told ↦ inl (told.0, (begun ∙ told.1.0, told.1.1))
+    | inr pends ↦ inr (record { a = pends.a; st = pends.st; ahead = ahead ∙ pends.ahead; state = pends.state; first = pends.first })
+  ];
+}
+
 so-far-reached : (sc : Scenario) (hands : List HandIn) (me : Side) (i frame k : ℕ) (m : Option Message) (side : Side) (j p : ℕ) (z : Site)
     → HasTold sc hands side j p z → HasTold sc hands side j p (reached sc me i frame k m side j z)
 so-far-reached sc hands me i frame k m side j p z h =
     let tells = reached-tells sc me i frame k m side j z in
     let same = reached-same sc me i frame k m side j z in
     kept sc hands side j p z (reached sc me i frame k m side j z) tells.0 tells.1 same.ahead same.runs h
-  where
-    kept : (sc : Scenario) (hands : List HandIn) (side : Side) (j p : ℕ) (z y : Site) → y.row ≡ z.row → y.begun ≡ z.begun → y.ahead ≡ z.ahead → y.runs ≡ z.runs
-        → HasTold sc hands side j p z → HasTold sc hands side j p y
-    kept sc hands side j p z y row begun ahead runs h = record {
-      row = λ q stage before near. let old = h.row q stage before near in (old.0, (row ∙ old.1.0, old.1.1));
-      begun = λ first on. elim (h.begun first (sym runs ∙ on)) [
-        | inl told ↦ inl (told.0, (begun ∙ told.1.0, told.1.1))
-        | inr pends ↦ inr (record { a = pends.a; st = pends.st; ahead = ahead ∙ pends.ahead; state = pends.state; first = pends.first })
-      ];
-    }
 
 abbrev pub AllHaveTold : Scenario → List HandIn → (Side → ℕ → ℕ) → Each Site → Type 0
 AllHaveTold sc hands at sites = (me : Side) (i : ℕ) (s : Site) → slice_get (of_kind me sites) i ≡ Some s → HasTold sc hands me i (at me i) s
@@ -266,3 +274,82 @@ pub all-have-told : (sc : Scenario) (hands : List HandIn) (at : Side → ℕ →
 all-have-told sc hands at sites me i frame k r m change s there new all =
     one-changes (HasTold sc hands) sc at sites me i frame k r m change s (so-far-reached sc hands me i frame k m) there new
     (λ side j z other e. all side j z e)
+
+-- An arrival, a hand-in, and the first world.
+
+arrival-keeps : (sc : Scenario) (me : Side) (i n : ℕ) (c : Coming) (s : Site)
+    → ((after_arrival sc me i n c s).row ≡ s.row) × (((after_arrival sc me i n c s).begun ≡ s.begun) × (((after_arrival sc me i n c s).ahead ≡ s.ahead) × ((after_arrival sc me i n c s).runs ≡ s.runs)))
+unfolding after_arrival
+arrival-keeps sc me i n c s = (refl, (refl, (refl, refl)))
+
+entered-had : (sc : Scenario) (me : Side) (i : ℕ) (o : Option Span) (s : Site) → (enter sc me i o s).core ≡ s.core
+entered-had sc me i None s = refl
+entered-had sc me i (Some span) s = by (is_good sc me i span.place.frame span.place.slot)
+  where
+    by : (b : Bool) → (elim b as (λ _. Site) [ true ↦ await sc me i (says_in sc me i span) s | false ↦ stop s ]).core ≡ s.core
+    by true = refl
+    by false = refl
+
+proceed-had : (sc : Scenario) (me : Side) (i : ℕ) → (proceed sc me i (fresh_site sc.sizes me)).core ≡ (fresh_site sc.sizes me).core
+unfolding proceed
+proceed-had sc me i =
+    let s : Site = fresh_site sc.sizes me in
+    entered-had sc me i (span_from sc.sizes sc.plan me s.core.state s.core.had) s
+
+first-had : (sc : Scenario) (me : Side) (i : ℕ) (s : Site) → slice_get (of_kind me (first_world sc).sites) i ≡ Some s → s.core.had ≡ 0
+unfolding first_world
+first-had sc me i s e =
+    let make : Side → ℕ → Site = λ me i. proceed sc me i (fresh_site sc.sizes me) in
+    let within : i < length (of_kind me (each_of sc.sizes make)) = slice_get_within (of_kind me (each_of sc.sizes make)) i s e in
+    let long : length (of_kind me (each_of sc.sizes make)) ≡ count_of me sc.sizes = first-counts sc.sizes make me in
+    let same : make me i ≡ s = some-same (make me i) s (sym (get-made sc.sizes make me i (omega arith)) ∙ e) in
+    ap (λ (z : Site). z.core.had) (sym same) ∙ ap (λ (c : Core). c.had) (proceed-had sc me i)
+
+pub so-far-arrival : (sc : Scenario) (hands : List HandIn) (at : Side → ℕ → ℕ) (sites : Each Site) (me : Side) (i n : ℕ) (c : Coming)
+    → AllHaveTold sc hands at sites → AllHaveTold sc hands at (at_node me i (after_arrival sc me i n c) sites)
+so-far-arrival sc hands at sites me i n c all side j z e =
+    let change : Site → Site = after_arrival sc me i n c in
+    let was = back-from (λ s. elim (is_node me i side j) as (λ _. Site) [ true ↦ change s | false ↦ s ]) (slice_get (of_kind side sites) j) z (sym (get-at me side i j change sites) ∙ e) in
+    subst (HasTold sc hands side j (at side j)) was.1.1 (by (is_node me i side j) was.0 (all side j was.0 was.1.0))
+  where
+    same : (s : Site) → ((after_arrival sc me i n c s).row ≡ s.row) × (((after_arrival sc me i n c s).begun ≡ s.begun) × (((after_arrival sc me i n c s).ahead ≡ s.ahead) × ((after_arrival sc me i n c s).runs ≡ s.runs)))
+    same s = arrival-keeps sc me i n c s
+
+    by : (b : Bool) (s : Site) → HasTold sc hands side j (at side j) s
+        → HasTold sc hands side j (at side j) (elim b as (λ _. Site) [ true ↦ after_arrival sc me i n c s | false ↦ s ])
+    by true s h = let k = same s in kept sc hands side j (at side j) s (after_arrival sc me i n c s) k.0 k.1.0 k.1.1.0 k.1.1.1 h
+    by false s h = h
+
+pub so-far-handed : (sc : Scenario) (hands : List HandIn) (h : HandIn) (at : Side → ℕ → ℕ) (sites : Each Site) → AreEarly sc at sites h.frame
+    → AllHaveTold sc hands at sites → AllHaveTold sc (hands ++ h ∷ []) at sites
+so-far-handed sc hands h at sites early told me i s there =
+    let more : List HandIn = hands ++ h ∷ [] in
+    let le : at me i ≤ h.frame * (windows_in sc.sizes + 1) + 1 = early.early me i s there in
+    let its : HasTold sc hands me i (at me i) s = told me i s there in
+    let alike : (q : ℕ) → q ≤ at me i → Alike sc (moment sc hands q) (moment sc more q) = λ q before. handed-alike sc hands h q (omega (arith, le, before, early.some_biu)) in
+    let Begins : Moment → Type 0 = λ (y : Moment). y.window ≡ 0 → s.runs ≡ true → ((b : Begun) × ((s.begun ≡ Some b) × (b.frame ≡ y.frame)))
+    ⊎ ((a : Timed) × ((s.ahead ≡ Some a) × ((st : NodeState) × ((slice_get (of_kind me y.nodes) i ≡ Some st) × (a.tick ≡ st.epoch))))) in
+    let old : Begins (moment sc hands (at me i)) = λ first runs. elim (its.begun first runs) [
+      | inl b ↦ inl b
+      | inr pends ↦ inr (pends.a, (pends.ahead, (pends.st, (pends.state, pends.first))))
+    ] in
+    let now : Begins (moment sc more (at me i)) = subst Begins (sym (alike (at me i) (omega arith)).is) old in
+    record {
+      row = λ q stage before near.
+          subst (λ (y : Moment). y.window < stages_in sc.sizes → at me i ≤ next_stage sc.sizes y q → (row : Row) × ((s.row ≡ Some row) × (row.place ≡ place_at sc.sizes y)))
+          (sym (alike q (omega (arith, before))).is) (λ stage near. its.row q stage before near) stage near;
+      begun = λ first runs. elim (now first runs) [
+        | inl b ↦ inl b
+        | inr pends ↦ inr (record { a = pends.0; st = pends.1.1.0; ahead = pends.1.0; state = pends.1.1.1.0; first = pends.1.1.1.1 })
+      ];
+    }
+
+pub so-far-first : (sc : Scenario) (hands : List HandIn) (now : ℕ) → SitesStand sc hands now at_begin (first_world sc).sites → AllHaveTold sc hands at_begin (first_world sc).sites
+so-far-first sc hands now stand me i s there = record {
+  row = λ q stage before. absurd (omega (arith, before));
+  begun = λ first runs.
+      let up : IsUp sc hands (sent_by sc hands at_begin (first_world sc).sites) now me i 0 s = stand.up me i s there runs in
+      let had : s.core.had ≡ 0 = first-had sc me i s there in
+      let from : up.st.epoch + first_of sc.sizes sc.plan me up.st (moment sc hands 0).window ≤ s.core.had = up.stands.from in
+      inr (first-pends sc hands (sent_by sc hands at_begin (first_world sc).sites) now me i 0 s up.st up.a up.stands (omega (arith, had, from)));
+}
