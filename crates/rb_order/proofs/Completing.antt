@@ -1,15 +1,15 @@
 -- For the law that events are rounds, which is still to come: what an event completes is settled, and what comes next by an event waits again.
 -- While the record of a frame's begin is the turn, all nodes that are good there have begun the frame, and none is beyond its second window.
-use Rattle.std.proofs.Common.{◌≡◌, ℕ, zero, suc, ◌+◌, ◌-◌, ◌*◌, ◌%◌, ◌<◌, ◌≤◌, ◌==◌, ◌&&◌, ◌⊎◌, not, nat_lt, Bool, true, false, List, [], ◌∷◌, ◌++◌, length, refl, ap, sym, ◌∙◌, subst, arith, inl, inr, Option, Some, None, is_some, slice_get, if◌then◌else◌}
+use Rattle.std.proofs.Common.{◌≡◌, ℕ, zero, suc, ◌+◌, ◌-◌, ◌*◌, ◌%◌, ◌<◌, ◌≤◌, ◌==◌, ◌&&◌, ◌⊎◌, nat_lt, Bool, true, false, List, [], ◌∷◌, ◌++◌, length, refl, ap, sym, ◌∙◌, subst, arith, inl, inr, Option, Some, None, is_some, slice_get, if◌then◌else◌}
 use Rattle.std.proofs.lemmas.Bool.{cases_lt, lt-ltb, le-ltb}
 use Rattle.std.proofs.lemmas.Bool.Decides.{nat_tests}
 use Rattle.std.proofs.lemmas.List.{append-nil}
 use Rattle.rb_base.specs.Nodes.{Side}
-use Rattle.rb_base.specs.Sizes.{Sizes, sync_slot_of}
+use Rattle.rb_base.specs.Sizes.{sync_slot_of}
 use Rattle.rb_base.specs.declared.values.Place.{Place}
 use Rattle.rb_rules.specs.declared.cause.Cause.{Cause}
 use Rattle.rb_rules.specs.declared.message.Message.{Message}
-use Rattle.rb_rules.specs.Book.{Begun, Book, Each, Milestone, Record, Row, after_stage, after_verdict, fresh_book, frame_records, judged_of, of_kind, with_frame, with_stage}
+use Rattle.rb_rules.specs.Book.{Begun, Book, Each, Milestone, Record, Row, after_stage, after_verdict, frame_records, judged_of, of_kind, with_frame, with_stage}
 use Rattle.rb_rules.specs.Book.Milestone.{Begin, Stage, End}
 use Rattle.rb_rules.specs.Book.Record.{Breach, Slot}
 use Rattle.rb_rules.specs.Goodness.{Scenario, is_good}
@@ -25,12 +25,11 @@ use Rattle.rb_order.proofs.Invariant.{next_stage}
 use Rattle.rb_order.proofs.MomentBooks.{next_of, number-of, place_at, settles-next, stage-book-next, stage-next, SettlesNext}
 use Rattle.rb_order.proofs.RoundNodes.{slot_numbered}
 use Rattle.rb_order.proofs.Settling.{and-true}
-use Rattle.rb_order.proofs.SettlingFrames.{IsOfMoment, RunsIn, runs-in}
+use Rattle.rb_order.proofs.SettlingFrames.{IsOfMoment}
 use Rattle.rb_order.proofs.Telling.{reached-tells}
-use Rattle.rb_order.proofs.ToldInOrder.{AllTold, NodeTold, number-is, number_at}
-use Rattle.rb_order.proofs.Waiting.{AfterRecord, Completes, HasBegun, Waits, begun-there, completes, good-told, is_due, row-there, stage-waits, untold}
+use Rattle.rb_order.proofs.ToldInOrder.{AllTold, number-is, number_at}
+use Rattle.rb_order.proofs.Waiting.{AfterRecord, Completes, Waits, begun-there, completes, good-told, is_due, row-there, stage-waits, untold}
 use Rattle.rb_order.proofs.WorldBooks.{last-one, next-on, none-past, settle_rest}
-use Rattle.rb_order.proofs.WorldTicks.{reached}
 
 -- The event.
 
@@ -106,7 +105,7 @@ begin-completed sc hands at now_at sites now_sites frame event old new =
 record-same : (w : World) → record_since w w ≡ None
 record-same w = none-past w.book.given w.book.given refl
 
-next-eta : (sc : Scenario) (way : Way) (w : World) → settle_next sc way w ≡ record w { book = (settle_next sc way w).book }
+pub next-eta : (sc : Scenario) (way : Way) (w : World) → settle_next sc way w ≡ record w { book = (settle_next sc way w).book }
 next-eta sc way w = by (comes_so sc way w.book.upcoming && is_complete sc w.sites w.book.upcoming)
   where
     by : (b : Bool) → (elim b as (λ _. World) [ true ↦ record w { book = book_with sc w.sites w.book w.book.upcoming } | false ↦ w ])
@@ -114,15 +113,19 @@ next-eta sc way w = by (comes_so sc way w.book.upcoming && is_complete sc w.site
     by true = refl
     by false = refl
 
+-- a book that has ended stays
+pub ended-still : (sc : Scenario) (way : Way) (w : World) → w.book.ended ≡ true → settle_next sc way w ≡ w
+ended-still sc way w e = next-eta sc way w ∙ ap (λ b. record w { book = b }) ((next-on sc way w).over e)
+
 -- what waits is not settled
 waits-still : (sc : Scenario) (w : World) → Waits sc w → settle_next sc ByAnEvent w ≡ w
 waits-still sc w waits = by w.book.ended refl
   where
     by : (b : Bool) → w.book.ended ≡ b → settle_next sc ByAnEvent w ≡ w
-    by true e = next-eta sc ByAnEvent w ∙ ap (λ b. record w { book = b }) ((next-on sc ByAnEvent w).over e)
+    by true e = ended-still sc ByAnEvent w e
     by false e = ap (λ b. elim b as (λ _. World) [ true ↦ record w { book = book_with sc w.sites w.book w.book.upcoming } | false ↦ w ]) (waits e)
 
-settle-still : (sc : Scenario) (way : Way) (n : ℕ) (w : World) → settle_next sc way w ≡ w → settle sc way n w ≡ record w { turn = None }
+pub settle-still : (sc : Scenario) (way : Way) (n : ℕ) (w : World) → settle_next sc way w ≡ w → settle sc way n w ≡ record w { turn = None }
 settle-still sc way zero w still = refl
 settle-still sc way (suc n) w still =
     ap (λ next. settle_rest sc way n next (record_since w next)) still ∙ ap (settle_rest sc way n w) (record-same w) ∙ settle-still sc way n w still
@@ -136,15 +139,15 @@ pub record Settled (sc : Scenario) (at : Side → ℕ → ℕ) (w : World) : Typ
   pub waits : Waits sc w
   pub turn : (frame : ℕ) → frame_in w.turn ≡ Some frame → AfterRecord sc at w frame
 
-none-turn : {P : Type 0} (frame : ℕ) → None ≡ Some frame → P
+pub none-turn : {P : Type 0} (frame : ℕ) → None ≡ Some frame → P
 none-turn frame e = absurd (cc)
 
-still-settled : (sc : Scenario) (at : Side → ℕ → ℕ) (w : World) → Waits sc w → Settled sc at (record w { turn = None })
+pub still-settled : (sc : Scenario) (at : Side → ℕ → ℕ) (w : World) → Waits sc w → Settled sc at (record w { turn = None })
 still-settled sc at w waits = record { waits = waits; turn = λ frame e. none-turn frame e }
 
 -- The books.
 
-stage-silent : (sc : Scenario) (place : Place) (rows : Each (Option Row)) (b : Book) → frame_in (slice_get (with_stage sc place rows b).given (length b.given)) ≡ None
+pub stage-silent : (sc : Scenario) (place : Place) (rows : Each (Option Row)) (b : Book) → frame_in (slice_get (with_stage sc place rows b).given (length b.given)) ≡ None
 unfolding with_stage
 stage-silent sc place rows b = by b.ended
   where
@@ -192,12 +195,12 @@ sync-silent sc place rows b late = by b.ended refl
     by false f e = judged (verdict_of (judged_of sc place rows ∷ b.stages)) e
 
 -- a frame's begin
-record FrameGiven (sc : Scenario) (frame : ℕ) (begun : List Begun) (b x : Book) : Type 0 where
-  next : x.upcoming ≡ (if frame == sc.frames then End else Stage (record { frame = frame; slot = 0; stage = 1 }))
-  going : x.ended ≡ false
-  given : x.given ≡ b.given ++ frame_records frame begun
+pub record FrameGiven (sc : Scenario) (frame : ℕ) (begun : List Begun) (b x : Book) : Type 0 where
+  pub next : x.upcoming ≡ (if frame == sc.frames then End else Stage (record { frame = frame; slot = 0; stage = 1 }))
+  pub going : x.ended ≡ false
+  pub given : x.given ≡ b.given ++ frame_records frame begun
 
-frame-given : (sc : Scenario) (frame : ℕ) (begun : List Begun) (b : Book) → b.ended ≡ false → FrameGiven sc frame begun b (with_frame sc frame begun b)
+pub frame-given : (sc : Scenario) (frame : ℕ) (begun : List Begun) (b : Book) → b.ended ≡ false → FrameGiven sc frame begun b (with_frame sc frame begun b)
 unfolding with_frame
 frame-given sc frame begun b going = subst (λ e. FrameGiven sc frame begun b (elim e as (λ _. Book) [
   | true ↦ b
@@ -210,7 +213,7 @@ frame-given sc frame begun b going = subst (λ e. FrameGiven sc frame begun b (e
   }
 ])) (sym going) (record { next = refl; going = refl; given = refl })
 
-frame-record : (frame its : ℕ) (begun : List Begun) (xs : List Record) → frame_in (slice_get (xs ++ frame_records frame begun) (length xs)) ≡ Some its → its ≡ frame
+pub frame-record : (frame its : ℕ) (begun : List Begun) (xs : List Record) → frame_in (slice_get (xs ++ frame_records frame begun) (length xs)) ≡ Some its → its ≡ frame
 frame-record frame its [] xs e = none-turn its (sym (ap frame_in (none-past xs (xs ++ []) (append-nil xs))) ∙ e)
 frame-record frame its (b ∷ bs) xs e = one (sym (ap frame_in (last-one xs (xs ++ frame_records frame (b ∷ bs)) _ refl)) ∙ e)
   where
@@ -218,7 +221,7 @@ frame-record frame its (b ∷ bs) xs e = one (sym (ap frame_in (last-one xs (xs 
     one e = cc
 
 -- after it all that is known while it is the turn
-after-frame : (sc : Scenario) (hands : List HandIn) (at : Side → ℕ → ℕ) (w : World) (frame its : ℕ) (begun : List Begun) (b : Book) → b.ended ≡ false → w.book ≡ with_frame sc frame begun b
+pub after-frame : (sc : Scenario) (hands : List HandIn) (at : Side → ℕ → ℕ) (w : World) (frame its : ℕ) (begun : List Begun) (b : Book) → b.ended ≡ false → w.book ≡ with_frame sc frame begun b
     → is_complete sc w.sites (Begin frame) ≡ true
     → ((me : Side) (i : ℕ) (s : Site) → slice_get (of_kind me w.sites) i ≡ Some s → at me i ≤ frame * (windows_in sc.sizes + 1) + 1)
     → frame_in (slice_get w.book.given (length b.given)) ≡ Some its → AfterRecord sc at w its
@@ -294,7 +297,7 @@ first-waits sc hands at sites m frame is first = ap (is_due sc sites) is ∙ by 
 
 -- The whole step.
 
-abbrev next_world : Scenario → World → Milestone → World
+abbrev pub next_world : Scenario → World → Milestone → World
 next_world sc x m = record x { book = book_with sc x.sites x.book m }
 
 next-is : (sc : Scenario) (x : World) (m : Milestone) → x.book.upcoming ≡ m → is_due sc x.sites m ≡ true → settle_next sc ByAnEvent x ≡ next_world sc x m

@@ -1,5 +1,5 @@
 -- For the law that events are rounds, which is still to come: what a tick and an arrival are to all that the nodes have told.
-use Rattle.std.proofs.Common.{◌≡◌, ℕ, zero, suc, ◌+◌, ◌-◌, ◌*◌, ◌<◌, ◌≤◌, ◌==◌, ◌&&◌, ◌⊎◌, Bool, true, false, List, [], ◌∷◌, length, refl, ap, sym, ◌∙◌, subst, arith, inl, inr, Option, Some, None, slice_get, option_map}
+use Rattle.std.proofs.Common.{◌≡◌, ℕ, ◌+◌, ◌-◌, ◌*◌, ◌<◌, ◌≤◌, ◌&&◌, ◌⊎◌, Bool, true, false, List, refl, ap, sym, ◌∙◌, subst, arith, inl, inr, Option, Some, None, slice_get, option_map}
 use Rattle.std.proofs.Math.Path.{fun_ext}
 use Rattle.rb_base.specs.Nodes.{Side}
 use Rattle.rb_base.specs.Nodes.Side.{Biu}
@@ -11,25 +11,21 @@ use Rattle.rb_rules.specs.Hearing.{Coming}
 use Rattle.rb_rules.specs.Lawful.{IsLawful}
 use Rattle.rb_rules.specs.Ports.{HandIn, PortState}
 use Rattle.rb_rules.specs.Rounds.{Moment, moment, windows_in}
-use Rattle.rb_rules.specs.Slots.{count_of}
 use Rattle.rb_rules.specs.WorldStep.{Site, Timed, after_act, after_arrival, at_node, with_message}
 use Rattle.rb_rules.proofs.WindowNumbers.{length-each}
-use Rattle.rb_order.specs.Closing.{stages_in}
 use Rattle.rb_order.proofs.Completing.{EventAt}
 use Rattle.rb_order.proofs.Invariant.{next_stage}
 use Rattle.rb_order.proofs.MomentBooks.{number-of}
 use Rattle.rb_order.proofs.MomentSteps.{NextIsStage, next-is-stage}
 use Rattle.rb_order.proofs.NodeActs.{HasRoom}
-use Rattle.rb_order.proofs.NodeClosing.{ClosesWindow}
 use Rattle.rb_order.proofs.PortsInRounds.{AllHanded, PortsStand, begun-is, every-all}
-use Rattle.rb_order.proofs.SameHeard.{Every}
 use Rattle.rb_order.proofs.StageOrder.{last-same, last_of}
 use Rattle.rb_order.proofs.Telling.{first-window}
 use Rattle.rb_order.proofs.Timing.{AreInTime, HavePassed}
 use Rattle.rb_order.proofs.ToldInOrder.{AllTold, NodeTold, all-told, near, number_at, one-changes, row-of-window, told-after}
 use Rattle.rb_order.proofs.Waiting.{HasBegun}
 use Rattle.rb_order.proofs.WorldEvents.{AfterTick}
-use Rattle.rb_order.proofs.WorldStands.{IsUp, SitesStand, back-from, get-at, is_node, node-is, node-itself, sent_by}
+use Rattle.rb_order.proofs.WorldStands.{SitesStand, back-from, get-at, is_node, node-is, node-itself}
 use Rattle.rb_order.proofs.WorldTicks.{after_tick, get-after, kind-other, moved, reached, reached-not}
 
 -- the node of an event afterwards

@@ -1,26 +1,25 @@
 -- For the law that events are rounds, which is still to come: a state that is handed in while all nodes are before the data slots of the frame
 -- keeps the world in the rounds.
-use Rattle.std.proofs.Common.{◌≡◌, ◌≢◌, ℕ, zero, suc, ◌+◌, ◌-◌, ◌*◌, ◌<◌, ◌≤◌, ◌==◌, nat_lt, Bool, true, false, List, [], ◌∷◌, ◌++◌, length, refl, ap, sym, ◌∙◌, subst, arith, inl, inr, Option, Some, None, slice_get, get_or, option_map, option_to_list, if◌then◌else◌}
+use Rattle.std.proofs.Common.{◌≡◌, ◌≢◌, ℕ, zero, suc, ◌+◌, ◌-◌, ◌*◌, ◌<◌, ◌≤◌, Bool, true, false, List, [], ◌∷◌, ◌++◌, length, refl, ap, sym, ◌∙◌, subst, arith, inl, inr, Option, Some, slice_get, get_or, option_map, option_to_list, if◌then◌else◌}
 use Rattle.std.proofs.Math.Path.{fun_ext}
 use Rattle.std.proofs.lemmas.Bool.{cases_lt, lt-ltb, le-ltb}
 use Rattle.std.proofs.lemmas.Nat.{mul-le}
 use Rattle.rb_base.specs.Nodes.{Side, other}
-use Rattle.rb_base.specs.Nodes.Side.{Biu, Rmu}
-use Rattle.rb_rules.specs.Book.{Begun, Book, Each, Row, of_kind}
+use Rattle.rb_rules.specs.Book.{Each, of_kind}
 use Rattle.rb_rules.specs.Clock.{time_of}
 use Rattle.rb_rules.specs.ExactStage.{at_source}
 use Rattle.rb_rules.specs.Goodness.{Scenario, is_good, clock_of}
 use Rattle.rb_rules.specs.Hearing.{Coming, Sending, begun_of, coming_of, epoch_of, port_at, said_by, span_of}
 use Rattle.rb_rules.specs.NodeState.{NodeState}
 use Rattle.rb_rules.specs.Ports.{HandIn, PortState, with_state}
-use Rattle.rb_rules.specs.Rounds.{Moment, Result, go_through, moment, sent_in, window_in, windows_in, word_for_window}
+use Rattle.rb_rules.specs.Rounds.{Moment, Result, moment, sent_in, window_in, windows_in, word_for_window}
 use Rattle.rb_rules.specs.Slots.{count_of}
 use Rattle.rb_rules.specs.WorldStep.{Site, Timed}
 use Rattle.rb_rules.proofs.HandIns.{moments-more}
 use Rattle.rb_rules.proofs.RoundStates.{HasTicks}
 use Rattle.rb_order.specs.Closing.{stages_in}
 use Rattle.rb_order.proofs.HandedMoments.{Alike, alike-sent, alike-through, before-frame, handed-alike, handed-ports, place-of}
-use Rattle.rb_order.proofs.Invariant.{NodeStands, ahead_so_far, has_sent, heard_so_far, is_good_at, last_tick, next_stage, sending_of, word_at}
+use Rattle.rb_order.proofs.Invariant.{NodeStands, ahead_so_far, has_sent, heard_so_far, is_good_at, last_tick, next_stage, word_at}
 use Rattle.rb_order.proofs.MomentBooks.{number-of, place_at}
 use Rattle.rb_order.proofs.NodeActs.{IsInWindow}
 use Rattle.rb_order.proofs.PortMoments.{ports-count}
@@ -28,7 +27,7 @@ use Rattle.rb_order.proofs.PortsKept.{still-early}
 use Rattle.rb_order.proofs.Receiving.{Receives}
 use Rattle.rb_order.proofs.RoundNodes.{good-counts, item-at, slot-is, slot_numbered}
 use Rattle.rb_order.proofs.Settling.{RowOfRounds, RowsOfRounds}
-use Rattle.rb_order.proofs.SettlingFrames.{BegunInRounds, BegunOfRounds, IsOfMoment, TellRounds, ports_before}
+use Rattle.rb_order.proofs.SettlingFrames.{BegunInRounds, BegunOfRounds, TellRounds, ports_before}
 use Rattle.rb_order.proofs.TickWindows.{first_of}
 use Rattle.rb_order.proofs.Timing.{HavePassed}
 use Rattle.rb_order.proofs.ToldInOrder.{AllTold, NodeTold, number-is, number_at}

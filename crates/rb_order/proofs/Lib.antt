@@ -36,7 +36,9 @@ pub mod Waiting
 pub mod Completing
 pub mod PortsInRounds
 pub mod EventNodes
+pub mod Alone
 pub mod OneTake
+pub mod OneHandIn
 pub mod EveryWorld
 pub mod RoundNodes
 pub mod WorldBooks

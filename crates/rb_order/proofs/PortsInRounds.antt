@@ -1,10 +1,9 @@
 -- For the law that events are rounds, which is still to come: an event keeps the ports of the nodes that run those of the rounds, and what is
 -- handed in is of frames that all good nodes have begun.
-use Rattle.std.proofs.Common.{◌≡◌, ◌≢◌, ℕ, zero, suc, ◌+◌, ◌*◌, ◌<◌, ◌≤◌, ◌==◌, ◌&&◌, ◌⊎◌, nat_le, Bool, true, false, List, [], ◌∷◌, length, map, refl, ap, sym, ◌∙◌, subst, arith, inl, inr, Option, Some, None, slice_get, option_and_then, option_map, option_to_list}
+use Rattle.std.proofs.Common.{◌≡◌, ℕ, zero, suc, ◌+◌, ◌*◌, ◌<◌, ◌≤◌, ◌==◌, ◌&&◌, ◌⊎◌, nat_le, Bool, true, false, List, [], ◌∷◌, length, refl, ap, sym, ◌∙◌, subst, arith, inl, inr, Option, Some, None, slice_get, option_and_then, option_map}
 use Rattle.std.proofs.lemmas.Bool.{cases_lt}
 use Rattle.std.proofs.lemmas.Bool.Decides.{nat_tests}
 use Rattle.std.proofs.lemmas.Nat.{mul-le}
-use Rattle.rb_base.specs.Counting.{numbers}
 use Rattle.rb_base.specs.Nodes.{Side}
 use Rattle.rb_base.specs.Nodes.Side.{Biu, Rmu}
 use Rattle.rb_base.specs.Sizes.{sync_slot_of}
@@ -17,28 +16,23 @@ use Rattle.rb_rules.specs.declared.record.Epoch.{Epoch}
 use Rattle.rb_rules.specs.declared.record.SlotLine.{SlotLine}
 use Rattle.rb_rules.specs.declared.role.Role.{Role}
 use Rattle.rb_rules.specs.declared.sense.Sense.{Sense}
-use Rattle.rb_rules.specs.Book.{Begun, Each, Row, line_in, of_kind}
-use Rattle.rb_rules.specs.Core.{Act, epoch_at}
+use Rattle.rb_rules.specs.Book.{Begun, Each, line_in, of_kind}
+use Rattle.rb_rules.specs.Core.{Act}
 use Rattle.rb_rules.specs.ExactStage.{Outcome, close_exact, delivery_of, keep_sent, outcome_of}
 use Rattle.rb_rules.specs.Goodness.{Scenario, is_good}
-use Rattle.rb_rules.specs.Hearing.{Coming, begun_of, epoch_of, port_at, port_line, row_of}
+use Rattle.rb_rules.specs.Hearing.{Coming, begun_of, port_at, port_line, row_of}
 use Rattle.rb_rules.specs.NodeState.{NodeState}
 use Rattle.rb_rules.specs.Ports.{HandIn, PortState}
 use Rattle.rb_rules.specs.Rounds.{Moment, Result, begin_frame, close_on, go_through, heard_at, moment, sent_in, window_in, windows_in, word_for_window}
-use Rattle.rb_rules.specs.Slots.{Sender, count_of, same_side}
+use Rattle.rb_rules.specs.Slots.{Sender}
 use Rattle.rb_rules.specs.SyncStage.{close_sync, sync_outcome_of}
-use Rattle.rb_rules.specs.WorldStep.{Site, Timed, World, after_act, after_arrival, at_node, with_delivery, with_message}
+use Rattle.rb_rules.specs.WorldStep.{Site, Timed, after_act, at_node, with_delivery, with_message}
 use Rattle.rb_rules.proofs.RoundStates.{HasTicks}
-use Rattle.rb_order.specs.Closing.{stages_in}
 use Rattle.rb_order.proofs.CloseOrder.{IsWindowLater, frame-later, window-later}
-use Rattle.rb_order.proofs.Completing.{EventAt}
-use Rattle.rb_order.proofs.HandedMoments.{place-of}
-use Rattle.rb_order.proofs.Invariant.{is_good_at, next_stage, word_at}
+use Rattle.rb_order.proofs.Invariant.{is_good_at, word_at}
 use Rattle.rb_order.proofs.MomentBooks.{number-of}
-use Rattle.rb_order.proofs.MomentSteps.{NextIsStage, next-is-stage}
-use Rattle.rb_order.proofs.NodeActs.{HasRoom}
-use Rattle.rb_order.proofs.NodeClosing.{ClosesWindow, GoesOn}
-use Rattle.rb_order.proofs.NodeEvents.{StaysOpen, begun_after}
+use Rattle.rb_order.proofs.NodeClosing.{ClosesWindow}
+use Rattle.rb_order.proofs.NodeEvents.{begun_after}
 use Rattle.rb_order.proofs.PortMoments.{port-kept}
 use Rattle.rb_order.proofs.PortsKept.{NoneHanded, none-over, port-then, ports-turned}
 use Rattle.rb_order.proofs.RoundNodes.{good-counts, slot_numbered}
@@ -49,7 +43,7 @@ use Rattle.rb_order.proofs.Telling.{reached-tells}
 use Rattle.rb_order.proofs.Waiting.{HasBegun}
 use Rattle.rb_order.proofs.WorldEvents.{AfterTick}
 use Rattle.rb_order.proofs.WorldStands.{is_node, some-same, sent_by}
-use Rattle.rb_order.proofs.WorldTicks.{moved, reached, reached-same}
+use Rattle.rb_order.proofs.WorldTicks.{moved, reached-same}
 
 -- the ports of the BIUs that run are those of the rounds where they stand
 abbrev pub PortsStand : Scenario → List HandIn → (Side → ℕ → ℕ) → Each Site → List PortState → Type 0

@@ -1,6 +1,6 @@
 -- For the law that events are rounds, which is still to come: the port of a BIU that closes a window is that of the rounds in the moment
 -- where the node stands then.
-use Rattle.std.proofs.Common.{◌≡◌, ℕ, zero, suc, ◌+◌, ◌-◌, ◌*◌, ◌<◌, ◌≤◌, ◌==◌, ◌&&◌, ◌⊎◌, nat_le, nat_lt, Bool, true, false, List, [], ◌∷◌, length, refl, ap, sym, ◌∙◌, subst, arith, inl, inr, Option, Some, None, slice_get, option_and_then, option_map, if◌then◌else◌}
+use Rattle.std.proofs.Common.{◌≡◌, ℕ, suc, ◌+◌, ◌-◌, ◌*◌, ◌<◌, ◌≤◌, ◌==◌, ◌&&◌, ◌⊎◌, nat_le, nat_lt, Bool, true, false, List, [], ◌∷◌, length, refl, ap, sym, ◌∙◌, subst, arith, inl, inr, Option, Some, None, slice_get, option_and_then, option_map, if◌then◌else◌}
 use Rattle.std.proofs.lemmas.Bool.{cases_lt, lt-ltb, le-ltb}
 use Rattle.rb_base.specs.Nodes.{Side}
 use Rattle.rb_base.specs.Nodes.Side.{Biu, Rmu}
@@ -13,13 +13,13 @@ use Rattle.rb_rules.specs.declared.record.SlotLine.{SlotLine}
 use Rattle.rb_rules.specs.declared.role.Role.{Role}
 use Rattle.rb_rules.specs.declared.role.Role.TheVariants.{Schedule, Data, DiagBiu, DiagRmu, Sync}
 use Rattle.rb_rules.specs.declared.sense.Sense.{Sense}
-use Rattle.rb_rules.specs.Book.{Row, line_in, of_kind}
+use Rattle.rb_rules.specs.Book.{line_in, of_kind}
 use Rattle.rb_rules.specs.ExactStage.{Outcome, close_exact, delivery_of, keep_sent, outcome_of}
 use Rattle.rb_rules.specs.Goodness.{Scenario, is_good}
 use Rattle.rb_rules.specs.Hearing.{Coming, port_at, row_of}
 use Rattle.rb_rules.specs.NodeState.{NodeState}
 use Rattle.rb_rules.specs.Ports.{HandIn, PortState, hand_over, with_state}
-use Rattle.rb_rules.specs.Rounds.{Moment, Result, begin_frame, close_on, go_through, heard_at, moment, next_frame, port_after, sent_in, step, window_in, windows_in, word_for_window}
+use Rattle.rb_rules.specs.Rounds.{Moment, Result, begin_frame, close_on, go_through, heard_at, moment, port_after, sent_in, step, window_in, windows_in, word_for_window}
 use Rattle.rb_rules.specs.Slots.{Sender, count_of, first_diagnosis_of, role_of}
 use Rattle.rb_rules.specs.SyncStage.{close_sync, sync_outcome_of}
 use Rattle.rb_rules.specs.WorldStep.{with_delivery}

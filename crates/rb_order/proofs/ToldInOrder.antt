@@ -1,6 +1,6 @@
 -- For the law that events are rounds, which is still to come: what a node has told is of moments before that in which it stands, and no
 -- node is more than a stage ahead of one that runs.
-use Rattle.std.proofs.Common.{◌≡◌, ℕ, zero, suc, ◌+◌, ◌-◌, ◌*◌, ◌/◌, ◌%◌, ◌<◌, ◌≤◌, ◌==◌, ◌⊎◌, nat_lt, min, Bool, true, false, List, [], ◌∷◌, length, refl, ap, sym, ◌∙◌, subst, arith, inl, inr, Option, Some, None, slice_get, option_map, if◌then◌else◌}
+use Rattle.std.proofs.Common.{◌≡◌, ℕ, suc, ◌+◌, ◌-◌, ◌*◌, ◌%◌, ◌<◌, ◌≤◌, ◌==◌, ◌⊎◌, Bool, true, false, List, refl, ap, sym, ◌∙◌, subst, arith, inl, inr, Option, Some, None, slice_get, if◌then◌else◌}
 use Rattle.std.proofs.lemmas.Bool.{cases_lt, lt-ltb, le-ltb}
 use Rattle.std.proofs.lemmas.Bool.Decides.{nat_tests}
 use Rattle.rb_base.specs.Nodes.{Side}
@@ -24,12 +24,11 @@ use Rattle.rb_order.proofs.CloseOrder.{IsWindowLater, window-later}
 use Rattle.rb_order.proofs.Invariant.{InTime, is_good_at, last_tick, next_stage, word_at}
 use Rattle.rb_order.proofs.MomentBooks.{number-of, place_at}
 use Rattle.rb_order.proofs.MomentSteps.{NextIsStage, good-state, next-is-stage}
-use Rattle.rb_order.proofs.NodeClosing.{ClosesWindow, GoesOn}
+use Rattle.rb_order.proofs.NodeClosing.{ClosesWindow}
 use Rattle.rb_order.proofs.NodeEvents.{StaysOpen, begun_after}
-use Rattle.rb_order.proofs.NodeTicks.{Like, by_said, gone, kept_in, like-in, state_in}
-use Rattle.rb_order.proofs.NodeSends.{sending_at}
+use Rattle.rb_order.proofs.NodeTicks.{Like, like-in, state_in}
 use Rattle.rb_order.proofs.RoundNodes.{slot_numbered}
-use Rattle.rb_order.proofs.Telling.{place-is, placed, reached-tells, row-place, tail-stage}
+use Rattle.rb_order.proofs.Telling.{place-is, reached-tells, row-place, tail-stage}
 use Rattle.rb_order.proofs.Timing.{AreInTime, HavePassed}
 use Rattle.rb_order.proofs.WorldEvents.{AfterTick, state-frame}
 use Rattle.rb_order.proofs.WorldStands.{IsUp, SitesStand, back-from, is_node, node-is, sent_by, some-same}

@@ -1,29 +1,24 @@
 -- For the law that events are rounds, which is still to come: after each event what comes by an event next still waits for a node. So the
 -- node of the event that completes a milestone stands at that milestone, and no other is far ahead.
-use Rattle.std.proofs.Common.{◌≡◌, ℕ, zero, suc, ◌+◌, ◌-◌, ◌*◌, ◌%◌, ◌<◌, ◌≤◌, ◌==◌, ◌&&◌, ◌||◌, ◌⊎◌, not, nat_lt, Bool, true, false, List, [], ◌∷◌, ◌++◌, length, refl, ap, sym, ◌∙◌, subst, arith, inl, inr, Option, Some, None, is_some, slice_get, option_map, if◌then◌else◌, lit≤}
+use Rattle.std.proofs.Common.{◌≡◌, ℕ, suc, ◌+◌, ◌*◌, ◌<◌, ◌≤◌, ◌==◌, ◌&&◌, ◌||◌, not, Bool, true, false, List, [], ◌∷◌, ◌++◌, length, refl, ap, sym, ◌∙◌, arith, Option, Some, None, is_some, slice_get, option_map, if◌then◌else◌, lit≤}
 use Rattle.std.specs.List.{list_all}
-use Rattle.std.proofs.lemmas.Bool.{cases_lt, lt-ltb, le-ltb}
 use Rattle.std.proofs.lemmas.Bool.Decides.{nat_tests}
-use Rattle.rb_base.specs.Nodes.{Side, has, set_of}
+use Rattle.rb_base.specs.Nodes.{Side}
 use Rattle.rb_base.specs.Nodes.Side.{Biu, Rmu}
-use Rattle.rb_base.specs.Sizes.{Sizes, sync_slot_of}
 use Rattle.rb_base.specs.declared.values.Place.{Place}
 use Rattle.rb_base.proofs.Sets.{has_none, is_set_of, same_set_of}
 use Rattle.rb_rules.specs.declared.message.Message.{Message}
-use Rattle.rb_rules.specs.Book.{Begun, Book, Each, Milestone, Record, Row, in_order, map_each, of_kind}
-use Rattle.rb_rules.specs.Book.Milestone.{Begin, Stage, End}
+use Rattle.rb_rules.specs.Book.{Begun, Each, Milestone, Row, map_each, of_kind}
+use Rattle.rb_rules.specs.Book.Milestone.{Stage, End}
 use Rattle.rb_rules.specs.Goodness.{Scenario, good_at, is_good}
 use Rattle.rb_rules.specs.Ports.{HandIn}
-use Rattle.rb_rules.specs.Rounds.{Moment, moment, windows_in}
+use Rattle.rb_rules.specs.Rounds.{windows_in}
 use Rattle.rb_rules.specs.Slots.{count_of}
-use Rattle.rb_rules.specs.WorldStep.{Site, Way, World, all_have_told, at_node, begun_for, comes_so, is_complete, needs_no_event, nobody_good, row_for, same_place, with_message}
+use Rattle.rb_rules.specs.WorldStep.{Site, World, all_have_told, at_node, begun_for, comes_so, is_complete, nobody_good, row_for, same_place, with_message}
 use Rattle.rb_rules.specs.WorldStep.Way.{ByAnEvent}
-use Rattle.rb_rules.proofs.WindowNumbers.{get-each, length-each}
-use Rattle.rb_order.specs.Closing.{stages_in}
-use Rattle.rb_order.proofs.Invariant.{next_stage}
+use Rattle.rb_rules.proofs.WindowNumbers.{get-each}
 use Rattle.rb_order.proofs.RoundNodes.{good-counts, item-at}
 use Rattle.rb_order.proofs.Settling.{and-true, each-at}
-use Rattle.rb_order.proofs.Telling.{reached-tells}
 use Rattle.rb_order.proofs.ToldInOrder.{AllTold, number_at}
 use Rattle.rb_order.proofs.WorldStands.{back-from, is_node, node-is, node-itself, some-same}
 use Rattle.rb_order.proofs.WorldTicks.{after_tick, get-after, reached}
@@ -103,7 +98,7 @@ untold sc frame slot tells sites me i s there good none = by (all_have_told sc f
         true-false e = cc
     by false e = e
 
-no-good : (sc : Scenario) (side : Side) (frame slot : ℕ) → ((i : ℕ) → is_good sc side i frame slot ≡ false) → good_at sc side frame slot ≡ 0
+pub no-good : (sc : Scenario) (side : Side) (frame slot : ℕ) → ((i : ℕ) → is_good sc side i frame slot ≡ false) → good_at sc side frame slot ≡ 0
 no-good sc side frame slot none =
     same_set_of (λ i. is_good sc side i frame slot) (λ i. false) (λ i h. none i) ∙ sym (is_set_of 0 (λ i. false) (lit≤ tt) (λ i h. has_none i))
 
