@@ -66,7 +66,7 @@ same-is : (a b : ℕ) → a ≡ b → (a == b) ≡ true
 same-is a b h = grind (arith, nat_tests)
 
 -- a node that is good where it stands runs
-runs-there : (sc : Scenario) (hands : List HandIn) (now : ℕ) (at : Side → ℕ → ℕ) (sites : Each Site) → SitesStand sc hands now at sites → (me : Side) (i : ℕ) (s : Site)
+pub runs-there : (sc : Scenario) (hands : List HandIn) (now : ℕ) (at : Side → ℕ → ℕ) (sites : Each Site) → SitesStand sc hands now at sites → (me : Side) (i : ℕ) (s : Site)
     → slice_get (of_kind me sites) i ≡ Some s → is_good_at sc (moment sc hands (at me i)) me i ≡ true → s.runs ≡ true
 runs-there sc hands now at sites h me i s there good = by s.runs refl
   where

@@ -60,3 +60,4 @@ pub mod Untold
 pub mod Pace
 pub mod Behind
 pub mod UpToThere
+pub mod EventsHold

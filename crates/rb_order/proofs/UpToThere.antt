@@ -114,7 +114,7 @@ pub record UpTo (sc : Scenario) (hands : List HandIn) (n : ℕ) : Type 0 where
   pub well : BegunWell sc (moment sc hands n)
 
 -- a stage after a moment does not come before its next stage
-next-le : (sc : Scenario) (hands : List HandIn) (p n : ℕ) → (moment sc hands p).window ≤ stages_in sc.sizes → (moment sc hands n).window < stages_in sc.sizes → p < n
+pub next-le : (sc : Scenario) (hands : List HandIn) (p n : ℕ) → (moment sc hands p).window ≤ stages_in sc.sizes → (moment sc hands n).window < stages_in sc.sizes → p < n
     → next_stage sc.sizes (moment sc hands p) p ≤ n
 next-le sc hands p n within stage lt =
     elim (cases_lt n (next_stage sc.sizes (moment sc hands p) p)) [

@@ -5,10 +5,11 @@ use Rattle.rb_base.specs.Sizes.{Sizes, sync_slot_of}
 use Rattle.rb_rules.specs.declared.plan.Plan.{Plan}
 use Rattle.rb_rules.specs.Core.{Core, next_tick, ticks}
 use Rattle.rb_rules.specs.Goodness.{Scenario}
+use Rattle.rb_rules.specs.Lawful.{IsLawful}
 use Rattle.rb_rules.specs.Moments.{IsRunning}
 use Rattle.rb_rules.specs.Ports.{HandIn}
 use Rattle.rb_rules.specs.Rounds.{moment, steps_of, records_of}
-use Rattle.rb_rules.specs.WorldStep.{World, Choice, IsPrefix, choose}
+use Rattle.rb_rules.specs.WorldStep.{World, Choice, EventsAreRounds, IsPrefix, choose}
 use Rattle.rb_order.specs.Closing.{stages_in}
 
 -- the records of a scenario are those of the moment after all steps: that the run stops at its end changes nothing
@@ -45,3 +46,7 @@ abbrev pub SyncSlotsHold : Scenario → Type 0
 SyncSlotsHold sc =
     (hands : List HandIn) (n : ℕ) → IsRunning (moment sc hands n) → 3 * sync_slot_of sc.sizes ≤ (moment sc hands n).window
     → (moment sc hands n).window < stages_in sc.sizes → IsRunning (moment sc hands (n + 1))
+
+-- so events are rounds: whatever is chosen among what is due
+abbrev pub EventsAreRoundsIfSyncHolds : Type 0
+EventsAreRoundsIfSyncHolds = (sc : Scenario) → IsLawful sc → SyncSlotsHold sc → EventsAreRounds sc
