@@ -1,5 +1,5 @@
 -- What is proved of rounds and of single events so far.
-use Rattle.std.specs.Prelude.{ℕ, ◌≡◌, ◌+◌, ◌*◌, ◌^◌, ◌<◌, ◌≤◌, true, Some, List, [], ◌∷◌, ◌++◌}
+use Rattle.std.specs.Prelude.{ℕ, ◌≡◌, ◌+◌, ◌*◌, ◌^◌, ◌<◌, ◌≤◌, true, false, Some, List, [], ◌∷◌, ◌++◌, length}
 use Rattle.rb_base.specs.Nodes.{Side}
 use Rattle.rb_base.specs.Sizes.{Sizes, sync_slot_of}
 use Rattle.rb_rules.specs.declared.plan.Plan.{Plan}
@@ -9,7 +9,7 @@ use Rattle.rb_rules.specs.Lawful.{IsLawful}
 use Rattle.rb_rules.specs.Moments.{IsRunning}
 use Rattle.rb_rules.specs.Ports.{HandIn}
 use Rattle.rb_rules.specs.Rounds.{moment, steps_of, records_of}
-use Rattle.rb_rules.specs.WorldStep.{World, Choice, EventsAreRounds, IsPrefix, choose}
+use Rattle.rb_rules.specs.WorldStep.{World, Choice, EventsAreRounds, IsPrefix, choose, due_of, needs_no_event, world_after}
 use Rattle.rb_order.specs.Closing.{stages_in}
 
 -- the records of a scenario are those of the moment after all steps: that the run stops at its end changes nothing
@@ -50,3 +50,9 @@ SyncSlotsHold sc =
 -- so events are rounds: whatever is chosen among what is due
 abbrev pub EventsAreRoundsIfSyncHolds : Type 0
 EventsAreRoundsIfSyncHolds = (sc : Scenario) → IsLawful sc → SyncSlotsHold sc → EventsAreRounds sc
+
+-- and as long as the run has not ended, and the next record needs an event, some event is due
+abbrev pub SomethingIsDueIfSyncHolds : Type 0
+SomethingIsDueIfSyncHolds =
+    (sc : Scenario) → IsLawful sc → SyncSlotsHold sc → (choices : List Choice) → (world_after sc choices).book.ended ≡ false
+    → needs_no_event sc (world_after sc choices).book.upcoming ≡ false → 1 ≤ length (due_of sc (world_after sc choices))
