@@ -5,21 +5,19 @@ use Rattle.std.proofs.lemmas.Nat.{mul-le}
 use Rattle.std.proofs.lemmas.List.{append-nil}
 use Rattle.std.proofs.lemmas.List.FromFn.{length-map-range_with_len}
 use Rattle.rb_base.specs.Nodes.{Side}
-use Rattle.rb_base.specs.Nodes.Side.{Biu, Rmu}
 use Rattle.rb_rules.specs.Book.{Each, in_order, of_kind, each_of}
 use Rattle.rb_rules.specs.Goodness.{Scenario, is_good}
-use Rattle.rb_rules.proofs.WindowNumbers.{get-back, get-front, get-made}
+use Rattle.rb_rules.proofs.WindowNumbers.{get-made}
 use Rattle.rb_rules.specs.Lawful.{IsLawful}
 use Rattle.rb_rules.specs.Ports.{HandIn}
 use Rattle.rb_rules.specs.Rounds.{Moment, begin_frame, moment, steps_of, windows_in}
 use Rattle.rb_rules.specs.Slots.{count_of}
-use Rattle.rb_rules.specs.WorldStep.{Timed, begun_for, due_at, least, needs_no_event, times_of, Choice, Due, EventsAreRounds, Site, World, await, choose, due_of, enter, says_in, span_from, stop, first_world, fresh_site, go_on, proceed, settle, take, take_if_due, world_after}
+use Rattle.rb_rules.specs.WorldStep.{begun_for, due_at, least, needs_no_event, times_of, Choice, Due, EventsAreRounds, Site, World, await, choose, due_of, enter, says_in, span_from, stop, first_world, fresh_site, go_on, proceed, settle, take, take_if_due, world_after}
 use Rattle.rb_rules.specs.WorldStep.Choice.{Take, GoOn, Hand}
 use Rattle.rb_rules.specs.WorldStep.Way.{ByItself}
 use Rattle.rb_rules.proofs.Books.{GoesOn, moments-on}
 use Rattle.rb_order.proofs.Alone.{go-on-settled}
 use Rattle.rb_order.proofs.Completing.{Settled}
-use Rattle.rb_order.proofs.DueEvents.{some-due}
 use Rattle.rb_order.proofs.EventsLaw.{IsBookOfRounds, law-from}
 use Rattle.rb_order.proofs.FirstWorld.{at_begin, first-stands}
 use Rattle.rb_order.proofs.MomentBooks.{number-of}
@@ -40,8 +38,8 @@ use Rattle.rb_order.proofs.Settling.{RowsOfRounds}
 use Rattle.rb_order.proofs.ToldInOrder.{AllTold}
 use Rattle.rb_order.proofs.Waiting.{none-told}
 use Rattle.rb_order.proofs.WorldStands.{some-same}
-use Rattle.rb_rules.specs.Hearing.{Coming, Span, port_at}
-use Rattle.rb_order.proofs.WorldNodes.{events-due, first-counts, settle-sites, worlds-known}
+use Rattle.rb_rules.specs.Hearing.{Span, port_at}
+use Rattle.rb_order.proofs.WorldNodes.{events-due, first-counts, settle-sites}
 
 -- All steps.
 
@@ -242,7 +240,7 @@ choice-keeps sc choices (Take i) lawful room pace h = by (slice_get (due_of sc (
 choice-keeps sc choices GoOn lawful room pace h = go-on-keeps sc h.now h.at (world_after sc choices) lawful room h.stands
 choice-keeps sc choices (Hand biu state) lawful room pace h = hand-keeps sc h.now h.at (world_after sc choices) biu state lawful room h.stands
 
-after-more : (sc : Scenario) (choices : List Choice) (c : Choice) → world_after sc (choices ++ c ∷ []) ≡ choose sc (world_after sc choices) c
+pub after-more : (sc : Scenario) (choices : List Choice) (c : Choice) → world_after sc (choices ++ c ∷ []) ≡ choose sc (world_after sc choices) c
 after-more sc choices c = more choices (first_world sc)
   where
     more : (cs : List Choice) (w : World) → fold (choose sc) w (cs ++ c ∷ []) ≡ choose sc (fold (choose sc) w cs) c
@@ -268,45 +266,3 @@ events-are-rounds sc lawful room pace =
     law-from sc (λ choices.
     let w : StandsInRounds sc (world_after sc choices) = stands-after sc lawful room pace choices in
     of-rounds sc (world_after sc choices) w.stands.book)
-
--- Something is due.
-
-least-some : (x : ℕ) (xs : List ℕ) → (t : ℕ) × (least (x ∷ xs) ≡ Some t)
-least-some x xs = (_, refl)
-
-at-front : {X : Type 0} (f : X → List ℕ) (xs : List X) (n : ℕ) (x : X) (t : ℕ) (ts : List ℕ) → slice_get xs n ≡ Some x → f x ≡ t ∷ ts → (u : ℕ) × (least (flat_map f xs) ≡ Some u)
-at-front f [] n x t ts e is = cc
-at-front f (y ∷ ys) zero x t ts e is =
-    let same : y ≡ x = some-same y x e in
-    subst (λ l. (u : ℕ) × (least (l ++ flat_map f ys) ≡ Some u)) (sym (ap f same ∙ is)) (least-some t (ts ++ flat_map f ys))
-at-front f (y ∷ ys) (suc n) x t ts e is = by (f y) (at-front f ys n x t ts e is)
-  where
-    by : (l : List ℕ) → (u : ℕ) × (least (flat_map f ys) ≡ Some u) → (u : ℕ) × (least (l ++ flat_map f ys) ≡ Some u)
-    by [] more = more
-    by (z ∷ zs) more = least-some z (zs ++ flat_map f ys)
-
-in-order-at : (w : World) (me : Side) (i : ℕ) (s : Site) → slice_get (of_kind me w.sites) i ≡ Some s → (n : ℕ) × (slice_get (in_order w.sites) n ≡ Some s)
-in-order-at w Biu i s e = (i, get-front w.sites.bius w.sites.rmus i (get-within w.sites.bius i s e) ∙ e)
-in-order-at w Rmu i s e = (length w.sites.bius + i, get-back w.sites.bius w.sites.rmus i ∙ e)
-
--- while the run has not ended, and the next record needs an event, some event is due
-pub something-due : (sc : Scenario) → IsLawful sc → HasRoom sc.plan → KeepsPace sc → (choices : List Choice) → (world_after sc choices).book.ended ≡ false
-    → needs_no_event sc (world_after sc choices).book.upcoming ≡ false → 1 ≤ length (due_of sc (world_after sc choices))
-something-due sc lawful room pace choices going needs =
-    let w : World = world_after sc choices in
-    let h : StandsInRounds sc w = stands-after sc lawful room pace choices in
-    let waits = world-waits sc h.now h.at w h.stands going needs in
-    let behind = waits.1.behind in
-    let up = h.stands.sites.up behind.me behind.i behind.s behind.there behind.runs in
-    let place = in-order-at w behind.me behind.i behind.s behind.there in
-    let times : times_of behind.s ≡ up.a.time ∷ map (λ (c : Coming). c.time) behind.s.coming =
-    ap (λ o. option_to_list (option_map (λ (a : Timed). a.time) o) ++ map (λ (c : Coming). c.time) behind.s.coming) up.stands.receives.pends in
-    let t = at-front times_of (in_order w.sites) place.0 behind.s up.a.time (map (λ (c : Coming). c.time) behind.s.coming) place.1 times in
-    some-of (due_of sc w) (λ none. some-due sc w t.0 (record { known = (worlds-known sc choices).known }) (neither w.book.ended (needs_no_event sc w.book.upcoming) going needs) t.1 none)
-  where
-    some-of : {X : Type 0} (xs : List X) → (xs ≡ [] → ⊥) → 1 ≤ length xs
-    some-of [] never = absurd (never refl)
-    some-of (x ∷ xs) never = omega arith
-
-    neither : (a b : Bool) → a ≡ false → b ≡ false → (a || b) ≡ false
-    neither a b e f = rw (e, f) refl

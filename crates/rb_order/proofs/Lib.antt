@@ -40,6 +40,9 @@ pub mod Alone
 pub mod OneTake
 pub mod OneHandIn
 pub mod EveryWorld
+pub mod Turns
+pub mod Progress
+pub mod Takes
 pub mod RoundNodes
 pub mod WorldBooks
 pub mod EventsLaw

@@ -3,7 +3,7 @@
 #![tactic(none)]
 
 ghost use Rattle.rb_order.specs.Closing.{GoodNodesCloseInOrder};
-ghost use Rattle.rb_order.specs.Laws.{EventsAreRoundsIfSyncHolds, EventsOnlyAdd, HandInsComeLate, QuietTicksCount, RecordsAreOfAllSteps, RoundsOnlyAdd, SomethingIsDueIfSyncHolds};
+ghost use Rattle.rb_order.specs.Laws.{EventsAreRoundsIfSyncHolds, EventsOnlyAdd, HandInsComeLate, OneTurnARecordIfSyncHolds, QuietTicksCount, RecordsAreOfAllSteps, RoundsOnlyAdd, SomethingIsDueIfSyncHolds};
 
 /// A run by rounds that stops at its end has all records.
 pub fn records_are_of_all_steps()
@@ -48,4 +48,9 @@ pub fn events_are_rounds_if_sync_holds()
 /// record needs an event.
 pub fn something_is_due_if_sync_holds()
     ensures { SomethingIsDueIfSyncHolds }
+{}
+
+/// In such a scenario each call gives no record, or the next of the rounds.
+pub fn one_turn_a_record_if_sync_holds()
+    ensures { OneTurnARecordIfSyncHolds }
 {}
