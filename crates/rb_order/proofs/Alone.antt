@@ -87,7 +87,7 @@ after-alone sc place shape h = by (nat_lt place.stage 3) (place.slot == sync_slo
     by : (a b : Bool) → needs_no_event sc (
         if a then Stage (record place { stage = place.stage + 1 })
         else (if b then Begin (place.frame + 1) else Stage (record { frame = place.frame; slot = place.slot + 1; stage = 1 }))
-    ) ≡ true
+        ) ≡ true
     by true b = h
     by false true = nobody-later sc place.frame place.slot (place.frame + 1) 0 shape h (inl (omega arith))
     by false false = nobody-later sc place.frame place.slot place.frame (place.slot + 1) shape h (inr (refl, omega arith))

@@ -1,13 +1,12 @@
 -- For the law that events are rounds: while the book waits for a milestone, some node that runs has not passed it, so none closes what comes
 -- after it.
-use Rattle.std.proofs.Common.{◌≡◌, ℕ, suc, ◌+◌, ◌*◌, ◌-◌, ◌%◌, ◌<◌, ◌≤◌, ◌==◌, ◌&&◌, ◌⊎◌, nat_lt, Bool, true, false, List, length, refl, ap, sym, ◌∙◌, subst, arith, inl, inr, Option, Some, None, is_some, slice_get, if◌then◌else◌}
+use Rattle.std.proofs.Common.{◌≡◌, ℕ, suc, ◌+◌, ◌*◌, ◌-◌, ◌%◌, ◌<◌, ◌≤◌, ◌==◌, ◌⊎◌, Bool, true, false, List, refl, ap, sym, ◌∙◌, subst, arith, inl, inr, Option, Some, None, is_some, slice_get, if◌then◌else◌}
 use Rattle.std.proofs.lemmas.Bool.{cases_lt, le-ltb, lt-ltb}
 use Rattle.std.proofs.lemmas.Bool.Decides.{nat_tests}
 use Rattle.std.proofs.lemmas.Nat.{mul-le}
 use Rattle.rb_base.specs.Nodes.{Side}
-use Rattle.rb_base.specs.Sizes.{sync_slot_of}
 use Rattle.rb_base.specs.declared.values.Place.{Place}
-use Rattle.rb_rules.specs.Book.{Begun, Book, Each, Milestone, Row, after_stage, fresh_book, of_kind}
+use Rattle.rb_rules.specs.Book.{Begun, Book, Each, Milestone, Row, after_stage, of_kind}
 use Rattle.rb_rules.specs.Book.Milestone.{Begin, Stage, End}
 use Rattle.rb_rules.specs.Clock.{time_of}
 use Rattle.rb_rules.specs.Goodness.{Scenario, clock_of, is_good}
@@ -16,7 +15,7 @@ use Rattle.rb_rules.specs.Moments.{IsRunning}
 use Rattle.rb_rules.specs.NodeState.{NodeState}
 use Rattle.rb_rules.specs.Plan.{f0_of, shortest_of}
 use Rattle.rb_rules.specs.Ports.{HandIn}
-use Rattle.rb_rules.specs.Rounds.{IsGoodIn, Moment, begin_frame, moment, windows_in}
+use Rattle.rb_rules.specs.Rounds.{Moment, moment, windows_in}
 use Rattle.rb_rules.specs.WorldStep.{Site, Timed, begun_for, is_complete, needs_no_event, row_for, same_place, times_of}
 use Rattle.rb_rules.proofs.Drift.{times_rise_to}
 use Rattle.rb_sync.proofs.PlanNumbers.{drift_of}
@@ -25,19 +24,18 @@ use Rattle.rb_sync.proofs.Times.{Steady, lawful_fits, plan_fits}
 use Rattle.rb_order.specs.Closing.{stages_in}
 use Rattle.rb_order.proofs.CloseOrder.{has-ticks}
 use Rattle.rb_order.proofs.FrameTimes.{BegunWell, good-node}
-use Rattle.rb_order.proofs.Invariant.{InTime, NodeStands, is_good_at, last_tick, next_stage}
+use Rattle.rb_order.proofs.Invariant.{InTime, is_good_at, last_tick, next_stage}
 use Rattle.rb_order.proofs.MomentBooks.{next_of, number-of, place_at, settles-next, stage-next, SettlesNext}
 use Rattle.rb_order.proofs.MomentSteps.{NextIsStage, good-back, good-state, next-inner, next-is-stage, next-outer}
 use Rattle.rb_order.proofs.NodeEvents.{tick-after}
-use Rattle.rb_order.proofs.Pace.{Bound, IsWithin, Paced, number_of}
-use Rattle.rb_order.proofs.RoundNodes.{slot-is, slot_numbered}
+use Rattle.rb_order.proofs.Pace.{IsWithin, Paced, number_of}
+use Rattle.rb_order.proofs.RoundNodes.{slot_numbered}
 use Rattle.rb_order.proofs.SameHeard.{Every}
 use Rattle.rb_order.proofs.Settling.{some-same}
 use Rattle.rb_order.proofs.SettlingFrames.{IsOfMoment}
 use Rattle.rb_order.proofs.StageOrder.{last_of, last-same}
 use Rattle.rb_order.proofs.TimelyMoments.{good-in}
 use Rattle.rb_order.proofs.Timing.{HavePassed}
-use Rattle.rb_order.proofs.ToldInOrder.{number_at}
 use Rattle.rb_order.proofs.ToldSoFar.{AllHaveTold, HasTold, PendsFirst}
 use Rattle.rb_order.proofs.Untold.{HasNotTold, not-told}
 use Rattle.rb_order.proofs.WorldStands.{AllPend, IsDown, IsUp, SitesStand, sent_by}

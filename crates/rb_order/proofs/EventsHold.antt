@@ -2,7 +2,7 @@
 use Rattle.std.proofs.Common.{List}
 use Rattle.rb_rules.specs.Goodness.{Scenario}
 use Rattle.rb_rules.specs.Lawful.{IsLawful}
-use Rattle.rb_rules.specs.WorldStep.{Choice, EventsAreRounds, world_after}
+use Rattle.rb_rules.specs.WorldStep.{Choice, world_after}
 use Rattle.rb_order.specs.Laws.{EventsAreRoundsIfSyncHolds, OneTurnARecordIfSyncHolds, SomethingIsDueIfSyncHolds, SyncSlotsHold}
 use Rattle.rb_order.proofs.Behind.{IsBehind}
 use Rattle.rb_order.proofs.EveryWorld.{KeepsPace, events-are-rounds, stands-after}

@@ -1,5 +1,5 @@
 -- For the law that events are rounds, which is still to come: it holds of a scenario in whose worlds the nodes are in time where they stand.
-use Rattle.std.proofs.Common.{◌≡◌, ℕ, zero, suc, ◌+◌, ◌*◌, ◌-◌, ◌<◌, ◌≤◌, ◌⊎◌, ◌||◌, Bool, true, false, List, [], ◌∷◌, ◌++◌, length, append_assoc, refl, ap, sym, ◌∙◌, subst, arith, inl, inr, Option, Some, None, flat_map, fold, is_some, slice_get, map, option_map, option_to_list}
+use Rattle.std.proofs.Common.{◌≡◌, ℕ, zero, suc, ◌+◌, ◌*◌, ◌-◌, ◌<◌, ◌≤◌, ◌⊎◌, ◌||◌, Bool, true, false, List, [], ◌∷◌, ◌++◌, length, append_assoc, refl, ap, sym, ◌∙◌, subst, arith, inl, inr, Option, Some, None, flat_map, fold, is_some, slice_get}
 use Rattle.std.proofs.lemmas.Bool.{cases_lt}
 use Rattle.std.proofs.lemmas.Nat.{mul-le}
 use Rattle.std.proofs.lemmas.List.{append-nil}
@@ -22,7 +22,6 @@ use Rattle.rb_order.proofs.EventsLaw.{IsBookOfRounds, law-from}
 use Rattle.rb_order.proofs.FirstWorld.{at_begin, first-stands}
 use Rattle.rb_order.proofs.MomentBooks.{number-of}
 use Rattle.rb_order.proofs.NodeActs.{HasRoom}
-use Rattle.rb_order.proofs.NodeClosing.{NextInTime}
 use Rattle.rb_rules.specs.Moments.{IsRunning}
 use Rattle.rb_order.specs.Closing.{stages_in}
 use Rattle.rb_order.proofs.Invariant.{next_stage}

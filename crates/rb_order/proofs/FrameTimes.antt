@@ -1,6 +1,6 @@
 -- For the law that events are rounds: in a run that has not ended good nodes have begun the frame together, and over the turn they
 -- begin the next one together.
-use Rattle.std.proofs.Common.{◌≡◌, ℕ, suc, ◌+◌, ◌*◌, ◌≤◌, ◌<◌, true, false, List, refl, ap, sym, ◌∙◌, subst, arith, inl, inr, Some, slice_get, option_map}
+use Rattle.std.proofs.Common.{◌≡◌, ℕ, suc, ◌+◌, ◌*◌, ◌≤◌, ◌<◌, true, List, ap, sym, ◌∙◌, subst, arith, inl, inr, Some, slice_get, option_map}
 use Rattle.rb_base.specs.Nodes.{Side}
 use Rattle.rb_base.specs.Nodes.Side.{Biu, Rmu}
 use Rattle.rb_base.specs.Sizes.{sync_slot_of}
@@ -12,13 +12,13 @@ use Rattle.rb_rules.specs.Lawful.{IsLawful}
 use Rattle.rb_rules.specs.Moments.{IsRunning}
 use Rattle.rb_rules.specs.NodeState.{NodeState}
 use Rattle.rb_rules.specs.Ports.{HandIn}
-use Rattle.rb_rules.specs.Rounds.{IsGoodIn, Moment, moment, next_frame, windows_in}
+use Rattle.rb_rules.specs.Rounds.{IsGoodIn, Moment, moment, windows_in}
 use Rattle.rb_rules.specs.SyncStage.{new_epoch_of}
 use Rattle.rb_agree.proofs.Agreement.{running_before, step_is}
 use Rattle.rb_agree.proofs.FrameAgrees.{TurnedFrom, turned_from}
 use Rattle.rb_agree.proofs.Goodnesses.{slot_last}
 use Rattle.rb_agree.proofs.Invariant.{IsGoodNode}
-use Rattle.rb_agree.proofs.NextMoments.{CameFrom, came_from, next}
+use Rattle.rb_agree.proofs.NextMoments.{CameFrom, came_from}
 use Rattle.rb_agree.proofs.NodeWindows.{tail_windows}
 use Rattle.rb_agree.proofs.Settings.{after}
 use Rattle.rb_sync.proofs.CallTicks.{all_know_next}

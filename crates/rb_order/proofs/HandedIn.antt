@@ -108,7 +108,7 @@ node-handed sc hands h now at sites me i p s st a some early n =
     ap (λ (y : Moment). word_for_there y) here.is ∙ here.word i (window_in sc m me st) (slot-is sc.sizes sc.plan me st m.window) in
     let next : next_stage sc.sizes x p ≡ q = ap (λ (y : Moment). next_stage sc.sizes y p) here.is in
     let lists : Receives sc me i (last_tick sc x me st) (heard_so_far sc x me i (span_of st (window_in sc x me st)) (λ j. sent_by sc more at sites (other me) j p))
-        (ahead_so_far sc (moment sc more q) me i (λ j. sent_by sc more at sites (other me) j q)) now s a =
+    (ahead_so_far sc (moment sc more q) me i (λ j. sent_by sc more at sites (other me) j q)) now s a =
     receives-alike sc me i now s st a m x (moment sc hands q) (moment sc more q) (λ j. sent_by sc more at sites (other me) j p) (λ j. sent_by sc more at sites (other me) j q) here there
     (subst (λ g. Receives sc me i (last_tick sc m me st) (heard_so_far sc m me i (span_of st (window_in sc m me st)) (λ j. sent_by sc more at sites (other me) j p))
     (ahead_so_far sc (moment sc hands q) me i g) now s a) g

@@ -1,22 +1,22 @@
 -- For the law that events are rounds: no node is beyond the stage after that which the book waits for, and what it waits for is not
 -- complete. Whatever is settled keeps it so.
-use Rattle.std.proofs.Common.{◌≡◌, ℕ, zero, suc, ◌+◌, ◌*◌, ◌-◌, ◌<◌, ◌≤◌, ◌==◌, ◌&&◌, ◌⊎◌, not, nat_lt, if◌then◌else◌, Bool, true, false, List, [], ◌∷◌, ◌++◌, length, refl, ap, sym, ◌∙◌, subst, arith, inl, inr, Option, Some, None, is_some, slice_get}
+use Rattle.std.proofs.Common.{◌≡◌, ℕ, zero, suc, ◌+◌, ◌*◌, ◌<◌, ◌≤◌, ◌==◌, ◌&&◌, ◌⊎◌, not, nat_lt, if◌then◌else◌, Bool, true, false, List, [], ◌∷◌, ◌++◌, length, refl, ap, sym, ◌∙◌, subst, arith, inl, inr, Option, Some, None, slice_get}
 use Rattle.std.specs.Prelude.{⊤}
-use Rattle.std.proofs.lemmas.Bool.{cases_lt, le-ltb}
+use Rattle.std.proofs.lemmas.Bool.{le-ltb}
 use Rattle.std.proofs.lemmas.Bool.Decides.{nat_tests}
 use Rattle.std.proofs.lemmas.List.{append-nil}
 use Rattle.rb_base.specs.Nodes.{Side}
 use Rattle.rb_base.specs.Sizes.{IsShape, Sizes, sync_slot_of}
 use Rattle.rb_base.specs.declared.values.Place.{Place}
-use Rattle.rb_rules.specs.Book.{Begun, Book, Each, Milestone, Record, Row, after_stage, after_verdict, frame_records, judged_of, of_kind, slot_records, with_end, with_frame, with_stage}
+use Rattle.rb_rules.specs.Book.{Begun, Book, Each, Milestone, Record, Row, after_stage, after_verdict, frame_records, judged_of, of_kind, with_frame, with_stage}
 use Rattle.rb_rules.specs.Book.Milestone.{Begin, Stage, End}
 use Rattle.rb_rules.specs.declared.cause.Cause.{Cause}
-use Rattle.rb_rules.specs.Judging.{JudgedStage, verdict_of}
-use Rattle.rb_rules.specs.Goodness.{Scenario, is_good}
+use Rattle.rb_rules.specs.Judging.{verdict_of}
+use Rattle.rb_rules.specs.Goodness.{Scenario}
 use Rattle.rb_rules.specs.Ports.{HandIn}
-use Rattle.rb_rules.specs.Rounds.{moment, windows_in}
+use Rattle.rb_rules.specs.Rounds.{windows_in}
 use Rattle.rb_rules.specs.Slots.{count_of}
-use Rattle.rb_rules.specs.WorldStep.{Site, Way, World, book_with, comes_so, go_on, is_complete, needs_no_event, nobody_good, record_since, row_for, settle, settle_next}
+use Rattle.rb_rules.specs.WorldStep.{Site, Way, World, book_with, comes_so, is_complete, needs_no_event, nobody_good, record_since, row_for, settle, settle_next}
 use Rattle.rb_rules.specs.WorldStep.Way.{ByAnEvent, ByItself}
 use Rattle.rb_rules.proofs.Books.{GoesOn}
 use Rattle.rb_order.proofs.MomentBooks.{end-ended, stage-book-next}

@@ -1,18 +1,17 @@
 -- For the law that something is due, which is still to come: as long as a node runs, something is pending, and so some event is due.
-use Rattle.std.proofs.Common.{◌≡◌, ℕ, ◌+◌, ◌≤◌, ◌||◌, Bool, true, false, List, [], ◌∷◌, ◌++◌, flat_map, length, map, refl, ap, sym, ◌∙◌, subst, arith, Option, Some, None, option_map, option_to_list, slice_get}
+use Rattle.std.proofs.Common.{◌≡◌, ℕ, ◌≤◌, ◌||◌, true, false, List, [], ◌∷◌, ◌++◌, flat_map, length, map, refl, ap, ◌∙◌, subst, arith, Option, Some, None, option_map, option_to_list, slice_get}
 use Rattle.rb_base.specs.Nodes.{Side}
 use Rattle.rb_base.specs.Nodes.Side.{Biu, Rmu}
-use Rattle.rb_rules.specs.Book.{Each, in_order, of_kind}
+use Rattle.rb_rules.specs.Book.{in_order, of_kind}
 use Rattle.rb_rules.specs.Goodness.{Scenario}
 use Rattle.rb_rules.specs.Hearing.{Coming}
-use Rattle.rb_rules.specs.Ports.{HandIn}
 use Rattle.rb_rules.specs.WorldStep.{Choice, Due, Site, Timed, World, due_of, least, needs_no_event, times_of, world_after}
 use Rattle.rb_order.specs.Laws.{SomethingIsDue}
 use Rattle.rb_order.proofs.DueEvents.{every-at, every-back, every-front, every-unflat, least-none, some-due}
 use Rattle.rb_order.proofs.OneTake.{StandsInRounds}
 use Rattle.rb_order.proofs.SameHeard.{Every}
 use Rattle.rb_order.proofs.WorldNodes.{worlds-known}
-use Rattle.rb_order.proofs.WorldStands.{IsUp, SitesStand, sent_by}
+use Rattle.rb_order.proofs.WorldStands.{IsUp, sent_by}
 
 -- a node that runs
 pub record SomeRuns (w : World) : Type 0 where

@@ -1,5 +1,5 @@
 -- For the law that events are rounds: in a run that has not ended good nodes are in time.
-use Rattle.std.proofs.Common.{◌≡◌, ℕ, suc, ◌+◌, ◌*◌, ◌-◌, ◌≤◌, ◌<◌, true, List, refl, ap, sym, ◌∙◌, subst, arith, inl, inr, Some, slice_get}
+use Rattle.std.proofs.Common.{◌≡◌, ℕ, suc, ◌+◌, ◌*◌, ◌≤◌, ◌<◌, true, List, refl, ap, sym, ◌∙◌, subst, arith, inl, inr, Some, slice_get}
 use Rattle.std.proofs.lemmas.Bool.{cases_lt}
 use Rattle.rb_base.specs.Nodes.{Side, other}
 use Rattle.rb_base.specs.Sizes.{Sizes, sync_slot_of}
@@ -8,28 +8,28 @@ use Rattle.rb_rules.specs.declared.plan.Window.{Window}
 use Rattle.rb_rules.specs.Book.{of_kind, with_frame}
 use Rattle.rb_rules.specs.Clock.{time_of}
 use Rattle.rb_rules.specs.Goodness.{Scenario, clock_of}
-use Rattle.rb_rules.specs.Hearing.{Coming, window_numbered}
+use Rattle.rb_rules.specs.Hearing.{window_numbered}
 use Rattle.rb_rules.specs.Lawful.{IsLawful}
 use Rattle.rb_rules.specs.Moments.{IsRunning}
 use Rattle.rb_rules.specs.NodeState.{NodeState}
 use Rattle.rb_rules.specs.Plan.{tail_start_of}
 use Rattle.rb_rules.specs.Ports.{HandIn}
-use Rattle.rb_rules.specs.Rounds.{IsGoodIn, Moment, begin_frame, moment, windows_in}
+use Rattle.rb_rules.specs.Rounds.{Moment, begin_frame, moment}
 use Rattle.rb_rules.proofs.RoundStates.{HasTicks}
 use Rattle.rb_agree.proofs.Places.{running_earlier}
 use Rattle.rb_sync.proofs.CallTicks.{all_know_next}
 use Rattle.rb_sync.proofs.StageCalls.{clock_now}
 use Rattle.rb_sync.proofs.SyncLaws.{all_timely}
-use Rattle.rb_sync.proofs.Synchronous.{KnowNext, KnowsEpoch}
+use Rattle.rb_sync.proofs.Synchronous.{KnowsEpoch}
 use Rattle.rb_order.specs.Closing.{HaveBegunAFrame, stages_in}
-use Rattle.rb_order.proofs.CloseOrder.{IsWindowLater, TurnsAfter, WasGood, has-ticks, turns-after, was-good, window-later}
+use Rattle.rb_order.proofs.CloseOrder.{IsWindowLater, WasGood, has-ticks, was-good, window-later}
 use Rattle.rb_order.proofs.FrameTimes.{BegunWell, KnewEpoch, begun-well, good-node, knew-epoch, node-in}
 use Rattle.rb_order.proofs.Invariant.{ComesInWindow, ComesLater, InTime, entry_of, is_good_at, last_tick, next_stage}
-use Rattle.rb_order.proofs.MomentSteps.{NextIsStage, good-back, good-state, next-inner, next-is-stage, next-outer}
+use Rattle.rb_order.proofs.MomentSteps.{NextIsStage, good-state, next-inner, next-is-stage, next-outer}
 use Rattle.rb_order.proofs.NodeClosing.{good-in-sync}
 use Rattle.rb_order.proofs.NodeTicks.{tail-first}
 use Rattle.rb_order.proofs.Receiving.{every-so}
-use Rattle.rb_order.proofs.RoundNodes.{Stands, moments-stand, slot-is, some-same}
+use Rattle.rb_order.proofs.RoundNodes.{Stands, moments-stand, some-same}
 use Rattle.rb_order.proofs.SameHeard.{Every}
 use Rattle.rb_order.proofs.StageOrder.{last_of}
 use Rattle.rb_order.proofs.StageTimes.{keeps-exact, keeps-running, stage-room, tail-room}

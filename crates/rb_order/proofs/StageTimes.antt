@@ -1,6 +1,6 @@
 -- For the law that events are rounds: where a run has not ended, the calls and the epochs of good nodes come where they must, and no
 -- window ends too late for a clock.
-use Rattle.std.proofs.Common.{◌≡◌, ℕ, suc, ◌+◌, ◌*◌, ◌-◌, ◌^◌, ◌≤◌, ◌<◌, ◌&&◌, nat_lt, Bool, true, false, List, refl, ap, sym, ◌∙◌, subst, arith, inl, inr, Option, Some, None, is_some, slice_get, option_map}
+use Rattle.std.proofs.Common.{◌≡◌, ℕ, ◌+◌, ◌*◌, ◌-◌, ◌^◌, ◌≤◌, ◌<◌, ◌&&◌, nat_lt, Bool, true, false, List, refl, ap, sym, ◌∙◌, subst, arith, inl, inr, Option, Some, None, is_some, slice_get, option_map}
 use Rattle.std.proofs.lemmas.Bool.{cases_lt}
 use Rattle.std.proofs.lemmas.Bool.Decides.{nat_tests}
 use Rattle.rb_base.specs.Nodes.{Side}
@@ -15,10 +15,10 @@ use Rattle.rb_rules.specs.Moments.{IsRunning}
 use Rattle.rb_rules.specs.NodeState.{NodeState}
 use Rattle.rb_rules.specs.Plan.{f0_of, tail_start_of}
 use Rattle.rb_rules.specs.Ports.{HandIn}
-use Rattle.rb_rules.specs.Rounds.{Moment, moment, windows_in}
+use Rattle.rb_rules.specs.Rounds.{Moment, moment}
 use Rattle.rb_rules.specs.Slots.{listens}
 use Rattle.rb_rules.specs.SyncStage.{new_epoch_of}
-use Rattle.rb_rules.proofs.RoundStates.{HasTicks, Knows, knows}
+use Rattle.rb_rules.proofs.RoundStates.{Knows, knows}
 use Rattle.rb_rules.proofs.WindowNumbers.{sync-numbered}
 use Rattle.rb_sync.proofs.CallTicks.{KeepsTicks, all_keep_ticks, all_know_next}
 use Rattle.rb_sync.proofs.EpochTicks.{frame_ticks}
@@ -28,7 +28,7 @@ use Rattle.rb_order.proofs.CloseOrder.{has-ticks}
 use Rattle.rb_order.proofs.FrameTimes.{BegunWell, begun-well, good-node}
 use Rattle.rb_order.proofs.Invariant.{is_good_at, last_tick}
 use Rattle.rb_order.proofs.NodeSends.{KeepsTime}
-use Rattle.rb_order.proofs.RoundNodes.{AllStand, Stands, moments-stand}
+use Rattle.rb_order.proofs.RoundNodes.{Stands, moments-stand}
 use Rattle.rb_order.proofs.StageOrder.{last_of, last-second-call, last-third-call}
 use Rattle.rb_order.proofs.TickRooms.{below-all, ends-by-then, tail-by-then}
 use Rattle.rb_order.proofs.TickWindows.{first_of}

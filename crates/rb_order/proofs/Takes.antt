@@ -1,11 +1,9 @@
 -- For the law that every run ends, which is still to come: each event that is taken leaves fewer ticks before 2^31, or fewer messages on their
 -- way, so only so many are taken.
-use Rattle.std.proofs.Common.{◌≡◌, ℕ, zero, suc, ◌+◌, ◌-◌, ◌*◌, ◌^◌, ◌<◌, ◌≤◌, ◌==◌, ◌&&◌, max, Bool, true, false, List, [], ◌∷◌, ◌++◌, cond, filter, flat_map, length, map, refl, ap, sym, ◌∙◌, subst, arith, inl, inr, Option, Some, None, fold, option_and_then, option_map, remove, slice_get}
+use Rattle.std.proofs.Common.{◌≡◌, ℕ, zero, suc, ◌+◌, ◌-◌, ◌*◌, ◌^◌, ◌<◌, ◌≤◌, ◌==◌, ◌&&◌, Bool, true, false, List, [], ◌∷◌, ◌++◌, cond, filter, flat_map, length, map, refl, ap, sym, ◌∙◌, subst, arith, Option, Some, None, option_map, remove, slice_get}
 use Rattle.std.specs.List.{range_with_len}
-use Rattle.std.proofs.lemmas.Bool.{cases_lt}
 use Rattle.std.proofs.lemmas.Bool.Decides.{nat_tests}
 use Rattle.std.proofs.lemmas.Nat.{mul-le}
-use Rattle.rb_base.specs.Counting.{numbers}
 use Rattle.rb_base.specs.Nodes.{Side, other}
 use Rattle.rb_base.specs.Nodes.Side.{Biu, Rmu}
 use Rattle.rb_base.specs.Sizes.{Sizes}
@@ -13,15 +11,14 @@ use Rattle.rb_rules.specs.declared.closing.Closed.{Closed}
 use Rattle.rb_rules.specs.declared.message.Message.{Message}
 use Rattle.rb_rules.specs.declared.plan.Plan.{Plan}
 use Rattle.rb_rules.specs.declared.record.Epoch.{Epoch}
-use Rattle.rb_rules.specs.Book.{Each, each_of, map_each, map_from, of_kind}
+use Rattle.rb_rules.specs.Book.{Each, map_from, of_kind}
 use Rattle.rb_rules.specs.Core.{Act, Core, act_at, act_on, busy_among, is_busy, is_last, is_spent, next_tick, pass_to, said_at, state_at, state_kept, tick, window_here, epoch_at, of_source}
 use Rattle.rb_rules.specs.Goodness.{Scenario, is_good, clock_of}
 use Rattle.rb_rules.specs.Hearing.{Coming, Sending, Span, close_window, coming_of, coming_said, is_said, said_by}
 use Rattle.rb_rules.specs.NodeState.{NodeState}
-use Rattle.rb_rules.specs.Ports.{HandIn, PortState}
+use Rattle.rb_rules.specs.Ports.{PortState}
 use Rattle.rb_rules.specs.Slots.{count_of, same_side}
-use Rattle.rb_rules.specs.WorldStep.{Choice, Due, Pending, Site, Timed, World, after_act, after_arrival, at_node, await, choose, due_of, enter, first_world, fresh_site, pass_and_tick, proceed, says_in, sent_to, span_from, stop, with_act, with_close, with_epoch, with_message, with_pending, world_after}
-use Rattle.rb_rules.specs.WorldStep.Pending.{Tick, Arrival}
+use Rattle.rb_rules.specs.WorldStep.{Site, Timed, after_act, after_arrival, at_node, await, enter, pass_and_tick, proceed, says_in, sent_to, span_from, stop, with_close, with_epoch, with_message}
 use Rattle.rb_order.specs.Laws.{most_at_once, nodes_of}
 use Rattle.rb_order.proofs.PendingLists.{StandsAt}
 

@@ -1,6 +1,5 @@
 -- For the law that events are rounds: a lawful plan's windows have room, and no good node counts 2^31 ticks in a run.
-use Rattle.std.proofs.Common.{◌≡◌, ℕ, ◌+◌, ◌*◌, ◌-◌, ◌^◌, ◌<◌, ◌≤◌, max, ap, sym, ◌∙◌, subst, arith, inl, inr, lit≤, List, Some, unwrap_or}
-use Rattle.std.proofs.lemmas.Bool.{cases_lt}
+use Rattle.std.proofs.Common.{◌≡◌, ℕ, ◌+◌, ◌*◌, ◌-◌, ◌^◌, ◌<◌, ◌≤◌, ap, ◌∙◌, arith, lit≤, Some, unwrap_or}
 use Rattle.std.proofs.lemmas.Nat.{mul-le}
 use Rattle.rb_base.specs.Nodes.{Side}
 use Rattle.rb_base.specs.Sizes.{IsShape, Sizes, sync_slot_of}
@@ -8,7 +7,7 @@ use Rattle.rb_rules.specs.declared.plan.Plan.{Plan}
 use Rattle.rb_rules.specs.Goodness.{Scenario}
 use Rattle.rb_rules.specs.Lawful.{IsLawful}
 use Rattle.rb_rules.specs.NodeState.{NodeState}
-use Rattle.rb_rules.specs.Plan.{IsPlan, f0_of, tail_start_of}
+use Rattle.rb_rules.specs.Plan.{IsPlan, tail_start_of}
 use Rattle.rb_rules.specs.SyncStage.{new_epoch_of}
 use Rattle.rb_rules.proofs.Lawfulness.{sends_inside_all}
 use Rattle.rb_rules.proofs.RoundStates.{HasTicks}

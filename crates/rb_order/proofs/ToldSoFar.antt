@@ -1,10 +1,10 @@
 -- For the law that events are rounds: each node has told of all windows that it has closed and, but for a first tick that pends, of the
 -- begin of its frame.
-use Rattle.std.proofs.Common.{◌≡◌, ℕ, zero, suc, ◌+◌, ◌*◌, ◌<◌, ◌≤◌, ◌==◌, ◌%◌, ◌⊎◌, Bool, true, false, List, [], ◌∷◌, ◌++◌, length, refl, ap, sym, ◌∙◌, subst, arith, inl, inr, Option, Some, None, slice_get}
+use Rattle.std.proofs.Common.{◌≡◌, ℕ, ◌+◌, ◌*◌, ◌<◌, ◌≤◌, ◌==◌, ◌%◌, ◌⊎◌, Bool, true, false, List, [], ◌∷◌, ◌++◌, length, refl, ap, sym, ◌∙◌, subst, arith, inl, inr, Option, Some, None, slice_get}
 use Rattle.std.proofs.lemmas.Bool.{cases_lt}
 use Rattle.std.proofs.lemmas.Bool.Decides.{nat_tests}
 use Rattle.rb_base.specs.Nodes.{Side}
-use Rattle.rb_base.specs.Sizes.{Sizes, sync_slot_of}
+use Rattle.rb_base.specs.Sizes.{Sizes}
 use Rattle.rb_rules.specs.declared.message.Message.{Message}
 use Rattle.rb_rules.specs.declared.plan.Plan.{Plan}
 use Rattle.rb_rules.specs.declared.record.Epoch.{Epoch}
@@ -14,7 +14,6 @@ use Rattle.rb_rules.specs.Core.{Act, Core, epoch_at, is_tick, state_at}
 use Rattle.rb_rules.specs.Goodness.{Scenario, is_good}
 use Rattle.rb_rules.specs.Hearing.{Coming, Span, begun_of, epoch_of}
 use Rattle.rb_rules.specs.NodeState.{NodeState}
-use Rattle.rb_rules.specs.NodeSteps.{turn_if_known}
 use Rattle.rb_rules.specs.Ports.{HandIn, PortState}
 use Rattle.rb_rules.specs.Rounds.{Moment, go_through, moment, sent_in, window_in, windows_in}
 use Rattle.rb_rules.specs.SyncStage.{new_epoch_of}
@@ -31,7 +30,7 @@ use Rattle.rb_order.specs.Closing.{stages_in}
 use Rattle.rb_order.proofs.Invariant.{NodeStands, next_stage, word_at}
 use Rattle.rb_order.proofs.MomentBooks.{place_at, stage-is-of}
 use Rattle.rb_order.proofs.MomentSteps.{NextIsStage, next-is-stage}
-use Rattle.rb_order.proofs.NodeClosing.{ClosesWindow, GoesOn}
+use Rattle.rb_order.proofs.NodeClosing.{ClosesWindow}
 use Rattle.rb_order.proofs.NodeEvents.{StaysOpen, begun_after}
 use Rattle.rb_order.proofs.NodeTicks.{Like, like-in, state_in}
 use Rattle.rb_order.proofs.Settling.{some-same}
@@ -77,9 +76,10 @@ begun-stays sc ports me i k y b frame = by (y.epoch == k)
 -- the frame's first tick tells of it
 begun-now : (sc : Scenario) (ports : List PortState) (me : Side) (i k : ℕ) (y : NodeState) (o : Option Begun) → y.epoch ≡ k
     → (c : Begun) × ((begun_after sc ports me i (epoch_at sc.sizes me y k) o ≡ Some c) × (c.frame ≡ y.frame))
-begun-now sc ports me i k y o at =
-    (begun_of sc ports me i (epoch_of sc.sizes me y),
-    (ap (λ t. begun_after sc ports me i (elim t as (λ _. Option Epoch) [ true ↦ Some (epoch_of sc.sizes me y) | false ↦ None ]) o) (same-is y.epoch k at), refl))
+begun-now sc ports me i k y o at = (
+  begun_of sc ports me i (epoch_of sc.sizes me y),
+  (ap (λ t. begun_after sc ports me i (elim t as (λ _. Option Epoch) [ true ↦ Some (epoch_of sc.sizes me y) | false ↦ None ]) o) (same-is y.epoch k at), refl),
+)
 
 told-begun : (sc : Scenario) (hands : List HandIn) (ports : List PortState) (me : Side) (i p k : ℕ) (st : NodeState) (s z : Site) (x : Act)
     → slice_get (of_kind me (moment sc hands p).nodes) i ≡ Some st → st.frame ≡ (moment sc hands p).frame → ((a : Timed) → s.ahead ≡ Some a → a.tick ≡ k)

@@ -1,34 +1,32 @@
 -- For the law that events are rounds: over the turn of a run that has not ended, what good nodes send in the next frame comes after all
 -- windows of this one, and no good node closes its first window before all good nodes have begun the frame.
-use Rattle.std.proofs.Common.{◌≡◌, ℕ, zero, suc, ◌+◌, ◌*◌, ◌-◌, ◌≤◌, ◌<◌, true, List, [], refl, ap, sym, ◌∙◌, subst, arith, Option, Some, None, slice_get, option_map, option_to_list, unwrap_or}
+use Rattle.std.proofs.Common.{◌≡◌, ℕ, zero, suc, ◌+◌, ◌*◌, ◌-◌, ◌≤◌, ◌<◌, true, List, refl, ap, sym, ◌∙◌, subst, arith, Option, Some, None, slice_get, option_map, option_to_list, unwrap_or}
 use Rattle.rb_base.specs.Nodes.{Side, other}
-use Rattle.rb_base.specs.Sizes.{sync_slot_of}
 use Rattle.rb_base.specs.declared.values.Place.{Place}
 use Rattle.rb_rules.specs.Book.{of_kind}
 use Rattle.rb_rules.specs.Clock.{Timeline, time_of}
 use Rattle.rb_rules.specs.Goodness.{Scenario, clock_of}
-use Rattle.rb_rules.specs.Hearing.{Coming, Sending, coming_of}
+use Rattle.rb_rules.specs.Hearing.{Sending, coming_of}
 use Rattle.rb_rules.specs.Lawful.{IsLawful}
 use Rattle.rb_rules.specs.Links.{delay_of, name_of}
 use Rattle.rb_rules.specs.Moments.{IsRunning}
 use Rattle.rb_rules.specs.NodeState.{NodeState}
 use Rattle.rb_rules.specs.Plan.{f0_of, shortest_of, tail_start_of}
 use Rattle.rb_rules.specs.Ports.{HandIn}
-use Rattle.rb_rules.specs.Rounds.{IsGoodIn, Moment, moment, windows_in}
-use Rattle.rb_rules.specs.SyncStage.{new_epoch_of}
+use Rattle.rb_rules.specs.Rounds.{Moment, moment}
 use Rattle.rb_rules.proofs.Middles.{IsBetween}
 use Rattle.rb_sync.proofs.PlanNumbers.{drift_of}
 use Rattle.rb_sync.proofs.StageCalls.{clock_now}
 use Rattle.rb_sync.proofs.Synchronous.{KnowNext, KnowsEpoch}
 use Rattle.rb_sync.proofs.Times.{Steady, lawful_fits, plan_fits}
-use Rattle.rb_order.specs.Closing.{HaveBegunAFrame, stages_in}
-use Rattle.rb_order.proofs.CloseOrder.{IsFrameLater, IsWindowLater, WasGood, frame-later, has-ticks, was-good, window-later}
-use Rattle.rb_order.proofs.FrameTimes.{KnewEpoch, good-node, knew-epoch, node-in}
+use Rattle.rb_order.specs.Closing.{stages_in}
+use Rattle.rb_order.proofs.CloseOrder.{IsFrameLater, IsWindowLater, frame-later, window-later}
+use Rattle.rb_order.proofs.FrameTimes.{KnewEpoch, good-node, knew-epoch}
 use Rattle.rb_order.proofs.Invariant.{entry_of, is_good_at, last_tick, sending_of, word_at}
 use Rattle.rb_order.proofs.NodeSends.{sending_at, sent-exactly}
 use Rattle.rb_order.proofs.NodeTicks.{tail-last}
 use Rattle.rb_order.proofs.ReceiverHears.{way-least}
-use Rattle.rb_order.proofs.RoundNodes.{good-earlier, moments-stand, slot-is, slot_numbered, some-same}
+use Rattle.rb_order.proofs.RoundNodes.{some-same}
 use Rattle.rb_order.proofs.SameHeard.{Every}
 use Rattle.rb_order.proofs.SentChanges.{sending-of-is}
 use Rattle.rb_order.proofs.StageOrder.{last_of, last-same}

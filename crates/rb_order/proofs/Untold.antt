@@ -1,22 +1,21 @@
 -- For the law that events are rounds: where a milestone is not complete, some good node has not told of it; and where nobody has closed
 -- a stage, it is not complete.
-use Rattle.std.proofs.Common.{◌≡◌, ℕ, zero, suc, ◌+◌, ◌*◌, ◌-◌, ◌<◌, ◌≤◌, ◌==◌, ◌&&◌, ◌||◌, ◌⊎◌, not, Bool, true, false, List, [], ◌∷◌, ◌++◌, refl, ap, sym, ◌∙◌, subst, arith, inl, inr, Option, Some, None, is_some, slice_get, option_map}
+use Rattle.std.proofs.Common.{◌≡◌, ℕ, zero, suc, ◌+◌, ◌*◌, ◌-◌, ◌<◌, ◌==◌, ◌&&◌, ◌||◌, ◌⊎◌, not, Bool, true, false, List, [], ◌∷◌, ◌++◌, refl, ap, sym, ◌∙◌, subst, arith, inl, inr, Option, Some, None, is_some, slice_get, option_map}
 use Rattle.std.specs.List.{list_all}
 use Rattle.std.proofs.lemmas.Bool.{cases_lt}
 use Rattle.std.proofs.lemmas.Bool.Decides.{nat_tests}
-use Rattle.rb_base.specs.Nodes.{Side, has, set_of}
+use Rattle.rb_base.specs.Nodes.{Side, has}
 use Rattle.rb_base.specs.Nodes.Side.{Biu, Rmu}
 use Rattle.rb_base.specs.Sizes.{IsShape, Sizes}
 use Rattle.rb_base.specs.declared.values.Place.{Place}
 use Rattle.rb_base.proofs.Sets.{has-set_of, has_none, is_set_of}
 use Rattle.rb_rules.specs.Book.{Each, Row, in_order, map_each, of_kind}
-use Rattle.rb_rules.specs.Book.Milestone.{Stage}
 use Rattle.rb_rules.specs.Goodness.{Scenario, good_at, is_good}
 use Rattle.rb_rules.specs.Rounds.{windows_in}
-use Rattle.rb_rules.specs.WorldStep.{Site, all_have_told, is_complete, nobody_good, row_for, same_place}
+use Rattle.rb_rules.specs.WorldStep.{Site, all_have_told, nobody_good, row_for, same_place}
 use Rattle.rb_rules.proofs.WindowNumbers.{get-each}
 use Rattle.rb_agree.proofs.Goodnesses.{good_below_16}
-use Rattle.rb_order.proofs.Settling.{and-true, each-at, same-number, some-same}
+use Rattle.rb_order.proofs.Settling.{and-true, each-at, same-number}
 use Rattle.rb_order.proofs.ToldInOrder.{number_at}
 use Rattle.rb_order.proofs.WorldStands.{back-from}
 
