@@ -1,5 +1,5 @@
 -- For the law that events are rounds, which is still to come: it holds of a scenario in whose worlds the nodes are in time where they stand.
-use Rattle.std.proofs.Common.{◌≡◌, ℕ, zero, suc, ◌+◌, ◌*◌, ◌-◌, ◌<◌, ◌≤◌, ◌||◌, Bool, true, false, List, [], ◌∷◌, ◌++◌, length, append_assoc, refl, ap, sym, ◌∙◌, subst, arith, inl, inr, Option, Some, None, flat_map, fold, is_some, slice_get}
+use Rattle.std.proofs.Common.{◌≡◌, ℕ, zero, suc, ◌+◌, ◌*◌, ◌-◌, ◌<◌, ◌≤◌, ◌⊎◌, ◌||◌, Bool, true, false, List, [], ◌∷◌, ◌++◌, length, append_assoc, refl, ap, sym, ◌∙◌, subst, arith, inl, inr, Option, Some, None, flat_map, fold, is_some, slice_get}
 use Rattle.std.proofs.lemmas.Bool.{cases_lt}
 use Rattle.std.proofs.lemmas.Nat.{mul-le}
 use Rattle.std.proofs.lemmas.List.{append-nil}
@@ -22,9 +22,15 @@ use Rattle.rb_order.proofs.EventsLaw.{IsBookOfRounds, law-from}
 use Rattle.rb_order.proofs.FirstWorld.{at_begin, first-stands}
 use Rattle.rb_order.proofs.MomentBooks.{number-of}
 use Rattle.rb_order.proofs.NodeActs.{HasRoom}
-use Rattle.rb_order.proofs.NodeClosing.{NextInTime}
+use Rattle.rb_rules.specs.Moments.{IsRunning}
+use Rattle.rb_order.specs.Closing.{stages_in}
+use Rattle.rb_order.proofs.Invariant.{next_stage}
+use Rattle.rb_order.proofs.MomentSteps.{NextIsStage, next-is-stage}
+use Rattle.rb_order.proofs.Pace.{settle-paced}
+use Rattle.rb_order.proofs.ToldSoFar.{so-far-first}
+use Rattle.rb_order.proofs.UpToThere.{UpTo}
 use Rattle.rb_order.proofs.OneHandIn.{hand-keeps}
-use Rattle.rb_order.proofs.OneTake.{StandsInRounds, WorldInRounds, settle-hands, settle-ports, settled-stands, take-keeps}
+use Rattle.rb_order.proofs.OneTake.{is-paced, world-waits, StandsInRounds, WorldInRounds, settle-hands, settle-ports, settled-stands, take-keeps}
 use Rattle.rb_order.proofs.SettlingFrames.{BegunOfRounds, IsOfMoment, RunsIn, TellRounds, all-settled, runs-in}
 use Rattle.rb_order.proofs.Timing.{AreInTime}
 use Rattle.rb_order.proofs.Settling.{RowsOfRounds}
@@ -81,25 +87,23 @@ of-rounds sc w (inr at) = let n = within-steps sc w.hands at.0 in inr (n.0, (n.1
 
 -- Choices.
 
--- nothing is due where the run has ended
-due-going : (sc : Scenario) (w : World) (i : ℕ) (d : Due) → slice_get (due_of sc w) i ≡ Some d → w.book.ended ≡ false
+-- where something is due, the run has not ended, and the next record needs an event
+due-going : (sc : Scenario) (w : World) (i : ℕ) (d : Due) → slice_get (due_of sc w) i ≡ Some d → (w.book.ended ≡ false) × (needs_no_event sc w.book.upcoming ≡ false)
 unfolding due_of
-due-going sc w i d = by w.book.ended
+due-going sc w i d = by w.book.ended (needs_no_event sc w.book.upcoming)
   where
-    by : (b : Bool) → slice_get (elim (b || needs_no_event sc w.book.upcoming) as (λ _. List Due) [
+    by : (b c : Bool) → slice_get (elim (b || c) as (λ _. List Due) [
       | true ↦ []
       | false ↦ due_at sc w (least (flat_map times_of (in_order w.sites)))
-    ]) i ≡ Some d → b ≡ false
-    by true e = cc
-    by false e = refl
+    ]) i ≡ Some d → (b ≡ false) × (c ≡ false)
+    by true c e = cc
+    by false true e = cc
+    by false false e = (refl, refl)
 
--- what is asked of a scenario, and is about time alone: in each world that choices lead to and that stands in the rounds, all nodes are in time where
--- they stand, and so is the node of a due event where it stands next
+-- what is asked of a scenario, and is about the rounds alone: up to each stage after one at which the run has not ended, nodes are in time
 pub record KeepsPace (sc : Scenario) : Type 0 where
-  pub first : AreInTime sc [] at_begin
-  pub in_time : (choices : List Choice) (now : ℕ) (at : Side → ℕ → ℕ) → WorldInRounds sc now at (world_after sc choices) → (i : ℕ) (d : Due)
-      → slice_get (due_of sc (world_after sc choices)) i ≡ Some d
-      → AreInTime sc (world_after sc choices).hands at × NextInTime sc (world_after sc choices).hands (at d.side d.node)
+  pub up_to : (hands : List HandIn) (n : ℕ) → (moment sc hands n).window < stages_in sc.sizes
+      → (n ≡ 0) ⊎ ((g : ℕ) × (IsRunning (moment sc hands g) × (n ≡ next_stage sc.sizes (moment sc hands g) g))) → UpTo sc hands n
 
 -- what settles by itself keeps the world in the rounds
 go-on-keeps : (sc : Scenario) (now : ℕ) (at : Side → ℕ → ℕ) (w : World) → IsLawful sc → HasRoom sc.plan → WorldInRounds sc now at w → StandsInRounds sc (go_on sc w)
@@ -112,7 +116,8 @@ go-on-keeps sc now at w lawful room h = by w.book.ended
         let y : World = settle sc ByItself 2 w in
         settled-stands sc now at w y w.hands (settle-sites sc ByItself 2 w) (settle-hands sc ByItself 2 w) (settle-ports sc ByItself 2 w)
         h.sites h.passed h.tell h.told (all-settled sc ByItself 2 w w.hands w.sites room.ticks refl refl h.tell h.book) h.many h.ports h.handed
-        (go-on-settled sc w.hands at 2 w lawful.sizes h.told h.settled.waits)
+        (go-on-settled sc w.hands at 2 w lawful.sizes h.told h.settled.waits) h.so_far
+        (settle-paced sc w.hands at ByItself 2 w w.sites lawful.sizes refl h.sites.counts h.told (is-paced sc now at w h)).bound
 
 -- in the first world nobody has told anything
 entered-tells : (sc : Scenario) (me : Side) (i : ℕ) (o : Option Span) (s : Site) → ((enter sc me i o s).row ≡ s.row) × ((enter sc me i o s).begun ≡ s.begun)
@@ -187,6 +192,15 @@ first-settled sc =
     }
 
 -- the first world
+times-first : (sc : Scenario) → KeepsPace sc → AreInTime sc [] at_begin
+unfolding begin_frame
+times-first sc pace =
+    let up : UpTo sc [] 0 = pace.up_to [] 0 (omega arith) (inl refl) in
+    record {
+      each = λ me i good. up.times 0 (omega arith) (omega arith);
+      later = λ me i j st there good is. let next : NextIsStage sc [] 0 = next-is-stage sc [] 0 (omega arith) in absurd (omega (arith, is, next.later));
+    }
+
 first-in-rounds : (sc : Scenario) → IsLawful sc → HasRoom sc.plan → AreInTime sc [] at_begin → StandsInRounds sc (first_world sc)
 unfolding first_world begin_frame
 first-in-rounds sc lawful room times =
@@ -204,6 +218,8 @@ first-in-rounds sc lawful room times =
         ports = λ j s there runs. refl;
         handed = tt;
         settled = first-settled sc;
+        so_far = so-far-first sc [] 0 both.0;
+        bound = λ going me i s there. omega arith;
       };
     }
 
@@ -216,8 +232,10 @@ choice-keeps sc choices (Take i) lawful room pace h = by (slice_get (due_of sc (
     by : (o : Option Due) → slice_get (due_of sc (world_after sc choices)) i ≡ o → StandsInRounds sc (take_if_due sc (world_after sc choices) o)
     by None e = h
     by (Some d) e =
-        let times = pace.in_time choices h.now h.at h.stands i d e in
-        take-keeps sc h.now h.at (world_after sc choices) d lawful room times.0 h.stands times.1 (due-going sc (world_after sc choices) i d e) (events-due sc choices i d e)
+        let w : World = world_after sc choices in
+        let open_still = due-going sc w i d e in
+        let waits = world-waits sc h.now h.at w h.stands open_still.0 open_still.1 in
+        take-keeps sc h.now h.at w d lawful room h.stands waits.0 waits.1 (pace.up_to w.hands waits.0 waits.1.stage waits.1.from) open_still.0 (events-due sc choices i d e)
 choice-keeps sc choices GoOn lawful room pace h = go-on-keeps sc h.now h.at (world_after sc choices) lawful room h.stands
 choice-keeps sc choices (Hand biu state) lawful room pace h = hand-keeps sc h.now h.at (world_after sc choices) biu state lawful room h.stands
 
@@ -237,9 +255,13 @@ from-here sc lawful room pace before (c ∷ rest) h =
     subst (StandsInRounds sc) (sym (after-more sc before c)) (choice-keeps sc before c lawful room pace h) in
     subst (λ cs. StandsInRounds sc (world_after sc cs)) (append_assoc before (c ∷ []) rest) (from-here sc lawful room pace (before ++ c ∷ []) rest one)
 
--- every world stands in the rounds, so events are rounds
+-- every world stands in the rounds
+pub stands-after : (sc : Scenario) → IsLawful sc → HasRoom sc.plan → KeepsPace sc → (choices : List Choice) → StandsInRounds sc (world_after sc choices)
+stands-after sc lawful room pace choices = from-here sc lawful room pace [] choices (first-in-rounds sc lawful room (times-first sc pace))
+
+-- so events are rounds
 pub events-are-rounds : (sc : Scenario) → IsLawful sc → HasRoom sc.plan → KeepsPace sc → EventsAreRounds sc
 events-are-rounds sc lawful room pace =
     law-from sc (λ choices.
-    let w : StandsInRounds sc (world_after sc choices) = from-here sc lawful room pace [] choices (first-in-rounds sc lawful room pace.first) in
+    let w : StandsInRounds sc (world_after sc choices) = stands-after sc lawful room pace choices in
     of-rounds sc (world_after sc choices) w.stands.book)

@@ -55,3 +55,14 @@ pub mod ClosingTicks
 pub mod DueEvents
 pub mod WorldNodes
 pub mod Receiving
+pub mod TickRooms
+pub mod FrameTimes
+pub mod StageTimes
+pub mod TurnTimes
+pub mod RunTimes
+pub mod ToldSoFar
+pub mod Untold
+pub mod Pace
+pub mod Behind
+pub mod UpToThere
+pub mod EventsHold

@@ -17,6 +17,7 @@ use Rattle.rb_order.proofs.HandedIn.{AreEarly, length-handed, passed-handed, por
 use Rattle.rb_order.proofs.HandedMoments.{Alike, handed-alike}
 use Rattle.rb_order.proofs.MomentBooks.{next_of, number-of, place_at, settles-next, SettlesNext}
 use Rattle.rb_order.proofs.NodeActs.{HasRoom}
+use Rattle.rb_order.proofs.ToldSoFar.{so-far-handed}
 use Rattle.rb_order.proofs.OneTake.{StandsInRounds, WorldInRounds}
 use Rattle.rb_order.proofs.RoundNodes.{slot_numbered}
 use Rattle.rb_order.proofs.SameHeard.{Every}
@@ -117,6 +118,8 @@ handed sc now at w biu state frame lawful room h turn good =
           waits = h.settled.waits;
           turn = λ frame e. let a : AfterRecord sc at w frame = h.settled.turn frame e in record { begun = a.begun; near = a.near; going = a.going; next = a.next };
         };
+        so_far = so-far-handed sc hands x at w.sites early h.so_far;
+        bound = h.bound;
       };
     }
 

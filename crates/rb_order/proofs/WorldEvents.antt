@@ -64,7 +64,9 @@ pub record TickIsDue (sc : Scenario) (hands : List HandIn) (now : ℕ) (at : Sid
   pub later : now ≤ a.time
   pub word : (st : NodeState) → slice_get (of_kind me (moment sc hands (at me i)).nodes) i ≡ Some st
       → HasWord sc ports me i st (moment sc hands (at me i)).window (word_at sc (moment sc hands (at me i)) me i st)
-  pub next : NextInTime sc hands (at me i)
+  -- a node that closes its window is in time where it stands next
+  pub next : (st : NodeState) → slice_get (of_kind me (moment sc hands (at me i)).nodes) i ≡ Some st → a.tick ≡ last_tick sc (moment sc hands (at me i)) me st
+      → NextInTime sc hands (at me i)
 
 -- the node afterwards, in moment r: the world stands there, and the node has closed its window or not
 pub record AfterTick (sc : Scenario) (hands : List HandIn) (at : Side → ℕ → ℕ) (sites : Each Site) (ports : List PortState) (me : Side) (i : ℕ) (s : Site) (a : Timed) (x : Act) : Type 0 where
@@ -203,7 +205,7 @@ tick-event sc hands now at sites ports me i s a lawful room times passed h due =
           let time : a.time ≡ time_of (clock_of sc me i) (last_tick sc m me st) = node.receives.at_time ∙ ap (time_of (clock_of sc me i)) last in
           let others : OthersKeepUp sc hands old me i p = keep-up sc hands a.time at sites me i st lawful room.ticks node.state node.good time window pt times counted ht in
           let closes : ClosesWindow sc hands old ports me i p s st a x =
-          closes-window sc hands old a.time ports me i p s st a lawful room (record { frame = known.frame; knows = known.knows; lengths = lengths }) due.next others words due.alone last node in
+          closes-window sc hands old a.time ports me i p s st a lawful room (record { frame = known.frame; knows = known.knows; lengths = lengths }) (due.next st node.state last) others words due.alone last node in
           let r : ℕ = closes.q in
           let later : p < r = elim closes.place [ inl stage ↦ omega (arith, stage, next.later) | inr tail ↦ omega (arith, tail.0) ] in
           let between : (q : ℕ) → p < q → q < r → (stages_in sc.sizes ≤ (moment sc hands q).window) × ((moment sc hands q).window ≤ windows_in sc.sizes) =

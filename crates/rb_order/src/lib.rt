@@ -4,7 +4,7 @@
 
 ghost use Rattle.rb_order.specs.ByItself.{WhatNeedsNoEventIsGiven};
 ghost use Rattle.rb_order.specs.Closing.{GoodNodesCloseInOrder};
-ghost use Rattle.rb_order.specs.Laws.{EventsOnlyAdd, HandInsComeLate, QuietTicksCount, RecordsAreOfAllSteps, RoundsOnlyAdd};
+ghost use Rattle.rb_order.specs.Laws.{EventsAreRoundsIfSyncHolds, EventsOnlyAdd, HandInsComeLate, OneTurnARecordIfSyncHolds, QuietTicksCount, RecordsAreOfAllSteps, RoundsOnlyAdd, SomethingIsDueIfSyncHolds};
 
 /// A run by rounds that stops at its end has all records.
 pub fn records_are_of_all_steps()
@@ -42,4 +42,21 @@ pub fn what_needs_no_event_is_given()
 /// before the ticks of all its stages have passed.
 pub fn close_order()
     ensures { GoodNodesCloseInOrder }
+{}
+
+/// Whatever is chosen among what is due, the records of a run event by event are the first of those of its rounds, and all of them
+/// once it has ended: in every lawful scenario in which, whatever is handed in, the premise on faults is not broken in a sync slot.
+pub fn events_are_rounds_if_sync_holds()
+    ensures { EventsAreRoundsIfSyncHolds }
+{}
+
+/// No run stands still: in such a scenario some event is due, whatever was chosen, as long as the run has not ended and its next
+/// record needs an event.
+pub fn something_is_due_if_sync_holds()
+    ensures { SomethingIsDueIfSyncHolds }
+{}
+
+/// In such a scenario each call gives no record, or the next of the rounds.
+pub fn one_turn_a_record_if_sync_holds()
+    ensures { OneTurnARecordIfSyncHolds }
 {}
