@@ -3,11 +3,12 @@ use Rattle.std.proofs.Common.{List}
 use Rattle.rb_rules.specs.Goodness.{Scenario}
 use Rattle.rb_rules.specs.Lawful.{IsLawful}
 use Rattle.rb_rules.specs.WorldStep.{Choice, world_after}
-use Rattle.rb_order.specs.Laws.{EventsAreRoundsIfSyncHolds, OneTurnARecordIfSyncHolds, SomethingIsDueIfSyncHolds, SyncSlotsHold}
+use Rattle.rb_order.specs.Laws.{EventsAreRoundsIfSyncHolds, EveryRunEndsIfSyncHolds, OneTurnARecordIfSyncHolds, SomethingIsDueIfSyncHolds, SyncSlotsHold}
 use Rattle.rb_order.proofs.Behind.{IsBehind}
 use Rattle.rb_order.proofs.EveryWorld.{KeepsPace, events-are-rounds, stands-after}
 use Rattle.rb_order.proofs.OneTake.{StandsInRounds, world-waits}
 use Rattle.rb_order.proofs.Progress.{something-is-due}
+use Rattle.rb_order.proofs.RunsEnd.{every-run-ends}
 use Rattle.rb_order.proofs.TickRooms.{has-room}
 use Rattle.rb_order.proofs.Turns.{turns-are-next}
 use Rattle.rb_order.proofs.UpToThere.{up-to}
@@ -31,3 +32,6 @@ due-holds sc lawful holds =
 
 pub turns-hold : OneTurnARecordIfSyncHolds
 turns-hold sc lawful holds = turns-are-next sc (events-hold sc lawful holds)
+
+pub ends-hold : EveryRunEndsIfSyncHolds
+ends-hold sc lawful holds = every-run-ends sc (stands sc lawful holds)

@@ -107,3 +107,6 @@ SomethingIsDueIfSyncHolds = (sc : Scenario) → IsLawful sc → SyncSlotsHold sc
 
 abbrev pub OneTurnARecordIfSyncHolds : Type 0
 OneTurnARecordIfSyncHolds = (sc : Scenario) → IsLawful sc → SyncSlotsHold sc → OneTurnARecord sc
+
+abbrev pub EveryRunEndsIfSyncHolds : Type 0
+EveryRunEndsIfSyncHolds = (sc : Scenario) → IsLawful sc → SyncSlotsHold sc → EveryRunEnds sc

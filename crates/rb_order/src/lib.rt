@@ -4,7 +4,7 @@
 
 ghost use Rattle.rb_order.specs.ByItself.{WhatNeedsNoEventIsGiven};
 ghost use Rattle.rb_order.specs.Closing.{GoodNodesCloseInOrder};
-ghost use Rattle.rb_order.specs.Laws.{EventsAreRoundsIfSyncHolds, EventsOnlyAdd, HandInsComeLate, OneTurnARecordIfSyncHolds, QuietTicksCount, RecordsAreOfAllSteps, RoundsOnlyAdd, SomethingIsDueIfSyncHolds};
+ghost use Rattle.rb_order.specs.Laws.{EventsAreRoundsIfSyncHolds, EventsOnlyAdd, EveryRunEndsIfSyncHolds, HandInsComeLate, OneTurnARecordIfSyncHolds, QuietTicksCount, RecordsAreOfAllSteps, RoundsOnlyAdd, SomethingIsDueIfSyncHolds};
 
 /// A run by rounds that stops at its end has all records.
 pub fn records_are_of_all_steps()
@@ -59,4 +59,11 @@ pub fn something_is_due_if_sync_holds()
 /// In such a scenario each call gives no record, or the next of the rounds.
 pub fn one_turn_a_record_if_sync_holds()
     ensures { OneTurnARecordIfSyncHolds }
+{}
+
+/// In such a scenario every run ends: whatever is chosen, at most so many events are taken as the nodes, the number of their ticks and
+/// what is said allow (`most_takes`), and no node that runs has had 2^31 ticks. Until then some event is due, or the next record is given
+/// without one.
+pub fn every_run_ends_if_sync_holds()
+    ensures { EveryRunEndsIfSyncHolds }
 {}
