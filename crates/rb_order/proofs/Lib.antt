@@ -67,3 +67,5 @@ pub mod Pace
 pub mod Behind
 pub mod UpToThere
 pub mod EventsHold
+pub mod SourceSums
+pub mod FewPending

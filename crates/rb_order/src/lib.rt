@@ -5,6 +5,7 @@
 ghost use Rattle.rb_order.specs.ByItself.{WhatNeedsNoEventIsGiven};
 ghost use Rattle.rb_order.specs.Closing.{GoodNodesCloseInOrder};
 ghost use Rattle.rb_order.specs.Laws.{EventsAreRoundsIfSyncHolds, EventsOnlyAdd, EveryRunEndsIfSyncHolds, HandInsComeLate, OneTurnARecordIfSyncHolds, QuietTicksCount, RecordsAreOfAllSteps, RoundsOnlyAdd, SomethingIsDueIfSyncHolds};
+ghost use Rattle.rb_order.specs.PendingEvents.{PendingEventsAreFewIfSyncHolds};
 
 /// A run by rounds that stops at its end has all records.
 pub fn records_are_of_all_steps()
@@ -66,4 +67,11 @@ pub fn one_turn_a_record_if_sync_holds()
 /// without one.
 pub fn every_run_ends_if_sync_holds()
     ensures { EveryRunEndsIfSyncHolds }
+{}
+
+/// In such a scenario no node ever has more pending than it has room for at opening: its tick, of each node of the other kind a message
+/// for the window in which it stands and one for the next, and the entries that are said (`most_pending`). This holds before and after each
+/// event, and what an event makes pending is only added.
+pub fn pending_events_are_few_if_sync_holds()
+    ensures { PendingEventsAreFewIfSyncHolds }
 {}
