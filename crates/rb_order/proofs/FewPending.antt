@@ -1,12 +1,14 @@
 -- Pending events are few: what pends at a node that runs is of the window in which it stands and of the next.
-use Rattle.std.proofs.Common.{◌≡◌, ℕ, suc, ◌+◌, ◌≤◌, ◌&&◌, Bool, true, false, List, [], ◌∷◌, ◌++◌, filter, length, map, refl, ap, ◌∙◌, subst, arith, Option, Some, None, option_map, option_to_list, slice_get}
+use Rattle.std.proofs.Common.{◌≡◌, ℕ, suc, ◌+◌, ◌≤◌, ◌&&◌, Bool, true, false, List, [], ◌∷◌, ◌++◌, filter, length, length-append, map, refl, ap, sym, ◌∙◌, subst, arith, Option, Some, None, option_map, option_to_list, slice_get}
 use Rattle.std.proofs.lemmas.Bool.Decides.{nat_tests}
 use Rattle.rb_base.specs.Nodes.{Side, other}
 use Rattle.rb_base.specs.Nodes.Side.{Biu, Rmu}
 use Rattle.rb_base.specs.declared.node.NodeName.{NodeName}
 use Rattle.rb_base.specs.declared.node.NodeName.TheVariants as node
 use Rattle.rb_rules.specs.declared.say.Say.{Say}
-use Rattle.rb_rules.specs.Book.{of_kind}
+use Rattle.rb_rules.specs.Book.{Each, of_kind}
+use Rattle.rb_rules.specs.Core.{Act}
+use Rattle.rb_rules.specs.declared.message.Message.{Message}
 use Rattle.rb_rules.specs.Clock.{time_of}
 use Rattle.rb_rules.specs.Goodness.{Scenario, clock_of}
 use Rattle.rb_rules.specs.Hearing.{Coming, Sending, Span, coming_of, coming_said, is_said, said_by, span_of}
@@ -16,11 +18,12 @@ use Rattle.rb_rules.specs.NodeState.{NodeState}
 use Rattle.rb_rules.specs.Ports.{HandIn}
 use Rattle.rb_rules.specs.Rounds.{Moment, moment, window_in}
 use Rattle.rb_rules.specs.Slots.{count_of}
-use Rattle.rb_rules.specs.WorldStep.{Choice, Due, Site, Timed, World, happens, take, take_if_due, times_of, world_after, due_of, choose}
+use Rattle.rb_rules.specs.WorldStep.{Choice, Due, Site, Timed, World, after_act, at_node, choose, happens, pass_and_tick, sent_to, take, take_if_due, times_of, with_act, with_message, with_pending, world_after}
+use Rattle.rb_rules.specs.WorldStep.Pending.{Tick}
 use Rattle.rb_rules.specs.WorldStep.Choice.{Take}
 use Rattle.rb_rules.specs.WorldStep.Way.{ByAnEvent}
 use Rattle.rb_order.specs.Laws.{SyncSlotsHold}
-use Rattle.rb_order.specs.PendingEvents.{HaveRoom, PendingEventsAreFewIfSyncHolds, most_coming, most_pending}
+use Rattle.rb_order.specs.PendingEvents.{PendingEventsAreFewIfSyncHolds, TakesTick, most_coming, most_pending}
 use Rattle.rb_order.proofs.EveryWorld.{after-more, stands-after}
 use Rattle.rb_order.proofs.Invariant.{NodeStands, ahead_so_far, entry_of, heard_so_far, is_good_at, last_tick, next_stage, sending_of}
 use Rattle.rb_order.proofs.OneTake.{StandsInRounds}
@@ -29,7 +32,8 @@ use Rattle.rb_order.proofs.SourceSums.{all-of-sources, coming_of_source, items-o
 use Rattle.rb_order.proofs.TickRooms.{has-room}
 use Rattle.rb_order.proofs.UpToThere.{up-to}
 use Rattle.rb_order.proofs.WorldNodes.{settle-sites}
-use Rattle.rb_order.proofs.WorldStands.{IsDown, IsUp, sent_by}
+use Rattle.rb_order.proofs.WorldStands.{IsDown, IsUp, kind-itself, node-itself, not-other, sent_by}
+use Rattle.rb_order.proofs.WorldTicks.{after_tick, get-after, kind-other, reached, reached-not}
 
 -- What is said.
 
@@ -118,10 +122,6 @@ few-where-it-stands sc hands sent now me i p s st a h =
     let said = items-once (λ j. is_said me i j span) n (said-once me i span) sc.says in
     omega (arith, all, both, twos, said)
 
-abbrev is_tick : Option Timed → ℕ
-is_tick None = 0
-is_tick (Some a) = 1
-
 times-many : (s : Site) → length (times_of s) ≤ length s.coming + 1
 times-many s = by s.ahead
   where
@@ -129,7 +129,11 @@ times-many s = by s.ahead
     by None = let same = length-mapped (λ c. c.time) s.coming in omega (arith, same)
     by (Some a) = let same = length-mapped (λ c. c.time) s.coming in omega (arith, same)
 
-world-few : (sc : Scenario) (w : World) → StandsInRounds sc w → HaveRoom sc w
+-- at each node no more is pending than its lane holds
+abbrev HaveRoom : Scenario → Each Site → Type 0
+HaveRoom sc sites = (me : Side) (i : ℕ) (s : Site) → slice_get (of_kind me sites) i ≡ Some s → length (times_of s) ≤ most_pending sc me
+
+world-few : (sc : Scenario) (w : World) → StandsInRounds sc w → HaveRoom sc w.sites
 world-few sc w h me i s there = by s.runs refl
   where
     by : (b : Bool) → s.runs ≡ b → length (times_of s) ≤ most_pending sc me
@@ -144,22 +148,83 @@ world-few sc w h me i s there = by s.runs refl
         let all = times-many s in
         omega (arith, none, all)
 
+-- A tick.
+
+-- a message that comes to a node
+received : (sc : Scenario) (me : Side) (i frame : ℕ) (x : Sending) (j : ℕ) (z : Site) → z.runs ≡ true
+    → length (times_of (sent_to sc me i frame x (other me) j z)) ≡ length (times_of z) + 1
+received sc me i frame x j z runs =
+    ap (λ b. length (times_of (elim b as (λ _. Site) [ true ↦ more | false ↦ z ]))) (ap (λ b. b && z.runs) (kind-itself (other me)) ∙ runs)
+    ∙ by z.ahead
+  where
+    more : Site
+    more = record z { coming = z.coming ++ coming_of sc (other me) j i frame x ∷ [] }
+
+    by : (o : Option Timed) → length (option_to_list (option_map (λ a. a.time) o) ++ map (λ c. c.time) (z.coming ++ coming_of sc (other me) j i frame x ∷ []))
+        ≡ length (option_to_list (option_map (λ a. a.time) o) ++ map (λ c. c.time) z.coming) + 1
+    by None =
+        let new = length-mapped (λ c. c.time) (z.coming ++ coming_of sc (other me) j i frame x ∷ []) in
+        let old = length-mapped (λ c. c.time) z.coming in
+        let one = length-append z.coming (coming_of sc (other me) j i frame x ∷ []) in
+        omega (arith, new, old, one)
+    by (Some a) =
+        let new = length-mapped (λ c. c.time) (z.coming ++ coming_of sc (other me) j i frame x ∷ []) in
+        let old = length-mapped (λ c. c.time) z.coming in
+        let one = length-append z.coming (coming_of sc (other me) j i frame x ∷ []) in
+        omega (arith, new, old, one)
+
+message-few : (sc : Scenario) (me : Side) (i frame k : ℕ) (o : Option Message) (m : Message) (change : Site → Site) (sites : Each Site)
+    → HaveRoom sc (with_message sc me i frame k o (at_node me i change sites)) → o ≡ Some m → (j : ℕ) (z : Site) → slice_get (of_kind (other me) sites) j ≡ Some z
+    → z.runs ≡ true → length (times_of z) + 1 ≤ most_pending sc (other me)
+message-few sc me i frame k o m change sites fits e j z there runs =
+    let x : Sending = record { tick = k; message = m } in
+    let after : slice_get (of_kind (other me) (with_message sc me i frame k o (at_node me i change sites))) j ≡ Some (sent_to sc me i frame x (other me) j z) =
+    get-after sc me i frame k o change sites (other me) j ∙ ap (option_map (after_tick sc me i frame k o change (other me) j)) there
+    ∙ ap (λ b. Some (reached sc me i frame k o (other me) j (elim b as (λ _. Site) [ true ↦ change z | false ↦ z ]))) (not-other me i j)
+    ∙ ap (λ o. Some (reached sc me i frame k o (other me) j z)) e in
+    let more = received sc me i frame x j z runs in
+    let few = fits (other me) j (sent_to sc me i frame x (other me) j z) after in
+    omega (arith, more, few)
+
+own-few : (sc : Scenario) (me : Side) (i frame k : ℕ) (o : Option Message) (change : Site → Site) (sites : Each Site) (s : Site)
+    → HaveRoom sc (with_message sc me i frame k o (at_node me i change sites)) → slice_get (of_kind me sites) i ≡ Some s
+    → length (times_of (change s)) ≤ most_pending sc me
+own-few sc me i frame k o change sites s fits there =
+    fits me i (change s)
+    (get-after sc me i frame k o change sites me i ∙ ap (option_map (after_tick sc me i frame k o change me i)) there
+    ∙ ap (λ b. Some (reached sc me i frame k o me i (elim b as (λ _. Site) [ true ↦ change s | false ↦ s ]))) (node-itself me i)
+    ∙ ap Some (reached-not sc me i frame k o me i (change s) (ap (λ b. b && (change s).runs) (kind-other me))))
+
 -- Worlds.
 
 stands : (sc : Scenario) → IsLawful sc → SyncSlotsHold sc → (choices : List Choice) → StandsInRounds sc (world_after sc choices)
 stands sc lawful holds = stands-after sc lawful (has-room sc lawful) (record { up_to = λ hands n stage from. up-to sc hands lawful holds n stage from })
 
-event-few : (sc : Scenario) → ((choices : List Choice) → StandsInRounds sc (world_after sc choices)) → (choices : List Choice) (i : ℕ) (d : Due)
-    → slice_get (due_of sc (world_after sc choices)) i ≡ Some d → HaveRoom sc (happens sc (world_after sc choices) d)
-unfolding take
-event-few sc stands choices i d e =
+-- a tick that is due happens in the world after one more choice
+tick-few : (sc : Scenario) → ((choices : List Choice) → StandsInRounds sc (world_after sc choices)) → (choices : List Choice) (me : Side) (i k : ℕ) (s : Site) (x : Act)
+    → TakesTick sc (world_after sc choices) me i k s x
+    → HaveRoom sc (with_message sc me i x.core.state.frame k x.message (at_node me i (after_act sc (world_after sc choices).ports me i x) (world_after sc choices).sites))
+unfolding take happens with_act
+tick-few sc stands choices me i k s x h =
     let w : World = world_after sc choices in
-    let after : HaveRoom sc (choose sc w (Take i)) = subst (HaveRoom sc) (after-more sc choices (Take i)) (world-few sc _ (stands (choices ++ Take i ∷ []))) in
-    let taken : HaveRoom sc (take_if_due sc w (Some d)) = subst (λ o. HaveRoom sc (take_if_due sc w o)) e after in
-    λ me n s there. taken me n s (ap (λ sites. slice_get (of_kind me sites) n) (settle-sites sc ByAnEvent 2 (happens sc w d)) ∙ there)
+    let d : Due = record { side = me; node = i; pending = Tick k } in
+    let next : List Choice = choices ++ Take h.place ∷ [] in
+    let after : HaveRoom sc (choose sc w (Take h.place)).sites =
+    subst (λ (w : World). HaveRoom sc w.sites) (after-more sc choices (Take h.place)) (world-few sc (world_after sc next) (stands next)) in
+    let taken : HaveRoom sc (take_if_due sc w (Some d)).sites = subst (λ o. HaveRoom sc (take_if_due sc w o).sites) h.is_due after in
+    let happened : HaveRoom sc (happens sc w d).sites = subst (HaveRoom sc) (settle-sites sc ByAnEvent 2 (happens sc w d)) taken in
+    let acted : HaveRoom sc (with_act sc w me i k (pass_and_tick sc w.ports me i k s.core)).sites =
+    subst (λ o. HaveRoom sc (elim o as (λ _. World) [ None ↦ w | Some s ↦ with_pending sc w me i s (Tick k) ]).sites) h.there happened in
+    subst (λ x. HaveRoom sc (with_act sc w me i k x).sites) (sym h.does) acted
 
 pub pending-few : PendingEventsAreFewIfSyncHolds
-pending-few sc lawful holds = record {
-  always = λ choices. world-few sc (world_after sc choices) (stands sc lawful holds choices);
-  event = event-few sc (stands sc lawful holds);
-}
+pending-few sc lawful holds choices =
+    let w : World = world_after sc choices in
+    let in_rounds = stands sc lawful holds in
+    record {
+      now = world-few sc w (in_rounds choices);
+      own = λ me i k s x h.
+          own-few sc me i x.core.state.frame k x.message (after_act sc w.ports me i x) w.sites s (tick-few sc in_rounds choices me i k s x h) h.there;
+      message = λ me i k s x m h e j z there runs.
+          message-few sc me i x.core.state.frame k x.message m (after_act sc w.ports me i x) w.sites (tick-few sc in_rounds choices me i k s x h) e j z there runs;
+    }
