@@ -27,12 +27,12 @@ pub record TakesTick (sc : Scenario) (w : World) (me : Side) (i k : ℕ) (s : Si
   pub is_due : slice_get (due_of sc w) place ≡ Some (record { side = me; node = i; pending = Tick k })
   pub does : x ≡ pass_and_tick sc w.ports me i k s.core
 
--- a lane of this length at each node is long enough now and in the next event. An arrival makes nothing pending
+-- room for so many at each node is enough now, and for what the next event makes pending. Only a tick makes anything pending
 pub record EventsFit (sc : Scenario) (w : World) : Type 0 where
   pub now : (me : Side) (i : ℕ) (s : Site) → slice_get (of_kind me w.sites) i ≡ Some s → length (times_of s) ≤ most_pending sc me
-  -- for all that is pending at a node after its tick, before messages of others come
+  -- at the node that takes its tick: its next tick, what was pending there, and what it is told in a window that it enters
   pub own : (me : Side) (i k : ℕ) (s : Site) (x : Act) → TakesTick sc w me i k s x → length (times_of (after_act sc w.ports me i x s)) ≤ most_pending sc me
-  -- and for the message that it then sends, at each node to which it comes
+  -- at each node to which the message goes that it sends then
   pub message : (me : Side) (i k : ℕ) (s : Site) (x : Act) (m : Message) → TakesTick sc w me i k s x → x.message ≡ Some m → (j : ℕ) (receiver : Site)
       → slice_get (of_kind (other me) w.sites) j ≡ Some receiver → receiver.runs ≡ true → length (times_of receiver) + 1 ≤ most_pending sc (other me)
 

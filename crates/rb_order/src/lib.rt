@@ -69,9 +69,9 @@ pub fn every_run_ends_if_sync_holds()
     ensures { EveryRunEndsIfSyncHolds }
 {}
 
-/// In such a scenario no node ever has more pending than it has room for at opening: its tick, of each node of the other kind a message
-/// for the window in which it stands and one for the next, and the entries that are said (`most_pending`). This holds before and after each
-/// event, and what an event makes pending is only added.
+/// In such a scenario room for `most_pending` events at each node, reserved at opening, is enough: for its tick, for two messages of
+/// each node of the other kind, and for as many as there are entries of what is said. Whatever was chosen, no more is pending at a node
+/// (`now`), nor after a tick of its own (`own`), nor with the message that another node sends at its tick (`message`).
 pub fn pending_events_are_few_if_sync_holds()
     ensures { PendingEventsAreFewIfSyncHolds }
 {}
