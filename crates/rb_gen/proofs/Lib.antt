@@ -1,2 +1,4 @@
 mod Lists
 mod GeneratedIsLawful
+mod Delays
+mod Places
