@@ -16,5 +16,5 @@ state_after zero seed = seed
 state_after (suc draws) seed = next_state (state_after draws seed)
 
 -- the numbers that so many draws give, in order
-abbrev pub drawn : ℕ → ℕ → List ℕ
-drawn draws seed = map (λ n. number_of (state_after (suc n) seed)) (numbers draws)
+abbrev pub numbers_drawn : ℕ → ℕ → List ℕ
+numbers_drawn draws seed = map (λ n. number_of (state_after (suc n) seed)) (numbers draws)

@@ -13,7 +13,7 @@ use Rattle.rb_rules.specs.declared.say.Content.TheVariants.{Word}
 use Rattle.rb_rules.specs.declared.say.Say.{Say}
 use Rattle.rb_rules.specs.Clock.{Timeline}
 use Rattle.rb_rules.specs.Goodness.{Scenario}
-use Rattle.rb_gen.specs.Draws.{drawn}
+use Rattle.rb_gen.specs.Draws.{numbers_drawn}
 
 -- The bus.
 
@@ -37,30 +37,27 @@ plan = record {
   probation = 0;
 }
 
--- The numbers drawn, in order: one for the silence of RMU 4, 11 for starts, 13 for tick lengths, 80 for delays.
+-- The numbers drawn, in order: number 0 for the silence of RMU 4, 1 to 11 for starts, 12 to 24 for lengths of ticks, and 25 to
+-- 104 for delays.
 
-abbrev pub draws : ℕ
-draws = 105
-
--- the numbers are those of a seed
 abbrev pub drawn_from : ℕ → List ℕ
-drawn_from seed = drawn draws seed
+drawn_from seed = numbers_drawn 105 seed
 
 -- Clocks. Their nodes are numbered, the BIUs 0 to 7, then the RMUs 8 to 12.
 
--- BIU 0 starts last of all and RMU 0 first. The starts of the others are drawn, in their order
+-- BIU 0 starts last of all and RMU 0 first. The others' starts are drawn: numbers 1 to 7 for BIUs, 8 to 11 for RMUs
 abbrev pub start_of : List ℕ → ℕ → ℕ
-start_of numbers node =
+start_of drawn node =
     if node == 0 then 60200
-    else (if nat_lt node 8 then get_or numbers node 0 % 60201
-    else (if node == 8 then 0 else get_or numbers (node - 1) 0 % 60201))
+    else (if nat_lt node 8 then get_or drawn node 0 % 60201
+    else (if node == 8 then 0 else get_or drawn (node - 1) 0 % 60201))
 
+-- a node's ticks have one length, at most one unit off the nominal one
 abbrev pub tick_of : List ℕ → ℕ → ℕ
-tick_of numbers node = 9999 + get_or numbers (12 + node) 0 % 3
+tick_of drawn node = 9999 + get_or drawn (12 + node) 0 % 3
 
--- each node has ticks of one length
 abbrev pub clock_of : List ℕ → ℕ → Timeline
-clock_of numbers node = record { start = start_of numbers node; segments = (0, tick_of numbers node) ∷ [] }
+clock_of drawn node = record { start = start_of drawn node; segments = (0, tick_of drawn node) ∷ [] }
 
 -- Links. They are numbered, 0 to 39 from BIU 0 to each RMU, then from BIU 1, and so on, and 40 to 79 from RMU 0 to each BIU,
 -- then from RMU 1, and so on.
@@ -71,18 +68,19 @@ sender_of link = if nat_lt link 40 then Biu (link / 5) else Rmu ((link - 40) / 8
 abbrev pub receiver_of : ℕ → NodeName
 receiver_of link = if nat_lt link 40 then Rmu (link % 5) else Biu ((link - 40) % 8)
 
+-- the delay of a link, within the plan's bounds
 abbrev pub delay_on : List ℕ → ℕ → ℕ
-delay_on numbers link = 5000 + get_or numbers (25 + link) 0 % 10001
+delay_on drawn link = 5000 + get_or drawn (25 + link) 0 % 10001
 
--- a rule for each link, in all places
+-- a rule for the link, in all places
 abbrev pub rule_of : List ℕ → ℕ → ℕ → Rule
-rule_of numbers frames link = record {
+rule_of drawn frames link = record {
   from = One (sender_of link);
   to = One (receiver_of link);
   frames = (0, frames - 1);
   slots = (0, 37);
   stages = (1, 3);
-  delay = delay_on numbers link;
+  delay = delay_on drawn link;
 }
 
 -- Faults.
@@ -93,7 +91,7 @@ biu_onset frames = (frames / 2, 15)
 
 -- RMU 4 is not good from a frame on that is drawn
 abbrev pub rmu_onset : List ℕ → ℕ → ℕ × ℕ
-rmu_onset numbers frames = (get_or numbers 0 0 % frames, 0)
+rmu_onset drawn frames = (get_or drawn 0 0 % frames, 0)
 
 -- there and then BIU 7 says the word 1 to RMU 0 and RMU 1, and 2 to RMU 2 and RMU 3
 abbrev pub say_to : ℕ → ℕ → Say
@@ -108,7 +106,9 @@ say_to frames rmu = record {
   content = Word (1 + rmu / 2);
 }
 
--- the scenario of these numbers
+-- The scenario.
+
+-- that of these numbers. Each BIU asks for two data slots, and has its number, from 1, as its word
 unfoldable pub scenario_of : List ℕ → ℕ → Scenario
 scenario_of drawn frames = record {
   sizes = sizes;
@@ -124,11 +124,11 @@ scenario_of drawn frames = record {
   says = map (say_to frames) (numbers 4);
 }
 
--- the scenario of a seed and a number of frames
+-- that of a seed and a number of frames
 abbrev pub generated : ℕ → ℕ → Scenario
 generated seed frames = scenario_of (drawn_from seed) frames
 
--- the scenario is that of some seed and some number of frames
+-- it is that of some seed and some number of frames
 pub record IsGenerated (sc : Scenario) : Type 0 where
   pub seed : ℕ
   pub frames : ℕ

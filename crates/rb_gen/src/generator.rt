@@ -3,7 +3,6 @@ ghost use Rattle.std.specs.Prelude.{◌≡◌, ◌≤◌, ◌<◌, ◌∷◌, []
 ghost use Rattle.rb_base.specs.Counting.{numbers};
 ghost use Rattle.rb_rules.specs.Lawful.{IsLawful};
 ghost use Rattle.rb_scenario.specs.Acceptance.{as_scenario};
-ghost use Rattle.rb_gen.specs.Draws.{drawn};
 ghost use Rattle.rb_gen.specs.Generated.{clock_of, drawn_from, generated, plan, receiver_of, rule_of, say_to, sender_of, sizes, start_of, tick_of};
 
 use crate::draws::Draws;
@@ -15,7 +14,7 @@ use rb_rules::{Content, Pattern, Plan, Rule, Say, Version};
 use rb_scenario::{ClockList, SayList, Scenario};
 use std::alloc::Global;
 
-// One number for the silence of RMU 4, 11 for starts, 13 for tick lengths, 80 for delays.
+// One for the silence of RMU 4, 11 for starts, 13 for lengths of ticks, 80 for delays.
 const DRAWS: usize = 105;
 
 const BIUS: usize = 8;
@@ -201,10 +200,10 @@ fn says_of(alloc: Global, frames: u32) -> Result<Vec<Say>, OutOfMemory>
     Ok(says)
 }
 
-/// The scenario of a seed and a number of frames: 8 BIUs, each with two of the 16 data slots, and 5 RMUs. The starts and the
-/// tick lengths of the clocks, the delays of the links, and the frame from which on RMU 4 is silent are drawn. In the frame
-/// halfway BIU 7 becomes faulty and says unlike words. It is refused for want of memory alone. The choice of all that is this
-/// project's own.
+/// The scenario of a seed and a number of frames, 1 to 4096. It has 8 BIUs, each of which asks for two of the 16 data slots,
+/// and 5 RMUs. The starts of the clocks, the lengths of their ticks, the delays of the links, and the frame from which on
+/// RMU 4 is silent are drawn. In the frame halfway, `frames / 2`, BIU 7 becomes faulty and says unlike words. So the run has
+/// no breach. The only refusal is want of memory. What the scenario is, is this project's own.
 pub fn generate(alloc: Global, seed: u64, frames: u32) -> Result<Scenario, OutOfMemory>
     requires least { 1 ≤ frames }
     requires most { frames ≤ 4096 }
