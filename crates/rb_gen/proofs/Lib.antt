@@ -2,3 +2,4 @@ mod Lists
 mod GeneratedIsLawful
 mod Delays
 mod Places
+mod Read
