@@ -52,14 +52,14 @@ sizes_are = record {
 -- ---- clocks
 
 -- no clock starts later than BIU 0's
-start_small : (drawn : List ℕ) (node : ℕ) → start_of drawn node ≤ 60200
+pub start_small : (drawn : List ℕ) (node : ℕ) → start_of drawn node ≤ 60200
 start_small drawn node =
     let IsSmall : ℕ → Type 0 = λ n. n ≤ 60200 in
     cond_both (node == 0) 60200 _ IsSmall (λ e. omega arith)
     (λ e. cond_both (nat_lt node 8) (get_or drawn node 0 % 60201) _ IsSmall (λ e. omega arith)
     (λ e. cond_both (node == 8) 0 (get_or drawn (node - 1) 0 % 60201) IsSmall (λ e. omega arith) (λ e. omega arith)))
 
-clock_is : (drawn : List ℕ) (node : ℕ) → IsClock 9999 10001 (clock_of drawn node)
+pub clock_is : (drawn : List ℕ) (node : ℕ) → IsClock 9999 10001 (clock_of drawn node)
 clock_is drawn node =
     let tick = tick_of drawn node in
     record {
@@ -107,7 +107,7 @@ never_both : (b : Bool) → (b && false) ≡ false
 never_both true = refl
 never_both false = refl
 
-not_before_itself : (frame : ℕ) → (nat_lt frame frame || ((frame == frame) && false)) ≡ false
+pub not_before_itself : (frame : ℕ) → (nat_lt frame frame || ((frame == frame) && false)) ≡ false
 not_before_itself frame = rw (le-ltb frame frame (omega arith)) (never_both (frame == frame))
 
 say_is : (drawn : List ℕ) (frames rmu : ℕ) → 1 ≤ frames → rmu < 4 → IsSayOf (scenario_of drawn frames) (say_to frames rmu)

@@ -3,3 +3,4 @@ mod GeneratedIsLawful
 mod Delays
 mod Places
 mod Read
+mod Accepted

@@ -88,4 +88,4 @@ same_scenario drawn frames =
     let t = table_of (scenario_of drawn frames) in
     ap (λ bus. scenario_on bus t) (same_bus drawn frames)
     ∙ alike frames _ _ _ _ _ _ _ _ _ _ _ _ _ _ _ _ (same_requests drawn frames) (same_words drawn frames) (same_apps drawn frames) (same_clocks drawn frames)
-      (same_rules drawn frames) (same_biu_onsets drawn frames) (same_rmu_onsets drawn frames) (same_says drawn frames)
+    (same_rules drawn frames) (same_biu_onsets drawn frames) (same_rmu_onsets drawn frames) (same_says drawn frames)

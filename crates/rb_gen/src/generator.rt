@@ -2,7 +2,8 @@
 ghost use Rattle.std.specs.Prelude.{◌≡◌, ◌≤◌, ◌<◌, ◌∷◌, [], ◌++◌, map, IfOk};
 ghost use Rattle.rb_base.specs.Counting.{numbers};
 ghost use Rattle.rb_rules.specs.Lawful.{IsLawful};
-ghost use Rattle.rb_scenario.specs.Acceptance.{as_scenario};
+ghost use Rattle.rb_scenario.specs.Acceptance.{Says, as_scenario};
+ghost use Rattle.rb_gen.specs.Table.{table_of};
 ghost use Rattle.rb_gen.specs.Generated.{clock_of, drawn_from, generated, plan, receiver_of, rule_of, say_to, sender_of, sizes, start_of, tick_of};
 
 use crate::draws::Draws;
@@ -209,6 +210,7 @@ pub fn generate(alloc: Global, seed: u64, frames: u32) -> Result<Scenario, OutOf
     requires most { frames ≤ 4096 }
     ensures scenario { IfOk result (λ s. as_scenario s ≡ generated seed frames) }
     ensures lawful { IfOk result (λ s. IsLawful (as_scenario s)) }
+    ensures said { IfOk result (λ s. Says (table_of (as_scenario s)) s) }
 {
     let drawn = drawn_from(seed);
     let clocks = clocks_of(alloc, &drawn)?;

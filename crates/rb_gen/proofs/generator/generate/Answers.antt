@@ -1,4 +1,4 @@
-use Rattle.std.proofs.Common.{◌≡◌, ℕ, List, map, ap, sym, subst, ◌∙◌}
+use Rattle.std.proofs.Common.{◌≡◌, ℕ, List, map, refl, ap, sym, subst, ◌∙◌}
 use Rattle.rb_base.specs.Counting.{numbers}
 use Rattle.rb_plan.specs.Timetable.{Timetable}
 use Rattle.rb_rules.specs.declared.link.Rule.{Rule}
@@ -8,6 +8,7 @@ use Rattle.rb_rules.specs.Goodness.{Scenario}
 use Rattle.rb_rules.specs.Lawful.{IsLawful}
 use Rattle.rb_rules.specs.Links.{DelayRules}
 use Rattle.rb_gen.specs.Generated.{clock_of, drawn_from, plan, rule_of, say_to, scenario_of, sizes}
+use Rattle.rb_gen.proofs.Accepted.{said_by_its_table}
 use Rattle.rb_gen.proofs.GeneratedIsLawful.{generated_is_lawful}
 use Rattle.rb_gen.proofs.generator.generate.Goals as goal
 
@@ -42,3 +43,7 @@ returns-clause-scenario c =
 pub returns-clause-lawful : goal.returns-clause-lawful
 returns-clause-lawful c =
     subst IsLawful (sym (returns-clause-scenario c)) (generated_is_lawful (drawn_from c.args.seed) c.args.frames c.requires.least c.requires.most)
+
+pub returns-clause-said : goal.returns-clause-said
+returns-clause-said c =
+    said_by_its_table _ (drawn_from c.args.seed) c.args.frames (returns-clause-scenario c) refl c.requires.least c.requires.most
