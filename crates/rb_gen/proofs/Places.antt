@@ -16,7 +16,7 @@ use Rattle.rb_gen.proofs.Delays.{delay_drawn}
 
 -- ---- pieces of one length
 
-pub pieces_length : {X A : Type 0} (f : X → List A) (w : ℕ) → ((x : X) → length (f x) ≡ w) → (xs : List X) → length (flat_map f xs) ≡ w * length xs
+pieces_length : {X A : Type 0} (f : X → List A) (w : ℕ) → ((x : X) → length (f x) ≡ w) → (xs : List X) → length (flat_map f xs) ≡ w * length xs
 pieces_length f w each [] = omega arith
 pieces_length f w each (x ∷ xs) =
     let rest = pieces_length f w each xs in
@@ -24,7 +24,7 @@ pieces_length f w each (x ∷ xs) =
     length-append (f x) (flat_map f xs) ∙ ap (λ n. n + length (flat_map f xs)) here ∙ ap (λ n. w + n) rest ∙ omega arith
 
 -- line j of piece i
-pub piece : {X A : Type 0} (f : X → List A) (w : ℕ) → ((x : X) → length (f x) ≡ w) → (xs : List X) (i j : ℕ) (e : X) (d : A) → i < length xs → j < w
+piece : {X A : Type 0} (f : X → List A) (w : ℕ) → ((x : X) → length (f x) ≡ w) → (xs : List X) (i j : ℕ) (e : X) (d : A) → i < length xs → j < w
     → get_or (flat_map f xs) (w * i + j) d ≡ get_or (f (get_or xs i e)) j d
 piece f w each [] i j e d lt inside = absurd (omega (arith, lt))
 piece f w each (x ∷ xs) zero j e d lt inside =
