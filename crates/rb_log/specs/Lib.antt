@@ -1,0 +1,5 @@
+pub mod Fields
+pub mod Header
+pub mod Entries
+pub mod Writing
+pub mod LogText
