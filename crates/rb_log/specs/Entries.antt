@@ -1,11 +1,12 @@
 -- The records of a log. The first byte says which record it is: 1 one tick and its word, 2 so many ticks with word 0, 3 the
 -- arrival of a message, 4 the end of the log.
-use Rattle.std.specs.Prelude.{ℕ, zero, suc, ◌+◌, ◌-◌, Bool, true, false, nat_le, nat_lt, ◌==◌, List, [], ◌∷◌, ◌++◌, length, slice_range, Result, Ok, Err, if◌then◌else◌}
+use Rattle.std.specs.Prelude.{⊤, ℕ, zero, suc, ◌+◌, ◌-◌, ◌≡◌, ◌<◌, ◌≤◌, Bool, true, false, nat_le, nat_lt, ◌==◌, List, [], ◌∷◌, ◌++◌, length, slice_range, Option, Some, None, Result, Ok, Err, if◌then◌else◌}
 use Rattle.std.proofs.Math.ListN.{replicate}
 use Rattle.rb_rules.specs.Core.{CoreEvent}
 use Rattle.rb_rules.specs.Core as event
 use Rattle.rb_log.specs.Fields.{◌>>=◌, field}
 use Rattle.rb_log.specs.declared.entry.Entry.{Entry}
+use Rattle.rb_log.specs.declared.entry.Position.{Position}
 use Rattle.rb_log.specs.declared.entry.Entry.TheVariants.{Tick, Ticks, Arrival, End}
 use Rattle.rb_log.specs.declared.refusal.LogRefusal.{LogRefusal}
 use Rattle.rb_log.specs.declared.refusal.LogRefusal.TheVariants.{BadField, Truncated, AfterEnd}
@@ -85,3 +86,29 @@ events_from (suc most) senders bytes place ticks = do
 -- the events of all records from there on. Each has a byte at least, so that there are no more of them than bytes
 unfoldable pub events_at : ℕ → List ℕ → ℕ → ℕ → Result (List CoreEvent) LogRefusal
 events_at senders bytes place ticks = events_from (length bytes) senders bytes place ticks
+
+-- the fault that was met, if one was
+abbrev pub fault_of : {X : Type 0} → Result X LogRefusal → Option LogRefusal
+fault_of (Ok x) = None
+fault_of (Err fault) = Some fault
+
+-- ticks in a row are at least one
+abbrev pub HasTicks : Entry → Type 0
+HasTicks (Tick word) = ⊤
+HasTicks (Ticks count) = 1 ≤ count
+HasTicks (Arrival from size) = ⊤
+HasTicks End = ⊤
+
+-- how many ticks with word 0 a record tells of, if of nothing else
+abbrev pub zeros_of : Entry → ℕ
+zeros_of (Tick word) = if word == 0 then 1 else 0
+zeros_of (Ticks count) = count
+zeros_of (Arrival from size) = 0
+zeros_of End = 0
+
+-- the reading goes on at a later place, and meets the same fault there, if any
+pub record GoesOn (senders : ℕ) (bytes : List ℕ) (place ticks : ℕ) (next : Position) : Type 0 where
+  pub same : fault_of (events_at senders bytes place ticks) ≡ fault_of (events_at senders bytes next.place next.ticks)
+  pub further : place < next.place
+  pub inside : next.place ≤ length bytes
+  pub few : next.ticks ≤ 2147483648

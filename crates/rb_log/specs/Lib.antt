@@ -2,4 +2,5 @@ pub mod Fields
 pub mod Header
 pub mod Entries
 pub mod Writing
+pub mod Cursor
 pub mod LogText

@@ -5,6 +5,7 @@
 //! byte first. A log may come from anywhere: a reader looks at all of it before it gives the first event.
 #![tactic(auto)]
 
+mod cursor;
 mod entry;
 mod field;
 mod headers;
