@@ -88,7 +88,7 @@ unfolding events_left events_behind
 leaves_zeros c some = behind_front c.zeros (events_behind c) some
 
 -- where no tick is left of the record before
-left_is : (c : Cursor) → c.zeros ≡ 0 → events_left c ≡ events_behind c
+pub left_is : (c : Cursor) → c.zeros ≡ 0 → events_left c ≡ events_behind c
 unfolding events_left events_behind
 left_is c none = rw none refl
 

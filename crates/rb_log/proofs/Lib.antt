@@ -1,2 +1,4 @@
 pub mod Reading
 pub mod Cursors
+pub mod QuietTicks
+pub mod Opening

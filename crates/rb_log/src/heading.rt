@@ -1,6 +1,7 @@
 //! Reading the header of a log.
-ghost use Rattle.std.specs.Prelude.{◌≡◌, IfOk, None};
+ghost use Rattle.std.specs.Prelude.{◌≡◌, ◌≤◌, IfOk, None, OnOk, length, true};
 ghost use Rattle.rb_base.specs.Sizes.{Sizes};
+ghost use Rattle.rb_rules.specs.Lawful.{IsNodeOf};
 ghost use Rattle.rb_rules.specs.Plan.{IsPlan, first_failing};
 ghost use Rattle.rb_log.specs.Header.{extended_in, feasible_in, has_second_form, header_in, node_in, plan_in, sizes_in, whole_in};
 
@@ -14,6 +15,7 @@ const FIRST_FORM: u64 = 0x5242_4c31;
 const SECOND_FORM: u64 = 0x5242_4c32;
 
 /// What a header says, and how many bytes it has.
+#[derive(Clone, Copy)]
 pub(crate) struct Header {
     pub plan: Feasible,
     pub node: NodeName,
@@ -95,6 +97,8 @@ fn feasible_in(shape: &Shape, bytes: &[u8]) -> Result<Plan, LogRefusal>
 #[tactic(auto, unfolding(crate::specs::Header::node_in))]
 fn node_in(shape: &Shape, bytes: &[u8]) -> Result<NodeName, LogRefusal>
     ensures value { result ≡ node_in shape.now bytes.now }
+    ensures node { IfOk result (IsNodeOf shape.now) }
+    ensures inside { OnOk result (50 ≤ length bytes.now) }
 {
     if field(bytes, 48, 1, 0, 1)? == 0 {
         let index = field(bytes, 49, 1, 0, u64::from(shape.biu()) - 1)?;
@@ -112,6 +116,7 @@ fn extended_in(plan: &Plan, bytes: &[u8]) -> Result<Plan, LogRefusal>
     ensures value { result ≡ extended_in plan.now bytes.now }
     ensures plan { IfOk result IsPlan }
     ensures same { IfOk result (λ p. (sizes : Sizes) → first_failing sizes p ≡ first_failing sizes plan.now) }
+    ensures inside { OnOk result (54 ≤ length bytes.now) }
 {
     let version = field(bytes, 50, 1, 1, 2)?;
     let most = if version == 2 { 255 } else { 0 };
@@ -133,6 +138,7 @@ fn whole_in(second: bool, plan: &Plan, bytes: &[u8]) -> Result<Plan, LogRefusal>
     ensures value { result ≡ whole_in second plan.now bytes.now }
     ensures plan { IfOk result IsPlan }
     ensures same { IfOk result (λ p. (sizes : Sizes) → first_failing sizes p ≡ first_failing sizes plan.now) }
+    ensures inside { OnOk result (second ≡ true → 54 ≤ length bytes.now) }
 {
     if second {
         extended_in(plan, bytes)
@@ -144,7 +150,9 @@ fn whole_in(second: bool, plan: &Plan, bytes: &[u8]) -> Result<Plan, LogRefusal>
 /// The header at the front of the bytes, or the first fault in it.
 #[tactic(auto, unfolding(crate::specs::Header::header_in))]
 pub(crate) fn header_in(bytes: &[u8]) -> Result<Header, LogRefusal>
-    ensures { result ≡ header_in bytes.now }
+    ensures value { result ≡ header_in bytes.now }
+    ensures node { IfOk result (λ h. IsNodeOf h.plan.sizes h.node) }
+    ensures inside { IfOk result (λ h. h.size ≤ length bytes.now) }
 {
     let second = has_second_form(bytes)?;
     let shape = sizes_in(bytes)?;

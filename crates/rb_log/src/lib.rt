@@ -10,7 +10,7 @@ mod entry;
 mod field;
 mod headers;
 mod heading;
-//mod reader;
+mod reader;
 mod refusal;
 mod writer;
 
@@ -18,6 +18,6 @@ mod writer;
 //mod tests;
 
 pub use headers::header;
-//pub use reader::{LogEvent, LogReader};
+pub use reader::{LogEvent, LogReader};
 pub use refusal::LogRefusal;
 pub use writer::LogWriter;
