@@ -4,3 +4,4 @@ pub mod Entries
 pub mod Writing
 pub mod Cursor
 pub mod LogText
+pub mod Laws

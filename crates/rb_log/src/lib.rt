@@ -10,6 +10,7 @@ mod entry;
 mod field;
 mod headers;
 mod heading;
+mod laws;
 mod reader;
 mod refusal;
 mod writer;
@@ -18,6 +19,7 @@ mod writer;
 //mod tests;
 
 pub use headers::header;
+pub use laws::written_is_read;
 pub use reader::{LogEvent, LogReader};
 pub use refusal::LogRefusal;
 pub use writer::LogWriter;
