@@ -41,9 +41,9 @@ passes c size more entry is end all_bytes all_ticks inside s =
     let on = goes_on c.senders c.bytes.now c.place c.ticks size more entry is end all_bytes all_ticks inside few in
     let sound : fault_of (events_at c.senders c.bytes.now (c.place + size) (c.ticks + more)) ≡ None = sym on.same ∙ s.sound in
     let events : events_in (events_at c.senders c.bytes.now c.place c.ticks)
-        ≡ events_of c.bytes.now c.place entry ++ events_in (events_at c.senders c.bytes.now (c.place + size) (c.ticks + more)) =
-        ap events_in (steps_on c.senders c.bytes.now c.place c.ticks entry is end (rw (← all_ticks) few))
-        ∙ rw (← all_bytes, ← all_ticks) (after_events (events_of c.bytes.now c.place entry) _ sound) in
+    ≡ events_of c.bytes.now c.place entry ++ events_in (events_at c.senders c.bytes.now (c.place + size) (c.ticks + more)) =
+    ap events_in (steps_on c.senders c.bytes.now c.place c.ticks entry is end (rw (← all_ticks) few))
+    ∙ rw (← all_bytes, ← all_ticks) (after_events (events_of c.bytes.now c.place entry) _ sound) in
     (record { senders = s.senders; inside = inside; few = few; sound = sound }, events)
 
 -- nothing is left behind the end
@@ -102,13 +102,15 @@ pub first_of_ticks : (c d : Cursor) (count : ℕ) → c.zeros ≡ 0 → 1 ≤ co
     → (Some (event.Tick 0) ≡ slice_get (events_left c) 0) × (events_left (record d { zeros = count - 1 }) ≡ drop 1 (events_left c))
 unfolding events_left events_behind
 first_of_ticks c d count none some is =
-    let all : events_left c ≡ replicate count (event.Tick 0) ++ events_behind d = left_is c none ∙ is in
-    (sym (ap (λ (es : List CoreEvent). slice_get es 0) all ∙ front count (events_behind d) (omega arith)),
-    behind_front count (events_behind d) (omega arith) ∙ ap (λ (es : List CoreEvent). drop 1 es) (sym all))
+    let all : events_left c ≡ replicate count (event.Tick 0) ++ events_behind d = left_is c none ∙ is in (
+      sym (ap (λ (es : List CoreEvent). slice_get es 0) all ∙ front count (events_behind d) (omega arith)),
+      behind_front count (events_behind d) (omega arith) ∙ ap (λ (es : List CoreEvent). drop 1 es) (sym all),
+    )
 
 pub none_is_left : (c d : Cursor) → c.zeros ≡ 0 → d.zeros ≡ c.zeros → events_behind c ≡ [] → events_behind c ≡ events_behind d
     → (None ≡ slice_get (events_left c) 0) × (events_left d ≡ drop 1 (events_left c))
 none_is_left c d none same empty is =
-    let all : events_left c ≡ [] = left_is c none ∙ empty in
-    (sym (ap (λ (es : List CoreEvent). slice_get es 0) all),
-    left_is d (same ∙ none) ∙ sym is ∙ empty ∙ sym (ap (λ (es : List CoreEvent). drop 1 es) all))
+    let all : events_left c ≡ [] = left_is c none ∙ empty in (
+      sym (ap (λ (es : List CoreEvent). slice_get es 0) all),
+      left_is d (same ∙ none) ∙ sym is ∙ empty ∙ sym (ap (λ (es : List CoreEvent). drop 1 es) all),
+    )

@@ -41,7 +41,7 @@ unfolding entry_at tick_in
 tick_read senders bytes place word rest is fits =
     let what : field bytes place 1 1 4 ≡ Ok 1 = reads_byte bytes _ place 1 1 4 is (omega arith) (omega arith) in
     let number : field bytes (place + 1) 4 0 4294967295 ≡ Ok word =
-        reads bytes rest (place + 1) 4 word 0 4294967295 (one_on bytes place 1 _ is) (omega arith) fits (omega arith) (omega arith) in
+    reads bytes rest (place + 1) 4 word 0 4294967295 (one_on bytes place 1 _ is) (omega arith) fits (omega arith) (omega arith) in
     rw (what, number) refl
 
 ticks_read : (senders : ℕ) (bytes : List ℕ) (place count : ℕ) (rest : List ℕ) → drop place bytes ≡ 2 ∷ big_bytes 4 count ++ rest → 1 ≤ count
@@ -50,7 +50,7 @@ unfolding entry_at ticks_in
 ticks_read senders bytes place count rest is some fits =
     let what : field bytes place 1 1 4 ≡ Ok 2 = reads_byte bytes _ place 2 1 4 is (omega arith) (omega arith) in
     let number : field bytes (place + 1) 4 1 4294967295 ≡ Ok count =
-        reads bytes rest (place + 1) 4 count 1 4294967295 (one_on bytes place 2 _ is) (omega arith) fits some (omega arith) in
+    reads bytes rest (place + 1) 4 count 1 4294967295 (one_on bytes place 2 _ is) (omega arith) fits some (omega arith) in
     rw (what, number) refl
 
 arrival_read : (senders : ℕ) (bytes : List ℕ) (place from : ℕ) (message rest : List ℕ)
@@ -63,12 +63,12 @@ arrival_read senders bytes place from message rest is inside some few =
     let third : drop (place + 1 + 1) bytes ≡ length message ∷ (message ++ rest) = one_on bytes (place + 1) from _ second in
     let e : place + 1 + 1 ≡ place + 2 = omega arith in
     let sender : field bytes (place + 1) 1 0 (senders - 1) ≡ Ok from =
-        reads_byte bytes _ (place + 1) from 0 (senders - 1) second (omega arith) (omega arith) in
+    reads_byte bytes _ (place + 1) from 0 (senders - 1) second (omega arith) (omega arith) in
     let size : field bytes (place + 2) 1 1 32 ≡ Ok (length message) =
-        reads_byte bytes _ (place + 2) (length message) 1 32 (rw e at third) some few in
+    reads_byte bytes _ (place + 2) (length message) 1 32 (rw e at third) some few in
     let fourth : drop (place + 1 + 1 + 1) bytes ≡ message ++ rest = one_on bytes (place + 1 + 1) (length message) _ third in
     let all : length bytes - (place + 1 + 1 + 1) ≡ length message + length rest =
-        sym (length-drop (place + 1 + 1 + 1) bytes) ∙ ap length fourth ∙ length-append message rest in
+    sym (length-drop (place + 1 + 1 + 1) bytes) ∙ ap length fourth ∙ length-append message rest in
     let whole : nat_le (place + 3 + length message) (length bytes) ≡ true = grind (arith, nat_tests) in
     rw (what, sender, size, whole) refl
 
@@ -106,7 +106,7 @@ arrival_before : (senders : ℕ) (bytes : List ℕ) (place ticks from : ℕ) (me
 arrival_before senders bytes place ticks from message rest others is inside some few ok next =
     let none : ticks + 0 ≡ ticks = omega arith in
     let on = steps_on senders bytes place ticks (Arrival from (length message))
-        (sym (arrival_read senders bytes place from message rest is inside some few)) refl (rw none ok) in
+    (sym (arrival_read senders bytes place from message rest is inside some few)) refl (rw none ok) in
     let three : drop (place + 3) bytes ≡ message ++ rest = sym (drop-drop 3 place bytes) ∙ ap (λ (l : List ℕ). drop 3 l) is in
     on ∙ rw (none, next, message_at bytes (place + 3) message rest three) refl
 
@@ -136,7 +136,7 @@ quiet_regroup waiting quiet last others =
     ap (λ (l : List CoreEvent). l ++ (last ++ others)) (sym (replicate-append-replicate waiting quiet (event.Tick 0)))
     ∙ append_assoc (replicate waiting (event.Tick 0)) (replicate quiet (event.Tick 0)) (last ++ others)
     ∙ ap (λ (l : List CoreEvent). replicate waiting (event.Tick 0) ++ l)
-        (sym (append_assoc (replicate quiet (event.Tick 0)) last others))
+    (sym (append_assoc (replicate quiet (event.Tick 0)) last others))
 
 one_more : (n : ℕ) (others : List CoreEvent) → replicate (n + 1) (event.Tick 0) ++ others ≡ replicate n (event.Tick 0) ++ (event.Tick 0 ∷ others)
 one_more n others =
@@ -156,26 +156,26 @@ event_before senders bytes place ticks waiting quiet (kinds.Tick word true) more
     let tail : drop place bytes ≡ gathered n ++ ((1 ∷ big_bytes 4 word) ++ more) = is ∙ append_assoc (gathered n) (1 ∷ big_bytes 4 word) more in
     gathered_before senders bytes place ticks n ((1 ∷ big_bytes 4 word) ++ more) (event.Tick word ∷ others) tail (omega arith)
     (λ p at.
-      let size : length (1 ∷ big_bytes 4 word) ≡ 5 = omega (arith, length-bytes_high_first 4 word) in
-      let behind : drop (p + 5) bytes ≡ more = rw (← size) (further bytes (1 ∷ big_bytes 4 word) more p at) in
-      tick_before senders bytes p (ticks + n) word more others at may (omega arith) (next (p + 5) (ticks + n + 1) behind (omega arith)))
+    let size : length (1 ∷ big_bytes 4 word) ≡ 5 = omega (arith, length-bytes_high_first 4 word) in
+    let behind : drop (p + 5) bytes ≡ more = rw (← size) (further bytes (1 ∷ big_bytes 4 word) more p at) in
+    tick_before senders bytes p (ticks + n) word more others at may (omega arith) (next (p + 5) (ticks + n + 1) behind (omega arith)))
     ∙ ap (λ (l : List CoreEvent). Ok l) (quiet_regroup waiting quiet (event.Tick word ∷ []) others)
 event_before senders bytes place ticks waiting quiet (kinds.Tick word false) more others is may few next =
     next place ticks is (omega arith)
     ∙ ap (λ (l : List CoreEvent). Ok l)
-        (one_more (waiting + quiet) others
-        ∙ ap (λ (w : ℕ). replicate (waiting + quiet) (event.Tick 0) ++ (event.Tick w ∷ others)) (sym may)
-        ∙ quiet_regroup waiting quiet (event.Tick word ∷ []) others)
+    (one_more (waiting + quiet) others
+    ∙ ap (λ (w : ℕ). replicate (waiting + quiet) (event.Tick 0) ++ (event.Tick w ∷ others)) (sym may)
+    ∙ quiet_regroup waiting quiet (event.Tick word ∷ []) others)
 event_before senders bytes place ticks waiting quiet (kinds.Arrive from message) more others is may few next =
     let n = waiting + quiet in
     let record_bytes = 3 ∷ from ∷ length message.items ∷ message.items in
     let tail : drop place bytes ≡ gathered n ++ (record_bytes ++ more) = is ∙ append_assoc (gathered n) record_bytes more in
     gathered_before senders bytes place ticks n (record_bytes ++ more) (event.Arrive from message.items ∷ others) tail (omega arith)
     (λ p at.
-      let size : length record_bytes ≡ 3 + length message.items = omega arith in
-      let behind : drop (p + (3 + length message.items)) bytes ≡ more = rw (← size) (further bytes record_bytes more p at) in
-      arrival_before senders bytes p (ticks + n) from message.items more others at may.0 may.1 may.2 (omega arith)
-      (next (p + (3 + length message.items)) (ticks + n) behind (omega arith)))
+    let size : length record_bytes ≡ 3 + length message.items = omega arith in
+    let behind : drop (p + (3 + length message.items)) bytes ≡ more = rw (← size) (further bytes record_bytes more p at) in
+    arrival_before senders bytes p (ticks + n) from message.items more others at may.0 may.1 may.2 (omega arith)
+    (next (p + (3 + length message.items)) (ticks + n) behind (omega arith)))
     ∙ ap (λ (l : List CoreEvent). Ok l) (quiet_regroup waiting quiet (event.Arrive from message.items ∷ []) others)
 
 -- what is written for all events
@@ -189,4 +189,4 @@ events_read (e ∷ events) senders bytes place ticks waiting is all few =
     event_before senders bytes place ticks waiting e.quiet e.kind (written (waiting_with (waiting + e.quiet) e.kind) events)
     (flat_map given events) is (All-head (λ (x : Event). MayHappen senders x.kind) e events all) (omega arith)
     (λ p done at counted.
-      events_read events senders bytes p done (waiting_with (waiting + e.quiet) e.kind) at (All-tail (λ (x : Event). MayHappen senders x.kind) e events all) (omega arith))
+    events_read events senders bytes p done (waiting_with (waiting + e.quiet) e.kind) at (All-tail (λ (x : Event). MayHappen senders x.kind) e events all) (omega arith))

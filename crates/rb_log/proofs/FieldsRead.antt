@@ -22,8 +22,8 @@ pub reads : (bytes rest : List ℕ) (place size n low high : ℕ) → drop place
 unfolding number_at
 reads bytes rest place size n low high is some fits low_enough high_enough =
     let all : length bytes - place ≡ size + length rest =
-        sym (length-drop place bytes) ∙ ap length is ∙ length-append (big_bytes size n) rest
-        ∙ ap (λ (k : ℕ). k + length rest) (length-bytes_high_first size n) in
+    sym (length-drop place bytes) ∙ ap length is ∙ length-append (big_bytes size n) rest
+    ∙ ap (λ (k : ℕ). k + length rest) (length-bytes_high_first size n) in
     let read : number_at bytes place size ≡ n = rw is (big_number-reads_back size n rest fits) in
     field_is bytes place size n low high (omega arith) read low_enough high_enough
 

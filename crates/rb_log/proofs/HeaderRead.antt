@@ -37,10 +37,10 @@ unfolding sizes_in
 sizes_read bytes t node tail is shape =
     let bius : field bytes 4 1 1 16 ≡ Ok t.sizes.bius = reads_byte bytes _ 4 t.sizes.bius 1 16 is shape.some_biu shape.most_bius in
     let rmus : field bytes 5 1 1 16 ≡ Ok t.sizes.rmus =
-        reads_byte bytes _ 5 t.sizes.rmus 1 16 (further_on bytes 1 _ is) shape.some_rmu shape.most_rmus in
+    reads_byte bytes _ 5 t.sizes.rmus 1 16 (further_on bytes 1 _ is) shape.some_rmu shape.most_rmus in
     let slots : field bytes 6 2 1 64 ≡ Ok t.sizes.data_slots =
-        let few = shape.most_slots in
-        reads bytes _ 6 2 t.sizes.data_slots 1 64 (further_on bytes 2 _ is) (omega arith) (omega arith) shape.some_slot shape.most_slots in
+    let few = shape.most_slots in
+    reads bytes _ 6 2 t.sizes.data_slots 1 64 (further_on bytes 2 _ is) (omega arith) (omega arith) shape.some_slot shape.most_slots in
     rw (bius, rmus, slots) refl
 
 plan_read : (bytes : List ℕ) (t : Timetable) (node : NodeName) (tail : List ℕ) → drop 4 bytes ≡ common_bytes t node ++ tail → IsPlan t.plan
@@ -49,26 +49,26 @@ unfolding plan_in
 plan_read bytes t node tail is ok =
     let p = t.plan in
     let u : field bytes 8 4 2 1000000 ≡ Ok p.u =
-        reads bytes _ 8 4 p.u 2 1000000 (further_on bytes 4 _ is) (omega arith) (omega (arith, ok.u.1)) ok.u.0 ok.u.1 in
+    reads bytes _ 8 4 p.u 2 1000000 (further_on bytes 4 _ is) (omega arith) (omega (arith, ok.u.1)) ok.u.0 ok.u.1 in
     let r : field bytes 12 4 0 (p.u - 1) ≡ Ok p.r =
-        reads bytes _ 12 4 p.r 0 (p.u - 1) (further_on bytes 8 _ is) (omega arith) (omega (arith, ok.u.1, ok.r)) (omega arith) (omega (arith, ok.r)) in
+    reads bytes _ 12 4 p.r 0 (p.u - 1) (further_on bytes 8 _ is) (omega arith) (omega (arith, ok.u.1, ok.r)) (omega arith) (omega (arith, ok.r)) in
     let dmin : field bytes 16 4 1 1000000000 ≡ Ok p.dmin =
-        reads bytes _ 16 4 p.dmin 1 1000000000 (further_on bytes 12 _ is) (omega arith) (omega (arith, ok.dmin.1, ok.dmax)) ok.dmin.0
-        (omega (arith, ok.dmin.1, ok.dmax)) in
+    reads bytes _ 16 4 p.dmin 1 1000000000 (further_on bytes 12 _ is) (omega arith) (omega (arith, ok.dmin.1, ok.dmax)) ok.dmin.0
+    (omega (arith, ok.dmin.1, ok.dmax)) in
     let dmax : field bytes 20 4 p.dmin 1000000000 ≡ Ok p.dmax =
-        reads bytes _ 20 4 p.dmax p.dmin 1000000000 (further_on bytes 16 _ is) (omega arith) (omega (arith, ok.dmax)) ok.dmin.1 ok.dmax in
+    reads bytes _ 20 4 p.dmax p.dmin 1000000000 (further_on bytes 16 _ is) (omega arith) (omega (arith, ok.dmax)) ok.dmin.1 ok.dmax in
     let l : field bytes 24 4 1 1000 ≡ Ok p.l =
-        reads bytes _ 24 4 p.l 1 1000 (further_on bytes 20 _ is) (omega arith) (omega (arith, ok.l.1)) ok.l.0 ok.l.1 in
+    reads bytes _ 24 4 p.l 1 1000 (further_on bytes 20 _ is) (omega arith) (omega (arith, ok.l.1)) ok.l.0 ok.l.1 in
     let h : field bytes 28 4 1 1000 ≡ Ok p.h =
-        reads bytes _ 28 4 p.h 1 1000 (further_on bytes 24 _ is) (omega arith) (omega (arith, ok.h.1)) ok.h.0 ok.h.1 in
+    reads bytes _ 28 4 p.h 1 1000 (further_on bytes 24 _ is) (omega arith) (omega (arith, ok.h.1)) ok.h.0 ok.h.1 in
     let v : field bytes 32 4 1 1000 ≡ Ok p.v =
-        reads bytes _ 32 4 p.v 1 1000 (further_on bytes 28 _ is) (omega arith) (omega (arith, ok.v.1)) ok.v.0 ok.v.1 in
+    reads bytes _ 32 4 p.v 1 1000 (further_on bytes 28 _ is) (omega arith) (omega (arith, ok.v.1)) ok.v.0 ok.v.1 in
     let z : field bytes 36 4 1 1000 ≡ Ok p.z =
-        reads bytes _ 36 4 p.z 1 1000 (further_on bytes 32 _ is) (omega arith) (omega (arith, ok.z.1)) ok.z.0 ok.z.1 in
+    reads bytes _ 36 4 p.z 1 1000 (further_on bytes 32 _ is) (omega arith) (omega (arith, ok.z.1)) ok.z.0 ok.z.1 in
     let c : field bytes 40 4 0 1000 ≡ Ok p.c =
-        reads bytes _ 40 4 p.c 0 1000 (further_on bytes 36 _ is) (omega arith) (omega (arith, ok.c)) (omega arith) ok.c in
+    reads bytes _ 40 4 p.c 0 1000 (further_on bytes 36 _ is) (omega arith) (omega (arith, ok.c)) (omega arith) ok.c in
     let most : field bytes 44 4 0 1000000000 ≡ Ok p.p =
-        reads bytes _ 44 4 p.p 0 1000000000 (further_on bytes 40 _ is) (omega arith) (omega (arith, ok.p)) (omega arith) ok.p in
+    reads bytes _ 44 4 p.p 0 1000000000 (further_on bytes 40 _ is) (omega arith) (omega (arith, ok.p)) (omega arith) ok.p in
     rw (u, r, dmin, dmax, l, h, v, z, c, most) refl
 
 feasible_read : (bytes : List ℕ) (t : Timetable) (node : NodeName) (tail : List ℕ) → drop 4 bytes ≡ common_bytes t node ++ tail → IsPlan t.plan
@@ -85,12 +85,12 @@ unfolding node_in
 node_read bytes t (name.Biu index) tail is inside =
     let kind : field bytes 48 1 0 1 ≡ Ok 0 = reads_byte bytes _ 48 0 0 1 (further_on bytes 44 _ is) (omega arith) (omega arith) in
     let at : field bytes 49 1 0 (t.sizes.bius - 1) ≡ Ok index =
-        reads_byte bytes _ 49 index 0 (t.sizes.bius - 1) (further_on bytes 45 _ is) (omega arith) (omega arith) in
+    reads_byte bytes _ 49 index 0 (t.sizes.bius - 1) (further_on bytes 45 _ is) (omega arith) (omega arith) in
     rw (kind, at) refl
 node_read bytes t (name.Rmu index) tail is inside =
     let kind : field bytes 48 1 0 1 ≡ Ok 1 = reads_byte bytes _ 48 1 0 1 (further_on bytes 44 _ is) (omega arith) (omega arith) in
     let at : field bytes 49 1 0 (t.sizes.rmus - 1) ≡ Ok index =
-        reads_byte bytes _ 49 index 0 (t.sizes.rmus - 1) (further_on bytes 45 _ is) (omega arith) (omega arith) in
+    reads_byte bytes _ 49 index 0 (t.sizes.rmus - 1) (further_on bytes 45 _ is) (omega arith) (omega arith) in
     rw (kind, at) refl
 
 -- The form.
@@ -99,14 +99,14 @@ first_form : (bytes rest : List ℕ) → bytes ≡ codes "RBL1" ++ rest → has_
 unfolding has_second_form
 first_form bytes rest is =
     let magic : field bytes 0 4 0 4294967295 ≡ Ok 1380076593 =
-        reads bytes rest 0 4 1380076593 0 4294967295 is (omega arith) (omega arith) (omega arith) (omega arith) in
+    reads bytes rest 0 4 1380076593 0 4294967295 is (omega arith) (omega arith) (omega arith) (omega arith) in
     rw magic refl
 
 second_form : (bytes rest : List ℕ) → bytes ≡ codes "RBL2" ++ rest → has_second_form bytes ≡ Ok true
 unfolding has_second_form
 second_form bytes rest is =
     let magic : field bytes 0 4 0 4294967295 ≡ Ok 1380076594 =
-        reads bytes rest 0 4 1380076594 0 4294967295 is (omega arith) (omega arith) (omega arith) (omega arith) in
+    reads bytes rest 0 4 1380076594 0 4294967295 is (omega arith) (omega arith) (omega arith) (omega arith) in
     rw magic refl
 
 behind_common : (bytes : List ℕ) (t : Timetable) (node : NodeName) (tail : List ℕ) → drop 4 bytes ≡ common_bytes t node ++ tail
@@ -158,7 +158,7 @@ first_header : (bytes : List ℕ) (t : Timetable) (node : NodeName) → has_seco
 unfolding header_in
 first_header bytes t node form sizes plan node_is same =
     let read : header_in bytes ≡ Ok (record { plan = record { sizes = t.sizes; plan = plain t.plan }; node = node; size = 50 }) =
-        rw (form, sizes, plan, node_is) refl in
+    rw (form, sizes, plan, node_is) refl in
     read ∙ ap (λ (p : Plan). Ok (record { plan = record { sizes = t.sizes; plan = p }; node = node; size = 50 })) same
 
 second_header : (bytes : List ℕ) (t : Timetable) (node : NodeName) → has_second_form bytes ≡ Ok true → sizes_in bytes ≡ Ok t.sizes
@@ -186,28 +186,28 @@ header_read t node rest shape ok feasible fits inside = go (has_first_form t.pla
   go true first =
       let bytes = header_of t node ++ rest in
       let is : header_of t node ++ rest ≡ codes "RBL1" ++ (common_bytes t node ++ rest) =
-          rw (first_written t node first) (append_assoc (codes "RBL1") (common_bytes t node) rest) in
+      rw (first_written t node first) (append_assoc (codes "RBL1") (common_bytes t node) rest) in
       let at : drop 4 (header_of t node ++ rest) ≡ common_bytes t node ++ rest = ap (λ (l : List ℕ). drop 4 l) is in
       record {
         size = 50;
         read =
-          first_header bytes t node (first_form bytes _ is) (sizes_read bytes t node rest at shape) (feasible_read bytes t node rest at ok feasible)
-          (node_read bytes t node rest at inside) (first_is_plain t.plan first);
+            first_header bytes t node (first_form bytes _ is) (sizes_read bytes t node rest at shape) (feasible_read bytes t node rest at ok feasible)
+            (node_read bytes t node rest at inside) (first_is_plain t.plan first);
         behind = behind_common bytes t node rest at;
       }
   go false first =
       let bytes = header_of t node ++ rest in
       let form = version_bytes t.plan.version ++ big_bytes 2 t.plan.probation in
       let is : header_of t node ++ rest ≡ codes "RBL2" ++ (common_bytes t node ++ (form ++ rest)) =
-          rw (second_written t node first)
-          (regroup (codes "RBL2") (common_bytes t node) (version_bytes t.plan.version) (big_bytes 2 t.plan.probation) rest) in
+      rw (second_written t node first)
+      (regroup (codes "RBL2") (common_bytes t node) (version_bytes t.plan.version) (big_bytes 2 t.plan.probation) rest) in
       let at : drop 4 (header_of t node ++ rest) ≡ common_bytes t node ++ (form ++ rest) = ap (λ (l : List ℕ). drop 4 l) is in
       let tail : drop 50 (header_of t node ++ rest) ≡ form ++ rest = behind_common bytes t node (form ++ rest) at in
       record {
         size = 54;
         read =
-          second_header bytes t node (second_form bytes _ is) (sizes_read bytes t node (form ++ rest) at shape)
-          (feasible_read bytes t node (form ++ rest) at ok feasible) (node_read bytes t node (form ++ rest) at inside)
-          (extended_read bytes rest (plain t.plan) t.plan.version t.plan.probation tail fits ok.probation);
+            second_header bytes t node (second_form bytes _ is) (sizes_read bytes t node (form ++ rest) at shape)
+            (feasible_read bytes t node (form ++ rest) at ok feasible) (node_read bytes t node (form ++ rest) at inside)
+            (extended_read bytes rest (plain t.plan) t.plan.version t.plan.probation tail fits ok.probation);
         behind = behind_extended bytes rest t.plan.version t.plan.probation tail;
       }

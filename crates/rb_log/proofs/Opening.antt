@@ -39,5 +39,5 @@ pub good_entries : (bytes : List ℕ) (plan : Timetable) (node : NodeName) (size
 unfolding log_in
 good_entries bytes plan node size senders is all sound =
     let read : events_at (senders_of plan node) bytes size 0 ≡ Ok (events_in (events_at senders bytes size 0)) =
-        rw (← all) (events_read _ sound) in
+    rw (← all) (events_read _ sound) in
     rw (← is, read) refl

@@ -29,9 +29,10 @@ pub some_passed : (c : Cursor) (n : ℕ) → n ≤ c.zeros → (events_left (rec
     × (quiet_in_front (events_left c) ≡ n + quiet_in_front (events_left (record c { zeros = c.zeros - n })))
 unfolding events_left events_behind
 some_passed c n few =
-    let behind = events_behind c in
-    (drops n c.zeros behind few,
-    (let all = front_counts c.zeros behind in let rest = front_counts (c.zeros - n) behind in omega arith))
+    let behind = events_behind c in (
+      drops n c.zeros behind few,
+      (let all = front_counts c.zeros behind in let rest = front_counts (c.zeros - n) behind in omega arith),
+    )
 
 -- What a record of ticks with word 0 is.
 
@@ -57,9 +58,10 @@ begins c entry size zeros none is all_bytes all_zeros some inside s =
     let passed = passes c size zeros entry is kind.0 all_bytes (all_zeros ∙ kind.1) inside s in
     let sound = passed.0 in
     let told : events_of c.bytes.now c.place entry ≡ replicate zeros (event.Tick 0) =
-        kind.2 ∙ ap (λ (n : ℕ). replicate n (event.Tick 0)) (sym all_zeros) in
-    (record { senders = sound.senders; inside = sound.inside; few = sound.few; sound = sound.sound },
-    rw (← told) (sym (left_is c none ∙ passed.1)))
+    kind.2 ∙ ap (λ (n : ℕ). replicate n (event.Tick 0)) (sym all_zeros) in (
+      record { senders = sound.senders; inside = sound.inside; few = sound.few; sound = sound.sound },
+      rw (← told) (sym (left_is c none ∙ passed.1)),
+    )
 
 -- any other record has no such tick at its front
 other_front : (bytes : List ℕ) (place : ℕ) (entry : Entry) (events : List CoreEvent) → is_end entry ≡ false → HasTicks entry → zeros_of entry ≡ 0

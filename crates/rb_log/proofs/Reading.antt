@@ -116,8 +116,8 @@ pub goes_on : (senders : ℕ) (bytes : List ℕ) (place ticks size more : ℕ) (
     → GoesOn senders bytes place ticks (record { place = place + size; ticks = ticks + more })
 goes_on senders bytes place ticks size more entry is end all_bytes all_ticks inside few = record {
   same =
-    ap fault_of (steps_on senders bytes place ticks entry is end (omega arith)) ∙ fault_before (events_of bytes place entry) _
-    ∙ rw (all_bytes, all_ticks) refl;
+      ap fault_of (steps_on senders bytes place ticks entry is end (omega arith)) ∙ fault_before (events_of bytes place entry) _
+      ∙ rw (all_bytes, all_ticks) refl;
   further = let some = some_bytes entry in omega arith;
   inside = inside;
   few = few;

@@ -20,5 +20,5 @@ written_is_read t node events ok =
     let header = header_read t node (written 0 events) ok.shape ok.plan ok.feasible ok.version ok.node_of in
     let read : header_in (header_of t node ++ written 0 events) ≡ Ok (record { plan = t; node = node; size = header.size }) = header.read in
     let events_are : events_at (senders_of t node) (header_of t node ++ written 0 events) header.size 0 ≡ Ok (flat_map given events) =
-        events_read events (senders_of t node) bytes header.size 0 0 header.behind ok.happen (omega (arith, ok.ticks)) in
+    events_read events (senders_of t node) bytes header.size 0 0 header.behind ok.happen (omega (arith, ok.ticks)) in
     rw (read, events_are) refl

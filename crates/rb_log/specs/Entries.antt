@@ -34,8 +34,8 @@ unfoldable pub entry_at : ℕ → List ℕ → ℕ → Result Entry LogRefusal
 entry_at senders bytes place = do
   what ← field bytes place 1 1 4
   if what == 1
-    then tick_in bytes place
-    else (if what == 2 then ticks_in bytes place else (if what == 3 then arrival_in senders bytes place else Ok End))
+      then tick_in bytes place
+      else (if what == 2 then ticks_in bytes place else (if what == 3 then arrival_in senders bytes place else Ok End))
 
 -- how many bytes a record has
 abbrev pub size_of : Entry → ℕ

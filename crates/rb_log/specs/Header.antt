@@ -63,8 +63,8 @@ unfoldable pub has_second_form : List ℕ → Result Bool LogRefusal
 has_second_form bytes = do
   magic ← field bytes 0 4 0 4294967295
   if magic == big_number 4 (codes "RBL1")
-    then Ok false
-    else (if magic == big_number 4 (codes "RBL2") then Ok true else Err BadMagic)
+      then Ok false
+      else (if magic == big_number 4 (codes "RBL2") then Ok true else Err BadMagic)
 
 unfoldable pub sizes_in : List ℕ → Result Sizes LogRefusal
 sizes_in bytes = do
@@ -87,7 +87,18 @@ plan_in bytes = do
   c ← field bytes 40 4 0 1000
   p ← field bytes 44 4 0 1000000000
   Ok (record {
-    u = u; r = r; dmin = dmin; dmax = dmax; l = l; h = h; v = v; z = z; c = c; p = p; version = One; probation = 0;
+    u = u;
+    r = r;
+    dmin = dmin;
+    dmax = dmax;
+    l = l;
+    h = h;
+    v = v;
+    z = z;
+    c = c;
+    p = p;
+    version = One;
+    probation = 0;
   })
 
 -- a plan that is not feasible is refused at its first byte

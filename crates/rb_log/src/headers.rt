@@ -10,6 +10,7 @@ use rb_plan::{Feasible, Plan};
 use rb_rules::Version;
 
 const FIRST_FORM: [u8; 4] = *b"RBL1";
+
 const SECOND_FORM: [u8; 4] = *b"RBL2";
 
 // What follows the magic in both forms.

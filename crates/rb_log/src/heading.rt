@@ -12,6 +12,7 @@ use rb_plan::{Feasible, Plan};
 use rb_rules::Version;
 
 const FIRST_FORM: u64 = 0x5242_4c31;
+
 const SECOND_FORM: u64 = 0x5242_4c32;
 
 /// What a header says, and how many bytes it has.

@@ -13,10 +13,9 @@ mod heading;
 mod laws;
 mod reader;
 mod refusal;
+#[cfg(test)]
+mod tests;
 mod writer;
-
-//cfg
-//mod tests;
 
 pub use headers::header;
 pub use laws::written_is_read;

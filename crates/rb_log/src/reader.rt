@@ -1,6 +1,6 @@
 //! Reading a log.
 ghost use Rattle.std.specs.Prelude.{◌≡◌, ◌≤◌, ◌<◌, drop, length, min, option_map, slice_get, Ok, Err, IfOk, IfErr};
-ghost use Rattle.rb_plan.specs.Timetable.{Timetable};
+ghost use Rattle.rb_rules.specs.Lawful.{IsNodeOf};
 ghost use Rattle.rb_log.specs.Cursor.{quiet_in_front, shown};
 ghost use Rattle.rb_log.specs.Header.{header_in};
 ghost use Rattle.rb_log.specs.LogText.{log_in, senders_of};
@@ -34,21 +34,23 @@ pub struct LogReader<'a> {
 }
 
 impl<'a> Model for LogReader<'a> {
+    ghost use Rattle.rb_rules.specs.Lawful.{IsNodeOf};
     ghost use Rattle.rb_log.specs.Cursor.{IsSound, events_left};
     ghost use Rattle.rb_log.specs.Header.{header_in};
-ghost use Rattle.rb_log.specs.LogText.{Log};
+    ghost use Rattle.rb_log.specs.LogText.{Log};
 
     ghost Value = { Log };
 
     ghost view = { λ r. record { timetable = r.plan; node = r.node; events = events_left r.cursor } };
 
-    ghost invariant = { λ r. IsSound r.cursor };
+    ghost invariant = { λ r. IsSound r.cursor × IsNodeOf r.plan.sizes r.node };
 }
 
 // Looks at the records behind a header.
 fn open_behind<'a>(header: &Header, bytes: &'a [u8]) -> Result<LogReader<'a>, LogRefusal>
     requires header { Ok header.now ≡ header_in bytes.now }
     requires inside { header.now.size ≤ length bytes.now }
+    requires node { IsNodeOf header.now.plan.sizes header.now.node }
     ensures log { IfOk result (λ log. log_in bytes.now ≡ Ok log) }
     ensures refused { IfErr result (λ fault. log_in bytes.now ≡ Err fault) }
 {
@@ -90,9 +92,10 @@ impl<'a> LogReader<'a> {
         &self.plan
     }
 
-    /// The node whose log it is.
+    /// The node whose log it is, which is one of the bus.
     pub fn node(&self) -> NodeName
-        ensures { result ≡ self.now.node }
+        ensures value { result ≡ self.now.node }
+        ensures inside { IsNodeOf self.now.timetable.sizes result }
     {
         self.node
     }

@@ -19,15 +19,15 @@ overflow_add-self-2 c =
     let some : 0 < c.zeros_of-zeros.result = omega arith in
     let inside : c.args.self.now.place + c.size_of.result ≤ length c.args.self.now.bytes.now = omega (arith, c.in-Ok.ensures.inside) in
     let sound = (begins c.args.self.now c.in-Ok.entry c.size_of.result c.zeros_of-zeros.result c.requires.none c.in-Ok.ensures.value
-      c.size_of.ensures.value c.zeros_of-zeros.ensures some inside c.requires.sound).0 in
+    c.size_of.ensures.value c.zeros_of-zeros.ensures some inside c.requires.sound).0 in
     omega (arith, sound.few)
 
 pub returns-clause-sound : goal.returns-clause-sound
 returns-clause-sound c =
     (begins c.args.self.now c.in-Ok.entry c.size_of.result c.zeros_of-zeros.result c.requires.none c.in-Ok.ensures.value
-      c.size_of.ensures.value c.zeros_of-zeros.ensures (omega arith) (omega (arith, c.in-Ok.ensures.inside)) c.requires.sound).0
+    c.size_of.ensures.value c.zeros_of-zeros.ensures (omega arith) (omega (arith, c.in-Ok.ensures.inside)) c.requires.sound).0
 
 pub returns-clause-same : goal.returns-clause-same
 returns-clause-same c =
     (begins c.args.self.now c.in-Ok.entry c.size_of.result c.zeros_of-zeros.result c.requires.none c.in-Ok.ensures.value
-      c.size_of.ensures.value c.zeros_of-zeros.ensures (omega arith) (omega (arith, c.in-Ok.ensures.inside)) c.requires.sound).1
+    c.size_of.ensures.value c.zeros_of-zeros.ensures (omega arith) (omega (arith, c.in-Ok.ensures.inside)) c.requires.sound).1

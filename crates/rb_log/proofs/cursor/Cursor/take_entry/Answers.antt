@@ -16,12 +16,12 @@ overflow_add-self-2 c =
 pub returns-clause-sound : goal.returns-clause-sound
 returns-clause-sound c =
     (passes c.args.self.now c.size_of.result c.ticks_of.result c.in-Ok.entry c.in-Ok.ensures.value (sym c.if-is_end.ensures) c.size_of.ensures.value c.ticks_of.ensures
-      (omega (arith, c.in-Ok.ensures.inside)) c.requires).0
+    (omega (arith, c.in-Ok.ensures.inside)) c.requires).0
 
 pub returns-clause-events : goal.returns-clause-events
 returns-clause-events c =
     (passes c.args.self.now c.size_of.result c.ticks_of.result c.in-Ok.entry c.in-Ok.ensures.value (sym c.if-is_end.ensures) c.size_of.ensures.value c.ticks_of.ensures
-      (omega (arith, c.in-Ok.ensures.inside)) c.requires).1
+    (omega (arith, c.in-Ok.ensures.inside)) c.requires).1
 
 pub returns-then-is_end-clause-events : goal.returns-then-is_end-clause-events
 returns-then-is_end-clause-events c = stays c.args.self.now c.in-Ok.entry (sym c.if-is_end.ensures)
