@@ -1,6 +1,6 @@
 -- Records that were written are read.
-use Rattle.std.proofs.Common.{◌≡◌, ℕ, zero, suc, ◌+◌, ◌-◌, ◌^◌, ◌<◌, ◌≤◌, Bool, true, false, eqb, nat_le, List, [], ◌∷◌, ◌++◌, length, take, drop, refl, sym, ap, ◌∙◌, arith}
-use Rattle.std.specs.Prelude.{Result, Ok, Err, All, slice_range}
+use Rattle.std.proofs.Common.{◌≡◌, ℕ, zero, suc, ◌+◌, ◌-◌, ◌^◌, ◌<◌, ◌≤◌, true, false, eqb, nat_le, List, [], ◌∷◌, ◌++◌, length, drop, refl, sym, ap, ◌∙◌, arith}
+use Rattle.std.specs.Prelude.{Ok, All, slice_range}
 use Rattle.std.specs.List.{flat_map}
 use Rattle.std.proofs.Math.ListN.{replicate}
 use Rattle.std.proofs.Math.Seq.{take-append_seam}
@@ -14,12 +14,11 @@ use Rattle.rb_base.specs.declared.event.EventKind.{EventKind}
 use Rattle.rb_base.specs.declared.event.EventKind.TheVariants as kinds
 use Rattle.rb_rules.specs.Core.{CoreEvent}
 use Rattle.rb_rules.specs.Core as event
-use Rattle.rb_log.specs.Entries.{arrival_in, entry_at, events_at, events_of, tick_in, ticks_in}
+use Rattle.rb_log.specs.Entries.{arrival_in, entry_at, events_at, tick_in, ticks_in}
 use Rattle.rb_log.specs.Fields.{field}
 use Rattle.rb_log.specs.Laws.{MayHappen}
 use Rattle.rb_log.specs.Laws as laws
-use Rattle.rb_log.specs.Writing.{bytes_with, gathered, given, given_with, ticks_given, ticks_with, waiting_with, written}
-use Rattle.rb_log.specs.declared.entry.Entry.{Entry}
+use Rattle.rb_log.specs.Writing.{bytes_with, gathered, given, given_with, ticks_with, waiting_with, written}
 use Rattle.rb_log.specs.declared.entry.Entry.TheVariants.{Tick, Ticks, Arrival, End}
 use Rattle.rb_log.proofs.FieldsRead.{further, reads, reads_byte}
 use Rattle.rb_log.proofs.Reading.{steps_end, steps_on}

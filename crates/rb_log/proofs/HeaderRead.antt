@@ -1,11 +1,11 @@
 -- A header that was written is read.
-use Rattle.std.proofs.Common.{◌≡◌, ℕ, zero, suc, ◌+◌, ◌-◌, ◌<◌, ◌≤◌, Bool, true, false, List, [], ◌∷◌, ◌++◌, length, drop, Option, Some, None, refl, sym, ap, ◌∙◌, arith}
-use Rattle.std.specs.Prelude.{Result, Ok, Err, codes, ◌&&◌, ◌==◌}
+use Rattle.std.proofs.Common.{◌≡◌, ℕ, zero, suc, ◌+◌, ◌-◌, ◌≤◌, Bool, true, false, List, ◌++◌, drop, None, refl, sym, ap, ◌∙◌, arith}
+use Rattle.std.specs.Prelude.{Ok, codes}
 use Rattle.std.proofs.lemmas.Bool.Decides.{nat_tests}
 use Rattle.std.proofs.lemmas.List.{append_assoc}
 use Rattle.byteorder.specs.Endian.{big_bytes}
 use Rattle.std.proofs.lemmas.List.{drop-drop}
-use Rattle.rb_base.specs.Sizes.{IsShape, Sizes}
+use Rattle.rb_base.specs.Sizes.{IsShape}
 use Rattle.rb_base.specs.declared.node.NodeName.{NodeName}
 use Rattle.rb_base.specs.declared.node.NodeName.TheVariants as name
 use Rattle.rb_rules.specs.Lawful.{IsNodeOf, IsVersion}
@@ -16,9 +16,7 @@ use Rattle.rb_rules.specs.declared.plan.Plan.{Plan}
 use Rattle.rb_rules.proofs.Feasibility.{feasible_exactly}
 use Rattle.rb_plan.specs.Timetable.{Timetable}
 use Rattle.rb_log.specs.Fields.{field}
-use Rattle.rb_log.specs.Header.{common_bytes, extended_in, feasible_in, has_first_form, has_second_form, header_in, header_of, is_one, node_in, plan_in, sizes_in, version_bytes}
-use Rattle.rb_log.specs.declared.heading.Header.{Header}
-use Rattle.rb_log.specs.declared.refusal.LogRefusal.{LogRefusal}
+use Rattle.rb_log.specs.Header.{common_bytes, extended_in, feasible_in, has_first_form, has_second_form, header_in, header_of, node_in, plan_in, sizes_in, version_bytes}
 use Rattle.rb_log.proofs.FieldsRead.{reads, reads_byte}
 
 -- the plan as form 1 has it

@@ -1,15 +1,13 @@
 -- What the header and the records say together.
-use Rattle.std.proofs.Common.{◌≡◌, ℕ, List, ◌++◌, Option, Some, None, refl, ap, ◌∙◌}
+use Rattle.std.proofs.Common.{◌≡◌, ℕ, List, Some, None, refl}
 use Rattle.std.specs.Prelude.{Result, Ok, Err}
 use Rattle.rb_base.specs.declared.node.NodeName.{NodeName}
 use Rattle.rb_rules.specs.Core.{CoreEvent}
 use Rattle.rb_plan.specs.Timetable.{Timetable}
-use Rattle.rb_log.specs.Cursor.{events_in, events_left, events_behind}
+use Rattle.rb_log.specs.Cursor.{events_in}
 use Rattle.rb_log.specs.Entries.{events_at, fault_of}
 use Rattle.rb_log.specs.Header.{header_in}
 use Rattle.rb_log.specs.LogText.{log_in, senders_of}
-use Rattle.rb_log.specs.declared.cursor.Cursor.{Cursor}
-use Rattle.rb_log.specs.declared.heading.Header.{Header}
 use Rattle.rb_log.specs.declared.refusal.LogRefusal.{LogRefusal}
 
 pub no_header : (bytes : List ℕ) (fault : LogRefusal) → Err fault ≡ header_in bytes → log_in bytes ≡ Err fault

@@ -1,17 +1,14 @@
 -- What is written is read.
-use Rattle.std.proofs.Common.{◌≡◌, ℕ, List, [], ◌++◌, length, refl, arith}
-use Rattle.std.specs.Prelude.{Result, Ok}
+use Rattle.std.proofs.Common.{◌≡◌, ◌++◌, refl, arith}
+use Rattle.std.specs.Prelude.{Ok}
 use Rattle.std.specs.List.{flat_map}
-use Rattle.rb_base.specs.declared.event.Event.{Event}
-use Rattle.rb_base.specs.declared.node.NodeName.{NodeName}
-use Rattle.rb_plan.specs.Timetable.{Timetable}
 use Rattle.rb_log.specs.Entries.{events_at}
 use Rattle.rb_log.specs.Header.{header_in, header_of}
-use Rattle.rb_log.specs.Laws.{IsTellable, WrittenIsRead}
+use Rattle.rb_log.specs.Laws.{WrittenIsRead}
 use Rattle.rb_log.specs.LogText.{log_in, senders_of}
 use Rattle.rb_log.specs.Writing.{given, written}
 use Rattle.rb_log.proofs.EntriesRead.{events_read}
-use Rattle.rb_log.proofs.HeaderRead.{IsHeaderRead, header_read}
+use Rattle.rb_log.proofs.HeaderRead.{header_read}
 
 pub written_is_read : WrittenIsRead
 unfolding log_in

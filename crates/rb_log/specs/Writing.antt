@@ -1,7 +1,6 @@
 -- How the writer spells events. A tick whose word was wanted is a record of its own. Ticks whose word was not wanted, and with
 -- them quiet ticks, gather until an arrival, a wanted tick or the end comes, and are then one record.
-use Rattle.std.specs.Prelude.{⊤, ℕ, ◌+◌, ◌≡◌, ◌≤◌, ◌<◌, ◌==◌, true, false, List, [], ◌∷◌, ◌++◌, length, if◌then◌else◌}
-use Rattle.std.specs.List.{flat_map}
+use Rattle.std.specs.Prelude.{⊤, ℕ, ◌+◌, ◌≤◌, ◌==◌, true, false, List, [], ◌∷◌, ◌++◌, length, if◌then◌else◌}
 use Rattle.std.proofs.Math.ListN.{replicate}
 use Rattle.byteorder.specs.Endian.{big_bytes}
 use Rattle.rb_base.specs.declared.event.Event.{Event}

@@ -1,6 +1,5 @@
 -- What the record at the place says of the fault that is met.
-use Rattle.std.proofs.Common.{◌≡◌, sym, arith}
-use Rattle.rb_log.specs.Entries.{is_end}
+use Rattle.std.proofs.Common.{sym, arith}
 use Rattle.rb_log.proofs.Reading.{steps_trailing, steps_done, steps_over}
 use Rattle.rb_log.proofs.entry.advance.Goals as goal
 

@@ -1,5 +1,4 @@
 -- What form 2 adds changes nothing that makes a plan feasible.
-use Rattle.std.proofs.Common.{◌≡◌}
 use Rattle.rb_log.proofs.heading.header_in.Goals as goal
 
 pub unreachable-requires : goal.unreachable-requires

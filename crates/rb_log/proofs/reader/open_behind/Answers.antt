@@ -1,5 +1,4 @@
 -- The header and the records, as they were looked at.
-use Rattle.std.proofs.Common.{◌≡◌}
 use Rattle.rb_log.specs.Cursor.{events_behind, events_left}
 use Rattle.rb_log.proofs.Opening.{bad_entries, good_entries}
 use Rattle.rb_log.proofs.reader.open_behind.Goals as goal

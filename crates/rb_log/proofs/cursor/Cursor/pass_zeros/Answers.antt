@@ -1,4 +1,4 @@
-use Rattle.std.proofs.Common.{◌≤◌, arith}
+use Rattle.std.proofs.Common.{arith}
 use Rattle.rb_log.proofs.QuietTicks.{some_passed}
 use Rattle.rb_log.proofs.cursor.Cursor.pass_zeros.Goals as goal
 

@@ -1,5 +1,5 @@
 -- The record at the place is passed.
-use Rattle.std.proofs.Common.{◌≡◌, refl, sym, arith}
+use Rattle.std.proofs.Common.{sym, arith}
 use Rattle.rb_log.proofs.Cursors.{ends, few_ticks, not_refused, passes, stays}
 use Rattle.rb_log.proofs.cursor.Cursor.take_entry.Goals as goal
 
