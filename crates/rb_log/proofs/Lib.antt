@@ -6,3 +6,5 @@ pub mod FieldsRead
 pub mod HeaderRead
 pub mod EntriesRead
 pub mod RoundTrip
+pub mod FieldsSpelled
+pub mod EntriesSpelled
