@@ -18,6 +18,8 @@ use Rattle.rb_log.specs.Entries.{arrival_in, entry_at, events_at, tick_in, ticks
 use Rattle.rb_log.specs.Fields.{field}
 use Rattle.rb_log.specs.Laws.{MayHappen}
 use Rattle.rb_log.specs.Laws as laws
+use Rattle.rb_log.specs.Spelling.{MayBeTold, Told, all_ticks, events_told, spelled}
+use Rattle.rb_log.specs.Spelling as told
 use Rattle.rb_log.specs.Writing.{bytes_with, gathered, given, given_with, ticks_with, waiting_with, written}
 use Rattle.rb_log.specs.declared.entry.Entry.TheVariants.{Tick, Ticks, Arrival, End}
 use Rattle.rb_log.proofs.FieldsRead.{further, reads, reads_byte}
@@ -189,3 +191,32 @@ events_read (e ∷ events) senders bytes place ticks waiting is all few =
     (flat_map given events) is (All-head (λ (x : Event). MayHappen senders x.kind) e events all) (omega arith)
     (λ p done at counted.
     events_read events senders bytes p done (waiting_with (waiting + e.quiet) e.kind) at (All-tail (λ (x : Event). MayHappen senders x.kind) e events all) (omega arith))
+
+-- Records of any kind in any order.
+pub told_read : (said : List Told) (senders : ℕ) (bytes : List ℕ) (place ticks : ℕ) → drop place bytes ≡ flat_map spelled said ++ 4 ∷ []
+    → All (MayBeTold senders) said → ticks + all_ticks said ≤ 2147483648
+    → events_at senders bytes place ticks ≡ Ok (flat_map events_told said)
+told_read [] senders bytes place ticks is all few = before_end senders bytes place ticks is
+told_read (told.OneTick word ∷ others) senders bytes place ticks is all few =
+    let rest = flat_map spelled others ++ 4 ∷ [] in
+    let at : drop place bytes ≡ (1 ∷ big_bytes 4 word) ++ rest =
+        is ∙ append_assoc (1 ∷ big_bytes 4 word) (flat_map spelled others) (4 ∷ []) in
+    let behind = further bytes (1 ∷ big_bytes 4 word) rest place at in
+    tick_before senders bytes place ticks word rest (flat_map events_told others) at (All-head (MayBeTold senders) _ others all) (omega arith)
+    (told_read others senders bytes (place + 5) (ticks + 1) behind (All-tail (MayBeTold senders) _ others all) (omega arith))
+told_read (told.ManyTicks count ∷ others) senders bytes place ticks is all few =
+    let rest = flat_map spelled others ++ 4 ∷ [] in
+    let at : drop place bytes ≡ (2 ∷ big_bytes 4 count) ++ rest =
+        is ∙ append_assoc (2 ∷ big_bytes 4 count) (flat_map spelled others) (4 ∷ []) in
+    let behind = further bytes (2 ∷ big_bytes 4 count) rest place at in
+    ticks_before senders bytes place ticks count rest (flat_map events_told others) at (All-head (MayBeTold senders) _ others all).0 (omega arith)
+    (told_read others senders bytes (place + 5) (ticks + count) behind (All-tail (MayBeTold senders) _ others all) (omega arith))
+told_read (told.Message from message ∷ others) senders bytes place ticks is all few =
+    let rest = flat_map spelled others ++ 4 ∷ [] in
+    let head = 3 ∷ from ∷ length message ∷ message in
+    let at : drop place bytes ≡ (3 ∷ from ∷ length message ∷ message) ++ rest = is ∙ append_assoc head (flat_map spelled others) (4 ∷ []) in
+    let size : length head ≡ 3 + length message = omega arith in
+    let behind : drop (place + (3 + length message)) bytes ≡ rest = rw (← size) (further bytes head rest place at) in
+    let may = All-head (MayBeTold senders) _ others all in
+    arrival_before senders bytes place ticks from message rest (flat_map events_told others) at may.0 may.1 may.2 (omega arith)
+    (told_read others senders bytes (place + (3 + length message)) ticks behind (All-tail (MayBeTold senders) _ others all) (omega arith))

@@ -177,35 +177,48 @@ second_written t node second = rw second refl
 regroup : (a b c d e : List ℕ) → (((a ++ b) ++ c) ++ d) ++ e ≡ a ++ (b ++ ((c ++ d) ++ e))
 regroup a b c d e = simp append_assoc
 
-pub header_read : (t : Timetable) (node : NodeName) (rest : List ℕ) → IsShape t.sizes → IsPlan t.plan → IsFeasible t.sizes t.plan
-    → IsVersion t.plan.version → IsNodeOf t.sizes node → IsHeaderRead (header_of t node ++ rest) t node rest
-header_read t node rest shape ok feasible fits inside = go (has_first_form t.plan) refl where
+-- the numbers are those of a bus, and the node is on it
+pub record AreOfBus (t : Timetable) (node : NodeName) : Type 0 where
+  pub shape : IsShape t.sizes
+  pub plan : IsPlan t.plan
+  pub feasible : IsFeasible t.sizes t.plan
+  pub version : IsVersion t.plan.version
+  pub node_of : IsNodeOf t.sizes node
+
+pub first_read : (bytes : List ℕ) (t : Timetable) (node : NodeName) (rest : List ℕ) → AreOfBus t node → has_first_form t.plan ≡ true
+    → bytes ≡ (codes "RBL1" ++ common_bytes t node) ++ rest → IsHeaderRead bytes t node rest
+first_read bytes t node rest ok first all =
+    let is : bytes ≡ codes "RBL1" ++ (common_bytes t node ++ rest) = all ∙ append_assoc (codes "RBL1") (common_bytes t node) rest in
+    let at : drop 4 bytes ≡ common_bytes t node ++ rest = ap (λ (l : List ℕ). drop 4 l) is in
+    record {
+      size = 50;
+      read =
+        first_header bytes t node (first_form bytes _ is) (sizes_read bytes t node rest at ok.shape)
+        (feasible_read bytes t node rest at ok.plan ok.feasible) (node_read bytes t node rest at ok.node_of) (first_is_plain t.plan first);
+      behind = behind_common bytes t node rest at;
+    }
+
+pub second_read : (bytes : List ℕ) (t : Timetable) (node : NodeName) (rest : List ℕ) → AreOfBus t node
+    → bytes ≡ (codes "RBL2" ++ common_bytes t node ++ version_bytes t.plan.version ++ big_bytes 2 t.plan.probation) ++ rest
+    → IsHeaderRead bytes t node rest
+second_read bytes t node rest ok all =
+    let form = version_bytes t.plan.version ++ big_bytes 2 t.plan.probation in
+    let is : bytes ≡ codes "RBL2" ++ (common_bytes t node ++ (form ++ rest)) =
+        all ∙ regroup (codes "RBL2") (common_bytes t node) (version_bytes t.plan.version) (big_bytes 2 t.plan.probation) rest in
+    let at : drop 4 bytes ≡ common_bytes t node ++ (form ++ rest) = ap (λ (l : List ℕ). drop 4 l) is in
+    let tail : drop 50 bytes ≡ form ++ rest = behind_common bytes t node (form ++ rest) at in
+    record {
+      size = 54;
+      read =
+        second_header bytes t node (second_form bytes _ is) (sizes_read bytes t node (form ++ rest) at ok.shape)
+        (feasible_read bytes t node (form ++ rest) at ok.plan ok.feasible) (node_read bytes t node (form ++ rest) at ok.node_of)
+        (extended_read bytes rest (plain t.plan) t.plan.version t.plan.probation tail ok.version ok.plan.probation);
+      behind = behind_extended bytes rest t.plan.version t.plan.probation tail;
+    }
+
+-- what the writer gives is of one of the forms
+pub header_read : (t : Timetable) (node : NodeName) (rest : List ℕ) → AreOfBus t node → IsHeaderRead (header_of t node ++ rest) t node rest
+header_read t node rest ok = go (has_first_form t.plan) refl where
   go : (first : Bool) → has_first_form t.plan ≡ first → IsHeaderRead (header_of t node ++ rest) t node rest
-  go true first =
-      let bytes = header_of t node ++ rest in
-      let is : header_of t node ++ rest ≡ codes "RBL1" ++ (common_bytes t node ++ rest) =
-      rw (first_written t node first) (append_assoc (codes "RBL1") (common_bytes t node) rest) in
-      let at : drop 4 (header_of t node ++ rest) ≡ common_bytes t node ++ rest = ap (λ (l : List ℕ). drop 4 l) is in
-      record {
-        size = 50;
-        read =
-            first_header bytes t node (first_form bytes _ is) (sizes_read bytes t node rest at shape) (feasible_read bytes t node rest at ok feasible)
-            (node_read bytes t node rest at inside) (first_is_plain t.plan first);
-        behind = behind_common bytes t node rest at;
-      }
-  go false first =
-      let bytes = header_of t node ++ rest in
-      let form = version_bytes t.plan.version ++ big_bytes 2 t.plan.probation in
-      let is : header_of t node ++ rest ≡ codes "RBL2" ++ (common_bytes t node ++ (form ++ rest)) =
-      rw (second_written t node first)
-      (regroup (codes "RBL2") (common_bytes t node) (version_bytes t.plan.version) (big_bytes 2 t.plan.probation) rest) in
-      let at : drop 4 (header_of t node ++ rest) ≡ common_bytes t node ++ (form ++ rest) = ap (λ (l : List ℕ). drop 4 l) is in
-      let tail : drop 50 (header_of t node ++ rest) ≡ form ++ rest = behind_common bytes t node (form ++ rest) at in
-      record {
-        size = 54;
-        read =
-            second_header bytes t node (second_form bytes _ is) (sizes_read bytes t node (form ++ rest) at shape)
-            (feasible_read bytes t node (form ++ rest) at ok feasible) (node_read bytes t node (form ++ rest) at inside)
-            (extended_read bytes rest (plain t.plan) t.plan.version t.plan.probation tail fits ok.probation);
-        behind = behind_extended bytes rest t.plan.version t.plan.probation tail;
-      }
+  go true first = first_read _ t node rest ok first (ap (λ (l : List ℕ). l ++ rest) (first_written t node first))
+  go false first = second_read _ t node rest ok (ap (λ (l : List ℕ). l ++ rest) (second_written t node first))

@@ -8,3 +8,4 @@ pub mod EntriesRead
 pub mod RoundTrip
 pub mod FieldsSpelled
 pub mod EntriesSpelled
+pub mod HeaderSpelled

@@ -1,5 +1,5 @@
--- What is written is read.
-use Rattle.std.specs.Prelude.{ℕ, ◌+◌, ◌^◌, ◌≡◌, ◌≤◌, ◌<◌, true, false, List, [], ◌∷◌, ◌++◌, All, length, Ok}
+-- Reading and writing together.
+use Rattle.std.specs.Prelude.{ℕ, ◌+◌, ◌^◌, ◌≡◌, ◌≤◌, ◌<◌, ◌↔◌, true, false, List, [], ◌∷◌, ◌++◌, All, length, Ok}
 use Rattle.std.specs.List.{flat_map}
 use Rattle.rb_base.specs.Sizes.{IsShape}
 use Rattle.rb_base.specs.declared.event.Event.{Event}
@@ -7,10 +7,12 @@ use Rattle.rb_base.specs.declared.event.EventKind.{EventKind}
 use Rattle.rb_base.specs.declared.event.EventKind.TheVariants.{Tick, Arrive}
 use Rattle.rb_base.specs.declared.node.NodeName.{NodeName}
 use Rattle.rb_rules.specs.Lawful.{IsNodeOf, IsVersion}
+use Rattle.rb_rules.specs.Spelling.{AreBytes}
 use Rattle.rb_rules.specs.Plan.{IsFeasible, IsPlan}
 use Rattle.rb_plan.specs.Timetable.{Timetable}
 use Rattle.rb_log.specs.Header.{header_of}
-use Rattle.rb_log.specs.LogText.{log_in, senders_of}
+use Rattle.rb_log.specs.LogText.{Log, log_in, senders_of}
+use Rattle.rb_log.specs.Spelling.{SpellsLog}
 use Rattle.rb_log.specs.Writing.{given, ticks_given, written}
 
 -- what can happen at a node: a word has four bytes, and is 0 where none was wanted; what arrives is of a node of the bus and has
@@ -38,3 +40,7 @@ pub record IsTellable (t : Timetable) (node : NodeName) (events : List Event) : 
 abbrev pub WrittenIsRead : Type 0
 WrittenIsRead = (t : Timetable) (node : NodeName) (events : List Event) → IsTellable t node events
     → log_in (header_of t node ++ written 0 events) ≡ Ok (record { timetable = t; node = node; events = flat_map given events })
+
+-- what is read of bytes is a log exactly where they spell it
+abbrev pub ReadIsSpelled : Type 0
+ReadIsSpelled = (bytes : List ℕ) (log : Log) → AreBytes bytes → (log_in bytes ≡ Ok log) ↔ SpellsLog bytes log

@@ -18,7 +18,7 @@ mod tests;
 mod writer;
 
 pub use headers::header;
-pub use laws::written_is_read;
+pub use laws::{read_is_spelled, written_is_read};
 pub use reader::{LogEvent, LogReader};
 pub use refusal::LogRefusal;
 pub use writer::LogWriter;
