@@ -200,14 +200,14 @@ told_read [] senders bytes place ticks is all few = before_end senders bytes pla
 told_read (told.OneTick word ∷ others) senders bytes place ticks is all few =
     let rest = flat_map spelled others ++ 4 ∷ [] in
     let at : drop place bytes ≡ (1 ∷ big_bytes 4 word) ++ rest =
-        is ∙ append_assoc (1 ∷ big_bytes 4 word) (flat_map spelled others) (4 ∷ []) in
+    is ∙ append_assoc (1 ∷ big_bytes 4 word) (flat_map spelled others) (4 ∷ []) in
     let behind = further bytes (1 ∷ big_bytes 4 word) rest place at in
     tick_before senders bytes place ticks word rest (flat_map events_told others) at (All-head (MayBeTold senders) _ others all) (omega arith)
     (told_read others senders bytes (place + 5) (ticks + 1) behind (All-tail (MayBeTold senders) _ others all) (omega arith))
 told_read (told.ManyTicks count ∷ others) senders bytes place ticks is all few =
     let rest = flat_map spelled others ++ 4 ∷ [] in
     let at : drop place bytes ≡ (2 ∷ big_bytes 4 count) ++ rest =
-        is ∙ append_assoc (2 ∷ big_bytes 4 count) (flat_map spelled others) (4 ∷ []) in
+    is ∙ append_assoc (2 ∷ big_bytes 4 count) (flat_map spelled others) (4 ∷ []) in
     let behind = further bytes (2 ∷ big_bytes 4 count) rest place at in
     ticks_before senders bytes place ticks count rest (flat_map events_told others) at (All-head (MayBeTold senders) _ others all).0 (omega arith)
     (told_read others senders bytes (place + 5) (ticks + count) behind (All-tail (MayBeTold senders) _ others all) (omega arith))

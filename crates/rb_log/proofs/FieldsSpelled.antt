@@ -1,9 +1,9 @@
 -- A field that was read was there.
-use Rattle.std.proofs.Common.{◌≡◌, ℕ, zero, suc, ◌+◌, ◌-◌, ◌*◌, ◌^◌, ◌<◌, ◌≤◌, Bool, true, false, nat_le, List, [], ◌∷◌, ◌++◌, length, take, drop, get_or, refl, sym, ap, ◌∙◌, arith}
-use Rattle.std.specs.Prelude.{Result, Ok, Err, ◌&&◌}
+use Rattle.std.proofs.Common.{◌≡◌, ℕ, zero, suc, ◌+◌, ◌*◌, ◌<◌, ◌≤◌, Bool, true, false, nat_le, List, [], ◌∷◌, ◌++◌, length, drop, get_or, refl, sym, ap, ◌∙◌, arith}
+use Rattle.std.specs.Prelude.{Result, Ok, Err}
 use Rattle.std.specs.Int.{from_be_bytes, w16, w32}
 use Rattle.std.proofs.lemmas.Bool.Decides.{nat_tests}
-use Rattle.std.proofs.lemmas.List.{drop_more, drop-drop, get_or-drop, length-drop, take-append-drop}
+use Rattle.std.proofs.lemmas.List.{drop_more, drop-drop, get_or-drop, length-drop}
 use Rattle.std.proofs.lemmas.Nat.{be_bytes_2, be_bytes_4}
 use Rattle.byteorder.specs.Endian.{big_bytes, big_number}
 use Rattle.rb_rules.specs.Spelling.{AreBytes}
@@ -31,15 +31,15 @@ unfolding field
 field_ok bytes place size low high n is =
     go (nat_le (place + size) (length bytes)) refl (nat_le low (number_at bytes place size)) refl (nat_le (number_at bytes place size) high) refl
   where
-  go : (whole : Bool) → nat_le (place + size) (length bytes) ≡ whole → (above : Bool) → nat_le low (number_at bytes place size) ≡ above
-      → (below : Bool) → nat_le (number_at bytes place size) high ≡ below → IsField bytes place size low high n
-  go true w true a true b =
-      let same : Ok (number_at bytes place size) ≡ Ok n = rw (w, a, b) at is in
-      let number : n ≡ number_at bytes place size = cc in
-      record { inside = grind (arith, nat_tests); number = number; above = grind (arith, nat_tests); below = grind (arith, nat_tests) }
-  go true w true a false b = absurd (let same = rw (w, a, b) at is in cc)
-  go true w false a b e = absurd (let same = rw (w, a) at is in cc)
-  go false w a e b f = absurd (let same = rw w at is in cc)
+    go : (whole : Bool) → nat_le (place + size) (length bytes) ≡ whole → (above : Bool) → nat_le low (number_at bytes place size) ≡ above
+        → (below : Bool) → nat_le (number_at bytes place size) high ≡ below → IsField bytes place size low high n
+    go true w true a true b =
+        let same : Ok (number_at bytes place size) ≡ Ok n = rw (w, a, b) at is in
+        let number : n ≡ number_at bytes place size = cc in
+        record { inside = grind (arith, nat_tests); number = number; above = grind (arith, nat_tests); below = grind (arith, nat_tests) }
+    go true w true a false b = absurd (let same = rw (w, a, b) at is in cc)
+    go true w false a b e = absurd (let same = rw (w, a) at is in cc)
+    go false w a e b f = absurd (let same = rw w at is in cc)
 
 small_four : (a b c d : ℕ) → a < 256 → b < 256 → c < 256 → d < 256 → (i : ℕ) → get_or (a ∷ b ∷ c ∷ d ∷ []) i 0 < 256
 small_four a b c d p q r s zero = p
@@ -62,7 +62,7 @@ four_bytes (a ∷ b ∷ c ∷ d ∷ rest) some small =
     let n = big_number 4 (a ∷ b ∷ c ∷ d ∷ rest) in
     let same : big_number 4 (a ∷ b ∷ c ∷ d ∷ rest) ≡ from_be_bytes w32 (a ∷ b ∷ c ∷ d ∷ []) = omega arith in
     let are : big_bytes 4 (big_number 4 (a ∷ b ∷ c ∷ d ∷ rest)) ≡ a ∷ b ∷ c ∷ d ∷ [] =
-        be_bytes_4 (a ∷ b ∷ c ∷ d ∷ []) n refl (small_four a b c d (small 0) (small 1) (small 2) (small 3)) same in
+    be_bytes_4 (a ∷ b ∷ c ∷ d ∷ []) n refl (small_four a b c d (small 0) (small 1) (small 2) (small 3)) same in
     sym (ap (λ (l : List ℕ). l ++ rest) are)
 
 two_bytes : (xs : List ℕ) → 2 ≤ length xs → AreBytes xs → xs ≡ big_bytes 2 (big_number 2 xs) ++ drop 2 xs
@@ -72,7 +72,7 @@ two_bytes (a ∷ b ∷ rest) some small =
     let n = big_number 2 (a ∷ b ∷ rest) in
     let same : big_number 2 (a ∷ b ∷ rest) ≡ from_be_bytes w16 (a ∷ b ∷ []) = omega arith in
     let are : big_bytes 2 (big_number 2 (a ∷ b ∷ rest)) ≡ a ∷ b ∷ [] =
-        be_bytes_2 (a ∷ b ∷ []) n refl (small_two a b (small 0) (small 1)) same in
+    be_bytes_2 (a ∷ b ∷ []) n refl (small_two a b (small 0) (small 1)) same in
     sym (ap (λ (l : List ℕ). l ++ rest) are)
 
 bytes_behind : (bytes : List ℕ) (place : ℕ) → AreBytes bytes → AreBytes (drop place bytes)

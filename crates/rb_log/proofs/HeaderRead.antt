@@ -193,8 +193,8 @@ first_read bytes t node rest ok first all =
     record {
       size = 50;
       read =
-        first_header bytes t node (first_form bytes _ is) (sizes_read bytes t node rest at ok.shape)
-        (feasible_read bytes t node rest at ok.plan ok.feasible) (node_read bytes t node rest at ok.node_of) (first_is_plain t.plan first);
+          first_header bytes t node (first_form bytes _ is) (sizes_read bytes t node rest at ok.shape)
+          (feasible_read bytes t node rest at ok.plan ok.feasible) (node_read bytes t node rest at ok.node_of) (first_is_plain t.plan first);
       behind = behind_common bytes t node rest at;
     }
 
@@ -204,15 +204,15 @@ pub second_read : (bytes : List ℕ) (t : Timetable) (node : NodeName) (rest : L
 second_read bytes t node rest ok all =
     let form = version_bytes t.plan.version ++ big_bytes 2 t.plan.probation in
     let is : bytes ≡ codes "RBL2" ++ (common_bytes t node ++ (form ++ rest)) =
-        all ∙ regroup (codes "RBL2") (common_bytes t node) (version_bytes t.plan.version) (big_bytes 2 t.plan.probation) rest in
+    all ∙ regroup (codes "RBL2") (common_bytes t node) (version_bytes t.plan.version) (big_bytes 2 t.plan.probation) rest in
     let at : drop 4 bytes ≡ common_bytes t node ++ (form ++ rest) = ap (λ (l : List ℕ). drop 4 l) is in
     let tail : drop 50 bytes ≡ form ++ rest = behind_common bytes t node (form ++ rest) at in
     record {
       size = 54;
       read =
-        second_header bytes t node (second_form bytes _ is) (sizes_read bytes t node (form ++ rest) at ok.shape)
-        (feasible_read bytes t node (form ++ rest) at ok.plan ok.feasible) (node_read bytes t node (form ++ rest) at ok.node_of)
-        (extended_read bytes rest (plain t.plan) t.plan.version t.plan.probation tail ok.version ok.plan.probation);
+          second_header bytes t node (second_form bytes _ is) (sizes_read bytes t node (form ++ rest) at ok.shape)
+          (feasible_read bytes t node (form ++ rest) at ok.plan ok.feasible) (node_read bytes t node (form ++ rest) at ok.node_of)
+          (extended_read bytes rest (plain t.plan) t.plan.version t.plan.probation tail ok.version ok.plan.probation);
       behind = behind_extended bytes rest t.plan.version t.plan.probation tail;
     }
 

@@ -1,10 +1,10 @@
 -- A header that was read was there.
-use Rattle.std.proofs.Common.{◌≡◌, ℕ, zero, suc, ◌+◌, ◌-◌, ◌<◌, ◌≤◌, Bool, true, false, eqb, List, [], ◌∷◌, ◌++◌, length, drop, Option, Some, None, refl, sym, ap, subst, ◌∙◌, arith, inl, inr}
+use Rattle.std.proofs.Common.{◌≡◌, ℕ, zero, suc, ◌-◌, ◌<◌, ◌≤◌, Bool, true, false, eqb, List, ◌∷◌, ◌++◌, drop, Option, Some, None, refl, sym, ap, subst, ◌∙◌, arith, inl, inr}
 use Rattle.std.specs.Prelude.{Result, Ok, Err, codes, is_none, if◌then◌else◌}
 use Rattle.std.specs.List.{flat_map}
 use Rattle.std.proofs.lemmas.Bool.Decides.{nat_tests}
 use Rattle.std.proofs.lemmas.List.{append_assoc}
-use Rattle.byteorder.specs.Endian.{big_bytes, big_number}
+use Rattle.byteorder.specs.Endian.{big_bytes}
 use Rattle.rb_base.specs.Nodes.{side_of}
 use Rattle.rb_base.specs.Sizes.{IsShape, Sizes}
 use Rattle.rb_base.specs.declared.node.NodeName.{NodeName}
@@ -25,7 +25,7 @@ use Rattle.rb_log.specs.Spelling.{SpellsHeader}
 use Rattle.rb_log.specs.declared.heading.Header.{Header}
 use Rattle.rb_log.specs.declared.refusal.LogRefusal.{LogRefusal}
 use Rattle.rb_log.specs.declared.refusal.LogRefusal.TheVariants.{BadField, BadMagic}
-use Rattle.rb_log.proofs.FieldsSpelled.{IsField, Steps, field_ok, four_there, one_there, two_there, went_on}
+use Rattle.rb_log.proofs.FieldsSpelled.{field_ok, four_there, one_there, two_there, went_on}
 
 abbrev pub okay : {A : Type 0} → A → Result A LogRefusal
 okay x = Ok x
@@ -44,21 +44,21 @@ magic_there bytes second small is =
     let f = field_ok bytes 0 4 0 4294967295 s.value s.first in
     by_magic s.value (four_there bytes 0 0 4294967295 s.value small f) (eqb s.value 1380076593) refl (eqb s.value 1380076594) refl s.rest
   where
-  by_magic : (magic : ℕ) → bytes ≡ big_bytes 4 magic ++ drop 4 bytes → (one : Bool) → eqb magic 1380076593 ≡ one
-      → (two : Bool) → eqb magic 1380076594 ≡ two
-      → (if eqb magic 1380076593 then Ok false else (if eqb magic 1380076594 then Ok true else Err BadMagic)) ≡ Ok second
-      → bytes ≡ magic_of second ++ drop 4 bytes
-  by_magic magic there true a two b last =
-      let e : magic ≡ 1380076593 = grind (arith, nat_tests) in
-      let same : Ok false ≡ Ok second = rw a at last in
-      let form : second ≡ false = cc in
-      rw form (rw e at there)
-  by_magic magic there false a true b last =
-      let e : magic ≡ 1380076594 = grind (arith, nat_tests) in
-      let same : Ok true ≡ Ok second = rw (a, b) at last in
-      let form : second ≡ true = cc in
-      rw form (rw e at there)
-  by_magic magic there false a false b last = absurd (let same = rw (a, b) at last in cc)
+    by_magic : (magic : ℕ) → bytes ≡ big_bytes 4 magic ++ drop 4 bytes → (one : Bool) → eqb magic 1380076593 ≡ one
+        → (two : Bool) → eqb magic 1380076594 ≡ two
+        → (if eqb magic 1380076593 then Ok false else (if eqb magic 1380076594 then Ok true else Err BadMagic)) ≡ Ok second
+        → bytes ≡ magic_of second ++ drop 4 bytes
+    by_magic magic there true a two b last =
+        let e : magic ≡ 1380076593 = grind (arith, nat_tests) in
+        let same : Ok false ≡ Ok second = rw a at last in
+        let form : second ≡ false = cc in
+        rw form (rw e at there)
+    by_magic magic there false a true b last =
+        let e : magic ≡ 1380076594 = grind (arith, nat_tests) in
+        let same : Ok true ≡ Ok second = rw (a, b) at last in
+        let form : second ≡ true = cc in
+        rw form (rw e at there)
+    by_magic magic there false a false b last = absurd (let same = rw (a, b) at last in cc)
 
 pub sizes_there : (bytes : List ℕ) (sizes : Sizes) → AreBytes bytes → sizes_in bytes ≡ Ok sizes
     → IsShape sizes × (drop 4 bytes ≡ sizes.bius ∷ sizes.rmus ∷ big_bytes 2 sizes.data_slots ++ drop 8 bytes)
@@ -73,10 +73,16 @@ sizes_there bytes sizes small is =
     let h = field_ok bytes 6 2 1 64 c.value c.first in
     rw e (
       record {
-        some_biu = f.above; most_bius = f.below; some_rmu = g.above; most_rmus = g.below; some_slot = h.above; most_slots = h.below;
+        some_biu = f.above;
+        most_bius = f.below;
+        some_rmu = g.above;
+        most_rmus = g.below;
+        some_slot = h.above;
+        most_slots = h.below;
       },
       one_there bytes 4 1 16 a.value f ∙ ap (λ (l : List ℕ). a.value ∷ l) (one_there bytes 5 1 16 b.value g
-      ∙ ap (λ (l : List ℕ). b.value ∷ l) (two_there bytes 6 1 64 c.value small h)))
+          ∙ ap (λ (l : List ℕ). b.value ∷ l) (two_there bytes 6 1 64 c.value small h)),
+    )
 
 pub record PlanThere (bytes : List ℕ) (plan : Plan) : Type 0 where
   pub is_plan : IsPlan plan
@@ -104,9 +110,19 @@ plan_there bytes plan small is =
     let c = went_on (field bytes 40 4 0 1000) _ plan z.rest in
     let p = went_on (field bytes 44 4 0 1000000000) _ plan c.rest in
     let read : Plan = record {
-          u = u.value; r = r.value; dmin = dmin.value; dmax = dmax.value; l = l.value; h = h.value; v = v.value; z = z.value;
-          c = c.value; p = p.value; version = One; probation = 0;
-        } in
+      u = u.value;
+      r = r.value;
+      dmin = dmin.value;
+      dmax = dmax.value;
+      l = l.value;
+      h = h.value;
+      v = v.value;
+      z = z.value;
+      c = c.value;
+      p = p.value;
+      version = One;
+      probation = 0;
+    } in
     let e : plan ≡ read = same_ok read plan p.rest in
     let fu = field_ok bytes 8 4 2 1000000 u.value u.first in
     let fr = field_ok bytes 12 4 0 (u.value - 1) r.value r.first in
@@ -133,16 +149,16 @@ plan_there bytes plan small is =
         probation = none_few;
       };
       there =
-        four_there bytes 8 2 1000000 u.value small fu ∙ ap (λ (t : List ℕ). big_bytes 4 u.value ++ t)
-        (four_there bytes 12 0 (u.value - 1) r.value small fr ∙ ap (λ (t : List ℕ). big_bytes 4 r.value ++ t)
-        (four_there bytes 16 1 1000000000 dmin.value small fdmin ∙ ap (λ (t : List ℕ). big_bytes 4 dmin.value ++ t)
-        (four_there bytes 20 dmin.value 1000000000 dmax.value small fdmax ∙ ap (λ (t : List ℕ). big_bytes 4 dmax.value ++ t)
-        (four_there bytes 24 1 1000 l.value small fl ∙ ap (λ (t : List ℕ). big_bytes 4 l.value ++ t)
-        (four_there bytes 28 1 1000 h.value small fh ∙ ap (λ (t : List ℕ). big_bytes 4 h.value ++ t)
-        (four_there bytes 32 1 1000 v.value small fv ∙ ap (λ (t : List ℕ). big_bytes 4 v.value ++ t)
-        (four_there bytes 36 1 1000 z.value small fz ∙ ap (λ (t : List ℕ). big_bytes 4 z.value ++ t)
-        (four_there bytes 40 0 1000 c.value small fc ∙ ap (λ (t : List ℕ). big_bytes 4 c.value ++ t)
-        (four_there bytes 44 0 1000000000 p.value small fp)))))))));
+          four_there bytes 8 2 1000000 u.value small fu ∙ ap (λ (t : List ℕ). big_bytes 4 u.value ++ t)
+          (four_there bytes 12 0 (u.value - 1) r.value small fr ∙ ap (λ (t : List ℕ). big_bytes 4 r.value ++ t)
+          (four_there bytes 16 1 1000000000 dmin.value small fdmin ∙ ap (λ (t : List ℕ). big_bytes 4 dmin.value ++ t)
+          (four_there bytes 20 dmin.value 1000000000 dmax.value small fdmax ∙ ap (λ (t : List ℕ). big_bytes 4 dmax.value ++ t)
+          (four_there bytes 24 1 1000 l.value small fl ∙ ap (λ (t : List ℕ). big_bytes 4 l.value ++ t)
+          (four_there bytes 28 1 1000 h.value small fh ∙ ap (λ (t : List ℕ). big_bytes 4 h.value ++ t)
+          (four_there bytes 32 1 1000 v.value small fv ∙ ap (λ (t : List ℕ). big_bytes 4 v.value ++ t)
+          (four_there bytes 36 1 1000 z.value small fz ∙ ap (λ (t : List ℕ). big_bytes 4 z.value ++ t)
+          (four_there bytes 40 0 1000 c.value small fc ∙ ap (λ (t : List ℕ). big_bytes 4 c.value ++ t)
+          (four_there bytes 44 0 1000000000 p.value small fp)))))))));
       version = refl;
       probation = refl;
     })
@@ -154,13 +170,13 @@ feasible_there sizes bytes plan small is =
     let s = went_on (plan_in bytes) _ plan is in
     by_first s.value (plan_there bytes s.value small s.first) (first_failing sizes s.value) refl s.rest
   where
-  by_first : (read : Plan) → PlanThere bytes read → (first : Option ℕ) → first_failing sizes read ≡ first
-      → (if is_none (first_failing sizes read) then Ok read else Err (BadField 8)) ≡ Ok plan → PlanThere bytes plan × IsFeasible sizes plan
-  by_first read there None none last =
-      let same : Ok read ≡ Ok plan = rw none at last in
-      let e : plan ≡ read = cc in
-      subst (λ (known : Plan). PlanThere bytes known × IsFeasible sizes known) (sym e) (there, (feasible_exactly sizes read).0 none)
-  by_first read there (Some n) fails last = absurd (let same = rw fails at last in cc)
+    by_first : (read : Plan) → PlanThere bytes read → (first : Option ℕ) → first_failing sizes read ≡ first
+        → (if is_none (first_failing sizes read) then Ok read else Err (BadField 8)) ≡ Ok plan → PlanThere bytes plan × IsFeasible sizes plan
+    by_first read there None none last =
+        let same : Ok read ≡ Ok plan = rw none at last in
+        let e : plan ≡ read = cc in
+        subst (λ (known : Plan). PlanThere bytes known × IsFeasible sizes known) (sym e) (there, (feasible_exactly sizes read).0 none)
+    by_first read there (Some n) fails last = absurd (let same = rw fails at last in cc)
 
 pub node_there : (sizes : Sizes) (bytes : List ℕ) (node : NodeName) → IsShape sizes → node_in sizes bytes ≡ Ok node
     → IsNodeOf sizes node × (drop 48 bytes ≡ node_bytes node ++ drop 50 bytes)
@@ -170,20 +186,20 @@ node_there sizes bytes node shape is =
     let f = field_ok bytes 48 1 0 1 s.value s.first in
     by_kind s.value (one_there bytes 48 0 1 s.value f) (omega (arith, f.below)) s.rest
   where
-  by_kind : (kind : ℕ) → drop 48 bytes ≡ kind ∷ drop 49 bytes → kind ≤ 1
-      → (field bytes 49 1 0 (count_of (side_of kind) sizes - 1) >>= (λ (index : ℕ). Ok (name_of (side_of kind) index))) ≡ Ok node
-      → IsNodeOf sizes node × (drop 48 bytes ≡ node_bytes node ++ drop 50 bytes)
-  by_kind zero first few last =
-      let t = went_on (field bytes 49 1 0 (sizes.bius - 1)) _ node last in
-      let g = field_ok bytes 49 1 0 (sizes.bius - 1) t.value t.first in
-      let e : node ≡ name.Biu t.value = let same = t.rest in cc in
-      rw e (omega (arith, g.below, shape.some_biu), first ∙ ap (λ (l : List ℕ). 0 ∷ l) (one_there bytes 49 0 (sizes.bius - 1) t.value g))
-  by_kind (suc zero) first few last =
-      let t = went_on (field bytes 49 1 0 (sizes.rmus - 1)) _ node last in
-      let g = field_ok bytes 49 1 0 (sizes.rmus - 1) t.value t.first in
-      let e : node ≡ name.Rmu t.value = let same = t.rest in cc in
-      rw e (omega (arith, g.below, shape.some_rmu), first ∙ ap (λ (l : List ℕ). 1 ∷ l) (one_there bytes 49 0 (sizes.rmus - 1) t.value g))
-  by_kind (suc (suc kind)) first few last = absurd (omega arith)
+    by_kind : (kind : ℕ) → drop 48 bytes ≡ kind ∷ drop 49 bytes → kind ≤ 1
+        → (field bytes 49 1 0 (count_of (side_of kind) sizes - 1) >>= (λ (index : ℕ). Ok (name_of (side_of kind) index))) ≡ Ok node
+        → IsNodeOf sizes node × (drop 48 bytes ≡ node_bytes node ++ drop 50 bytes)
+    by_kind zero first few last =
+        let t = went_on (field bytes 49 1 0 (sizes.bius - 1)) _ node last in
+        let g = field_ok bytes 49 1 0 (sizes.bius - 1) t.value t.first in
+        let e : node ≡ name.Biu t.value = let same = t.rest in cc in
+        rw e (omega (arith, g.below, shape.some_biu), first ∙ ap (λ (l : List ℕ). 0 ∷ l) (one_there bytes 49 0 (sizes.bius - 1) t.value g))
+    by_kind (suc zero) first few last =
+        let t = went_on (field bytes 49 1 0 (sizes.rmus - 1)) _ node last in
+        let g = field_ok bytes 49 1 0 (sizes.rmus - 1) t.value t.first in
+        let e : node ≡ name.Rmu t.value = let same = t.rest in cc in
+        rw e (omega (arith, g.below, shape.some_rmu), first ∙ ap (λ (l : List ℕ). 1 ∷ l) (one_there bytes 49 0 (sizes.rmus - 1) t.value g))
+    by_kind (suc (suc kind)) first few last = absurd (omega arith)
 
 pub record FormThere (bytes : List ℕ) (plan whole : Plan) : Type 0 where
   pub version : Version
@@ -200,45 +216,45 @@ form_there bytes plan whole small is =
     let f = field_ok bytes 50 1 1 2 s.value s.first in
     by_version s.value (one_there bytes 50 1 2 s.value f) f.above f.below s.rest
   where
-  by_version : (version : ℕ) → drop 50 bytes ≡ version ∷ drop 51 bytes → 1 ≤ version → version ≤ 2
-      → (field bytes 51 1 0 (if eqb version 2 then 255 else 0)
-      >>= (λ (bus : ℕ). field bytes 52 2 0 4096
-      >>= (λ (probation : ℕ). Ok (record plan { version = if eqb version 2 then Two bus else One; probation = probation })))) ≡ Ok whole
-      → FormThere bytes plan whole
-  by_version zero first some few last = absurd (omega arith)
-  by_version (suc zero) first some few last =
-      let b = went_on (field bytes 51 1 0 0) _ whole last in
-      let q = went_on (field bytes 52 2 0 4096) _ whole b.rest in
-      let g = field_ok bytes 51 1 0 0 b.value b.first in
-      let h = field_ok bytes 52 2 0 4096 q.value q.first in
-      let none : b.value ≡ 0 = omega (arith, g.below) in
-      let second : drop 51 bytes ≡ 0 ∷ drop 52 bytes = rw none at (one_there bytes 51 0 0 b.value g) in
-      let e : whole ≡ record plan { version = One; probation = q.value } = let same = q.rest in cc in
-      record {
-        version = One;
-        q = q.value;
-        fits = tt;
-        few = h.below;
-        same = e;
-        there = first ∙ ap (λ (l : List ℕ). 1 ∷ l) (second ∙ ap (λ (l : List ℕ). 0 ∷ l) (two_there bytes 52 0 4096 q.value small h));
-      }
-  by_version (suc (suc zero)) first some few last =
-      let b = went_on (field bytes 51 1 0 255) _ whole last in
-      let q = went_on (field bytes 52 2 0 4096) _ whole b.rest in
-      let g = field_ok bytes 51 1 0 255 b.value b.first in
-      let h = field_ok bytes 52 2 0 4096 q.value q.first in
-      let e : whole ≡ record plan { version = Two b.value; probation = q.value } = let same = q.rest in cc in
-      record {
-        version = Two b.value;
-        q = q.value;
-        fits = omega (arith, g.below);
-        few = h.below;
-        same = e;
-        there =
-          first ∙ ap (λ (l : List ℕ). 2 ∷ l) (one_there bytes 51 0 255 b.value g
-          ∙ ap (λ (l : List ℕ). b.value ∷ l) (two_there bytes 52 0 4096 q.value small h));
-      }
-  by_version (suc (suc (suc version))) first some few last = absurd (omega arith)
+    by_version : (version : ℕ) → drop 50 bytes ≡ version ∷ drop 51 bytes → 1 ≤ version → version ≤ 2
+        → (field bytes 51 1 0 (if eqb version 2 then 255 else 0)
+        >>= (λ (bus : ℕ). field bytes 52 2 0 4096
+        >>= (λ (probation : ℕ). Ok (record plan { version = if eqb version 2 then Two bus else One; probation = probation })))) ≡ Ok whole
+        → FormThere bytes plan whole
+    by_version zero first some few last = absurd (omega arith)
+    by_version (suc zero) first some few last =
+        let b = went_on (field bytes 51 1 0 0) _ whole last in
+        let q = went_on (field bytes 52 2 0 4096) _ whole b.rest in
+        let g = field_ok bytes 51 1 0 0 b.value b.first in
+        let h = field_ok bytes 52 2 0 4096 q.value q.first in
+        let none : b.value ≡ 0 = omega (arith, g.below) in
+        let second : drop 51 bytes ≡ 0 ∷ drop 52 bytes = rw none at (one_there bytes 51 0 0 b.value g) in
+        let e : whole ≡ record plan { version = One; probation = q.value } = let same = q.rest in cc in
+        record {
+          version = One;
+          q = q.value;
+          fits = tt;
+          few = h.below;
+          same = e;
+          there = first ∙ ap (λ (l : List ℕ). 1 ∷ l) (second ∙ ap (λ (l : List ℕ). 0 ∷ l) (two_there bytes 52 0 4096 q.value small h));
+        }
+    by_version (suc (suc zero)) first some few last =
+        let b = went_on (field bytes 51 1 0 255) _ whole last in
+        let q = went_on (field bytes 52 2 0 4096) _ whole b.rest in
+        let g = field_ok bytes 51 1 0 255 b.value b.first in
+        let h = field_ok bytes 52 2 0 4096 q.value q.first in
+        let e : whole ≡ record plan { version = Two b.value; probation = q.value } = let same = q.rest in cc in
+        record {
+          version = Two b.value;
+          q = q.value;
+          fits = omega (arith, g.below);
+          few = h.below;
+          same = e;
+          there =
+              first ∙ ap (λ (l : List ℕ). 2 ∷ l) (one_there bytes 51 0 255 b.value g
+              ∙ ap (λ (l : List ℕ). b.value ∷ l) (two_there bytes 52 0 4096 q.value small h));
+        }
+    by_version (suc (suc (suc version))) first some few last = absurd (omega arith)
 
 -- The whole header.
 
@@ -291,7 +307,16 @@ whole_there bytes sizes plan whole node true small magic s p n last =
     rw f.same (record {
       shape = s.0;
       plan = record {
-        u = ok.u; r = ok.r; dmin = ok.dmin; dmax = ok.dmax; l = ok.l; h = ok.h; v = ok.v; z = ok.z; c = ok.c; p = ok.p;
+        u = ok.u;
+        r = ok.r;
+        dmin = ok.dmin;
+        dmax = ok.dmax;
+        l = ok.l;
+        h = ok.h;
+        v = ok.v;
+        z = ok.z;
+        c = ok.c;
+        p = ok.p;
         probation = f.few;
       };
       feasible = p.1;
@@ -300,9 +325,9 @@ whole_there bytes sizes plan whole node true small magic s p n last =
       front = codes "RBL2" ++ common_bytes (record { sizes = sizes; plan = plan }) node ++ version_bytes f.version ++ big_bytes 2 f.q;
       spells = inr refl;
       there =
-        magic ∙ ap (λ (l : List ℕ). codes "RBL2" ++ l) (common
-        ∙ ap (λ (l : List ℕ). common_bytes (record { sizes = sizes; plan = plan }) node ++ l) f.there)
-        ∙ regroup (codes "RBL2") (common_bytes (record { sizes = sizes; plan = plan }) node) (version_bytes f.version) (big_bytes 2 f.q) (drop 54 bytes);
+          magic ∙ ap (λ (l : List ℕ). codes "RBL2" ++ l) (common
+          ∙ ap (λ (l : List ℕ). common_bytes (record { sizes = sizes; plan = plan }) node ++ l) f.there)
+          ∙ regroup (codes "RBL2") (common_bytes (record { sizes = sizes; plan = plan }) node) (version_bytes f.version) (big_bytes 2 f.q) (drop 54 bytes);
     })
 
 pub header_there : (bytes : List ℕ) (header : Header) → AreBytes bytes → header_in bytes ≡ Ok header → HeaderThere bytes header
@@ -314,9 +339,11 @@ header_there bytes header small is =
     let node = went_on (node_in sizes.value bytes) _ header plan.rest in
     let whole = went_on (whole_in second.value plan.value bytes) _ header node.rest in
     let read : Header = record {
-          plan = record { sizes = sizes.value; plan = whole.value }; node = node.value; size = if second.value then 54 else 50;
-        } in
+      plan = record { sizes = sizes.value; plan = whole.value };
+      node = node.value;
+      size = if second.value then 54 else 50;
+    } in
     let e : header ≡ read = same_ok read header whole.rest in
     let s = sizes_there bytes sizes.value small sizes.first in
     rw e (whole_there bytes sizes.value plan.value whole.value node.value second.value small (magic_there bytes second.value small second.first) s
-      (feasible_there sizes.value bytes plan.value small plan.first) (node_there sizes.value bytes node.value s.0 node.first) whole.first)
+    (feasible_there sizes.value bytes plan.value small plan.first) (node_there sizes.value bytes node.value s.0 node.first) whole.first)
