@@ -1,5 +1,5 @@
 -- Ticks with word 0 in a row at the front.
-use Rattle.std.proofs.Common.{◌≡◌, ℕ, zero, suc, ◌+◌, ◌-◌, ◌<◌, ◌≤◌, Bool, true, false, eqb, List, ◌++◌, length, drop, refl, sym, ap, ◌∙◌, arith}
+use Rattle.std.proofs.Common.{◌≡◌, ℕ, zero, suc, ◌+◌, ◌-◌, ◌<◌, ◌≤◌, Bool, true, false, eqb, List, [], ◌∷◌, ◌++◌, length, drop, refl, sym, ap, ◌∙◌, arith}
 use Rattle.std.specs.Prelude.{Ok, min}
 use Rattle.std.proofs.Math.ListN.{replicate}
 use Rattle.std.proofs.lemmas.Bool.Decides.{nat_tests}
@@ -91,3 +91,19 @@ all_passed most front left is = omega arith
 
 pub front_passed : (most front passed left : ℕ) → passed ≤ most → front ≡ passed + left → left ≡ 0 → passed ≡ min most front
 front_passed most front passed left few is none = omega arith
+
+-- so many of the ticks in front, and what is left behind them
+pub split_front : (n : ℕ) (events : List CoreEvent) → n ≤ quiet_in_front events → events ≡ replicate n (event.Tick 0) ++ drop n events
+split_front zero events few = refl
+split_front (suc n) [] few = absurd (omega arith)
+split_front (suc n) (event.Tick zero ∷ events) few =
+    ap (λ (l : List CoreEvent). event.Tick 0 ∷ l) (split_front n events (omega arith))
+split_front (suc n) (event.Tick (suc word) ∷ events) few =
+    let e : eqb (suc word) 0 ≡ false = grind (arith, nat_tests) in
+    let none : quiet_in_front (event.Tick (suc word) ∷ events) ≡ 0 = rw e refl in
+    absurd (omega arith)
+split_front (suc n) (event.Arrive from bytes ∷ events) few = absurd (omega arith)
+
+pub split_passed : (most n : ℕ) (first left : List CoreEvent) → n ≡ min most (quiet_in_front first) → left ≡ drop n first
+    → first ≡ replicate n (event.Tick 0) ++ left
+split_passed most n first left is rest = rw rest (split_front n first (omega arith))

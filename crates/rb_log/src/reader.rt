@@ -1,6 +1,8 @@
 //! Reading a log.
-ghost use Rattle.std.specs.Prelude.{◌≡◌, ◌≤◌, ◌<◌, drop, length, min, option_map, slice_get, Ok, Err, IfOk, IfErr};
+ghost use Rattle.std.specs.Prelude.{◌≡◌, ◌≤◌, ◌++◌, ◌<◌, drop, length, min, option_map, slice_get, Ok, Err, IfOk, IfErr};
 ghost use Rattle.rb_rules.specs.Lawful.{IsNodeOf};
+ghost use Rattle.std.proofs.Math.ListN.{replicate};
+ghost use Rattle.rb_rules.specs.Core.{Tick};
 ghost use Rattle.rb_log.specs.Cursor.{quiet_in_front, shown};
 ghost use Rattle.rb_log.specs.Header.{header_in};
 ghost use Rattle.rb_log.specs.LogText.{log_in, senders_of};
@@ -114,7 +116,7 @@ impl<'a> LogReader<'a> {
     /// It costs a step a record, however many ticks the record tells of.
     pub fn skip(&mut self, most: u64) -> u64
         ensures value { result ≡ min most (quiet_in_front self.old.events) }
-        ensures rest { self.new.events ≡ drop result self.old.events }
+        ensures passed { self.old.events ≡ replicate result (Tick 0) ++ self.new.events }
         ensures timetable { self.new.timetable ≡ self.old.timetable }
         ensures node { self.new.node ≡ self.old.node }
     {
