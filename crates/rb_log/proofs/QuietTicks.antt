@@ -3,7 +3,6 @@ use Rattle.std.proofs.Common.{◌≡◌, ℕ, zero, suc, ◌+◌, ◌-◌, ◌<�
 use Rattle.std.specs.Prelude.{Ok, min}
 use Rattle.std.proofs.Math.ListN.{replicate}
 use Rattle.std.proofs.lemmas.Bool.Decides.{nat_tests}
-use Rattle.std.proofs.lemmas.List.{drop-drop}
 use Rattle.rb_rules.specs.Core.{CoreEvent}
 use Rattle.rb_rules.specs.Core as event
 use Rattle.rb_log.specs.Cursor.{IsSound, events_behind, events_left, quiet_in_front}
@@ -80,17 +79,6 @@ no_front c entry none is zeros some inside s = go (is_end entry) refl where
   go false end =
       rw (left_is c none ∙ (passes c (size_of entry) (ticks_of entry) entry is end refl refl inside s).1)
       (other_front c.bytes.now c.place entry _ end some zeros)
-
--- one part more
-pub more_dropped : (first left then_left : List CoreEvent) (passed more : ℕ) → left ≡ drop passed first → then_left ≡ drop more left
-    → then_left ≡ drop (passed + more) first
-more_dropped first left then_left passed more a b = b ∙ ap (λ (es : List CoreEvent). drop more es) a ∙ drop-drop more passed first
-
-pub all_passed : (most front left : ℕ) → front ≡ most + left → most ≡ min most front
-all_passed most front left is = omega arith
-
-pub front_passed : (most front passed left : ℕ) → passed ≤ most → front ≡ passed + left → left ≡ 0 → passed ≡ min most front
-front_passed most front passed left few is none = omega arith
 
 -- so many of the ticks in front, and what is left behind them
 pub split_front : (n : ℕ) (events : List CoreEvent) → n ≤ quiet_in_front events → events ≡ replicate n (event.Tick 0) ++ drop n events
