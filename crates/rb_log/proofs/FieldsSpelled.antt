@@ -20,6 +20,12 @@ pub went_on : {A B : Type 0} (r : Result A LogRefusal) (next : A → Result B Lo
 went_on (Ok value) next last is = record { value = value; first = refl; rest = is }
 went_on (Err fault) next last is = absurd (cc)
 
+-- what follows of such a step, whatever it gave
+pub stepped : {A B : Type 0} (r : Result A LogRefusal) (next : A → Result B LogRefusal) (last : B) (P : Type 0) → (r >>= next) ≡ Ok last
+    → ((value : A) → r ≡ Ok value → next value ≡ Ok last → P) → P
+stepped (Ok value) next last P is from = from value refl is
+stepped (Err fault) next last P is from = absurd (cc)
+
 pub record IsField (bytes : List ℕ) (place size low high n : ℕ) : Type 0 where
   pub inside : place + size ≤ length bytes
   pub number : n ≡ number_at bytes place size

@@ -25,7 +25,7 @@ use Rattle.rb_log.specs.Spelling.{SpellsHeader}
 use Rattle.rb_log.specs.declared.heading.Header.{Header}
 use Rattle.rb_log.specs.declared.refusal.LogRefusal.{LogRefusal}
 use Rattle.rb_log.specs.declared.refusal.LogRefusal.TheVariants.{BadField, BadMagic}
-use Rattle.rb_log.proofs.FieldsSpelled.{field_ok, four_there, one_there, two_there, went_on}
+use Rattle.rb_log.proofs.FieldsSpelled.{field_ok, four_there, one_there, stepped, two_there, went_on}
 
 abbrev pub okay : {A : Type 0} → A → Result A LogRefusal
 okay x = Ok x
@@ -99,45 +99,45 @@ none_few = omega arith
 pub plan_there : (bytes : List ℕ) (plan : Plan) → AreBytes bytes → plan_in bytes ≡ Ok plan → PlanThere bytes plan
 unfolding plan_in
 plan_there bytes plan small is =
-    let u = went_on (field bytes 8 4 2 1000000) _ plan is in
-    let r = went_on (field bytes 12 4 0 (u.value - 1)) _ plan u.rest in
-    let dmin = went_on (field bytes 16 4 1 1000000000) _ plan r.rest in
-    let dmax = went_on (field bytes 20 4 dmin.value 1000000000) _ plan dmin.rest in
-    let l = went_on (field bytes 24 4 1 1000) _ plan dmax.rest in
-    let h = went_on (field bytes 28 4 1 1000) _ plan l.rest in
-    let v = went_on (field bytes 32 4 1 1000) _ plan h.rest in
-    let z = went_on (field bytes 36 4 1 1000) _ plan v.rest in
-    let c = went_on (field bytes 40 4 0 1000) _ plan z.rest in
-    let p = went_on (field bytes 44 4 0 1000000000) _ plan c.rest in
+    stepped (field bytes 8 4 2 1000000) _ plan (PlanThere bytes plan) is (λ u is_u after_u.
+    stepped (field bytes 12 4 0 (u - 1)) _ plan (PlanThere bytes plan) after_u (λ r is_r after_r.
+    stepped (field bytes 16 4 1 1000000000) _ plan (PlanThere bytes plan) after_r (λ dmin is_dmin after_dmin.
+    stepped (field bytes 20 4 dmin 1000000000) _ plan (PlanThere bytes plan) after_dmin (λ dmax is_dmax after_dmax.
+    stepped (field bytes 24 4 1 1000) _ plan (PlanThere bytes plan) after_dmax (λ l is_l after_l.
+    stepped (field bytes 28 4 1 1000) _ plan (PlanThere bytes plan) after_l (λ h is_h after_h.
+    stepped (field bytes 32 4 1 1000) _ plan (PlanThere bytes plan) after_h (λ v is_v after_v.
+    stepped (field bytes 36 4 1 1000) _ plan (PlanThere bytes plan) after_v (λ z is_z after_z.
+    stepped (field bytes 40 4 0 1000) _ plan (PlanThere bytes plan) after_z (λ c is_c after_c.
+    stepped (field bytes 44 4 0 1000000000) _ plan (PlanThere bytes plan) after_c (λ p is_p after_p.
     let read : Plan = record {
-      u = u.value;
-      r = r.value;
-      dmin = dmin.value;
-      dmax = dmax.value;
-      l = l.value;
-      h = h.value;
-      v = v.value;
-      z = z.value;
-      c = c.value;
-      p = p.value;
+      u = u;
+      r = r;
+      dmin = dmin;
+      dmax = dmax;
+      l = l;
+      h = h;
+      v = v;
+      z = z;
+      c = c;
+      p = p;
       version = One;
       probation = 0;
     } in
-    let e : plan ≡ read = same_ok read plan p.rest in
-    let fu = field_ok bytes 8 4 2 1000000 u.value u.first in
-    let fr = field_ok bytes 12 4 0 (u.value - 1) r.value r.first in
-    let fdmin = field_ok bytes 16 4 1 1000000000 dmin.value dmin.first in
-    let fdmax = field_ok bytes 20 4 dmin.value 1000000000 dmax.value dmax.first in
-    let fl = field_ok bytes 24 4 1 1000 l.value l.first in
-    let fh = field_ok bytes 28 4 1 1000 h.value h.first in
-    let fv = field_ok bytes 32 4 1 1000 v.value v.first in
-    let fz = field_ok bytes 36 4 1 1000 z.value z.first in
-    let fc = field_ok bytes 40 4 0 1000 c.value c.first in
-    let fp = field_ok bytes 44 4 0 1000000000 p.value p.first in
+    let e : plan ≡ read = same_ok read plan after_p in
+    let fu = field_ok bytes 8 4 2 1000000 u is_u in
+    let fr = field_ok bytes 12 4 0 (u - 1) r is_r in
+    let fdmin = field_ok bytes 16 4 1 1000000000 dmin is_dmin in
+    let fdmax = field_ok bytes 20 4 dmin 1000000000 dmax is_dmax in
+    let fl = field_ok bytes 24 4 1 1000 l is_l in
+    let fh = field_ok bytes 28 4 1 1000 h is_h in
+    let fv = field_ok bytes 32 4 1 1000 v is_v in
+    let fz = field_ok bytes 36 4 1 1000 z is_z in
+    let fc = field_ok bytes 40 4 0 1000 c is_c in
+    let fp = field_ok bytes 44 4 0 1000000000 p is_p in
     rw e (record {
       is_plan = record {
         u = (fu.above, fu.below);
-        r = below_u u.value r.value fu.above fr.below;
+        r = below_u u r fu.above fr.below;
         dmin = (fdmin.above, fdmax.above);
         dmax = fdmax.below;
         l = (fl.above, fl.below);
@@ -149,19 +149,19 @@ plan_there bytes plan small is =
         probation = none_few;
       };
       there =
-          four_there bytes 8 2 1000000 u.value small fu ∙ ap (λ (t : List ℕ). big_bytes 4 u.value ++ t)
-          (four_there bytes 12 0 (u.value - 1) r.value small fr ∙ ap (λ (t : List ℕ). big_bytes 4 r.value ++ t)
-          (four_there bytes 16 1 1000000000 dmin.value small fdmin ∙ ap (λ (t : List ℕ). big_bytes 4 dmin.value ++ t)
-          (four_there bytes 20 dmin.value 1000000000 dmax.value small fdmax ∙ ap (λ (t : List ℕ). big_bytes 4 dmax.value ++ t)
-          (four_there bytes 24 1 1000 l.value small fl ∙ ap (λ (t : List ℕ). big_bytes 4 l.value ++ t)
-          (four_there bytes 28 1 1000 h.value small fh ∙ ap (λ (t : List ℕ). big_bytes 4 h.value ++ t)
-          (four_there bytes 32 1 1000 v.value small fv ∙ ap (λ (t : List ℕ). big_bytes 4 v.value ++ t)
-          (four_there bytes 36 1 1000 z.value small fz ∙ ap (λ (t : List ℕ). big_bytes 4 z.value ++ t)
-          (four_there bytes 40 0 1000 c.value small fc ∙ ap (λ (t : List ℕ). big_bytes 4 c.value ++ t)
-          (four_there bytes 44 0 1000000000 p.value small fp)))))))));
+          four_there bytes 8 2 1000000 u small fu ∙ ap (λ (t : List ℕ). big_bytes 4 u ++ t)
+          (four_there bytes 12 0 (u - 1) r small fr ∙ ap (λ (t : List ℕ). big_bytes 4 r ++ t)
+          (four_there bytes 16 1 1000000000 dmin small fdmin ∙ ap (λ (t : List ℕ). big_bytes 4 dmin ++ t)
+          (four_there bytes 20 dmin 1000000000 dmax small fdmax ∙ ap (λ (t : List ℕ). big_bytes 4 dmax ++ t)
+          (four_there bytes 24 1 1000 l small fl ∙ ap (λ (t : List ℕ). big_bytes 4 l ++ t)
+          (four_there bytes 28 1 1000 h small fh ∙ ap (λ (t : List ℕ). big_bytes 4 h ++ t)
+          (four_there bytes 32 1 1000 v small fv ∙ ap (λ (t : List ℕ). big_bytes 4 v ++ t)
+          (four_there bytes 36 1 1000 z small fz ∙ ap (λ (t : List ℕ). big_bytes 4 z ++ t)
+          (four_there bytes 40 0 1000 c small fc ∙ ap (λ (t : List ℕ). big_bytes 4 c ++ t)
+          (four_there bytes 44 0 1000000000 p small fp)))))))));
       version = refl;
       probation = refl;
-    })
+    })))))))))))
 
 pub feasible_there : (sizes : Sizes) (bytes : List ℕ) (plan : Plan) → AreBytes bytes → feasible_in sizes bytes ≡ Ok plan
     → PlanThere bytes plan × IsFeasible sizes plan
