@@ -1,12 +1,13 @@
 //! Which nodes of a bus are good where.
 #![tactic(auto)]
 
-ghost use Rattle.std.specs.Prelude.{◌≡◌, ◌≤◌};
+ghost use Rattle.std.specs.Prelude.{◌≡◌, ◌<◌, ◌≤◌, None, get_or};
 ghost use Rattle.rb_base.specs.Nodes.{set_of};
 ghost use Rattle.rb_base.specs.Nodes.Side.{Biu as biu, Rmu as rmu};
 ghost use Rattle.rb_rules.specs.Goodness.{Scenario, good_at, is_before};
 ghost use Rattle.rb_rules.specs.Lawful.{is_node_good};
-ghost use Rattle.rb_onset.specs.Faults.{faults_of, is_good_among};
+ghost use Rattle.rb_onset.specs.Faults.{IsNextChange, earlier_after, faults_of, is_good_among};
+ghost use Rattle.rb_onset.specs.Search.{IsNextAmong};
 
 use rb_base::{Biu, NodeId, NodeName, NodeSet, Rmu, Shape};
 use std::marker::Model;
@@ -39,6 +40,13 @@ fn is_before(onset: Option<(u32, u16)>, frame: u32, slot: u16) -> bool
     }
 }
 
+fn onset_at(onsets: &[Option<(u32, u16)>; 16], index: u8) -> Option<(u32, u16)>
+    requires { index < 16 }
+    ensures { result ≡ get_or onsets.now index None }
+{
+    onsets[usize::from(index)]
+}
+
 // Whether node `index` of so many is good in this slot of this frame.
 fn is_good_among(
     count: u8,
@@ -50,7 +58,7 @@ fn is_good_among(
     requires { count ≤ 16 }
     ensures { result ≡ is_good_among count onsets.now frame slot index }
 {
-    index < count && is_before(onsets[usize::from(index)], frame, slot)
+    index < count && is_before(onset_at(onsets, index), frame, slot)
 }
 
 // The nodes, of so many, that are good in this slot of this frame.
@@ -70,6 +78,39 @@ fn good_among<K: Copy>(
         }
     }
     good
+}
+
+// The earlier of two onsets, of which the second counts only where it comes after this slot of this frame.
+fn earlier_after(
+    frame: u32,
+    slot: u16,
+    next: Option<(u32, u16)>,
+    onset: Option<(u32, u16)>,
+) -> Option<(u32, u16)>
+    ensures { result ≡ earlier_after frame slot next onset }
+{
+    match onset {
+        Some(at) if is_before(onset, frame, slot) && is_before(next, at.0, at.1) => onset,
+        _ => next,
+    }
+}
+
+// The first of the onsets of so many nodes that comes after this slot of this frame, or `change` if that is earlier.
+fn next_among(
+    count: u8,
+    onsets: &[Option<(u32, u16)>; 16],
+    frame: u32,
+    slot: u16,
+    change: Option<(u32, u16)>,
+) -> Option<(u32, u16)>
+    requires { count ≤ 16 }
+    ensures { IsNextAmong count onsets.now frame slot change result }
+{
+    let mut next = change;
+    for index in 0..count {
+        next = earlier_after(frame, slot, next, onset_at(onsets, index));
+    }
+    next
 }
 
 impl Onsets {
@@ -107,5 +148,15 @@ impl Onsets {
         ensures { (sc : Scenario) → self.now ≡ faults_of sc → result ≡ good_at sc rmu frame slot }
     {
         good_among(self.shape.rmu(), &self.rmus, frame, slot)
+    }
+
+    /// The frame and the slot, after this slot of this frame, at which a node is not good any more for the first time. Until there
+    /// the same nodes are good as here. None if no node has an onset after this place.
+    #[tactic(auto, using(crate::proofs::Changes::next_change))]
+    pub fn next_change(&self, frame: u32, slot: u16) -> Option<(u32, u16)>
+        ensures { (sc : Scenario) → self.now ≡ faults_of sc → IsNextChange sc frame slot result }
+    {
+        let change = next_among(self.shape.biu(), &self.bius, frame, slot, None);
+        next_among(self.shape.rmu(), &self.rmus, frame, slot, change)
     }
 }
