@@ -1,0 +1,26 @@
+use Rattle.std.proofs.Common.{◌≡◌, ℕ, ◌+◌, ◌<◌, ◌≤◌, ◌++◌, ◌&&◌, ◌∷◌, [], not, Bool, true, false, length, refl, sym, ◌∙◌, ap, arith}
+use Rattle.rb_base.specs.Nodes.{has}
+use Rattle.rb_base.proofs.SetLoops.{passing_below, passing_none, passing_more, passing_same}
+use Rattle.rb_rules.specs.Judging.{are_alike, is_something}
+use Rattle.rb_book.specs.Telling.{has_told, see_of, told_at}
+use Rattle.rb_book.specs.Waiting.{differs, found_of, line_of, node_line_of, port_line_of, waiting_for}
+use Rattle.rb_book.proofs.Found.{adds_more, found_none, some_good_found, some_good_none}
+use Rattle.rb_book.proofs.walks.port_lines.Goals as goal
+use Rattle.rb_book.proofs.Found.{line_added, told_here}
+
+pub loop-i-init : goal.loop-i-init
+loop-i-init g c = record {
+  is = c.new-lines.ensures ∙ sym (found_none (λ i t. port_line_of c.args.frame (has c.args.good i) t) c.args.told.now);
+  most = omega (arith, ap length c.new-lines.ensures);
+}
+
+pub loop-i-preserved : goal.loop-i-preserved
+loop-i-preserved g c =
+    let is = c.port_line-line.ensures ∙ ap (λ t. port_line_of c.args.frame c.has.result t) (told_here _ _ _ _ c.from.ensures (omega arith))
+    ∙ ap (λ b. port_line_of c.args.frame b (told_at c.args.told.now c.loop-i.i)) c.has.ensures in
+    line_added (λ i t. port_line_of c.args.frame (has c.args.good i) t) c.args.told.now c.loop-i.i [] c.loop-i.lines.items _ _ (omega arith)
+    c.loop-i.invariant.is is c.add.ensures c.loop-i.invariant.most
+
+pub returns : goal.returns
+returns g c =
+    c.loop-i.invariant.is ∙ ap (λ n. found_of (λ i t. port_line_of c.args.frame (has c.args.good i) t) n c.args.told.now) (omega arith)

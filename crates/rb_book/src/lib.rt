@@ -1,0 +1,11 @@
+//! What the nodes of a run have told, and what is settled by it.
+#![tactic(auto)]
+
+pub mod milestone;
+mod told;
+mod walks;
+pub mod turn;
+
+pub use milestone::{Milestone, Way};
+pub use rb_rules::{Cause, NodeLine, PortLine, SlotLine};
+pub use turn::{FrameRecord, SlotRecord, Turn};
