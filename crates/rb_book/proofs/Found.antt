@@ -1,11 +1,11 @@
 -- What is found of the first nodes, node by node.
-use Rattle.std.proofs.Common.{◌≡◌, ℕ, zero, suc, ◌+◌, ◌<◌, ◌≤◌, ◌&&◌, not, nat_lt, Bool, true, false, List, [], ◌∷◌, ◌++◌, length, take, get_or, Option, Some, None, refl, sym, ◌∙◌, ap, arith}
-use Rattle.std.specs.Prelude.{option_to_list}
+use Rattle.std.proofs.Common.{◌≡◌, ℕ, zero, suc, ◌+◌, ◌<◌, ◌≤◌, ◌&&◌, not, nat_lt, Bool, true, false, List, [], ◌∷◌, ◌++◌, length, take, drop, get_or, Option, Some, None, refl, sym, ◌∙◌, ap, arith}
+use Rattle.std.specs.Prelude.{is_some, option_to_list}
 use Rattle.std.proofs.lemmas.Bool.Decides.{nat_tests}
-use Rattle.std.proofs.lemmas.List.{append_assoc, take_more, length-append, length-take}
+use Rattle.std.proofs.lemmas.List.{append_assoc, take_more, length-append, length-take, take-append-drop}
 use Rattle.std.proofs.lemmas.List.Elements.{filter_map-append}
 use Rattle.rb_base.specs.Nodes.{has}
-use Rattle.rb_rules.specs.Book.{map_from}
+use Rattle.rb_rules.specs.Book.{Row, map_from}
 use Rattle.rb_rules.specs.ExactStage.{present}
 use Rattle.rb_judge.specs.Sights.{some_node}
 use Rattle.rb_judge.proofs.SomeNode.{some_is, some_none, and_parts, and_both}
@@ -14,7 +14,7 @@ use Rattle.rb_base.proofs.Sets.{lt_false, lt_true}
 use Rattle.rb_book.specs.declared.milestone.Milestone.{Milestone}
 use Rattle.rb_book.specs.declared.told.Told.{Told}
 use Rattle.rb_book.specs.Telling.{has_told, no_told, told_at}
-use Rattle.rb_book.specs.Waiting.{found_of, some_good, waiting_for}
+use Rattle.rb_book.specs.Waiting.{first_trusted, found_of, some_good, waiting_for}
 
 pub map_from-append : {X Y : Type 0} (k : ℕ) (f : ℕ → X → Y) (xs ys : List X) → map_from k f (xs ++ ys) ≡ map_from k f xs ++ map_from (k + length xs) f ys
 map_from-append k f [] ys = let e : k + 0 ≡ k = omega arith in rw e refl
@@ -41,6 +41,26 @@ found_more find told i h =
     ∙ ap (λ n. present (map_from 0 find (take i told)) ++ present (find n (told_at told i) ∷ [])) len
     ∙ ap (λ l. present (map_from 0 find (take i told)) ++ l) (one_present (find i (told_at told i)))
 
+-- what is found of the nodes from i on, below n
+unfoldable found_rest : {X : Type 0} → (ℕ → Told → Option X) → List Told → ℕ → ℕ → List X
+found_rest find told i n = present (map_from i find (drop i (take n told)))
+
+found_split : {X : Type 0} (find : ℕ → Told → Option X) (told : List Told) (i n : ℕ) → i ≤ n → i ≤ length told → found_of find n told ≡ found_of find i told ++ found_rest find told i n
+unfolding found_of found_rest
+found_split find told i n h within =
+    let len : 0 + length (take i (take n told)) ≡ i = omega (arith, length-take i (take n told), length-take n told) in
+    ap (λ l. present (map_from 0 find l)) (sym (take-append-drop i (take n told)))
+    ∙ ap present (map_from-append 0 find (take i (take n told)) (drop i (take n told)))
+    ∙ filter_map-append (λ v. v) (map_from 0 find (take i (take n told))) _
+    ∙ ap (λ k. present (map_from 0 find (take i (take n told))) ++ present (map_from k find (drop i (take n told)))) len
+    ∙ ap (λ l. present (map_from 0 find l) ++ present (map_from i find (drop i (take n told)))) (take_take i n told h)
+  where
+    take_take : {X : Type 0} (i n : ℕ) (xs : List X) → i ≤ n → take i (take n xs) ≡ take i xs
+    take_take zero n xs h = refl
+    take_take (suc i) zero xs h = absurd (omega arith)
+    take_take (suc i) (suc n) [] h = refl
+    take_take (suc i) (suc n) (x ∷ xs) h = ap (λ l. x ∷ l) (take_take i n xs (omega arith))
+
 -- the lists with one more
 pub adds_more : {X : Type 0} (find : ℕ → Told → Option X) (told : List Told) (i : ℕ) (before now after : List X) → i < length told
     → now ≡ before ++ found_of find i told → after ≡ now ++ option_to_list (find i (told_at told i)) → after ≡ before ++ found_of find (i + 1) told
@@ -64,16 +84,6 @@ some_good_none count good passes none =
     go i true e = none i (grind (arith, nat_tests))
     go i false e = refl
 
--- An item of a list of 16, whatever stands in for those that are missing.
-
-pub told_here : (told : List Told) (k i : ℕ) (d : Told) → k ≡ i → i < length told → get_or told k d ≡ told_at told i
-told_here told k i d same h = ap (λ n. get_or told n d) same ∙ any_default told i d h
-  where
-    any_default : (told : List Told) (i : ℕ) (d : Told) → i < length told → get_or told i d ≡ told_at told i
-    any_default [] i d h = absurd (omega arith)
-    any_default (t ∷ told) zero d h = refl
-    any_default (t ∷ told) (suc i) d h = any_default told i d (omega arith)
-
 pub waiting_is : (count good : ℕ) (m : Milestone) (told : List Told) (waiting k : ℕ) → waiting ≡ passing_below k (λ i. has good i && not (has_told m (told_at told i)))
     → k ≡ count → waiting ≡ waiting_for count good m told
 unfolding waiting_for
@@ -95,3 +105,34 @@ line_added find told i before now after o h so_far is added most = record {
     one_at_most : {X : Type 0} (o : Option X) → length (option_to_list o) ≤ 1
     one_at_most None = omega arith
     one_at_most (Some x) = omega arith
+
+pub all_sources : (sources set k : ℕ) (p : ℕ → Bool) → set ≡ passing_below k p → k ≡ sources → set ≡ passing_below sources p
+all_sources sources set k p so_far same = so_far ∙ ap (λ n. passing_below n p) same
+
+pub first_false : (a b : Bool) → a ≡ false → (a && b) ≡ false
+first_false a b h = rw h refl
+
+pub second_false : (a b : Bool) → b ≡ false → (a && b) ≡ false
+second_false true b h = h
+second_false false b h = refl
+
+-- The first of what is found.
+
+pub found_first : (find : ℕ → Told → Option Row) (told : List Told) (i n : ℕ) (trusted : Option (ℕ × ℕ)) → i < n → i < length told → found_of find i told ≡ []
+    → trusted ≡ first_trusted (option_to_list (find i (told_at told i))) → is_some trusted ≡ true → trusted ≡ first_trusted (found_of find n told)
+found_first find told i n trusted h within none is some =
+    is ∙ sym (first_front (option_to_list (find i (told_at told i))) (found_rest find told (i + 1) n) (sym (ap is_some is) ∙ some))
+    ∙ sym (ap first_trusted (found_split find told (i + 1) n (omega arith) (omega arith) ∙ ap (λ l. l ++ found_rest find told (i + 1) n) (found_more find told i within ∙ ap (λ l. l ++ option_to_list (find i (told_at told i))) none)))
+  where
+    first_front : (xs ys : List Row) → is_some (first_trusted xs) ≡ true → first_trusted (xs ++ ys) ≡ first_trusted xs
+    first_front [] ys e = absurd (cc)
+    first_front (x ∷ xs) ys e = refl
+
+pub found_not : (find : ℕ → Told → Option Row) (told : List Told) (i : ℕ) (trusted : Option (ℕ × ℕ)) → i < length told → found_of find i told ≡ []
+    → trusted ≡ first_trusted (option_to_list (find i (told_at told i))) → is_some trusted ≡ false → found_of find (i + 1) told ≡ []
+found_not find told i trusted within none is some =
+    found_more find told i within ∙ ap (λ l. l ++ option_to_list (find i (told_at told i))) none ∙ no_first (find i (told_at told i)) (sym (ap is_some is) ∙ some)
+  where
+    no_first : (o : Option Row) → is_some (first_trusted (option_to_list o)) ≡ false → option_to_list o ≡ []
+    no_first None e = refl
+    no_first (Some r) e = absurd (cc)

@@ -1,3 +1,5 @@
 pub mod Records
 pub mod Telling
 pub mod Waiting
+pub mod Grouping
+pub mod Holding

@@ -1,10 +1,12 @@
 -- What a node has told last.
-use Rattle.std.specs.Prelude.{ℕ, ◌==◌, ◌&&◌, Bool, true, false, Option, Some, None, option_map, is_some, List, [], get_or, slice_index, if◌then◌else◌}
+use Rattle.std.specs.Prelude.{ℕ, ◌==◌, ◌&&◌, Bool, true, false, Option, Some, None, option_map, is_some, List, [], get_or, slice_index, replicate, if◌then◌else◌}
 use Rattle.rb_base.specs.Nodes.{Side}
 use Rattle.rb_base.specs.Nodes.Side.{Biu, Rmu}
 use Rattle.rb_base.specs.declared.values.See.{See}
 use Rattle.rb_base.specs.declared.values.See.TheVariants.{Nothing}
+use Rattle.rb_rules.specs.declared.closing.Closed.{Closed}
 use Rattle.rb_rules.specs.declared.record.PortLine.{PortLine}
+use Rattle.rb_rules.specs.declared.record.SlotLine.{SlotLine}
 use Rattle.rb_rules.specs.Book.{Begun, Row}
 use Rattle.rb_rules.specs.ExactStage.{each_node}
 use Rattle.rb_rules.specs.Hearing.{judged_see}
@@ -54,6 +56,28 @@ no_told = record {
   line = None;
   begun = None;
 }
+
+-- what a node has told that told nothing
+abbrev pub fresh_told : Told
+fresh_told = record {
+  has_closed = false;
+  place = record { frame = 0; slot = 0; stage = 0 };
+  sees = replicate 16 Nothing;
+  times = replicate 16 0;
+  biu = 0;
+  rmu = 0;
+  line = None;
+  begun = None;
+}
+
+-- a node that told this has closed a stage
+abbrev pub told_closed : Closed → List ℕ → ℕ → ℕ → Option SlotLine → Told → Told
+told_closed c times biu rmu line t =
+    record t { has_closed = true; place = c.place; sees = c.sees; times = times; biu = biu; rmu = rmu; line = line }
+
+-- and has begun a frame
+abbrev pub told_begun_frame : LatestBegin → Told → Told
+told_begun_frame b t = record t { begun = Some b }
 
 -- of node i
 abbrev pub told_at : List Told → ℕ → Told

@@ -1,5 +1,5 @@
 -- What the nodes of a kind have told, as it is walked over.
-use Rattle.std.specs.Prelude.{ℕ, ◌&&◌, nat_lt, not, Bool, true, false, Option, Some, None, option_map, option_and_then, List, take}
+use Rattle.std.specs.Prelude.{ℕ, ◌&&◌, nat_lt, not, Bool, true, false, Option, Some, None, option_map, option_and_then, List, [], ◌∷◌, take}
 use Rattle.rb_base.specs.Nodes.{Side, has, set_of}
 use Rattle.rb_base.specs.Nodes.Side.{Biu}
 use Rattle.rb_base.specs.declared.values.Place.{Place}
@@ -23,13 +23,16 @@ waiting_for count good m told = set_of (λ i. nat_lt i count && (has good i && n
 unfoldable pub found_of : {X : Type 0} → (ℕ → Told → Option X) → ℕ → List Told → List X
 found_of find n told = present (map_from 0 find (take n told))
 
--- what a node told, if it is good
-abbrev pub if_good : {X : Type 0} → ℕ → (Told → Option X) → ℕ → Told → Option X
-if_good good tells i t = elim (has good i) [ true ↦ tells t | false ↦ None ]
-
 -- a node's row of a stage, if it is good and told of it
+abbrev pub row_if : Place → Bool → Told → Option Row
+row_if place good t = elim good [ true ↦ row_for place (row_told t) | false ↦ None ]
+
 abbrev pub row_at : ℕ → Place → ℕ → Told → Option Row
-row_at good place = if_good good (λ t. row_for place (row_told t))
+row_at good place i t = row_if place (has good i) t
+
+-- what it told of the begin of a frame, likewise
+abbrev pub begun_at : Side → ℕ → ℕ → ℕ → Told → Option Begun
+begun_at kind good frame i t = elim (has good i) [ true ↦ begun_for frame (begun_told kind t) | false ↦ None ]
 
 -- some good one, of so many, passes
 unfoldable pub some_good : ℕ → ℕ → (ℕ → Bool) → Bool
@@ -57,3 +60,8 @@ port_line_of frame good t = elim good [ true ↦ option_and_then (λ b. b.port) 
 
 abbrev pub line_of : Place → Bool → Told → Option SlotLine
 line_of place good t = elim good [ true ↦ line_in (row_for place (row_told t)) | false ↦ None ]
+
+-- The trusted nodes of both kinds, as masks, in the first row.
+abbrev pub first_trusted : List Row → Option (ℕ × ℕ)
+first_trusted [] = None
+first_trusted (r ∷ rs) = Some (r.biu, r.rmu)

@@ -1,6 +1,8 @@
 //! What the nodes of a run have told, and what is settled by it.
 #![tactic(auto)]
 
+mod group;
+mod ledger;
 pub mod milestone;
 mod told;
 mod walks;

@@ -1,14 +1,13 @@
 //! What a node has told last.
-ghost use Rattle.std.specs.Prelude.{◌≡◌, ◌<◌, ℕ, None, false, get_or};
-ghost use Rattle.rb_base.specs.declared.values.See.TheVariants.{Nothing};
+ghost use Rattle.std.specs.Prelude.{◌≡◌, ◌<◌};
 ghost use Rattle.rb_rules.specs.Judging.{are_alike, is_something};
 ghost use Rattle.rb_rules.specs.Majority.{same_heard};
 ghost use Rattle.rb_rules.specs.WorldStep.{same_place};
-ghost use Rattle.rb_book.specs.Telling.{has_told, see_of};
+ghost use Rattle.rb_book.specs.Telling.{fresh_told, has_told, see_of, told_begun_frame, told_closed};
 
 use crate::milestone::Milestone;
-use rb_base::{Heard, Place, See};
-use rb_rules::{NodeLine, PortLine, SlotLine};
+use rb_base::{Biu, Heard, NodeSet, Place, Rmu, See};
+use rb_rules::{Closed, NodeLine, PortLine, SlotLine};
 
 /// What a node told of a frame that it began.
 #[derive(Clone, Copy)]
@@ -43,9 +42,7 @@ fn same_place(a: Place, b: Place) -> bool
 
 impl Told {
     pub(crate) fn none() -> Told
-        ensures closed { result.has_closed ≡ false }
-        ensures begun { result.begun ≡ None }
-        ensures sees { (j : ℕ) → get_or result.sees j Nothing ≡ Nothing }
+        ensures { result ≡ fresh_told }
     {
         Told {
             has_closed: false,
@@ -61,6 +58,33 @@ impl Told {
             line: None,
             begun: None,
         }
+    }
+
+    /// It closes a stage, having seen this of each source, some at these reference times, and delivers the line.
+    pub(crate) fn close(
+        &mut self,
+        closed: &Closed,
+        times: &[u64; 16],
+        biu: NodeSet<Biu>,
+        rmu: NodeSet<Rmu>,
+        line: Option<SlotLine>,
+    )
+        ensures { self.new ≡ told_closed closed.now times.now biu rmu line self.old }
+    {
+        self.has_closed = true;
+        self.place = closed.place;
+        self.sees = closed.sees;
+        self.times = *times;
+        self.biu = biu.bits();
+        self.rmu = rmu.bits();
+        self.line = line;
+    }
+
+    /// It begins a frame.
+    pub(crate) fn begin(&mut self, begun: Begin)
+        ensures { self.new ≡ told_begun_frame begun self.old }
+    {
+        self.begun = Some(begun);
     }
 
     /// Whether it has told of the milestone last.

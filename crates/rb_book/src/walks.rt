@@ -1,9 +1,9 @@
 //! Walks over what the nodes of a kind have told.
-ghost use Rattle.std.specs.Prelude.{◌≡◌, ℕ, ◌+◌, ◌<◌, ◌≤◌, ◌++◌, [], not, ◌&&◌, option_to_list, length};
-ghost use Rattle.rb_base.specs.Nodes.{has};
+ghost use Rattle.std.specs.Prelude.{◌≡◌, ℕ, ◌+◌, ◌<◌, ◌≤◌, ◌++◌, [], not, ◌&&◌, nat_lt, option_to_list, length};
+ghost use Rattle.rb_base.specs.Nodes.{has, set_of};
 ghost use Rattle.rb_rules.specs.Judging.{are_alike, is_something};
 ghost use Rattle.rb_book.specs.Telling.{has_told, see_of, told_at};
-ghost use Rattle.rb_book.specs.Waiting.{differs, found_of, line_of, node_line_of, port_line_of, waiting_for, was_taken, was_unlike};
+ghost use Rattle.rb_book.specs.Waiting.{differs, first_trusted, found_of, line_of, node_line_of, port_line_of, row_at, row_if, waiting_for, was_taken, was_unlike};
 
 use crate::milestone::Milestone;
 use crate::told::{Told, are_alike, is_something};
@@ -129,6 +129,35 @@ pub(crate) fn slot_lines<K: Copy>(
     lines
 }
 
+fn trusted_in(is_good: bool, told: &Told, place: Place) -> Option<(u16, u16)>
+    ensures { result ≡ first_trusted (option_to_list (row_if place is_good told.now)) }
+{
+    if is_good && told.has_told(Milestone::Stage(place)) {
+        Some((told.biu, told.rmu))
+    } else {
+        None
+    }
+}
+
+/// The trusted nodes of both kinds, as masks, as the first good one, of so many nodes, held them that told of a stage.
+pub(crate) fn first_trusted<K: Copy>(
+    count: u8,
+    good: NodeSet<K>,
+    place: Place,
+    told: &[Told; 16],
+) -> Option<(u16, u16)>
+    requires { count ≤ 16 }
+    ensures { result ≡ first_trusted (found_of (row_at good place) count told.now) }
+{
+    for i in 0..count {
+        let trusted = trusted_in(good.has(i), &told[usize::from(i)], place);
+        if trusted.is_some() {
+            return trusted;
+        }
+    }
+    None
+}
+
 fn takes(is_good: bool, told: &Told, source: u8) -> bool
     requires { source < 16 }
     ensures { result ≡ (is_good && is_something (see_of told.now source)) }
@@ -203,4 +232,47 @@ pub(crate) fn was_unlike<K: Copy>(
         }
     }
     false
+}
+
+/// The sources among these, of so many, of which a good one of so many receivers took something.
+pub(crate) fn taken_among<K: Copy, R: Copy>(
+    sources: u8,
+    among: NodeSet<K>,
+    count: u8,
+    good: NodeSet<R>,
+    told: &[Told; 16],
+) -> NodeSet<K>
+    requires sources { sources ≤ 16 }
+    requires count { count ≤ 16 }
+    ensures { result ≡ set_of (λ j. nat_lt j sources && (has among j && was_taken count good told.now j)) }
+{
+    let mut taken = NodeSet::empty();
+    for source in 0..sources {
+        if among.has(source) && was_taken(count, good, told, source) {
+            taken.insert(NodeId::of(source));
+        }
+    }
+    taken
+}
+
+/// The sources among these, of so many, that two good ones of so many receivers saw unlike.
+pub(crate) fn unlike_among<K: Copy, R: Copy>(
+    eps: u32,
+    sources: u8,
+    among: NodeSet<K>,
+    count: u8,
+    good: NodeSet<R>,
+    told: &[Told; 16],
+) -> NodeSet<K>
+    requires sources { sources ≤ 16 }
+    requires count { count ≤ 16 }
+    ensures { result ≡ set_of (λ j. nat_lt j sources && (has among j && was_unlike eps count good told.now j)) }
+{
+    let mut unlike = NodeSet::empty();
+    for source in 0..sources {
+        if among.has(source) && was_unlike(eps, count, good, told, source) {
+            unlike.insert(NodeId::of(source));
+        }
+    }
+    unlike
 }

@@ -6,7 +6,7 @@ use Rattle.rb_book.specs.Telling.{has_told, see_of, told_at}
 use Rattle.rb_book.specs.Waiting.{differs, found_of, line_of, node_line_of, port_line_of, waiting_for}
 use Rattle.rb_book.proofs.Found.{adds_more, found_none, some_good_found, some_good_none}
 use Rattle.rb_book.proofs.walks.port_lines.Goals as goal
-use Rattle.rb_book.proofs.Found.{line_added, told_here}
+use Rattle.rb_book.proofs.Found.{line_added}
 
 pub loop-i-init : goal.loop-i-init
 loop-i-init g c = record {
@@ -16,7 +16,7 @@ loop-i-init g c = record {
 
 pub loop-i-preserved : goal.loop-i-preserved
 loop-i-preserved g c =
-    let is = c.port_line-line.ensures ∙ ap (λ t. port_line_of c.args.frame c.has.result t) (told_here _ _ _ _ c.from.ensures (omega arith))
+    let is = c.port_line-line.ensures ∙ ap (λ t. port_line_of c.args.frame c.has.result t) (ap (told_at c.args.told.now) c.from.ensures)
     ∙ ap (λ b. port_line_of c.args.frame b (told_at c.args.told.now c.loop-i.i)) c.has.ensures in
     line_added (λ i t. port_line_of c.args.frame (has c.args.good i) t) c.args.told.now c.loop-i.i [] c.loop-i.lines.items _ _ (omega arith)
     c.loop-i.invariant.is is c.add.ensures c.loop-i.invariant.most

@@ -6,7 +6,7 @@ use Rattle.rb_book.specs.Telling.{has_told, see_of, told_at}
 use Rattle.rb_book.specs.Waiting.{differs, found_of, line_of, node_line_of, port_line_of, waiting_for}
 use Rattle.rb_book.proofs.Found.{adds_more, found_none, some_good_found, some_good_none}
 use Rattle.rb_book.proofs.walks.waiting_for.Goals as goal
-use Rattle.rb_book.proofs.Found.{told_here, waiting_is}
+use Rattle.rb_book.proofs.Found.{waiting_is}
 use Rattle.rb_book.proofs.walks.waiting_for.Goals.{then-is_awaited, else-is_awaited}
 
 pub loop-i-init : goal.loop-i-init
@@ -18,7 +18,7 @@ loop-i-preserved g c =
     let waiting = c.loop-i.waiting in
     let i = c.loop-i.i in
     let is : c.is_awaited.result ≡ p i =
-    c.is_awaited.ensures ∙ ap (λ t. c.has.result && not (has_told c.args.milestone t)) (told_here _ _ _ _ c.from.ensures (omega arith))
+    c.is_awaited.ensures ∙ ap (λ t. c.has.result && not (has_told c.args.milestone t)) (ap (told_at c.args.told.now) c.from.ensures)
     ∙ ap (λ b. b && not (has_told c.args.milestone (told_at c.args.told.now i))) c.has.ensures in
     elim c.if-is_awaited.branch [
       | then-is_awaited w ↦ w.waiting-is ∙ w.insert.ensures ∙ passing_more p waiting i w.of.result c.loop-i.invariant w.of.ensures (sym is ∙ w.if-is_awaited.true)

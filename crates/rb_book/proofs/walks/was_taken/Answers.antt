@@ -6,11 +6,10 @@ use Rattle.rb_book.specs.Telling.{has_told, see_of, told_at}
 use Rattle.rb_book.specs.Waiting.{differs, found_of, line_of, node_line_of, port_line_of, waiting_for}
 use Rattle.rb_book.proofs.Found.{adds_more, found_none, some_good_found, some_good_none}
 use Rattle.rb_book.proofs.walks.was_taken.Goals as goal
-use Rattle.rb_book.proofs.Found.{told_here}
 
 pub returns-then-takes : goal.returns-then-takes
 returns-then-takes g c =
-    let is = c.takes.ensures ∙ ap (λ t. c.has.result && is_something (see_of t c.args.source)) (told_here _ _ _ _ c.from.ensures (omega arith))
+    let is = c.takes.ensures ∙ ap (λ t. c.has.result && is_something (see_of t c.args.source)) (ap (told_at c.args.told.now) c.from.ensures)
     ∙ ap (λ b. b && is_something (see_of (told_at c.args.told.now c.loop-i.i) c.args.source)) c.has.ensures in
     sym (some_good_found c.args.count c.args.good (λ i. is_something (see_of (told_at c.args.told.now i) c.args.source)) c.loop-i.i (omega arith) (omega arith) (sym is ∙ c.if-takes.true))
 
