@@ -3,3 +3,4 @@ pub mod Telling
 pub mod Waiting
 pub mod Grouping
 pub mod Holding
+pub mod Settling

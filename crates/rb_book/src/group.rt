@@ -13,7 +13,7 @@ use rb_judge::StageSets;
 use rb_rules::{Closed, SlotLine};
 
 /// What the nodes of one kind have told, and of whom more is to come.
-#[derive(Drop)]
+#[derive(Clone, Copy)]
 pub struct Group<K> {
     /// What each node told last.
     pub told: [Told; 16],

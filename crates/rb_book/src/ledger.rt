@@ -1,13 +1,15 @@
 //! The book of a run, as it is kept.
-ghost use Rattle.std.specs.Prelude.{◌≡◌, ◌+◌, ◌<◌, ◌==◌, ◌++◌, false, if◌then◌else◌};
+ghost use Rattle.std.specs.Prelude.{◌≡◌, ◌+◌, ◌^◌, ◌<◌, ◌==◌, ◌&&◌, ◌||◌, ◌++◌, not, true, false, is_none, if◌then◌else◌};
 ghost use Rattle.rb_base.specs.Nodes.{has};
 ghost use Rattle.rb_base.specs.Nodes.Side.{Biu as biu, Rmu as rmu};
 ghost use Rattle.rb_base.specs.declared.values.Place.{Place};
-ghost use Rattle.rb_rules.specs.Book.{after_stage};
+ghost use Rattle.rb_rules.specs.Book.{after_stage, trusted_by};
 ghost use Rattle.rb_rules.specs.Goodness.{Scenario};
-ghost use Rattle.rb_rules.specs.WorldStep.{World, settle};
+ghost use Rattle.rb_rules.specs.WorldStep.{World};
 ghost use Rattle.rb_onset.specs.Faults.{faults_of};
 ghost use Rattle.rb_book.specs.Holding.{Holds, Passes, TurnsTo, frame_record, good_for, slot_record};
+ghost use Rattle.rb_book.specs.Settling.{GoesPast, JudgesStage, Settles, after_begin, comes_when, is_due, is_free, rows_found};
+ghost use Rattle.rb_book.specs.declared.milestone.Milestone.TheVariants.{Begin, Stage};
 ghost use Rattle.rb_book.specs.Records.{milestone_of, record_of, way_of};
 ghost use Rattle.rb_book.specs.Waiting.{found_of, line_of, node_line_of, port_line_of};
 
@@ -81,19 +83,84 @@ fn after_stage(shape: &Shape, place: Place) -> Milestone
     }
 }
 
-// The record of a slot, which comes with its stage 3.
-fn slot_turn(shape: &Shape, place: Place, lines: &ArrayVec<SlotLine, 16>) -> Turn
-    ensures { record_of result ≡ slot_record shape.now place lines.now.items }
+// The trusted nodes of both kinds, as masks, as the first good node held them that told of a stage, BIUs before RMUs.
+fn trusted(shape: &Shape, place: Place, bius: &Group<Biu>, rmus: &Group<Rmu>) -> (u16, u16)
+    ensures biu { result.0 ≡ trusted_by biu (rows_found shape.now place bius.now rmus.now) }
+    ensures rmu { result.1 ≡ trusted_by rmu (rows_found shape.now place bius.now rmus.now) }
 {
-    if place.stage == 3 && place.slot < shape.sync_slot() {
-        Turn::Slot(SlotRecord {
-            frame: place.frame,
-            slot: place.slot,
-            lines: lines.clone().unwrap(),
-        })
-    } else {
-        Turn::Quiet
+    let of_bius = first_trusted(shape.biu(), bius.good, place, &bius.told);
+    let of_rmus = first_trusted(shape.rmu(), rmus.good, place, &rmus.told);
+    of_bius.or(of_rmus).unwrap_or((0, 0))
+}
+
+// The judge is told a stage of which all good nodes have told.
+fn judge_stage(
+    judge: &mut Judge,
+    shape: &Shape,
+    eps: u32,
+    place: Place,
+    bius: &Group<Biu>,
+    rmus: &Group<Rmu>,
+)
+    ensures { JudgesStage judge.old judge.new shape.now eps place bius.now rmus.now }
+{
+    let trusted = trusted(shape, place, bius, rmus);
+    let of_bius = bius.stage_sets(
+        shape.biu(),
+        NodeSet::from_bits(trusted.0),
+        eps,
+        shape.rmu(),
+        rmus,
+    );
+    let of_rmus = rmus.stage_sets(
+        shape.rmu(),
+        NodeSet::from_bits(trusted.1),
+        eps,
+        shape.biu(),
+        bius,
+    );
+    judge.whole_stage(&of_bius, &of_rmus);
+}
+
+// What was delivered in a slot so far, after a stage. Deliveries come in stage 2.
+fn keep_lines(lines: &mut ArrayVec<SlotLine, 16>, shape: &Shape, place: Place, bius: &Group<Biu>)
+    ensures { lines.new.items ≡ (if place.stage == 2
+        then found_of (λ i t. line_of place (has bius.now.good i) t) shape.now.bius bius.now.told else lines.old.items) }
+{
+    if place.stage == 2 {
+        *lines = slot_lines(shape.biu(), bius.good, place, &bius.told);
     }
+}
+
+// What comes after the begin of a frame of so many.
+fn after_begin(frame: u32, frames: u32) -> Milestone
+    ensures { milestone_of result ≡ after_begin frame frames }
+{
+    if frame == frames {
+        Milestone::End
+    } else {
+        Milestone::Stage(Place {
+            frame,
+            slot: 0,
+            stage: 1,
+        })
+    }
+}
+
+// Whether a milestone is settled in this way, by whether it needs no event.
+fn comes_so(way: Way, is_free: bool) -> bool
+    ensures { result ≡ comes_when is_free way }
+{
+    match way {
+        Way::ByAnEvent => !is_free,
+        Way::ByItself => is_free,
+    }
+}
+
+fn is_quiet(turn: &Turn) -> bool
+    ensures { result ≡ is_none (record_of turn.now) }
+{
+    matches!(turn, Turn::Quiet)
 }
 
 impl Ledger {
@@ -127,5 +194,113 @@ impl Ledger {
             nodes,
             ports: port_lines(bius, self.bius.good, frame, &self.bius.told),
         })
+    }
+
+    // The record of a slot, which comes with its stage 3.
+    fn slot_turn(&self, place: Place) -> Turn
+        ensures { record_of result ≡ slot_record self.now.shape place self.now.lines.items }
+    {
+        if place.stage == 3 && place.slot < self.shape.sync_slot() {
+            Turn::Slot(SlotRecord {
+                frame: place.frame,
+                slot: place.slot,
+                lines: self.lines.clone().unwrap(),
+            })
+        } else {
+            Turn::Quiet
+        }
+    }
+
+    // The begin of a frame is settled.
+    fn pass_begin(&mut self, frame: u32) -> Turn
+        ensures { (sc : Scenario) (w : World) → Holds sc self.old w → self.old.ended ≡ false → self.old.upcoming ≡ Begin frame → Passes sc w self.new result }
+    {
+        let turn = self.frame_turn(frame);
+        let sync_slot = self.shape.sync_slot();
+        self.judge.frame();
+        self.lines = ArrayVec::new();
+        self.bius.lasting = self.onsets.good_biu(frame, sync_slot);
+        self.rmus.lasting = self.onsets.good_rmu(frame, sync_slot);
+        self.turn_to(after_begin(frame, self.frames));
+        turn
+    }
+
+    // A stage is settled, of which all good nodes have told.
+    fn pass_stage(&mut self, place: Place) -> Turn
+        ensures { (sc : Scenario) (w : World) → Holds sc self.old w → self.old.ended ≡ false → self.old.upcoming ≡ Stage place
+            → self.old.bius.waiting ≡ 0 → self.old.rmus.waiting ≡ 0 → Passes sc w self.new result }
+    {
+        judge_stage(
+            &mut self.judge,
+            &self.shape,
+            self.eps,
+            place,
+            &self.bius,
+            &self.rmus,
+        );
+        match self.judge.verdict() {
+            Some(cause) => {
+                self.ended = true;
+                Turn::Breach(place, cause)
+            }
+            None => self.pass_judged(place),
+        }
+    }
+
+    // A stage is settled, and the premise holds.
+    fn pass_judged(&mut self, place: Place) -> Turn
+        ensures { GoesPast self.old self.new place result }
+    {
+        let turn = self.slot_turn(place);
+        keep_lines(&mut self.lines, &self.shape, place, &self.bius);
+        let next = after_stage(&self.shape, place);
+        self.turn_to(next);
+        turn
+    }
+
+    // The upcoming milestone is settled, of which all good nodes have told.
+    fn pass(&mut self) -> Turn
+        ensures { (sc : Scenario) (w : World) → Holds sc self.old w → self.old.ended ≡ false → self.old.bius.waiting ≡ 0 → self.old.rmus.waiting ≡ 0
+            → Passes sc w self.new result }
+    {
+        match self.upcoming {
+            Milestone::Begin(frame) => self.pass_begin(frame),
+            Milestone::Stage(place) => self.pass_stage(place),
+            Milestone::End => {
+                self.ended = true;
+                Turn::Ended
+            }
+        }
+    }
+
+    // Whether no node is good at the upcoming milestone.
+    fn is_free(&self) -> bool
+        ensures { result ≡ is_free self.now }
+    {
+        self.bius.good.is_empty() && self.rmus.good.is_empty()
+    }
+
+    // Whether the upcoming milestone may be settled in this way, and all good nodes have told of it.
+    fn is_due(&self, way: Way) -> bool
+        ensures { result ≡ is_due way self.now }
+    {
+        self.bius.waiting.is_empty()
+            && self.rmus.waiting.is_empty()
+            && comes_so(way, self.is_free())
+            && !self.ended
+    }
+
+    // What is due is settled, up to the first record, and at most two milestones.
+    pub(crate) fn settle(&mut self, way: Way) -> Turn
+        ensures { (sc : Scenario) (w : World) → Holds sc self.old w → Settles sc (way_of way) w self.new result }
+    {
+        if !self.is_due(way) {
+            return Turn::Quiet;
+        }
+        let turn = self.pass();
+        if is_quiet(&turn) && self.is_due(way) {
+            return self.pass();
+        }
+        turn
     }
 }
