@@ -1,3 +1,5 @@
 pub mod Found
 pub mod Counted
 pub mod Rows
+pub mod Sources
+pub mod Verdict
