@@ -3,3 +3,4 @@ pub mod Counted
 pub mod Rows
 pub mod Sources
 pub mod Verdict
+pub mod Judged

@@ -149,7 +149,7 @@ pub record HaveSeen (place : Place) (sources count good : ℕ) (told : List Told
   pub told_it : (i : ℕ) → i < 16 → has good i ≡ true → has_told (Stage place) (told_at told i) ≡ true
   pub nobody : (i : ℕ) → sources ≤ j → get_or (told_at told i).sees j Nothing ≡ Nothing
 
-pub judged_sight : Bool → List (Option Row) → ℕ → ℕ → See
+abbrev pub judged_sight : Bool → List (Option Row) → ℕ → ℕ → See
 judged_sight lasts rows j i = elim lasts [ true ↦ Nothing | false ↦ see_in (get_or rows i None) j ]
 
 unfoldable pub both_kept : (place : Place) (sources count good : ℕ) (told : List Told) (lasts : Bool) (eps j : ℕ) → Type 0
