@@ -4,3 +4,5 @@ pub mod Rows
 pub mod Sources
 pub mod Verdict
 pub mod Judged
+pub mod Passing
+pub mod Due

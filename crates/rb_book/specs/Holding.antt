@@ -1,8 +1,8 @@
 -- What is kept of a run, and the world that it stands for.
-use Rattle.std.specs.Prelude.{ℕ, ◌≡◌, ◌+◌, ◌-◌, ◌<◌, ◌≤◌, ◌==◌, ◌&&◌, nat_lt, false, true, Option, Some, None, List, [], ◌∷◌, ◌++◌, get_or, map, take, if◌then◌else◌}
+use Rattle.std.specs.Prelude.{ℕ, ◌≡◌, ◌+◌, ◌-◌, ◌^◌, ◌<◌, ◌≤◌, ◌==◌, ◌&&◌, nat_lt, false, true, Option, Some, None, List, [], ◌∷◌, ◌++◌, get_or, length, map, take, if◌then◌else◌}
 use Rattle.rb_base.specs.Nodes.{Side, other}
 use Rattle.rb_base.specs.Nodes.Side.{Biu, Rmu}
-use Rattle.rb_base.specs.Sizes.{Sizes, sync_slot_of}
+use Rattle.rb_base.specs.Sizes.{Sizes, IsShape, sync_slot_of}
 use Rattle.rb_base.specs.declared.values.Place.{Place}
 use Rattle.rb_base.specs.declared.values.See.{See}
 use Rattle.rb_base.specs.declared.values.See.TheVariants.{Nothing}
@@ -54,6 +54,7 @@ IsComing sc End = Unit {0}
 -- What the nodes of a kind told.
 
 pub record HoldsKind {K : Type 0} (sc : Scenario) (kind : Side) (m : Milestone) (g : Group K) (sites : Each Site) : Type 0 where
+  pub all : length g.told ≡ 16
   pub rows : map (λ s. s.row) (of_kind kind sites) ≡ map row_told (take (count_of kind sc.sizes) g.told)
   pub begins : map (λ s. s.begun) (of_kind kind sites) ≡ map (begun_told kind) (take (count_of kind sc.sizes) g.told)
   -- nobody sees nodes that are not there
@@ -65,7 +66,9 @@ pub record HoldsKind {K : Type 0} (sc : Scenario) (kind : Side) (m : Milestone) 
 -- the numbers of a scenario
 pub record Fits (sc : Scenario) (l : Ledger) : Type 0 where
   pub sizes : l.shape ≡ sc.sizes
+  pub is_shape : IsShape sc.sizes
   pub frames : l.frames ≡ sc.frames
+  pub few_frames : sc.frames < 2 ^ 32
   pub eps : l.eps ≡ sc.plan.dmax - sc.plan.dmin
   pub onsets : l.onsets ≡ faults_of sc
 
