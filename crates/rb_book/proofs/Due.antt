@@ -12,6 +12,7 @@ use Rattle.rb_base.specs.declared.values.Place.{Place}
 use Rattle.rb_base.proofs.Sets.{has-set_of, has_none, is_set_of, lt_true, same_set_of}
 use Rattle.rb_judge.proofs.SomeNode.{same_bool}
 use Rattle.rb_rules.specs.Book.{Begun, Book, Each, Record, Row, in_order, map_each, map_from, of_kind, with_end, with_frame, with_stage}
+use Rattle.rb_rules.specs.Book.{Milestone as Mile}
 use Rattle.rb_rules.specs.Goodness.{Scenario, good_at, is_good}
 use Rattle.rb_rules.specs.Slots.{count_of}
 use Rattle.rb_rules.specs.WorldStep.{Site, Way, World, all_have_told, begun_for, book_with, comes_so, is_complete, needs_no_event, record_since, row_for, settle, settle_next}
@@ -192,3 +193,118 @@ comes-is sc l w way.ByItself h = free-is sc l w h
 
 abbrev step_if : Scenario → World → Bool → World
 step_if sc w b = elim b [ true ↦ passed sc w | false ↦ w ]
+
+-- a book that has ended stays
+ended-book : (sc : Scenario) (sites : Each Site) (b : Book) (m : Mile) → b.ended ≡ true → book_with sc sites b m ≡ b
+unfolding with_stage with_frame
+ended-book sc sites b (Mile.Begin frame) e = rw e refl
+ended-book sc sites b (Mile.Stage place) e = rw e refl
+ended-book sc sites b Mile.End e = rw e refl
+
+ended-same : (sc : Scenario) (w : World) → w.book.ended ≡ true → passed sc w ≡ w
+ended-same sc w e = ap (λ (b : Book). let v : World = record w { book = b } in v) (ended-book sc w.sites w.book w.book.upcoming e)
+
+-- what is due
+pub record IsDue (sc : Scenario) (k : KeptWay) (l : Ledger) (w : World) : Type 0 where
+  pub going : l.ended ≡ false
+  pub bius : l.bius.waiting ≡ 0
+  pub rmus : l.rmus.waiting ≡ 0
+  pub next : settle_next sc (way_of k) w ≡ passed sc w
+
+pub next-due : (sc : Scenario) (k : KeptWay) (l : Ledger) (w : World) → Holds sc l w → is_due k l ≡ true → IsDue sc k l w
+next-due sc k l w h e = by (l.bius.waiting == 0) (l.rmus.waiting == 0) (comes_when (is_free l) k) l.ended refl refl refl refl e
+  where
+    zero_is : (s : ℕ) → (s == 0) ≡ true → s ≡ 0
+    zero_is s e = grind (arith, nat_tests)
+    by : (a b c d : Bool) → (l.bius.waiting == 0) ≡ a → (l.rmus.waiting == 0) ≡ b → comes_when (is_free l) k ≡ c → l.ended ≡ d → (a && (b && (c && not d))) ≡ true → IsDue sc k l w
+    by true true true false ea eb ec ed e = record {
+      going = ed;
+      bius = zero_is l.bius.waiting ea;
+      rmus = zero_is l.rmus.waiting eb;
+      next = ap (step_if sc w) (ap (λ b. b && is_complete sc w.sites w.book.upcoming) (comes-is sc l w k h ∙ ec) ∙ complete-is sc l w h ∙ ap (λ b. b && (l.rmus.waiting == 0)) ea ∙ eb);
+    }
+    by true true true true ea eb ec ed e = absurd (cc)
+    by true true false d ea eb ec ed e = absurd (cc)
+    by true false c d ea eb ec ed e = absurd (cc)
+    by false b c d ea eb ec ed e = absurd (cc)
+
+pub next-not : (sc : Scenario) (k : KeptWay) (l : Ledger) (w : World) → Holds sc l w → is_due k l ≡ false → settle_next sc (way_of k) w ≡ w
+next-not sc k l w h e =
+    ap (step_if sc w) (ap (λ b. b && is_complete sc w.sites w.book.upcoming) (comes-is sc l w k h) ∙ ap (λ b. comes_when (is_free l) k && b) (complete-is sc l w h))
+    ∙ by (l.bius.waiting == 0) (l.rmus.waiting == 0) (comes_when (is_free l) k) l.ended refl e
+  where
+    by : (a b c d : Bool) → l.ended ≡ d → (a && (b && (c && not d))) ≡ false → step_if sc w (c && (a && b)) ≡ w
+    by a b false d ed e = refl
+    by false b true d ed e = refl
+    by true false true d ed e = refl
+    by true true true false ed e = absurd (cc)
+    by true true true true ed e = ended-same sc w (h.ended ∙ ed)
+
+-- Two steps.
+
+since-same : (w : World) → record_since w w ≡ None
+since-same w = slice_get_past w.book.given (length w.book.given) (omega arith)
+
+abbrev rest_of : Scenario → Way → ℕ → World → Option Record → World
+rest_of sc way n next r = elim r [ None ↦ settle sc way n next | Some r ↦ record next { turn = Some r } ]
+
+pub settle-more : (sc : Scenario) (way : Way) (n : ℕ) (w next : World) (r : Option Record) → settle_next sc way w ≡ next → record_since w next ≡ r
+    → settle sc way (suc n) w ≡ rest_of sc way n next r
+settle-more sc way n w next r is record_is = ap (λ x. rest_of sc way n x (record_since w x)) is ∙ ap (rest_of sc way n next) record_is
+
+settle-not : (sc : Scenario) (way : Way) (n : ℕ) (w : World) → settle_next sc way w ≡ w → settle sc way (suc n) w ≡ settle sc way n w
+settle-not sc way n w is = settle-more sc way n w w None is (since-same w)
+
+settle-one : (sc : Scenario) (way : Way) (w next : World) (r : Option Record) → settle_next sc way w ≡ next → record_since w next ≡ r → settle sc way 1 w ≡ record next { turn = r }
+settle-one sc way w next None is e = settle-more sc way 0 w next None is e
+settle-one sc way w next (Some r) is e = settle-more sc way 0 w next (Some r) is e
+
+pub with-turn : (sc : Scenario) (l : Ledger) (w : World) (t : Option Record) → Holds sc l w → Holds sc l (record w { turn = t })
+with-turn sc l w t h = record {
+  fits = h.fits;
+  upcoming = h.upcoming;
+  coming = h.coming;
+  lines = h.lines;
+  ended = h.ended;
+  judged = h.judged;
+  bius = record { all = h.bius.all; rows = h.bius.rows; begins = h.bius.begins; within = h.bius.within; good = h.bius.good; waiting = h.bius.waiting; lasting = h.bius.lasting };
+  rmus = record { all = h.rmus.all; rows = h.rmus.rows; begins = h.rmus.begins; within = h.rmus.within; good = h.rmus.good; waiting = h.rmus.waiting; lasting = h.rmus.lasting };
+}
+
+settles-at : (sc : Scenario) (way : Way) (w next : World) (l : Ledger) (t : Turn) (r : Option Record) → settle sc way 2 w ≡ record next { turn = r } → r ≡ record_of t
+    → Holds sc l next → Settles sc way w l t
+settles-at sc way w next l t r is same h = record {
+  holds = subst (λ x. Holds sc l x) (sym is) (with-turn sc l next r h);
+  turn_is = ap (λ (x : World). x.turn) is ∙ same;
+}
+
+-- nothing is due
+pub settles-none : (sc : Scenario) (k : KeptWay) (l : Ledger) (w : World) → Holds sc l w → is_due k l ≡ false → Settles sc (way_of k) w l turn.Quiet
+settles-none sc k l w h e =
+    let not_due = next-not sc k l w h e in
+    settles-at sc (way_of k) w w l turn.Quiet None (settle-not sc (way_of k) 1 w not_due ∙ settle-not sc (way_of k) 0 w not_due) refl h
+
+-- one milestone is settled, and it gives a record, or no other is due
+pub settles-one : (sc : Scenario) (k : KeptWay) (l after : Ledger) (w : World) (t : Turn) → IsDue sc k l w → Passes sc w after t
+    → (is_none (record_of t) ≡ true → is_due k after ≡ false) → Settles sc (way_of k) w after t
+settles-one sc k l after w t due passes more = by (record_of t) refl
+  where
+    by : (r : Option Record) → record_of t ≡ r → Settles sc (way_of k) w after t
+    by (Some r) e =
+        settles-at sc (way_of k) w (passed sc w) after t (Some r) (settle-more sc (way_of k) 1 w (passed sc w) (Some r) due.next (sym passes.record_is ∙ e)) (sym e) passes.holds
+    by None e =
+        settles-at sc (way_of k) w (passed sc w) after t None
+        (settle-more sc (way_of k) 1 w (passed sc w) None due.next (sym passes.record_is ∙ e)
+        ∙ settle-not sc (way_of k) 0 (passed sc w) (next-not sc k after (passed sc w) passes.holds (more (ap is_none e)))) (sym e) passes.holds
+
+-- a milestone that gives none is settled, and the next
+pub settles-two : (sc : Scenario) (k : KeptWay) (l between after : Ledger) (w : World) (t u : Turn) → IsDue sc k l w → Passes sc w between t
+    → is_none (record_of t) ≡ true → IsDue sc k between (passed sc w) → Passes sc (passed sc w) after u → Settles sc (way_of k) w after u
+settles-two sc k l between after w t u due passes quiet more second =
+    settles-at sc (way_of k) w (passed sc (passed sc w)) after u (record_of u)
+    (settle-more sc (way_of k) 1 w (passed sc w) None due.next (sym passes.record_is ∙ none (record_of t) quiet)
+    ∙ settle-one sc (way_of k) (passed sc w) (passed sc (passed sc w)) (record_of u) more.next (sym second.record_is)) refl second.holds
+  where
+    none : (r : Option Record) → is_none r ≡ true → r ≡ None
+    none None e = refl
+    none (Some r) e = absurd (cc)

@@ -4,3 +4,4 @@ pub mod Waiting
 pub mod Grouping
 pub mod Holding
 pub mod Settling
+pub mod Changing

@@ -1,27 +1,31 @@
 //! The book of a run, as it is kept.
-ghost use Rattle.std.specs.Prelude.{◌≡◌, ◌+◌, ◌^◌, ◌<◌, ◌==◌, ◌&&◌, ◌||◌, ◌++◌, not, true, false, is_none, if◌then◌else◌};
-ghost use Rattle.rb_base.specs.Nodes.{has};
+ghost use Rattle.std.specs.Prelude.{◌≡◌, ◌+◌, ◌^◌, ◌<◌, ◌≤◌, ◌==◌, ◌++◌, ℕ, false, is_none, get_or, Some, None, if◌then◌else◌};
+ghost use Rattle.rb_base.specs.Nodes.{has, other};
+ghost use Rattle.rb_base.specs.declared.values.See.TheVariants.{Nothing};
+ghost use Rattle.rb_rules.specs.Slots.{count_of};
 ghost use Rattle.rb_base.specs.Nodes.Side.{Biu as biu, Rmu as rmu};
 ghost use Rattle.rb_base.specs.declared.values.Place.{Place};
 ghost use Rattle.rb_rules.specs.Book.{after_stage, trusted_by};
 ghost use Rattle.rb_rules.specs.Goodness.{Scenario};
 ghost use Rattle.rb_rules.specs.WorldStep.{World};
 ghost use Rattle.rb_onset.specs.Faults.{faults_of};
+ghost use Rattle.rb_book.specs.Changing.{changed_at, count_for, line_from, number_in, row_shown, side_in, with_begun, with_row};
 ghost use Rattle.rb_book.specs.Holding.{Holds, Passes, TurnsTo, frame_record, good_for, slot_record};
 ghost use Rattle.rb_book.specs.Settling.{GoesPast, JudgesStage, Settles, after_begin, comes_when, is_due, is_free, rows_found};
-ghost use Rattle.rb_book.specs.declared.milestone.Milestone.TheVariants.{Begin, Stage};
+ghost use Rattle.rb_book.specs.declared.milestone.Milestone.TheVariants as coming;
 ghost use Rattle.rb_book.specs.Records.{milestone_of, record_of, way_of};
 ghost use Rattle.rb_book.specs.Waiting.{found_of, line_of, node_line_of, port_line_of};
 
 use crate::group::Group;
 use crate::milestone::{Milestone, Way};
+use crate::told::Begin;
 use crate::turn::{FrameRecord, SlotRecord, Turn};
 use crate::walks::{add_node_lines, first_trusted, port_lines, slot_lines};
 use arrayvec::ArrayVec;
-use rb_base::{Biu, NodeSet, Place, Rmu, Shape};
+use rb_base::{Biu, Delivery, NodeName, NodeSet, Place, Rmu, Shape};
 use rb_judge::Judge;
 use rb_onset::Onsets;
-use rb_rules::SlotLine;
+use rb_rules::{Closed, NodeLine, PortLine, SlotLine};
 
 /// What nodes told, and what is settled.
 #[derive(Drop)]
@@ -163,6 +167,20 @@ fn is_quiet(turn: &Turn) -> bool
     matches!(turn, Turn::Quiet)
 }
 
+// What a node delivers, as a line.
+fn slot_line_of(receiver: u8, delivered: Option<Delivery>) -> Option<SlotLine>
+    ensures { result ≡ line_from receiver delivered }
+{
+    match delivered {
+        Some(delivery) => Some(SlotLine {
+            receiver,
+            sender: delivery.sender,
+            value: delivery.value,
+        }),
+        None => None,
+    }
+}
+
 impl Ledger {
     // A milestone is the upcoming one.
     fn turn_to(&mut self, milestone: Milestone)
@@ -213,7 +231,7 @@ impl Ledger {
 
     // The begin of a frame is settled.
     fn pass_begin(&mut self, frame: u32) -> Turn
-        ensures { (sc : Scenario) (w : World) → Holds sc self.old w → self.old.ended ≡ false → self.old.upcoming ≡ Begin frame → Passes sc w self.new result }
+        ensures { (sc : Scenario) (w : World) → Holds sc self.old w → self.old.ended ≡ false → self.old.upcoming ≡ coming.Begin frame → Passes sc w self.new result }
     {
         let turn = self.frame_turn(frame);
         let sync_slot = self.shape.sync_slot();
@@ -227,7 +245,7 @@ impl Ledger {
 
     // A stage is settled, of which all good nodes have told.
     fn pass_stage(&mut self, place: Place) -> Turn
-        ensures { (sc : Scenario) (w : World) → Holds sc self.old w → self.old.ended ≡ false → self.old.upcoming ≡ Stage place
+        ensures { (sc : Scenario) (w : World) → Holds sc self.old w → self.old.ended ≡ false → self.old.upcoming ≡ coming.Stage place
             → self.old.bius.waiting ≡ 0 → self.old.rmus.waiting ≡ 0 → Passes sc w self.new result }
     {
         judge_stage(
@@ -288,6 +306,59 @@ impl Ledger {
             && self.rmus.waiting.is_empty()
             && comes_so(way, self.is_free())
             && !self.ended
+    }
+
+    /// A node closes a window. What it saw of a source with a stamp is noted with the reference time of that source. Of the tail
+    /// nothing is noted.
+    pub(crate) fn close(
+        &mut self,
+        node: NodeName,
+        closed: &Closed,
+        times: &[u64; 16],
+        biu: NodeSet<Biu>,
+        rmu: NodeSet<Rmu>,
+    )
+        requires node { number_in node < count_for node self.old.shape }
+        requires sources { (j : ℕ) → count_of (other (side_in node)) self.old.shape ≤ j → get_or closed.now.sees j Nothing ≡ Nothing }
+        ensures { (sc : Scenario) (w : World) → Holds sc self.old w
+            → Holds sc self.new (changed_at node (with_row closed.now.place.stage (row_shown (number_in node) closed.now times.now biu rmu)) w) }
+    {
+        if closed.place.stage == 4 {
+            return;
+        }
+        match node {
+            NodeName::Biu(i) => {
+                let _bius = self.shape.biu();
+                let line = slot_line_of(i, closed.delivered);
+                self.bius.close(i, self.upcoming, closed, times, biu, rmu, line);
+            }
+            NodeName::Rmu(i) => {
+                let _rmus = self.shape.rmu();
+                let line = slot_line_of(i, closed.delivered);
+                self.rmus.close(i, self.upcoming, closed, times, biu, rmu, line);
+            }
+        }
+    }
+
+    /// A BIU begins a frame.
+    pub(crate) fn begin_biu(&mut self, i: u8, frame: u32, line: NodeLine, port: PortLine)
+        requires { i < self.old.shape.bius }
+        ensures { (sc : Scenario) (w : World) → Holds sc self.old w
+            → Holds sc self.new (changed_at (NodeName.Biu i) (with_begun (record { frame = frame; line = line; port = Some port })) w) }
+    {
+        let _bius = self.shape.biu();
+        self.bius.begin(i, self.upcoming, Begin { frame, line, port });
+    }
+
+    /// An RMU begins a frame.
+    pub(crate) fn begin_rmu(&mut self, i: u8, frame: u32, line: NodeLine)
+        requires { i < self.old.shape.rmus }
+        ensures { (sc : Scenario) (w : World) → Holds sc self.old w
+            → Holds sc self.new (changed_at (NodeName.Rmu i) (with_begun (record { frame = frame; line = line; port = None })) w) }
+    {
+        let _rmus = self.shape.rmu();
+        let port = PortLine::default();
+        self.rmus.begin(i, self.upcoming, Begin { frame, line, port });
     }
 
     // What is due is settled, up to the first record, and at most two milestones.
