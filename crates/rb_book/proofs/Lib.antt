@@ -6,3 +6,4 @@ pub mod Verdict
 pub mod Judged
 pub mod Passing
 pub mod Due
+pub mod Noting

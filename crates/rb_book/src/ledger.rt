@@ -1,5 +1,5 @@
 //! The book of a run, as it is kept.
-ghost use Rattle.std.specs.Prelude.{◌≡◌, ◌+◌, ◌^◌, ◌<◌, ◌≤◌, ◌==◌, ◌++◌, ℕ, false, is_none, get_or, Some, None, if◌then◌else◌};
+ghost use Rattle.std.specs.Prelude.{◌≡◌, ◌+◌, ◌-◌, ◌^◌, ◌<◌, ◌≤◌, ◌==◌, ◌++◌, ℕ, false, is_none, get_or, Some, None, if◌then◌else◌};
 ghost use Rattle.rb_base.specs.Nodes.{has, other};
 ghost use Rattle.rb_base.specs.declared.values.See.TheVariants.{Nothing};
 ghost use Rattle.rb_rules.specs.Slots.{count_of};
@@ -7,7 +7,7 @@ ghost use Rattle.rb_base.specs.Nodes.Side.{Biu as biu, Rmu as rmu};
 ghost use Rattle.rb_base.specs.declared.values.Place.{Place};
 ghost use Rattle.rb_rules.specs.Book.{after_stage, trusted_by};
 ghost use Rattle.rb_rules.specs.Goodness.{Scenario};
-ghost use Rattle.rb_rules.specs.WorldStep.{World};
+ghost use Rattle.rb_rules.specs.WorldStep.{World, first_world};
 ghost use Rattle.rb_onset.specs.Faults.{faults_of};
 ghost use Rattle.rb_book.specs.Changing.{changed_at, count_for, line_from, number_in, row_shown, side_in, with_begun, with_row};
 ghost use Rattle.rb_book.specs.Holding.{Holds, Passes, TurnsTo, frame_record, good_for, slot_record};
@@ -182,6 +182,27 @@ fn slot_line_of(receiver: u8, delivered: Option<Delivery>) -> Option<SlotLine>
 }
 
 impl Ledger {
+    pub(crate) fn new(shape: Shape, frames: u32, eps: u32, onsets: Onsets) -> Ledger
+        ensures { (sc : Scenario) → shape ≡ sc.sizes → frames ≡ sc.frames → eps ≡ sc.plan.dmax - sc.plan.dmin → onsets ≡ faults_of sc
+            → Holds sc result (first_world sc) }
+    {
+        let mut ledger = Ledger {
+            shape,
+            frames,
+            eps,
+            onsets,
+            bius: Group::new(),
+            rmus: Group::new(),
+            upcoming: Milestone::Begin(0),
+            lines: ArrayVec::new(),
+            judge: Judge::new(&shape),
+            ended: false,
+        };
+        let _bius = shape.biu();
+        ledger.turn_to(Milestone::Begin(0));
+        ledger
+    }
+
     // A milestone is the upcoming one.
     fn turn_to(&mut self, milestone: Milestone)
         ensures { TurnsTo self.old self.new milestone }
@@ -291,8 +312,8 @@ impl Ledger {
         }
     }
 
-    // Whether no node is good at the upcoming milestone.
-    fn is_free(&self) -> bool
+    /// Whether no node is good at the upcoming milestone.
+    pub(crate) fn is_free(&self) -> bool
         ensures { result ≡ is_free self.now }
     {
         self.bius.good.is_empty() && self.rmus.good.is_empty()

@@ -1,6 +1,7 @@
 //! What the nodes of a run have told, and what is settled by it.
 #![tactic(auto)]
 
+pub mod book;
 mod group;
 mod ledger;
 pub mod milestone;
@@ -8,6 +9,7 @@ mod told;
 mod walks;
 pub mod turn;
 
+pub use book::Book;
 pub use milestone::{Milestone, Way};
 pub use rb_rules::{Cause, NodeLine, PortLine, SlotLine};
 pub use turn::{FrameRecord, SlotRecord, Turn};
