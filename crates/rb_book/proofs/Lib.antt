@@ -7,3 +7,4 @@ pub mod Judged
 pub mod Passing
 pub mod Due
 pub mod Noting
+pub mod First

@@ -1,5 +1,5 @@
 //! What the nodes of one kind have told.
-ghost use Rattle.std.specs.Prelude.{◌≡◌, ◌<◌, ◌≤◌, ℕ, nat_lt, not, ◌&&◌, ◌==◌, if◌then◌else◌};
+ghost use Rattle.std.specs.Prelude.{◌≡◌, ◌<◌, ◌≤◌, ℕ, nat_lt, not, ◌&&◌, ◌==◌, replicate, if◌then◌else◌};
 ghost use Rattle.rb_base.specs.Nodes.{has, set_of};
 ghost use Rattle.rb_book.specs.Grouping.{IsNoted};
 ghost use Rattle.rb_book.specs.Telling.{fresh_told, has_told, told_at, told_begun_frame, told_closed};
@@ -39,7 +39,7 @@ fn with_or_without<K: Copy>(set: NodeSet<K>, i: u8, member: bool) -> NodeSet<K>
 }
 
 fn told_of_nothing() -> [Told; 16]
-    ensures { (i : ℕ) → i < 16 → told_at result i ≡ fresh_told }
+    ensures { result ≡ replicate 16 fresh_told }
 {
     [Told::none(); 16]
 }
@@ -47,7 +47,7 @@ fn told_of_nothing() -> [Told; 16]
 impl<K: Copy> Group<K> {
     /// Nodes that have told nothing. None is good or awaited yet.
     pub(crate) fn new() -> Group<K>
-        ensures { (i : ℕ) → i < 16 → told_at result.told i ≡ fresh_told }
+        ensures { result.told ≡ replicate 16 fresh_told }
     {
         Group {
             told: told_of_nothing(),

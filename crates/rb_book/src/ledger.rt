@@ -252,7 +252,8 @@ impl Ledger {
 
     // The begin of a frame is settled.
     fn pass_begin(&mut self, frame: u32) -> Turn
-        ensures { (sc : Scenario) (w : World) → Holds sc self.old w → self.old.ended ≡ false → self.old.upcoming ≡ coming.Begin frame → Passes sc w self.new result }
+        ensures passes { (sc : Scenario) (w : World) → Holds sc self.old w → self.old.ended ≡ false → self.old.upcoming ≡ coming.Begin frame → Passes sc w self.new result }
+        ensures shape { self.new.shape ≡ self.old.shape }
     {
         let turn = self.frame_turn(frame);
         let sync_slot = self.shape.sync_slot();
@@ -266,8 +267,9 @@ impl Ledger {
 
     // A stage is settled, of which all good nodes have told.
     fn pass_stage(&mut self, place: Place) -> Turn
-        ensures { (sc : Scenario) (w : World) → Holds sc self.old w → self.old.ended ≡ false → self.old.upcoming ≡ coming.Stage place
+        ensures passes { (sc : Scenario) (w : World) → Holds sc self.old w → self.old.ended ≡ false → self.old.upcoming ≡ coming.Stage place
             → self.old.bius.waiting ≡ 0 → self.old.rmus.waiting ≡ 0 → Passes sc w self.new result }
+        ensures shape { self.new.shape ≡ self.old.shape }
     {
         judge_stage(
             &mut self.judge,
@@ -299,8 +301,9 @@ impl Ledger {
 
     // The upcoming milestone is settled, of which all good nodes have told.
     fn pass(&mut self) -> Turn
-        ensures { (sc : Scenario) (w : World) → Holds sc self.old w → self.old.ended ≡ false → self.old.bius.waiting ≡ 0 → self.old.rmus.waiting ≡ 0
+        ensures passes { (sc : Scenario) (w : World) → Holds sc self.old w → self.old.ended ≡ false → self.old.bius.waiting ≡ 0 → self.old.rmus.waiting ≡ 0
             → Passes sc w self.new result }
+        ensures shape { self.new.shape ≡ self.old.shape }
     {
         match self.upcoming {
             Milestone::Begin(frame) => self.pass_begin(frame),
@@ -341,8 +344,9 @@ impl Ledger {
     )
         requires node { number_in node < count_for node self.old.shape }
         requires sources { (j : ℕ) → count_of (other (side_in node)) self.old.shape ≤ j → get_or closed.now.sees j Nothing ≡ Nothing }
-        ensures { (sc : Scenario) (w : World) → Holds sc self.old w
+        ensures noted { (sc : Scenario) (w : World) → Holds sc self.old w
             → Holds sc self.new (changed_at node (with_row closed.now.place.stage (row_shown (number_in node) closed.now times.now biu rmu)) w) }
+        ensures shape { self.new.shape ≡ self.old.shape }
     {
         if closed.place.stage == 4 {
             return;
@@ -364,8 +368,9 @@ impl Ledger {
     /// A BIU begins a frame.
     pub(crate) fn begin_biu(&mut self, i: u8, frame: u32, line: NodeLine, port: PortLine)
         requires { i < self.old.shape.bius }
-        ensures { (sc : Scenario) (w : World) → Holds sc self.old w
+        ensures noted { (sc : Scenario) (w : World) → Holds sc self.old w
             → Holds sc self.new (changed_at (NodeName.Biu i) (with_begun (record { frame = frame; line = line; port = Some port })) w) }
+        ensures shape { self.new.shape ≡ self.old.shape }
     {
         let _bius = self.shape.biu();
         self.bius.begin(i, self.upcoming, Begin { frame, line, port });
@@ -374,8 +379,9 @@ impl Ledger {
     /// An RMU begins a frame.
     pub(crate) fn begin_rmu(&mut self, i: u8, frame: u32, line: NodeLine)
         requires { i < self.old.shape.rmus }
-        ensures { (sc : Scenario) (w : World) → Holds sc self.old w
+        ensures noted { (sc : Scenario) (w : World) → Holds sc self.old w
             → Holds sc self.new (changed_at (NodeName.Rmu i) (with_begun (record { frame = frame; line = line; port = None })) w) }
+        ensures shape { self.new.shape ≡ self.old.shape }
     {
         let _rmus = self.shape.rmu();
         let port = PortLine::default();
@@ -384,7 +390,8 @@ impl Ledger {
 
     // What is due is settled, up to the first record, and at most two milestones.
     pub(crate) fn settle(&mut self, way: Way) -> Turn
-        ensures { (sc : Scenario) (w : World) → Holds sc self.old w → Settles sc (way_of way) w self.new result }
+        ensures settled { (sc : Scenario) (w : World) → Holds sc self.old w → Settles sc (way_of way) w self.new result }
+        ensures shape { self.new.shape ≡ self.old.shape }
     {
         if !self.is_due(way) {
             return Turn::Quiet;

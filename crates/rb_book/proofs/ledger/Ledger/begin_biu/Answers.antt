@@ -6,8 +6,8 @@ use Rattle.rb_book.specs.Telling.{begun_in, told_at, told_begun_frame}
 use Rattle.rb_book.proofs.Noting.{begun-noted, other-kind, with-bius}
 use Rattle.rb_book.proofs.ledger.Ledger.begin_biu.Goals as goal
 
-pub returns : goal.returns
-returns c = λ sc w h.
+pub returns-clause-noted : goal.returns-clause-noted
+returns-clause-noted c = λ sc w h.
     let shape = h.fits.is_shape in
     let inside : c.args.i < sc.sizes.bius = subst (λ (s : Sizes). c.args.i < s.bius) h.fits.sizes c.requires in
     let begun = begun_in Biu (record { frame = c.args.frame; line = c.args.line; port = c.args.port }) in

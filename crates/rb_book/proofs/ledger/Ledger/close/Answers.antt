@@ -23,8 +23,8 @@ tail-same stage row s e = ap (λ b. elim b as (λ _. Site) [ true ↦ s | false 
 stage-told : (stage : ℕ) (row : Row) (s : Site) → (stage == 4) ≡ false → with_row stage row s ≡ record s { row = Some row }
 stage-told stage row s e = ap (λ b. elim b as (λ _. Site) [ true ↦ s | false ↦ record s { row = Some row } ]) e
 
-pub returns-then-closed-eq4 : goal.returns-then-closed-eq4
-returns-then-closed-eq4 c = λ sc w h.
+pub returns-then-closed-eq4-clause-noted : goal.returns-then-closed-eq4-clause-noted
+returns-then-closed-eq4-clause-noted c = λ sc w h.
     let row : Row = row_shown (number_in c.args.node) c.args.closed.now c.args.times.now c.args.biu c.args.rmu in
     let stage : ℕ = c.args.closed.now.place.stage in
     let tail : (stage == 4) ≡ true = ap (λ n. n == 4) c.if-closed-eq4.true in
@@ -32,8 +32,8 @@ returns-then-closed-eq4 c = λ sc w h.
     (λ kind. shows-same (λ s. s.row) kind (side_in c.args.node) (number_in c.args.node) (with_row stage row) w.sites (λ s. ap (λ (x : Site). x.row) (tail-same stage row s tail)))
     (λ kind. shows-same (λ s. s.begun) kind (side_in c.args.node) (number_in c.args.node) (with_row stage row) w.sites (λ s. ap (λ (x : Site). x.begun) (tail-same stage row s tail)))
 
-pub returns-in-Biu : goal.returns-in-Biu
-returns-in-Biu c = λ sc w h.
+pub returns-in-Biu-clause-noted : goal.returns-in-Biu-clause-noted
+returns-in-Biu-clause-noted c = λ sc w h.
     let shape = h.fits.is_shape in
     let i = c.in-Biu.i in
     let closed = c.args.closed.now in
@@ -55,8 +55,8 @@ returns-in-Biu c = λ sc w h.
     (changed_at n (with_row closed.place.stage (row_shown (number_in n) closed c.args.times.now c.args.biu c.args.rmu)) w)) (sym c.in-Biu.is)
     (with-bius sc c.args.self.now w c.close.new.self _ h holds others)
 
-pub returns-in-Rmu : goal.returns-in-Rmu
-returns-in-Rmu c = λ sc w h.
+pub returns-in-Rmu-clause-noted : goal.returns-in-Rmu-clause-noted
+returns-in-Rmu-clause-noted c = λ sc w h.
     let shape = h.fits.is_shape in
     let i = c.in-Rmu.i in
     let closed = c.args.closed.now in

@@ -15,8 +15,8 @@ use Rattle.rb_book.specs.Settling.{after_begin}
 use Rattle.rb_book.proofs.Passing.{coming-begun, frame-book, frame-record, passes-by, turns-holds}
 use Rattle.rb_book.proofs.ledger.Ledger.pass_begin.Goals as goal
 
-pub returns : goal.returns
-returns c = λ sc w h ended next.
+pub returns-clause-passes : goal.returns-clause-passes
+returns-clause-passes c = λ sc w h ended next.
     let frame = c.args.frame in
     let going = h.ended ∙ ended in
     let bius = subst (λ m. HoldsKind sc Biu m c.args.self.now.bius w.sites) next h.bius in

@@ -19,8 +19,8 @@ use Rattle.rb_book.proofs.Passing.{coming-after, few-slots, lines-after, passes-
 use Rattle.rb_book.proofs.Verdict.{verdict-is}
 use Rattle.rb_book.proofs.ledger.Ledger.pass_stage.Goals as goal
 
-pub returns-in-Some : goal.returns-in-Some
-returns-in-Some c = λ sc w h ended next none_bius none_rmus.
+pub returns-in-Some-clause-passes : goal.returns-in-Some-clause-passes
+returns-in-Some-clause-passes c = λ sc w h ended next none_bius none_rmus.
     let place = c.args.place in
     let going = h.ended ∙ ended in
     let bius = subst (λ m. HoldsKind sc Biu m c.args.self.now.bius w.sites) next h.bius in
@@ -44,8 +44,8 @@ returns-in-Some c = λ sc w h ended next none_bius none_rmus.
       rmus = h.rmus;
     }) refl refl
 
-pub returns-in-None : goal.returns-in-None
-returns-in-None c = λ sc w h ended next none_bius none_rmus.
+pub returns-in-None-clause-passes : goal.returns-in-None-clause-passes
+returns-in-None-clause-passes c = λ sc w h ended next none_bius none_rmus.
     let place = c.args.place in
     let going = h.ended ∙ ended in
     let bius = subst (λ m. HoldsKind sc Biu m c.args.self.now.bius w.sites) next h.bius in
