@@ -8,3 +8,4 @@ pub mod Passing
 pub mod Due
 pub mod Noting
 pub mod First
+pub mod Worlds

@@ -57,7 +57,7 @@ none-changes {X = X} {Y = Y} h k b change (x ∷ xs) same = ap (λ y. y ∷ map 
     by true = same x
     by false = refl
 
-at-kind : (kind me : Side) (i : ℕ) (change : Site → Site) (sites : Each Site)
+pub at-kind : (kind me : Side) (i : ℕ) (change : Site → Site) (sites : Each Site)
     → of_kind kind (at_node me i change sites) ≡ map_from 0 (λ n s. elim (same_side kind me && (n == i)) [ true ↦ change s | false ↦ s ]) (of_kind kind sites)
 at-kind Biu me i change sites = refl
 at-kind Rmu me i change sites = refl

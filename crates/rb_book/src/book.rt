@@ -36,8 +36,9 @@ impl Model for Book {
 impl Book {
     /// The book of a run of so many frames at its begin. The times of one message may be `eps` reference units apart.
     pub fn new(shape: Shape, frames: u32, eps: u32, onsets: Onsets) -> Book
-        ensures { (sc : Scenario) → shape ≡ sc.sizes → frames ≡ sc.frames → eps ≡ sc.plan.dmax - sc.plan.dmin → onsets ≡ faults_of sc
+        ensures holds { (sc : Scenario) → shape ≡ sc.sizes → frames ≡ sc.frames → eps ≡ sc.plan.dmax - sc.plan.dmin → onsets ≡ faults_of sc
             → Holds sc result (first_world sc) }
+        ensures shape { result.shape ≡ shape }
     {
         Book {
             ledger: Ledger::new(shape, frames, eps, onsets),

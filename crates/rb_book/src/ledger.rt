@@ -183,8 +183,9 @@ fn slot_line_of(receiver: u8, delivered: Option<Delivery>) -> Option<SlotLine>
 
 impl Ledger {
     pub(crate) fn new(shape: Shape, frames: u32, eps: u32, onsets: Onsets) -> Ledger
-        ensures { (sc : Scenario) → shape ≡ sc.sizes → frames ≡ sc.frames → eps ≡ sc.plan.dmax - sc.plan.dmin → onsets ≡ faults_of sc
+        ensures holds { (sc : Scenario) → shape ≡ sc.sizes → frames ≡ sc.frames → eps ≡ sc.plan.dmax - sc.plan.dmin → onsets ≡ faults_of sc
             → Holds sc result (first_world sc) }
+        ensures shape { result.shape ≡ shape }
     {
         let mut ledger = Ledger {
             shape,

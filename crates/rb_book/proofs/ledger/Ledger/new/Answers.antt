@@ -8,9 +8,9 @@ use Rattle.rb_book.specs.Records.{milestone_of}
 use Rattle.rb_book.proofs.First.{first-kind}
 use Rattle.rb_book.proofs.ledger.Ledger.new.Goals as goal
 
-pub returns : goal.returns
+pub returns-clause-holds : goal.returns-clause-holds
 unfolding first_world
-returns c = λ sc sizes frames eps onsets.
+returns-clause-holds c = λ sc sizes frames eps onsets.
     let turns = c.turn_to.ensures in
     let shape : IsShape sc.sizes = subst (λ (s : Sizes). IsShape s) sizes c.biu-bius.ensures.shape in
     record {
