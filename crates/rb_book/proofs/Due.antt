@@ -1,5 +1,5 @@
 -- When a milestone is settled.
-use Rattle.std.proofs.Common.{◌≡◌, ℕ, zero, suc, ◌+◌, ◌^◌, ◌<◌, ◌≤◌, ◌==◌, ◌&&◌, ◌||◌, not, nat_lt, Bool, true, false, List, [], ◌∷◌, ◌++◌, length, map, take, get_or, Option, Some, None, refl, sym, ◌∙◌, ap, subst, arith, slice_get}
+use Rattle.std.proofs.Common.{◌≡◌, ℕ, zero, suc, ◌+◌, ◌<◌, ◌≤◌, ◌==◌, ◌&&◌, ◌||◌, not, nat_lt, Bool, true, false, List, [], ◌∷◌, ◌++◌, length, take, Option, Some, None, refl, sym, ◌∙◌, ap, subst, arith}
 use Rattle.std.specs.Prelude.{is_some, is_none, option_map}
 use Rattle.std.specs.List.{list_all}
 use Rattle.std.proofs.lemmas.Bool.Decides.{nat_tests}
@@ -7,15 +7,14 @@ use Rattle.std.proofs.lemmas.List.{length-take, get_or-take}
 use Rattle.std.proofs.lemmas.Option.{slice_get_past}
 use Rattle.rb_base.specs.Nodes.{Side, has, set_of}
 use Rattle.rb_base.specs.Nodes.Side.{Biu, Rmu}
-use Rattle.rb_base.specs.Sizes.{IsShape}
 use Rattle.rb_base.specs.declared.values.Place.{Place}
-use Rattle.rb_base.proofs.Sets.{has-set_of, has_none, is_set_of, lt_true, same_set_of}
+use Rattle.rb_base.proofs.Sets.{has-set_of, has_none, is_set_of, lt_true}
 use Rattle.rb_judge.proofs.SomeNode.{same_bool}
-use Rattle.rb_rules.specs.Book.{Begun, Book, Each, Record, Row, in_order, map_each, map_from, of_kind, with_end, with_frame, with_stage}
+use Rattle.rb_rules.specs.Book.{Begun, Book, Each, Record, Row, map_each, map_from, of_kind, with_frame, with_stage}
 use Rattle.rb_rules.specs.Book.{Milestone as Mile}
 use Rattle.rb_rules.specs.Goodness.{Scenario, good_at, is_good}
 use Rattle.rb_rules.specs.Slots.{count_of}
-use Rattle.rb_rules.specs.WorldStep.{Site, Way, World, all_have_told, begun_for, book_with, comes_so, is_complete, needs_no_event, record_since, row_for, settle, settle_next}
+use Rattle.rb_rules.specs.WorldStep.{Site, Way, World, begun_for, book_with, comes_so, is_complete, needs_no_event, record_since, row_for, settle, settle_next}
 use Rattle.rb_book.specs.declared.group.Group.{Group}
 use Rattle.rb_book.specs.declared.ledger.Ledger.{Ledger}
 use Rattle.rb_book.specs.declared.milestone.Milestone.{Milestone}
@@ -26,7 +25,7 @@ use Rattle.rb_book.specs.declared.told.Begin.{Begin as LatestBegin}
 use Rattle.rb_book.specs.declared.told.Told.{Told}
 use Rattle.rb_book.specs.declared.turn.Turn.{Turn}
 use Rattle.rb_book.specs.declared.turn.Turn.TheVariants as turn
-use Rattle.rb_book.specs.Holding.{Holds, HoldsKind, Passes, good_for, passed}
+use Rattle.rb_book.specs.Holding.{Holds, HoldsKind, Passes, passed}
 use Rattle.rb_book.specs.Records.{milestone_of, record_of, way_of}
 use Rattle.rb_book.specs.Settling.{Settles, comes_when, is_due, is_free}
 use Rattle.rb_book.specs.Telling.{begun_in, begun_told, has_told, no_told, row_told, told_at}
@@ -69,22 +68,27 @@ unfolding waiting_for
 all-told n good m told most len =
     same_bool _ _
     (λ all. is_zero (set_of p) (sym (is_set_of 0 p (omega arith) (λ i h. has_none i ∙ sym (none all i (nat_lt i n) refl)))))
-    (λ e. all-are 0 (λ i t. not (has good i) || has_told m t) (take n told) (λ i h. told_all (zero_is (set_of p) e) i (omega (arith, h, length-take n told)) ))
+    (λ e. all-are 0 (λ i t. not (has good i) || has_told m t) (take n told) (λ i h. told_all (zero_is (set_of p) e) i (omega (arith, h, length-take n told))))
   where
     p : ℕ → Bool
     p i = nat_lt i n && (has good i && not (has_told m (told_at told i)))
+
     is_zero : (s : ℕ) → s ≡ 0 → (s == 0) ≡ true
     is_zero s e = grind (arith, nat_tests)
+
     zero_is : (s : ℕ) → (s == 0) ≡ true → s ≡ 0
     zero_is s e = grind (arith, nat_tests)
+
     flip : (a b : Bool) → (not a || b) ≡ true → (a && not b) ≡ false
     flip true true e = refl
     flip true false e = absurd (cc)
     flip false b e = refl
+
     flop : (a b : Bool) → (a && not b) ≡ false → (not a || b) ≡ true
     flop true true e = refl
     flop true false e = absurd (cc)
     flop false b e = refl
+
     none : list_all (λ b. b) (map_from 0 (λ i t. not (has good i) || has_told m t) (take n told)) ≡ true → (i : ℕ) (b : Bool) → nat_lt i n ≡ b
         → (nat_lt i n && (has good i && not (has_told m (told_at told i)))) ≡ false
     none all i false e = ap (λ b. b && (has good i && not (has_told m (told_at told i)))) e
@@ -96,6 +100,7 @@ all-told n good m told most len =
         ∙ flip (has good i) (has_told m (told_at told i))
         (sym (ap (λ k. not (has good k) || has_told m (told_at (take n told) i)) start ∙ ap (λ t. not (has good i) || has_told m t) (get_or-take n told i no_told h))
         ∙ each-is 0 (λ i t. not (has good i) || has_told m t) (take n told) i all inside)
+
     told_all : set_of p ≡ 0 → (i : ℕ) → i < n → (not (has good (0 + i)) || has_told m (told_at (take n told) i)) ≡ true
     told_all e i h =
         let start : 0 + i ≡ i = omega arith in
@@ -216,6 +221,7 @@ next-due sc k l w h e = by (l.bius.waiting == 0) (l.rmus.waiting == 0) (comes_wh
   where
     zero_is : (s : ℕ) → (s == 0) ≡ true → s ≡ 0
     zero_is s e = grind (arith, nat_tests)
+
     by : (a b c d : Bool) → (l.bius.waiting == 0) ≡ a → (l.rmus.waiting == 0) ≡ b → comes_when (is_free l) k ≡ c → l.ended ≡ d → (a && (b && (c && not d))) ≡ true → IsDue sc k l w
     by true true true false ea eb ec ed e = record {
       going = ed;

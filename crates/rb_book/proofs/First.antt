@@ -1,20 +1,19 @@
 -- At first no node has told anything.
-use Rattle.std.proofs.Common.{◌≡◌, ℕ, zero, suc, ◌+◌, ◌<◌, ◌≤◌, ◌==◌, Bool, true, false, List, [], ◌∷◌, length, map, take, get_or, replicate, Option, Some, None, refl, sym, ◌∙◌, ap, arith}
+use Rattle.std.proofs.Common.{◌≡◌, ℕ, zero, suc, ◌+◌, ◌≤◌, Bool, true, false, ◌∷◌, length, map, take, get_or, replicate, Option, Some, None, refl, sym, ◌∙◌, ap, arith}
 use Rattle.std.specs.List.{range_with_len}
 use Rattle.std.proofs.lemmas.List.{length-replicate}
 use Rattle.rb_base.specs.Counting.{numbers}
-use Rattle.rb_base.specs.Nodes.{Side, other}
+use Rattle.rb_base.specs.Nodes.{Side}
 use Rattle.rb_base.specs.Nodes.Side.{Biu, Rmu}
-use Rattle.rb_base.specs.Sizes.{Sizes, sync_slot_of}
-use Rattle.rb_base.specs.declared.values.See.{See}
+use Rattle.rb_base.specs.Sizes.{Sizes}
 use Rattle.rb_base.specs.declared.values.See.TheVariants.{Nothing}
-use Rattle.rb_rules.specs.Book.{Begun, Each, Row, each_of, of_kind}
+use Rattle.rb_rules.specs.Book.{Begun, Row, of_kind}
 use Rattle.rb_rules.specs.Goodness.{Scenario, is_good}
 use Rattle.rb_rules.specs.Hearing.{Span}
 use Rattle.rb_rules.specs.Slots.{count_of}
 use Rattle.rb_rules.specs.WorldStep.{Site, await, enter, first_world, fresh_site, proceed, says_in, span_from, stop}
 use Rattle.rb_book.specs.declared.group.Group.{Group}
-use Rattle.rb_book.specs.declared.milestone.Milestone.TheVariants.{Begin, Stage}
+use Rattle.rb_book.specs.declared.milestone.Milestone.TheVariants.{Begin}
 use Rattle.rb_book.specs.declared.told.Told.{Told}
 use Rattle.rb_book.specs.Holding.{HoldsKind, TurnsKind, good_for}
 use Rattle.rb_book.specs.Telling.{begun_told, fresh_told, row_told, told_at}

@@ -1,5 +1,5 @@
 -- What is found of the first nodes, node by node.
-use Rattle.std.proofs.Common.{◌≡◌, ℕ, zero, suc, ◌+◌, ◌<◌, ◌≤◌, ◌&&◌, not, nat_lt, Bool, true, false, List, [], ◌∷◌, ◌++◌, length, take, drop, get_or, Option, Some, None, refl, sym, ◌∙◌, ap, arith}
+use Rattle.std.proofs.Common.{◌≡◌, ℕ, zero, suc, ◌+◌, ◌<◌, ◌≤◌, ◌&&◌, not, nat_lt, Bool, true, false, List, [], ◌∷◌, ◌++◌, length, take, drop, Option, Some, None, refl, sym, ◌∙◌, ap, arith}
 use Rattle.std.specs.Prelude.{is_some, option_to_list}
 use Rattle.std.proofs.lemmas.Bool.Decides.{nat_tests}
 use Rattle.std.proofs.lemmas.List.{append_assoc, take_more, length-append, length-take, take-append-drop}
@@ -7,10 +7,9 @@ use Rattle.std.proofs.lemmas.List.Elements.{filter_map-append}
 use Rattle.rb_base.specs.Nodes.{has}
 use Rattle.rb_rules.specs.Book.{Row, map_from}
 use Rattle.rb_rules.specs.ExactStage.{present}
-use Rattle.rb_judge.specs.Sights.{some_node}
-use Rattle.rb_judge.proofs.SomeNode.{some_is, some_none, and_parts, and_both}
+use Rattle.rb_judge.proofs.SomeNode.{some_is, some_none, and_both}
 use Rattle.rb_base.proofs.SetLoops.{passing_below}
-use Rattle.rb_base.proofs.Sets.{lt_false, lt_true}
+use Rattle.rb_base.proofs.Sets.{lt_true}
 use Rattle.rb_book.specs.declared.milestone.Milestone.{Milestone}
 use Rattle.rb_book.specs.declared.told.Told.{Told}
 use Rattle.rb_book.specs.Telling.{has_told, no_told, told_at}

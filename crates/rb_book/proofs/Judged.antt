@@ -1,15 +1,14 @@
 -- The judge is told a stage.
-use Rattle.std.proofs.Common.{◌≡◌, ℕ, ◌+◌, ◌-◌, ◌<◌, ◌≤◌, ◌==◌, ◌&&◌, not, nat_lt, Bool, true, false, List, [], ◌∷◌, ◌++◌, map, take, get_or, Option, Some, None, refl, sym, ◌∙◌, ap, subst, arith}
+use Rattle.std.proofs.Common.{◌≡◌, ℕ, ◌-◌, ◌<◌, ◌≤◌, ◌&&◌, not, nat_lt, Bool, true, false, List, ◌++◌, take, Option, refl, sym, ◌∙◌, ap, subst}
 use Rattle.std.proofs.lemmas.List.Elements.{filter_map-append}
 use Rattle.rb_base.specs.Nodes.{Side, has, other, set_of}
 use Rattle.rb_base.specs.Nodes.Side.{Biu, Rmu}
 use Rattle.rb_base.specs.Sizes.{sync_slot_of}
 use Rattle.rb_base.specs.declared.values.Place.{Place}
-use Rattle.rb_base.specs.declared.values.See.TheVariants.{Nothing}
 use Rattle.rb_base.proofs.Sets.{has-is}
 use Rattle.rb_rules.specs.Book.{Each, Row, in_order, judged_of, map_from, of_kind, trusted_by}
 use Rattle.rb_rules.specs.ExactStage.{present}
-use Rattle.rb_rules.specs.Goodness.{Scenario, good_at, is_before, is_good, onsets_of}
+use Rattle.rb_rules.specs.Goodness.{Scenario, good_at, is_good}
 use Rattle.rb_rules.specs.Judging.{are_alike, is_something, was_taken as taken_in, was_unlike as unlike_in}
 use Rattle.rb_rules.specs.Slots.{count_of}
 use Rattle.rb_rules.specs.WorldStep.{Site, row_for, told_by_good}
@@ -20,7 +19,6 @@ use Rattle.rb_book.specs.declared.group.Group.{Group}
 use Rattle.rb_book.specs.declared.milestone.Milestone.TheVariants.{Stage}
 use Rattle.rb_book.specs.Holding.{HoldsKind, without_lasting}
 use Rattle.rb_book.specs.Settling.{rows_found}
-use Rattle.rb_book.specs.Telling.{told_at}
 use Rattle.rb_book.specs.Waiting.{found_of, row_at, was_taken, was_unlike}
 use Rattle.rb_book.proofs.Rows.{good-is, rows-kept}
 use Rattle.rb_book.proofs.Sources.{HaveSeen, both_kept, has-told, judged_sight, kept}

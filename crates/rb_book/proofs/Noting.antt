@@ -1,12 +1,11 @@
 -- A node tells something more: its site in the world, and what is kept.
-use Rattle.std.proofs.Common.{◌≡◌, ◌≢◌, ℕ, zero, suc, ◌+◌, ◌^◌, ◌<◌, ◌≤◌, ◌==◌, ◌&&◌, not, nat_lt, Bool, true, false, List, [], ◌∷◌, length, map, take, get_or, set, Option, Some, None, refl, sym, ◌∙◌, ap, subst, arith, if◌then◌else◌, get_or-set_same, get_or-set_other}
-use Rattle.std.specs.Prelude.{slice_set, option_map}
+use Rattle.std.proofs.Common.{◌≡◌, ◌≢◌, ℕ, zero, suc, ◌+◌, ◌<◌, ◌≤◌, ◌==◌, ◌&&◌, not, nat_lt, Bool, true, false, List, [], ◌∷◌, length, map, take, get_or, set, Some, refl, sym, ◌∙◌, ap, subst, arith, if◌then◌else◌, get_or-set_same, get_or-set_other}
+use Rattle.std.specs.Prelude.{option_map}
 use Rattle.std.proofs.lemmas.Bool.Decides.{nat_tests}
-use Rattle.std.proofs.lemmas.List.{get_or-take, length-set, length-take, map-set}
+use Rattle.std.proofs.lemmas.List.{get_or-take, length-set, map-set}
 use Rattle.std.proofs.Math.Seq.{map-set_same, take-set-lt}
 use Rattle.rb_base.specs.Nodes.{Side, has, other, set_of}
 use Rattle.rb_base.specs.Nodes.Side.{Biu, Rmu}
-use Rattle.rb_base.specs.declared.node.NodeName.{NodeName}
 use Rattle.rb_base.specs.declared.values.See.TheVariants.{Nothing}
 use Rattle.rb_base.proofs.Sets.{eq_other, eq_self, has-is, lt_true, same_set_of}
 use Rattle.rb_base.specs.declared.kind.Biu.{Biu as BiuKind}
@@ -127,6 +126,7 @@ still-waits count good waiting node m told t within there is = same_set_of _ _ (
   where
     waits : List Told → ℕ → Bool
     waits l i = nat_lt i count && (has good i && not (has_told m (told_at l i)))
+
     by : (i : ℕ) → i < 16 → (b : Bool) → (i == node) ≡ b → (if b then has good node && not (has_told m t) else has waiting i) ≡ waits (set told node t) i
     by i h true e =
         let same : i ≡ node = grind (arith, nat_tests) in

@@ -1,5 +1,5 @@
 -- A milestone is settled: the book of the world, and what is kept.
-use Rattle.std.proofs.Common.{◌≡◌, ℕ, zero, suc, ◌+◌, ◌-◌, ◌^◌, ◌*◌, ◌<◌, ◌≤◌, ◌==◌, ◌&&◌, not, nat_lt, Bool, true, false, List, [], ◌∷◌, ◌++◌, length, map, take, get_or, Option, Some, None, refl, sym, ◌∙◌, ap, subst, arith, slice_get, if◌then◌else◌}
+use Rattle.std.proofs.Common.{◌≡◌, ℕ, ◌+◌, ◌^◌, ◌<◌, ◌≤◌, ◌==◌, ◌&&◌, nat_lt, Bool, true, false, List, [], ◌∷◌, ◌++◌, length, map, take, get_or, Option, Some, None, refl, sym, ◌∙◌, ap, subst, arith, slice_get, if◌then◌else◌}
 use Rattle.std.specs.List.{filter_map}
 use Rattle.std.proofs.lemmas.Bool.Decides.{nat_tests}
 use Rattle.std.proofs.lemmas.List.{append-nil, map-append}
@@ -9,23 +9,21 @@ use Rattle.rb_base.specs.Nodes.Side.{Biu, Rmu}
 use Rattle.rb_base.specs.Sizes.{Sizes, IsShape, sync_slot_of}
 use Rattle.rb_base.specs.declared.values.Place.{Place}
 use Rattle.rb_rules.specs.declared.cause.Cause.{Cause}
-use Rattle.rb_rules.specs.declared.record.NodeLine.{NodeLine}
-use Rattle.rb_rules.specs.declared.record.PortLine.{PortLine}
 use Rattle.rb_rules.specs.declared.record.SlotLine.{SlotLine}
-use Rattle.rb_rules.specs.Book.{Begun, Book, Each, Milestone, Record, Row, after_stage, after_verdict, frame_records, in_order, judged_of, line_in, map_from, slot_records, with_frame, with_stage}
+use Rattle.rb_rules.specs.Book.{Begun, Book, Each, Record, after_stage, after_verdict, frame_records, in_order, judged_of, line_in, map_from, slot_records, with_frame, with_stage}
 use Rattle.rb_rules.specs.Book.Milestone.{Begin, Stage, End}
 use Rattle.rb_rules.specs.ExactStage.{present}
 use Rattle.rb_rules.specs.Goodness.{Scenario, good_at}
 use Rattle.rb_rules.specs.Judging.{JudgedStage, verdict_of}
 use Rattle.rb_rules.specs.Slots.{count_of}
-use Rattle.rb_rules.specs.WorldStep.{Site, World, begun_for, book_with, record_since, row_for, told_by_good}
+use Rattle.rb_rules.specs.WorldStep.{Site, World, begun_for, book_with, told_by_good}
 use Rattle.rb_rules.proofs.WindowNumbers.{get-back}
 use Rattle.rb_book.specs.declared.group.Group.{Group}
 use Rattle.rb_book.specs.declared.ledger.Ledger.{Ledger}
 use Rattle.rb_book.specs.declared.milestone.Milestone.{Milestone as Kept}
 use Rattle.rb_book.specs.declared.milestone.Milestone.TheVariants as kept
 use Rattle.rb_book.specs.declared.turn.Turn.{Turn}
-use Rattle.rb_book.specs.Holding.{Holds, HoldsKind, IsComing, IsStageOf, Passes, TurnsKind, frame_record, good_for, passed, slot_record}
+use Rattle.rb_book.specs.Holding.{Holds, HoldsKind, IsComing, IsStageOf, Passes, TurnsKind, frame_record, good_for, slot_record}
 use Rattle.rb_book.specs.Records.{milestone_of, record_of}
 use Rattle.rb_book.specs.Settling.{after_begin}
 use Rattle.rb_book.specs.Waiting.{begun_at, found_of, line_of, node_line_of, port_line_of, waiting_for}
@@ -83,9 +81,10 @@ coming-when : (sc : Scenario) (place : Place) (more last : Bool) → (place.slot
 coming-when sc place true last e is (kept.Begin f) same = absurd (cc)
 coming-when sc place true last e is kept.End same = absurd (cc)
 coming-when sc place true last e is (kept.Stage p) same =
-    let p_is : p ≡ record place { stage = place.stage + 1 } = cc in
-    (record { frame = subst (λ (q : Place). q.frame < sc.frames) (sym p_is) is.frame; slot = subst (λ (q : Place). q.slot ≤ sync_slot_of sc.sizes) (sym p_is) is.slot },
-    λ q h. let q_is : q ≡ p = cc in ap (λ (x : Place). x.frame) q_is ∙ ap (λ (x : Place). x.frame) p_is)
+    let p_is : p ≡ record place { stage = place.stage + 1 } = cc in (
+      record { frame = subst (λ (q : Place). q.frame < sc.frames) (sym p_is) is.frame; slot = subst (λ (q : Place). q.slot ≤ sync_slot_of sc.sizes) (sym p_is) is.slot },
+      λ q h. let q_is : q ≡ p = cc in ap (λ (x : Place). x.frame) q_is ∙ ap (λ (x : Place). x.frame) p_is,
+    )
 coming-when sc place false true e is (kept.Stage p) same = absurd (cc)
 coming-when sc place false true e is kept.End same = absurd (cc)
 coming-when sc place false true e is (kept.Begin f) same =
@@ -96,9 +95,10 @@ coming-when sc place false false e is kept.End same = absurd (cc)
 coming-when sc place false false e is (kept.Stage p) same =
     let p_is : p ≡ record { frame = place.frame; slot = place.slot + 1; stage = 1 } = cc in
     let h : place.slot ≤ sync_slot_of sc.sizes = is.slot in
-    let below : place.slot + 1 ≤ sync_slot_of sc.sizes = less place.slot (sync_slot_of sc.sizes) h e in
-    (record { frame = subst (λ (q : Place). q.frame < sc.frames) (sym p_is) is.frame; slot = subst (λ (q : Place). q.slot ≤ sync_slot_of sc.sizes) (sym p_is) below },
-    λ q h. let q_is : q ≡ p = cc in ap (λ (x : Place). x.frame) q_is ∙ ap (λ (x : Place). x.frame) p_is)
+    let below : place.slot + 1 ≤ sync_slot_of sc.sizes = less place.slot (sync_slot_of sc.sizes) h e in (
+      record { frame = subst (λ (q : Place). q.frame < sc.frames) (sym p_is) is.frame; slot = subst (λ (q : Place). q.slot ≤ sync_slot_of sc.sizes) (sym p_is) below },
+      λ q h. let q_is : q ≡ p = cc in ap (λ (x : Place). x.frame) q_is ∙ ap (λ (x : Place). x.frame) p_is,
+    )
   where
     less : (a b : ℕ) → a ≤ b → (a == b) ≡ false → a + 1 ≤ b
     less a b h e = grind (arith, nat_tests)
@@ -196,6 +196,7 @@ coming-begun sc frame m h same = by (frame == sc.frames) refl m same
   where
     less : (a b : ℕ) → a ≤ b → (a == b) ≡ false → a < b
     less a b h e = grind (arith, nat_tests)
+
     by : (last : Bool) → (frame == sc.frames) ≡ last → (m : Kept) → milestone_of m ≡ (if last then End else Stage (record { frame = frame; slot = 0; stage = 1 }))
         → IsComing sc m × ((p : Place) → m ≡ kept.Stage p → p.frame ≡ frame)
     by true e (kept.Begin f) s = absurd (cc)
@@ -204,6 +205,7 @@ coming-begun sc frame m h same = by (frame == sc.frames) refl m same
     by false e (kept.Begin f) s = absurd (cc)
     by false e kept.End s = absurd (cc)
     by false e (kept.Stage p) s =
-        let p_is : p ≡ record { frame = frame; slot = 0; stage = 1 } = cc in
-        (record { frame = subst (λ (q : Place). q.frame < sc.frames) (sym p_is) (less frame sc.frames h e); slot = subst (λ (q : Place). q.slot ≤ sync_slot_of sc.sizes) (sym p_is) (omega arith) },
-        λ q h. let q_is : q ≡ p = cc in ap (λ (x : Place). x.frame) q_is ∙ ap (λ (x : Place). x.frame) p_is)
+        let p_is : p ≡ record { frame = frame; slot = 0; stage = 1 } = cc in (
+          record { frame = subst (λ (q : Place). q.frame < sc.frames) (sym p_is) (less frame sc.frames h e); slot = subst (λ (q : Place). q.slot ≤ sync_slot_of sc.sizes) (sym p_is) (omega arith) },
+          λ q h. let q_is : q ≡ p = cc in ap (λ (x : Place). x.frame) q_is ∙ ap (λ (x : Place). x.frame) p_is,
+        )

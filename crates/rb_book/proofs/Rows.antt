@@ -1,29 +1,24 @@
 -- What the good nodes of a world told, and what is found among what is kept.
-use Rattle.std.proofs.Common.{◌≡◌, ℕ, zero, suc, ◌+◌, ◌<◌, ◌≤◌, ◌^◌, ◌==◌, ◌&&◌, ◌||◌, not, nat_lt, Bool, true, false, List, [], ◌∷◌, ◌++◌, length, map, take, get_or, Option, Some, None, refl, sym, ◌∙◌, ap, subst, arith}
-use Rattle.std.specs.Prelude.{is_some, option_map, option_and_then, option_to_list}
+use Rattle.std.proofs.Common.{◌≡◌, ℕ, ◌+◌, ◌≤◌, ◌==◌, ◌&&◌, nat_lt, Bool, true, false, List, [], ◌∷◌, map, take, get_or, Option, Some, None, refl, sym, ◌∙◌, ap, arith}
+use Rattle.std.specs.Prelude.{option_map, option_and_then}
 use Rattle.std.specs.List.{cons_option, filter_map}
 use Rattle.std.proofs.lemmas.Bool.Decides.{nat_tests}
-use Rattle.std.proofs.lemmas.List.{map-append}
-use Rattle.std.proofs.lemmas.List.Elements.{filter_map-append}
 use Rattle.rb_base.specs.Nodes.{Side, has, set_of}
 use Rattle.rb_base.specs.Nodes.Side.{Biu, Rmu}
-use Rattle.rb_base.specs.Sizes.{IsShape}
 use Rattle.rb_base.proofs.Sets.{has-set_of, has_above, set_of-lt, lt_false}
 use Rattle.rb_base.specs.declared.values.Place.{Place}
 use Rattle.rb_rules.specs.declared.record.NodeLine.{NodeLine}
 use Rattle.rb_rules.specs.declared.record.PortLine.{PortLine}
-use Rattle.rb_rules.specs.declared.record.SlotLine.{SlotLine}
-use Rattle.rb_rules.specs.Book.{Begun, Each, Row, in_order, line_in, map_from, of_kind}
+use Rattle.rb_rules.specs.Book.{Begun, Each, Row, line_in, map_from, of_kind}
 use Rattle.rb_rules.specs.ExactStage.{present}
 use Rattle.rb_rules.specs.Goodness.{Scenario, good_at, is_before, is_good, onsets_of}
 use Rattle.rb_rules.specs.Slots.{count_of}
 use Rattle.rb_rules.specs.WorldStep.{Site, begun_for, row_for, told_by_good}
 use Rattle.rb_book.specs.declared.group.Group.{Group}
 use Rattle.rb_book.specs.declared.milestone.Milestone.{Milestone}
-use Rattle.rb_book.specs.declared.milestone.Milestone.TheVariants.{Begin, Stage}
 use Rattle.rb_book.specs.declared.told.Begin.{Begin as LatestBegin}
 use Rattle.rb_book.specs.declared.told.Told.{Told}
-use Rattle.rb_book.specs.Holding.{HoldsKind, good_for}
+use Rattle.rb_book.specs.Holding.{HoldsKind}
 use Rattle.rb_book.specs.Telling.{begun_in, begun_told, row_told}
 use Rattle.rb_book.specs.Waiting.{begun_at, found_of, line_of, node_line_of, port_line_of, row_at, row_if}
 
@@ -68,6 +63,7 @@ good-is sc kind frame slot i most = by (nat_lt i 16) refl
   where
     p : ℕ → Bool
     p i = is_good sc kind i frame slot
+
     by : (b : Bool) → nat_lt i 16 ≡ b → has (set_of p) i ≡ p i
     by true e = has-set_of i p (grind (arith, nat_tests))
     by false e =

@@ -1,37 +1,25 @@
 -- What good receivers told of the sources in a stage, and what is noted of it.
-use Rattle.std.proofs.Common.{◌≡◌, ℕ, zero, suc, ◌+◌, ◌-◌, ◌<◌, ◌≤◌, ◌^◌, ◌==◌, ◌&&◌, ◌||◌, not, nat_lt, Bool, true, false, List, [], ◌∷◌, ◌++◌, length, map, take, get_or, Option, Some, None, refl, sym, ◌∙◌, ap, arith, if◌then◌else◌}
-use Rattle.std.specs.Prelude.{is_some, slice_get, slice_index, option_map}
+use Rattle.std.proofs.Common.{◌≡◌, ℕ, zero, suc, ◌+◌, ◌<◌, ◌≤◌, ◌&&◌, not, nat_lt, Bool, true, false, List, [], ◌∷◌, length, take, get_or, Option, Some, None, refl, sym, ◌∙◌, ap, arith, if◌then◌else◌}
+use Rattle.std.specs.Prelude.{is_some, slice_index}
 use Rattle.std.proofs.lemmas.Bool.Decides.{nat_tests}
 use Rattle.std.proofs.lemmas.List.{get_or-take, length-take}
 use Rattle.std.proofs.lemmas.List.FromFn.{get_or-map-range_with_len}
-use Rattle.std.proofs.lemmas.Option.{slice_get-get_or, slice_get-map, slice_get_past}
-use Rattle.rb_base.specs.Counting.{numbers}
-use Rattle.rb_base.specs.Nodes.{Side, has, other, set_of}
-use Rattle.rb_base.specs.Nodes.Side.{Biu, Rmu}
-use Rattle.rb_base.specs.Sizes.{sync_slot_of}
+use Rattle.rb_base.specs.Nodes.{has}
 use Rattle.rb_base.specs.declared.values.Place.{Place}
 use Rattle.rb_base.specs.declared.values.See.{See}
 use Rattle.rb_base.specs.declared.values.See.TheVariants.{Nothing}
-use Rattle.rb_base.proofs.Sets.{has-is, has-set_of, has_none, lt_false, lt_true}
-use Rattle.rb_rules.specs.Book.{Each, Row, in_order, judged_of, map_from, of_kind, see_in, trusted_by}
-use Rattle.rb_rules.specs.ExactStage.{each_node, present}
-use Rattle.rb_rules.specs.Goodness.{Scenario, good_at, is_before, is_good, onsets_of}
+use Rattle.rb_base.proofs.Sets.{has-set_of, has_none}
+use Rattle.rb_rules.specs.Book.{Row, map_from, see_in}
+use Rattle.rb_rules.specs.ExactStage.{each_node}
 use Rattle.rb_rules.specs.Hearing.{judged_see}
-use Rattle.rb_rules.specs.Judging.{JudgedStage, are_alike, is_something, was_taken as taken_in, was_unlike as unlike_in}
-use Rattle.rb_rules.specs.Slots.{count_of}
-use Rattle.rb_rules.specs.WorldStep.{Site, row_for, same_place, told_by_good}
-use Rattle.rb_rules.proofs.WindowNumbers.{get-number}
+use Rattle.rb_rules.specs.Judging.{are_alike, is_something}
+use Rattle.rb_rules.specs.WorldStep.{row_for, same_place}
 use Rattle.rb_judge.specs.Sights.{some_node}
 use Rattle.rb_judge.proofs.SomeNode.{some_none, some_same}
-use Rattle.rb_judge.specs.Kinds.{AreSetsOf}
-use Rattle.rb_judge.specs.declared.stage_sets.StageSets.{StageSets}
-use Rattle.rb_book.specs.declared.group.Group.{Group}
 use Rattle.rb_book.specs.declared.milestone.Milestone.TheVariants.{Stage}
 use Rattle.rb_book.specs.declared.told.Told.{Told}
-use Rattle.rb_book.specs.Holding.{HoldsKind, without_lasting}
 use Rattle.rb_book.specs.Telling.{has_told, latest_row, no_told, row_told, see_of, told_at}
 use Rattle.rb_book.specs.Waiting.{row_at, row_if, some_good, waiting_for, was_taken, was_unlike}
-use Rattle.rb_book.proofs.Rows.{good-is, rows-kept}
 
 -- Good receivers.
 
@@ -100,6 +88,7 @@ told-row place t e = by t.has_closed e
         → (elim b as (λ _. Option Row) [ true ↦ Some (latest_row t) | false ↦ None ]) ≡ Some (latest_row t)
     same true e = refl
     same false e = absurd (cc)
+
     by : (b : Bool) → is_some (row_for place (if b then Some (latest_row t) else None)) ≡ true
         → row_for place (if b then Some (latest_row t) else None) ≡ Some (latest_row t)
     by false e = absurd (cc)
@@ -179,19 +168,25 @@ kept place sources count good told false eps j h seen = by (nat_lt j sources) re
   where
     rows : List (Option Row)
     rows = map_from 0 (row_at good place) (take count told)
+
     sight : ℕ → See
     sight i = see_in (get_or rows i None) j
+
     same : (i : ℕ) → i < 16 → has good i ≡ true → sight i ≡ see_of (told_at told i) j
     same i hi e = saw good count place told i j h (seen.there i hi e) e (seen.told_it i hi e)
+
     none : (i : ℕ) → sources ≤ j → i < 16 → has good i ≡ true → sight i ≡ Nothing
     none i past hi e = same i hi e ∙ ap (judged_see (slice_index (told_at told i).times j)) (seen.nobody i past)
+
     by : (b : Bool) → nat_lt j sources ≡ b
         → (some_node (λ i. has good i && is_something (sight i)) ≡ (nat_lt j sources && (not false && was_taken count good told j)))
         × (some_node (λ a. has good a && some_node (λ b. has good b && not (are_alike eps (sight a) (sight b)))) ≡ (nat_lt j sources && (not false && was_unlike eps count good told j)))
-    by true e =
-        (saw-same count good sight (λ i. see_of (told_at told i) j) seen.there same ∙ and-all (nat_lt j sources) (was_taken count good told j) e,
-        saw-same-unlike eps count good sight (λ i. see_of (told_at told i) j) seen.there same ∙ and-all (nat_lt j sources) (was_unlike eps count good told j) e)
+    by true e = (
+      saw-same count good sight (λ i. see_of (told_at told i) j) seen.there same ∙ and-all (nat_lt j sources) (was_taken count good told j) e,
+      saw-same-unlike eps count good sight (λ i. see_of (told_at told i) j) seen.there same ∙ and-all (nat_lt j sources) (was_unlike eps count good told j) e,
+    )
     by false e =
-        let past : sources ≤ j = grind (arith, nat_tests) in
-        (saw-nothing good sight (λ i hi g. none i past hi g) ∙ and-out (nat_lt j sources) (not false && was_taken count good told j) e,
-        saw-nothing-unlike eps good sight (λ i hi g. none i past hi g) ∙ and-out (nat_lt j sources) (not false && was_unlike eps count good told j) e)
+        let past : sources ≤ j = grind (arith, nat_tests) in (
+          saw-nothing good sight (λ i hi g. none i past hi g) ∙ and-out (nat_lt j sources) (not false && was_taken count good told j) e,
+          saw-nothing-unlike eps good sight (λ i hi g. none i past hi g) ∙ and-out (nat_lt j sources) (not false && was_unlike eps count good told j) e,
+        )

@@ -1,5 +1,5 @@
 -- The verdict doesn't depend on what was seen of nodes that are good to the end of the frame.
-use Rattle.std.proofs.Common.{◌≡◌, ℕ, ◌<◌, ◌≤◌, ◌==◌, ◌&&◌, ◌||◌, not, nat_lt, Bool, true, false, List, [], ◌∷◌, map, get_or, Option, Some, None, refl, sym, ◌∙◌, ap, subst, arith}
+use Rattle.std.proofs.Common.{◌≡◌, ℕ, ◌≤◌, ◌&&◌, ◌||◌, not, nat_lt, Bool, true, false, List, [], ◌∷◌, map, get_or, Option, Some, None, refl, ◌∙◌, ap, arith}
 use Rattle.std.specs.List.{list_any}
 use Rattle.std.proofs.lemmas.Bool.Decides.{nat_tests}
 use Rattle.rb_base.specs.Counting.{numbers}
@@ -9,10 +9,9 @@ use Rattle.rb_base.specs.Sizes.{sync_slot_of}
 use Rattle.rb_base.specs.declared.values.Place.{Place}
 use Rattle.rb_base.specs.declared.values.See.{See}
 use Rattle.rb_base.specs.declared.values.See.TheVariants.{Nothing}
-use Rattle.rb_rules.specs.declared.cause.Cause.{Cause}
 use Rattle.rb_rules.specs.Book.{Each, Row, judged_of}
-use Rattle.rb_rules.specs.Goodness.{Scenario, good_at, is_before, is_good, onsets_of}
-use Rattle.rb_rules.specs.Judging.{JudgedStage, are_alike, is_something, is_suspect, trusted_now, verdict_of, was_taken, was_unlike}
+use Rattle.rb_rules.specs.Goodness.{Scenario, is_before, is_good, onsets_of}
+use Rattle.rb_rules.specs.Judging.{JudgedStage, are_alike, is_something, is_suspect, verdict_of, was_taken, was_unlike}
 use Rattle.rb_rules.specs.Slots.{count_of}
 use Rattle.rb_judge.proofs.SameVerdicts.{AgreeOnSuspects, same_verdict}
 use Rattle.rb_book.specs.Holding.{without_lasting}
@@ -84,6 +83,7 @@ same-judged sc place rows stages kind slot most =
     not-good true true g e = e
     not-good true false g e = absurd (cc)
     not-good false good g e = absurd (cc)
+
     by : (j : ℕ) (b : Bool) → is_good sc kind j place.frame (sync_slot_of sc.sizes) ≡ b
         → is_suspect kind (map (without_lasting sc place.frame) (judged_of sc place rows ∷ stages)) j ≡ true → is_good sc kind j place.frame (sync_slot_of sc.sizes) ≡ false
     by j false e s = e

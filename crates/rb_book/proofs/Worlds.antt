@@ -3,7 +3,6 @@ use Rattle.std.proofs.Common.{◌≡◌, ℕ, suc, ◌+◌, ◌==◌, ◌&&◌, 
 use Rattle.std.specs.Prelude.{Option, Some, slice_get}
 use Rattle.std.proofs.lemmas.Bool.Decides.{nat_tests}
 use Rattle.std.proofs.Math.Path.{fun_ext}
-use Rattle.rb_base.specs.Counting.{numbers}
 use Rattle.rb_base.specs.Nodes.{Side}
 use Rattle.rb_base.specs.Nodes.Side.{Biu, Rmu}
 use Rattle.rb_base.specs.declared.node.NodeName.{NodeName}
@@ -14,7 +13,6 @@ use Rattle.rb_rules.specs.Book.{Each, Row, map_from, of_kind}
 use Rattle.rb_rules.specs.ExactStage.{each_node}
 use Rattle.rb_rules.specs.Goodness.{Scenario}
 use Rattle.rb_rules.specs.Hearing.{Coming, judged_see, row_of, sole_time}
-use Rattle.rb_rules.specs.Links.{name_of}
 use Rattle.rb_rules.specs.NodeState.{NodeState, trusted_of}
 use Rattle.rb_rules.specs.Slots.{same_side}
 use Rattle.rb_rules.specs.WorldStep.{Site, World, at_node, coming_from, with_close}
@@ -89,6 +87,7 @@ closes sc l w n st c row is holds =
         ≡ (elim b as (λ _. Site) [ true ↦ s | false ↦ record s { row = Some row } ]).row
     rows s there true = refl
     rows s there false = ap Some (is s there)
+
     begins : (s : Site) (b : Bool) → s.begun ≡ (elim b as (λ _. Site) [ true ↦ s | false ↦ record s { row = Some row } ]).begun
     begins s true = refl
     begins s false = refl

@@ -8,16 +8,12 @@ use Rattle.rb_base.specs.declared.node.NodeName.TheVariants as node
 use Rattle.rb_base.specs.declared.values.Delivery.{Delivery}
 use Rattle.rb_base.specs.declared.values.See.TheVariants.{Nothing}
 use Rattle.rb_rules.specs.declared.closing.Closed.{Closed}
-use Rattle.rb_rules.specs.declared.record.NodeLine.{NodeLine}
-use Rattle.rb_rules.specs.declared.record.PortLine.{PortLine}
 use Rattle.rb_rules.specs.declared.record.SlotLine.{SlotLine}
 use Rattle.rb_rules.specs.Book.{Begun, Row}
 use Rattle.rb_rules.specs.ExactStage.{each_node}
 use Rattle.rb_rules.specs.Hearing.{judged_see}
 use Rattle.rb_rules.specs.Slots.{count_of}
 use Rattle.rb_rules.specs.WorldStep.{Site, World, at_node}
-use Rattle.rb_book.specs.declared.told.Begin.{Begin as LatestBegin}
-use Rattle.rb_book.specs.Telling.{begun_in}
 
 abbrev pub side_in : NodeName → Side
 side_in (node.Biu i) = Biu

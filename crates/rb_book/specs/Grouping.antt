@@ -4,7 +4,7 @@ use Rattle.rb_base.specs.Nodes.{has, set_of}
 use Rattle.rb_book.specs.declared.group.Group.{Group}
 use Rattle.rb_book.specs.declared.milestone.Milestone.{Milestone}
 use Rattle.rb_book.specs.declared.told.Told.{Told}
-use Rattle.rb_book.specs.Telling.{has_told, told_at}
+use Rattle.rb_book.specs.Telling.{has_told}
 
 -- this is what the node told last now, and it is awaited if it is good and has not told of the milestone
 pub record IsNoted {K : Type 0} (before after : Group K) (node : ℕ) (m : Milestone) (t : Told) : Type 0 where

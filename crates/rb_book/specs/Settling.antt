@@ -1,8 +1,8 @@
 -- How milestones are settled.
-use Rattle.std.specs.Prelude.{ℕ, ◌≡◌, ◌+◌, ◌-◌, ◌^◌, ◌<◌, ◌==◌, ◌&&◌, ◌++◌, ◌∷◌, not, Bool, true, false, List, map, if◌then◌else◌}
-use Rattle.rb_base.specs.Nodes.{Side, has}
+use Rattle.std.specs.Prelude.{ℕ, ◌≡◌, ◌+◌, ◌-◌, ◌^◌, ◌<◌, ◌==◌, ◌&&◌, ◌++◌, ◌∷◌, not, Bool, List, map, if◌then◌else◌}
+use Rattle.rb_base.specs.Nodes.{has}
 use Rattle.rb_base.specs.Nodes.Side.{Biu, Rmu}
-use Rattle.rb_base.specs.Sizes.{Sizes, IsShape}
+use Rattle.rb_base.specs.Sizes.{Sizes}
 use Rattle.rb_base.specs.declared.values.Place.{Place}
 use Rattle.rb_rules.specs.Book.{Each, Milestone, Row, after_stage, judged_of}
 use Rattle.rb_rules.specs.Book.Milestone.{End, Stage}
@@ -17,7 +17,7 @@ use Rattle.rb_book.specs.declared.milestone.Milestone.TheVariants as kept
 use Rattle.rb_book.specs.declared.milestone.Way.{Way as KeptWay}
 use Rattle.rb_book.specs.declared.milestone.Way.TheVariants as way
 use Rattle.rb_book.specs.declared.turn.Turn.{Turn}
-use Rattle.rb_book.specs.Holding.{Holds, HoldsKind, IsStageOf, TurnsKind, good_for, slot_record, without_lasting}
+use Rattle.rb_book.specs.Holding.{Holds, HoldsKind, TurnsKind, good_for, slot_record, without_lasting}
 use Rattle.rb_book.specs.Records.{milestone_of, record_of}
 use Rattle.rb_book.specs.Waiting.{found_of, line_of, row_at}
 

@@ -356,12 +356,14 @@ impl Ledger {
             NodeName::Biu(i) => {
                 let _bius = self.shape.biu();
                 let line = slot_line_of(i, closed.delivered);
-                self.bius.close(i, self.upcoming, closed, times, biu, rmu, line);
+                self.bius
+                    .close(i, self.upcoming, closed, times, biu, rmu, line);
             }
             NodeName::Rmu(i) => {
                 let _rmus = self.shape.rmu();
                 let line = slot_line_of(i, closed.delivered);
-                self.rmus.close(i, self.upcoming, closed, times, biu, rmu, line);
+                self.rmus
+                    .close(i, self.upcoming, closed, times, biu, rmu, line);
             }
         }
     }
@@ -374,7 +376,8 @@ impl Ledger {
         ensures shape { self.new.shape ≡ self.old.shape }
     {
         let _bius = self.shape.biu();
-        self.bius.begin(i, self.upcoming, Begin { frame, line, port });
+        self.bius
+            .begin(i, self.upcoming, Begin { frame, line, port });
     }
 
     /// An RMU begins a frame.
@@ -386,7 +389,8 @@ impl Ledger {
     {
         let _rmus = self.shape.rmu();
         let port = PortLine::default();
-        self.rmus.begin(i, self.upcoming, Begin { frame, line, port });
+        self.rmus
+            .begin(i, self.upcoming, Begin { frame, line, port });
     }
 
     // What is due is settled, up to the first record, and at most two milestones.

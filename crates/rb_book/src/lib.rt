@@ -6,8 +6,8 @@ mod group;
 mod ledger;
 pub mod milestone;
 mod told;
-mod walks;
 pub mod turn;
+mod walks;
 
 pub use book::Book;
 pub use milestone::{Milestone, Way};

@@ -173,12 +173,7 @@ fn is_other(is_good: bool, a: &Told, b: &Told, eps: u32, source: u8) -> bool
 }
 
 /// Whether a good one, of so many receivers, took something of a source.
-pub(crate) fn was_taken<K: Copy>(
-    count: u8,
-    good: NodeSet<K>,
-    told: &[Told; 16],
-    source: u8,
-) -> bool
+pub(crate) fn was_taken<K: Copy>(count: u8, good: NodeSet<K>, told: &[Told; 16], source: u8) -> bool
     requires count { count ≤ 16 }
     requires source { source < 16 }
     ensures { result ≡ was_taken count good told.now source }

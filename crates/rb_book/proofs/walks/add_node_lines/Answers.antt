@@ -1,10 +1,8 @@
-use Rattle.std.proofs.Common.{◌≡◌, ℕ, ◌+◌, ◌<◌, ◌≤◌, ◌++◌, ◌&&◌, ◌∷◌, [], not, Bool, true, false, length, refl, sym, ◌∙◌, ap, arith}
+use Rattle.std.proofs.Common.{◌++◌, sym, ◌∙◌, ap, arith}
 use Rattle.rb_base.specs.Nodes.{has}
-use Rattle.rb_base.proofs.SetLoops.{passing_below, passing_none, passing_more, passing_same}
-use Rattle.rb_rules.specs.Judging.{are_alike, is_something}
-use Rattle.rb_book.specs.Telling.{has_told, see_of, told_at}
-use Rattle.rb_book.specs.Waiting.{differs, found_of, line_of, node_line_of, port_line_of, waiting_for}
-use Rattle.rb_book.proofs.Found.{adds_more, found_none, some_good_found, some_good_none}
+use Rattle.rb_book.specs.Telling.{told_at}
+use Rattle.rb_book.specs.Waiting.{node_line_of}
+use Rattle.rb_book.proofs.Found.{found_none}
 use Rattle.rb_book.proofs.walks.add_node_lines.Goals as goal
 use Rattle.std.proofs.lemmas.List.{append-nil}
 use Rattle.rb_book.proofs.Found.{line_added}

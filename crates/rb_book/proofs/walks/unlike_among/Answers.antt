@@ -1,12 +1,8 @@
-use Rattle.std.proofs.Common.{◌≡◌, ℕ, ◌+◌, ◌<◌, ◌≤◌, ◌++◌, ◌&&◌, ◌∷◌, [], not, Bool, true, false, length, refl, sym, ◌∙◌, ap, arith}
+use Rattle.std.proofs.Common.{ℕ, ◌&&◌, Bool, sym, ◌∙◌, arith}
 use Rattle.rb_base.specs.Nodes.{has}
-use Rattle.rb_base.proofs.SetLoops.{passing_below, passing_none, passing_more, passing_same}
-use Rattle.rb_rules.specs.Judging.{are_alike, is_something}
-use Rattle.rb_book.specs.Telling.{has_told, see_of, told_at}
-use Rattle.rb_book.specs.Waiting.{differs, found_of, line_of, node_line_of, port_line_of, waiting_for}
-use Rattle.rb_book.proofs.Found.{adds_more, found_none, some_good_found, some_good_none}
+use Rattle.rb_base.proofs.SetLoops.{passing_none, passing_more, passing_same}
 use Rattle.rb_book.proofs.walks.unlike_among.Goals as goal
-use Rattle.rb_book.specs.Waiting.{was_taken, was_unlike}
+use Rattle.rb_book.specs.Waiting.{was_unlike}
 use Rattle.rb_book.proofs.Found.{all_sources, first_false, second_false}
 use Rattle.rb_judge.proofs.SomeNode.{and_both}
 use Rattle.rb_book.proofs.walks.unlike_among.Goals.{then-has+then-was_unlike, else-has, else-has-via-then-has+else-was_unlike, else-has-via-else-has}

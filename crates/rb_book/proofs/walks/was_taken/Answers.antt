@@ -1,10 +1,7 @@
-use Rattle.std.proofs.Common.{◌≡◌, ℕ, ◌+◌, ◌<◌, ◌≤◌, ◌++◌, ◌&&◌, ◌∷◌, [], not, Bool, true, false, length, refl, sym, ◌∙◌, ap, arith}
-use Rattle.rb_base.specs.Nodes.{has}
-use Rattle.rb_base.proofs.SetLoops.{passing_below, passing_none, passing_more, passing_same}
-use Rattle.rb_rules.specs.Judging.{are_alike, is_something}
-use Rattle.rb_book.specs.Telling.{has_told, see_of, told_at}
-use Rattle.rb_book.specs.Waiting.{differs, found_of, line_of, node_line_of, port_line_of, waiting_for}
-use Rattle.rb_book.proofs.Found.{adds_more, found_none, some_good_found, some_good_none}
+use Rattle.std.proofs.Common.{◌&&◌, sym, ◌∙◌, ap, arith}
+use Rattle.rb_rules.specs.Judging.{is_something}
+use Rattle.rb_book.specs.Telling.{see_of, told_at}
+use Rattle.rb_book.proofs.Found.{some_good_found, some_good_none}
 use Rattle.rb_book.proofs.walks.was_taken.Goals as goal
 
 pub returns-then-takes : goal.returns-then-takes

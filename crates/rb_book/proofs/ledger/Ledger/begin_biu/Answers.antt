@@ -1,6 +1,6 @@
-use Rattle.std.proofs.Common.{◌≡◌, ◌<◌, ◌≤◌, refl, ◌∙◌, ap, subst, arith}
+use Rattle.std.proofs.Common.{◌<◌, refl, subst}
 use Rattle.rb_base.specs.Nodes.Side.{Biu, Rmu}
-use Rattle.rb_base.specs.Sizes.{Sizes, IsShape}
+use Rattle.rb_base.specs.Sizes.{Sizes}
 use Rattle.rb_book.specs.Changing.{with_begun}
 use Rattle.rb_book.specs.Telling.{begun_in, told_at, told_begun_frame}
 use Rattle.rb_book.proofs.Noting.{begun-noted, other-kind, with-bius}

@@ -1,16 +1,14 @@
-use Rattle.std.proofs.Common.{◌≡◌, ℕ, ◌<◌, ◌≤◌, ◌==◌, Bool, true, false, get_or, refl, sym, ◌∙◌, ap, subst, arith}
-use Rattle.rb_base.specs.Nodes.{Side, other}
+use Rattle.std.proofs.Common.{◌≡◌, ℕ, ◌<◌, ◌≤◌, ◌==◌, true, false, get_or, refl, sym, ap, subst}
+use Rattle.rb_base.specs.Nodes.{other}
 use Rattle.rb_base.specs.Nodes.Side.{Biu, Rmu}
-use Rattle.rb_base.specs.Sizes.{Sizes, IsShape}
-use Rattle.rb_base.specs.declared.node.NodeName.{NodeName}
-use Rattle.rb_base.specs.declared.node.NodeName.TheVariants as node
+use Rattle.rb_base.specs.Sizes.{Sizes}
 use Rattle.rb_base.specs.declared.values.See.TheVariants.{Nothing}
 use Rattle.rb_base.proofs.Sets.{eq_other}
 use Rattle.std.specs.Prelude.{Some}
 use Rattle.rb_rules.specs.Book.{Row}
 use Rattle.rb_rules.specs.Slots.{count_of}
-use Rattle.rb_rules.specs.WorldStep.{Site, World, at_node}
-use Rattle.rb_book.specs.Changing.{changed_at, count_for, line_from, number_in, row_shown, side_in, with_row}
+use Rattle.rb_rules.specs.WorldStep.{Site}
+use Rattle.rb_book.specs.Changing.{changed_at, count_for, number_in, row_shown, side_in, with_row}
 use Rattle.rb_book.specs.Holding.{Holds}
 use Rattle.rb_book.specs.Telling.{row_told, told_at, told_closed}
 use Rattle.rb_book.proofs.Noting.{other-kind, row-noted, same-shown, shows-same, with-bius, with-rmus}

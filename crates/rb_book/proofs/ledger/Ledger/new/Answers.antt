@@ -1,8 +1,8 @@
-use Rattle.std.proofs.Common.{◌≡◌, ◌≤◌, ◌<◌, ◌^◌, refl, sym, ◌∙◌, ap, subst, arith}
+use Rattle.std.proofs.Common.{◌≡◌, ◌<◌, ◌^◌, sym, ◌∙◌, ap, subst, arith}
 use Rattle.rb_base.specs.Nodes.Side.{Biu, Rmu}
 use Rattle.rb_base.specs.Sizes.{Sizes, IsShape}
 use Rattle.rb_rules.specs.WorldStep.{first_world}
-use Rattle.rb_book.specs.declared.milestone.Milestone.TheVariants.{Begin, Stage, End}
+use Rattle.rb_book.specs.declared.milestone.Milestone.TheVariants.{Begin, Stage}
 use Rattle.rb_book.specs.Holding.{HoldsKind, IsComing}
 use Rattle.rb_book.specs.Records.{milestone_of}
 use Rattle.rb_book.proofs.First.{first-kind}

@@ -1,7 +1,6 @@
-use Rattle.std.proofs.Common.{◌≡◌, ℕ, ◌+◌, ◌<◌, ◌≤◌, ◌++◌, false, [], map, refl, sym, ◌∙◌, ap, subst, arith}
+use Rattle.std.proofs.Common.{◌≡◌, ◌≤◌, [], refl, sym, ◌∙◌, ap, subst}
 use Rattle.rb_base.specs.Nodes.Side.{Biu, Rmu}
 use Rattle.rb_base.specs.Sizes.{Sizes, sync_slot_of}
-use Rattle.rb_base.specs.declared.values.Place.{Place}
 use Rattle.rb_rules.specs.Book.{frame_records, in_order}
 use Rattle.rb_rules.specs.ExactStage.{present}
 use Rattle.rb_rules.specs.Goodness.{good_at}

@@ -1,7 +1,4 @@
-use Rattle.std.proofs.Common.{◌≡◌, false, true, not, Bool, sym, ◌∙◌, ap}
-use Rattle.std.specs.Prelude.{is_none}
-use Rattle.rb_book.specs.Records.{record_of}
-use Rattle.rb_book.specs.Settling.{is_due}
+use Rattle.std.proofs.Common.{◌≡◌, false, true, sym, ◌∙◌}
 use Rattle.rb_book.proofs.Due.{next-due, settles-none, settles-one, settles-two}
 use Rattle.rb_book.proofs.ledger.Ledger.settle.Goals as goal
 use Rattle.rb_book.proofs.ledger.Ledger.settle.Goals.{else-is_quiet-via-then-is_quiet+else-is_due, else-is_quiet-via-else-is_quiet}
