@@ -6,6 +6,8 @@ mod group;
 mod ledger;
 pub mod milestone;
 mod told;
+#[cfg(test)]
+mod tests;
 pub mod turn;
 mod walks;
 
