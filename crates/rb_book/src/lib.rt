@@ -5,9 +5,9 @@ pub mod book;
 mod group;
 mod ledger;
 pub mod milestone;
-mod told;
 #[cfg(test)]
 mod tests;
+mod told;
 pub mod turn;
 mod walks;
 
