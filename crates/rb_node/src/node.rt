@@ -15,11 +15,11 @@ ghost use Rattle.rb_node.specs.Wants.{want_of, want_then};
 use crate::act::{Act, Span, Step, Want};
 use crate::ahead::{Ahead, MOST_TICKS, is_tick, look_ahead, window_of};
 use crate::parts::{
-    close_at, epoch_at, first_window, nothing, others, say_at, span_at, turn_at,
+    bytes_of, close_at, delivered_in, epoch_at, first_window, if_closed, nothing, others, say_at, span_at,
+    turn_at,
 };
 use rb_base::{Kind, NodeId};
 use rb_eligible::Inbox;
-use rb_frame::encode;
 use rb_plan::Feasible;
 use rb_rules::Closed;
 use rb_slot::{Engine, nothing_closed};
@@ -169,7 +169,10 @@ impl<K: Kind> Node<K> {
         ensures rest { self.new ≡ record self.old { inbox = self.new.inbox } }
         ensures spent { 2 ^ 31 ≤ self.old.had → self.new ≡ self.old }
     {
-        if self.had >= MOST_TICKS || from >= others(K::CODE, self.engine.plan().shape()) {
+        if self.had >= MOST_TICKS {
+            return;
+        }
+        if from >= others(K::CODE, self.engine.plan().shape()) {
             return;
         }
         if let Some(source) = NodeId::new(from) {
@@ -228,24 +231,12 @@ impl<K: Kind> Node<K> {
     {
         let version = self.engine.plan().plan().version;
         let step = self.step(word);
-        let send = match step.message {
-            Some(message) => Some(encode(version, &message)),
-            None => None,
-        };
-        if step.closed {
-            Act {
-                send,
-                delivered: self.shown.delivered,
-                closed: Some(self.shown),
-                epoch: step.epoch,
-            }
-        } else {
-            Act {
-                send,
-                delivered: None,
-                closed: None,
-                epoch: step.epoch,
-            }
+        let closed = if_closed(step.closed, &self.shown);
+        Act {
+            send: bytes_of(version, step.message),
+            delivered: delivered_in(&closed),
+            closed,
+            epoch: step.epoch,
         }
     }
 

@@ -1,23 +1,27 @@
 //! The parts of a tick, in their order.
-ghost use Rattle.std.specs.Prelude.{◌≡◌, ◌+◌, ◌==◌, ◌<◌, ◌≤◌, ◌^◌, false, List, [], Some, None, if◌then◌else◌, option_map};
+ghost use Rattle.std.specs.Prelude.{◌≡◌, ◌+◌, ◌==◌, ◌<◌, ◌≤◌, ◌^◌, false, List, [], Some, None, if◌then◌else◌, option_and_then, option_map, IfSome};
 ghost use Rattle.rb_base.specs.Nodes.{other, side_of};
 ghost use Rattle.rb_base.specs.Sizes.{sync_slot_of};
 ghost use Rattle.rb_eligible.specs.Inboxes.{Received, HoldsArrivals, StampsUpTo};
 ghost use Rattle.rb_rules.specs.Core.{epoch_at, if_at, is_tick, state_at, state_kept};
 ghost use Rattle.rb_rules.specs.Hearing.{sending};
+ghost use Rattle.rb_rules.specs.declared.closing.Closed.{Closed};
 ghost use Rattle.rb_rules.specs.Slots.{count_of};
+ghost use Rattle.rb_rules.specs.Spelling.{spelling_of};
 ghost use Rattle.rb_rules.specs.SyncStage.{new_epoch_of};
 ghost use Rattle.rb_slot.specs.Closable.{IsOfFrame};
-ghost use Rattle.rb_slot.specs.Engines.{outcome_on};
+ghost use Rattle.rb_slot.specs.Engines.{IsSameFrame, outcome_on};
 ghost use Rattle.rb_rules.specs.Windows.{window_at};
-ghost use Rattle.rb_node.specs.Acts.{span_in};
-ghost use Rattle.rb_node.specs.Parts.{said_in, span_if};
+ghost use Rattle.rb_node.specs.Acts.{IsSendable, span_in};
+ghost use Rattle.rb_node.specs.Saids.{said_in, span_if};
 
 use crate::act::{Span, Step};
-use rb_base::{Kind, NodeSet, Place, Shape};
+use arrayvec::ArrayVec;
+use rb_base::{Delivery, Kind, NodeSet, Place, Shape};
 use rb_eligible::Inbox;
+use rb_frame::encode;
 use rb_plan::{Feasible, Window};
-use rb_rules::{Closed, Epoch, Message};
+use rb_rules::{Closed, Epoch, Message, Version};
 use rb_slot::Engine;
 
 // The node turns, if this is the tick of its next epoch.
@@ -127,7 +131,9 @@ pub(crate) fn close_at<K: Kind>(
     ensures inbox { (received : List Received) → HoldsArrivals inbox.old received
         → HoldsArrivals inbox.new (if result then [] else received) }
     ensures stamps { StampsUpTo (2 ^ 32) inbox.new }
+    ensures same { IsSameFrame engine.old engine.new }
 {
+    let _came = inbox.came();
     if now != engine.epoch() + window.last {
         return false;
     }
@@ -187,5 +193,33 @@ pub(crate) fn span_at(frame: u32, epoch: u64, window: &Window, now: u64) -> Opti
         })
     } else {
         None
+    }
+}
+
+// What is shown, if a window was closed.
+pub(crate) fn if_closed(closed: bool, shown: &Closed) -> Option<Closed>
+    ensures { result ≡ (if closed then Some shown.now else None) }
+{
+    if closed { Some(*shown) } else { None }
+}
+
+// What is delivered in it.
+pub(crate) fn delivered_in(closed: &Option<Closed>) -> Option<Delivery>
+    ensures { result ≡ option_and_then (λ (c : Closed). c.delivered) closed.now }
+{
+    match closed {
+        Some(closed) => closed.delivered,
+        None => None,
+    }
+}
+
+// A message as bytes.
+pub(crate) fn bytes_of(version: Version, message: Option<Message>) -> Option<ArrayVec<u8, 12>>
+    requires { IfSome message IsSendable }
+    ensures { option_map (λ bytes. bytes.items) result ≡ option_map (spelling_of version) message }
+{
+    match message {
+        Some(message) => Some(encode(version, &message)),
+        None => None,
     }
 }
