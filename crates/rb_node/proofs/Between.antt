@@ -6,14 +6,15 @@ use Rattle.rb_base.specs.Nodes.{Side, other}
 use Rattle.rb_base.specs.Sizes.{Sizes}
 use Rattle.rb_rules.specs.Core.{Core, arrive, is_spent, pass_to, wants}
 use Rattle.rb_rules.specs.Slots.{count_of}
-use Rattle.rb_eligible.specs.Inboxes.{KeptArrivals}
+use Rattle.rb_rules.specs.Sense.{Arrival}
+use Rattle.rb_eligible.specs.Inboxes.{HoldsArrivals, KeptArrivals}
 use Rattle.rb_slot.specs.Engines.{Seated}
 use Rattle.rb_node.specs.Aheads.{IsNextBusy, IsRunning, IsWindowOf, LooksAhead, want_ahead, want_at}
-use Rattle.rb_node.specs.Cores.{Running, bare_core, next_of, passing_end}
+use Rattle.rb_node.specs.Cores.{Running, bare_core, next_of, passing_end, received_of}
 use Rattle.rb_node.specs.Wants.{want_for, want_then}
 use Rattle.rb_node.specs.declared.act.Want.TheVariants as want
 use Rattle.rb_node.specs.declared.ahead.Ahead.{Ahead}
-use Rattle.rb_node.proofs.Cores.{next-is, next-none, want-is, want-quiet, want-spent}
+use Rattle.rb_node.proofs.Cores.{next-is, next-none, received-append, want-is, want-quiet, want-spent}
 
 -- up to the tick that is kept it stays what it is
 
@@ -138,3 +139,13 @@ unfolding arrive
 arrive-takes sizes me c from bytes h below =
     ap (λ b. arrived c from bytes (b && not (is_spent c))) (lt-true from (count_of (other me) sizes) h)
     ∙ ap (λ b. arrived c from bytes (not b)) (not-spent c below)
+
+-- what holds all that came, and this, holds the list with this at its end
+pub holds-more : (kept : KeptArrivals) (inbox : List (ℕ × Arrival)) (from at : ℕ) (bytes : List ℕ) (source stamp : ℕ)
+    → HoldsArrivals kept (received_of inbox ++ record { source = source; arrival = record { stamp = stamp; bytes = bytes } } ∷ [])
+    → source ≡ from → at ≡ stamp → HoldsArrivals kept (received_of (inbox ++ (from, record { stamp = at; bytes = bytes }) ∷ []))
+holds-more kept inbox from at bytes source stamp holds s t =
+    subst (HoldsArrivals kept)
+    (ap (λ x. received_of inbox ++ record { source = x; arrival = record { stamp = stamp; bytes = bytes } } ∷ []) s
+    ∙ ap (λ y. received_of inbox ++ record { source = from; arrival = record { stamp = y; bytes = bytes } } ∷ []) (sym t)
+    ∙ sym (received-append inbox ((from, record { stamp = at; bytes = bytes }) ∷ []))) holds

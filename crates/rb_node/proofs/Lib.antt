@@ -5,3 +5,4 @@ pub mod Busy
 pub mod Cores
 pub mod Steps
 pub mod Between
+pub mod Turning

@@ -158,7 +158,7 @@ unfolding turn
 frame-of v me k None h = cc
 frame-of v me k (Some epoch) h = refl
 
-turned-frame : (v : Seated) (me : Side) (k : ℕ) → is_tick (new_epoch_of v.plan me v.state) k ≡ true
+pub turned-frame : (v : Seated) (me : Side) (k : ℕ) → is_tick (new_epoch_of v.plan me v.state) k ≡ true
     → (state_at v.sizes v.plan me v.state k).frame ≡ v.state.frame + 1
 unfolding state_at
 turned-frame v me k h = rw (h, state_at) (frame-of v me k (new_epoch_of v.plan me v.state) h)

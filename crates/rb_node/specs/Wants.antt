@@ -1,8 +1,10 @@
 -- What a node wants to be handed for a tick.
-use Rattle.std.specs.Prelude.{ℕ, nat_lt, Option, Some, None, if◌then◌else◌}
+use Rattle.std.specs.Prelude.{ℕ, nat_lt, true, false, Option, Some, None, if◌then◌else◌}
 use Rattle.rb_base.specs.Nodes.{Side}
+use Rattle.rb_base.specs.Nodes.Side.{Biu}
 use Rattle.rb_base.specs.Sizes.{Sizes}
 use Rattle.rb_rules.specs.Core.{Core, wants, pass_to}
+use Rattle.rb_rules.specs.Slots.{first_diagnosis_of}
 use Rattle.rb_node.specs.declared.act.Want.{Want}
 use Rattle.rb_node.specs.declared.act.Want.TheVariants as want
 use Rattle.rb_node.specs.Cores.{Running, next_of}
@@ -11,6 +13,10 @@ use Rattle.rb_node.specs.Cores.{Running, next_of}
 abbrev pub want_for : Sizes → Option ℕ → Want
 want_for sizes None = want.Nothing
 want_for sizes (Some slot) = if nat_lt slot sizes.bius then want.Request else want.Data slot
+
+-- the slot, if words from outside are said in it
+abbrev pub slot_of_words : Sizes → ℕ → Option ℕ
+slot_of_words sizes slot = elim (nat_lt slot (first_diagnosis_of Biu sizes)) [ true ↦ Some slot | false ↦ None ]
 
 -- for the next tick of a core that sits where the node sits
 abbrev pub want_of : Side → Running → Core → Want

@@ -1,14 +1,15 @@
 //! When something happens at a node next.
 ghost use Rattle.std.specs.Prelude.{◌≡◌, ◌+◌, ◌<◌, ◌≤◌, ◌^◌, ℕ, Some, is_some};
 ghost use Rattle.rb_base.specs.Nodes.{side_of};
-ghost use Rattle.rb_base.specs.Sizes.{sync_slot_of};
+ghost use Rattle.rb_base.specs.Sizes.{IsShape, sync_slot_of};
 ghost use Rattle.rb_rules.specs.Core.{is_tick};
 ghost use Rattle.rb_rules.specs.Hearing.{tail_at};
-ghost use Rattle.rb_rules.specs.Plan.{tail_start_of};
+ghost use Rattle.rb_rules.specs.Plan.{IsPlan, tail_start_of};
 ghost use Rattle.rb_node.specs.Aheads.{IsNextBusy, IsSooner, IsWindowOf, LooksAhead, tick_said, want_ahead, want_at, window_of_tick};
+ghost use Rattle.rb_node.specs.Wants.{slot_of_words, want_for};
 
 use crate::act::Want;
-use rb_base::Kind;
+use rb_base::{Kind, Shape};
 use rb_plan::{Feasible, Window};
 use rb_slot::Engine;
 
@@ -24,6 +25,15 @@ pub struct Ahead {
     pub(crate) window: Window,
     // What it wants at that one.
     pub(crate) want: Want,
+}
+
+// The sizes and the plan are within their bounds. It does nothing: a proof that needs a bound reads it at its call.
+pub(crate) fn bounds<K: Kind>(engine: &Engine<K>)
+    ensures shape { IsShape engine.now.sizes }
+    ensures plan { IsPlan engine.now.plan }
+{
+    let _plan = engine.plan().plan();
+    let _biu = engine.plan().shape().biu();
 }
 
 // The offset at which the tail begins.
@@ -60,6 +70,7 @@ pub(crate) fn window_of<K: Kind>(engine: &Engine<K>, tick: u64) -> Window
     requires tick { tick ≤ 2 ^ 31 }
     ensures { IsWindowOf (side_of K.CODE) engine.now tick result }
 {
+    bounds(engine);
     match engine.plan().window(tick - engine.epoch()) {
         Some(window) => window,
         None => tail(engine),
@@ -106,6 +117,7 @@ fn busy_tick<K: Kind>(engine: &Engine<K>, window: &Window, had: u64) -> u64
     requires window { IsWindowOf (side_of K.CODE) engine.now had window.now }
     ensures { IsNextBusy (side_of K.CODE) engine.now had result }
 {
+    bounds(engine);
     let begun = sooner(MOST_TICKS, had, Some(engine.epoch()));
     let closed = sooner(begun, had, Some(engine.epoch() + window.last));
     let turned = sooner(closed, had, engine.new_epoch());
@@ -124,7 +136,30 @@ pub(crate) fn is_tick(tick: Option<u64>, now: u64) -> bool
     }
 }
 
-// What the node wants at a busy tick of the window.
+// What is wanted for the first stage of a slot.
+fn want_in(shape: &Shape, slot: u16) -> Want
+    ensures { result ≡ want_for shape.now (slot_of_words shape.now slot) }
+{
+    let bius = u16::from(shape.biu());
+    if slot < bius {
+        Want::Request
+    } else if slot < bius + shape.slots() {
+        Want::Data { slot }
+    } else {
+        Want::Nothing
+    }
+}
+
+// Whether the node sends its message of the first stage at this tick.
+fn says_first<K: Kind>(engine: &Engine<K>, slot: u16, tick: u64) -> bool
+    requires index { engine.now.index < 16 }
+    requires slot { slot ≤ sync_slot_of engine.now.sizes }
+    ensures { result ≡ is_tick (tick_said (side_of K.CODE) engine.now slot 1) tick }
+{
+    is_tick(engine.send_tick(slot, 1), tick) && engine.speaks_in(slot, 1)
+}
+
+// What the node wants at a tick of the window.
 fn want_at<K: Kind>(engine: &Engine<K>, window: &Window, tick: u64) -> Want
     requires index { engine.now.index < 16 }
     requires epoch { engine.now.state.epoch ≤ tick }
@@ -132,18 +167,14 @@ fn want_at<K: Kind>(engine: &Engine<K>, window: &Window, tick: u64) -> Want
     requires slot { window.now.slot ≤ sync_slot_of engine.now.sizes }
     ensures { result ≡ want_at (side_of K.CODE) engine.now tick }
 {
-    let shape = engine.plan().shape();
-    let (bius, slot) = (u16::from(shape.biu()), window.slot);
-    if slot >= bius + shape.slots()
-        || is_tick(engine.new_epoch(), tick)
-        || !is_tick(engine.send_tick(slot, 1), tick)
-        || !engine.speaks_in(slot, 1)
-    {
-        Want::Nothing
-    } else if slot < bius {
-        Want::Request
+    bounds(engine);
+    if is_tick(engine.new_epoch(), tick) {
+        return Want::Nothing;
+    }
+    if says_first(engine, window.slot, tick) {
+        want_in(engine.plan().shape(), window.slot)
     } else {
-        Want::Data { slot }
+        Want::Nothing
     }
 }
 

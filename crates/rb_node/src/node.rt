@@ -13,7 +13,7 @@ ghost use Rattle.rb_node.specs.Events.{EventsComeInParts};
 ghost use Rattle.rb_node.specs.Wants.{want_of, want_then};
 
 use crate::act::{Act, Span, Step, Want};
-use crate::ahead::{Ahead, MOST_TICKS, is_tick, look_ahead, window_of};
+use crate::ahead::{Ahead, MOST_TICKS, is_tick, look_ahead};
 use crate::parts::{
     bytes_of, close_at, delivered_in, epoch_at, first_window, if_closed, nothing, others, say_at, span_at,
     turn_at,
@@ -200,11 +200,8 @@ impl<K: Kind> Node<K> {
         if now < self.ahead.tick {
             return nothing();
         }
-        if turn_at(&mut self.engine, now) {
-            self.ahead.window = window_of(&self.engine, now);
-        }
+        let window = turn_at(&mut self.engine, &self.ahead.window, now);
         let epoch = epoch_at(&self.engine, now);
-        let window = self.ahead.window;
         let message = say_at(&mut self.engine, window.slot, now, word);
         let closed = close_at(
             &mut self.engine,

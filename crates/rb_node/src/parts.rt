@@ -3,19 +3,20 @@ ghost use Rattle.std.specs.Prelude.{◌≡◌, ◌+◌, ◌==◌, ◌<◌, ◌�
 ghost use Rattle.rb_base.specs.Nodes.{other, side_of};
 ghost use Rattle.rb_base.specs.Sizes.{sync_slot_of};
 ghost use Rattle.rb_eligible.specs.Inboxes.{Received, HoldsArrivals, StampsUpTo};
-ghost use Rattle.rb_rules.specs.Core.{epoch_at, if_at, is_tick, state_at, state_kept};
+ghost use Rattle.rb_rules.specs.Core.{epoch_at, if_at, state_at, state_kept};
 ghost use Rattle.rb_rules.specs.Hearing.{sending};
 ghost use Rattle.rb_rules.specs.declared.closing.Closed.{Closed};
 ghost use Rattle.rb_rules.specs.Slots.{count_of};
 ghost use Rattle.rb_rules.specs.Spelling.{spelling_of};
-ghost use Rattle.rb_rules.specs.SyncStage.{new_epoch_of};
 ghost use Rattle.rb_slot.specs.Closable.{IsOfFrame};
 ghost use Rattle.rb_slot.specs.Engines.{IsSameFrame, outcome_on};
 ghost use Rattle.rb_rules.specs.Windows.{window_at};
 ghost use Rattle.rb_node.specs.Acts.{IsSendable, span_in};
+ghost use Rattle.rb_node.specs.Aheads.{IsWindowOf};
 ghost use Rattle.rb_node.specs.Saids.{said_in, span_if};
 
 use crate::act::{Span, Step};
+use crate::ahead::window_of;
 use arrayvec::ArrayVec;
 use rb_base::{Delivery, Kind, NodeSet, Place, Shape};
 use rb_eligible::Inbox;
@@ -24,21 +25,23 @@ use rb_plan::{Feasible, Window};
 use rb_rules::{Closed, Epoch, Message, Version};
 use rb_slot::Engine;
 
-// The node turns, if this is the tick of its next epoch.
-pub(crate) fn turn_at<K: Kind>(engine: &mut Engine<K>, now: u64) -> bool
+// The node turns, if this is the tick of its next epoch. It gives the tick's window, which was that of the state before.
+pub(crate) fn turn_at<K: Kind>(engine: &mut Engine<K>, window: &Window, now: u64) -> Window
     requires now { now < 2 ^ 31 }
     requires frame { engine.old.state.frame < 2 ^ 31 }
+    requires epoch { engine.old.state.epoch ≤ now }
+    requires window { IsWindowOf (side_of K.CODE) engine.old now window.now }
     ensures state { engine.new ≡ record engine.old {
       state = state_at engine.old.sizes engine.old.plan (side_of K.CODE) engine.old.state now;
     } }
-    ensures turned { result ≡ is_tick (new_epoch_of engine.old.plan (side_of K.CODE) engine.old.state) now }
+    ensures window { IsWindowOf (side_of K.CODE) engine.new now result }
 {
     match engine.new_epoch() {
         Some(tick) if tick == now => {
             engine.turn();
-            true
+            window_of(engine, now)
         }
-        _ => false,
+        _ => *window,
     }
 }
 

@@ -1,10 +1,30 @@
+use Rattle.std.proofs.Common.{◌≡◌, ◌<◌, ◌≤◌, ◌^◌, ◌++◌, ◌∷◌, [], sym, ◌∙◌, ap, subst, arith}
+use Rattle.rb_base.specs.Nodes.{other, side_of}
+use Rattle.rb_rules.specs.Slots.{count_of}
+use Rattle.rb_eligible.specs.Inboxes.{HoldsArrivals}
+use Rattle.rb_node.specs.Cores.{IsCore, Running, received_of}
+use Rattle.rb_node.proofs.Between.{arrive-nobody, arrive-spent, arrive-takes, holds-more}
 use Rattle.rb_node.proofs.node.Node.arrive.Goals as goal
 
 pub returns-then-self-ge-MOST_TICKS-clause-core : goal.returns-then-self-ge-MOST_TICKS-clause-core
-returns-then-self-ge-MOST_TICKS-clause-core g c = ?
+returns-then-self-ge-MOST_TICKS-clause-core g c =
+    rw (← c.self.view_is) (λ d is. subst (IsCore _) (sym (arrive-spent _ _ d c.args.from c.args.bytes.now (let had = is.had in omega arith))) is)
 
 pub returns-then-from-others-clause-core : goal.returns-then-from-others-clause-core
-returns-then-from-others-clause-core g c = ?
+returns-then-from-others-clause-core g c =
+    let v = c.self.inside.engine in
+    let few : count_of (other (side_of g.K.Kind.CODE)) v.sizes ≤ c.args.from = ? in
+    rw (← c.self.view_is) (λ d is. subst (IsCore _) (sym (arrive-nobody _ _ d c.args.from c.args.bytes.now few)) is)
 
 pub returns-in-Some-clause-core : goal.returns-in-Some-clause-core
-returns-in-Some-clause-core g c = ?
+returns-in-Some-clause-core g c =
+    let v = c.self.inside.engine in
+    let there : c.args.from < count_of (other (side_of g.K.Kind.CODE)) v.sizes = ? in
+    let n : Running = record { seat = v; had = c.self.inside.had; inbox = c.take.new.self; shown = c.self.inside.shown } in
+    rw (← c.self.view_is) (λ d is.
+    subst (IsCore n) (sym (arrive-takes _ _ d c.args.from c.args.bytes.now there (let had = is.had in omega arith)))
+    (record {
+      state = is.state;
+      had = is.had;
+      inbox = holds-more c.take.new.self d.inbox c.args.from d.had c.args.bytes.now _ _ (c.take.ensures.shows (received_of d.inbox) is.inbox) (c.in-Some.ensures.value) is.had;
+    }))
