@@ -6,3 +6,4 @@ pub mod Cores
 pub mod Steps
 pub mod Between
 pub mod Turning
+pub mod Acting

@@ -16,7 +16,7 @@ ghost use Rattle.rb_node.specs.Aheads.{IsWindowOf};
 ghost use Rattle.rb_node.specs.Saids.{said_in, span_if};
 
 use crate::act::{Span, Step};
-use crate::ahead::window_of;
+use crate::ahead::{is_tick, window_of};
 use arrayvec::ArrayVec;
 use rb_base::{Delivery, Kind, NodeSet, Place, Shape};
 use rb_eligible::Inbox;
@@ -36,12 +36,11 @@ pub(crate) fn turn_at<K: Kind>(engine: &mut Engine<K>, window: &Window, now: u64
     } }
     ensures window { IsWindowOf (side_of K.CODE) engine.new now result }
 {
-    match engine.new_epoch() {
-        Some(tick) if tick == now => {
-            engine.turn();
-            window_of(engine, now)
-        }
-        _ => *window,
+    if is_tick(engine.new_epoch(), now) {
+        engine.turn();
+        window_of(engine, now)
+    } else {
+        *window
     }
 }
 
@@ -82,10 +81,12 @@ fn say_in<K: Kind>(
     ensures keeps { engine.new ≡ record engine.old {
       state = state_kept engine.old.sizes (side_of K.CODE) engine.old.index engine.old.state word result;
     } }
+    ensures sendable { IfSome result IsSendable }
 {
-    match engine.send_tick(slot, stage) {
-        Some(tick) if tick == now => engine.outgoing(slot, stage, word),
-        _ => None,
+    if is_tick(engine.send_tick(slot, stage), now) {
+        engine.outgoing(slot, stage, word)
+    } else {
+        None
     }
 }
 
@@ -102,6 +103,7 @@ pub(crate) fn say_at<K: Kind>(
     ensures keeps { engine.new ≡ record engine.old {
       state = state_kept engine.old.sizes (side_of K.CODE) engine.old.index engine.old.state word result;
     } }
+    ensures sendable { IfSome result IsSendable }
 {
     let first = say_in(engine, slot, 1, now, word);
     if first.is_some() {
@@ -131,6 +133,7 @@ pub(crate) fn close_at<K: Kind>(
     } }
     ensures shown { (received : List Received) → HoldsArrivals inbox.old received
         → shown.new ≡ (if result then (outcome_on (side_of K.CODE) engine.old window.now received).closed else shown.old) }
+    ensures stays { result ≡ false → shown.new ≡ shown.old }
     ensures inbox { (received : List Received) → HoldsArrivals inbox.old received
         → HoldsArrivals inbox.new (if result then [] else received) }
     ensures stamps { StampsUpTo (2 ^ 32) inbox.new }
