@@ -9,22 +9,23 @@ use Rattle.rb_rules.specs.declared.plan.Plan.{Plan}
 use Rattle.rb_rules.specs.declared.plan.Window.{Window}
 use Rattle.rb_rules.specs.declared.record.Epoch.{Epoch}
 use Rattle.rb_rules.specs.Conviction.{turn}
-use Rattle.rb_rules.specs.Core.{Core, Act, act_at, act_on, epoch_at, is_last, is_tick, of_source, said_at, state_at, state_kept, tick, window_here}
+use Rattle.rb_rules.specs.Core.{Core, Act, act_at, act_on, epoch_at, is_busy, is_last, is_tick, of_source, said_at, state_at, state_kept, tick, window_here}
 use Rattle.rb_rules.specs.ExactStage.{Outcome}
 use Rattle.rb_rules.specs.Hearing.{close_window}
 use Rattle.rb_rules.specs.NodeState.{NodeState}
 use Rattle.rb_rules.specs.Sense.{Arrival}
 use Rattle.rb_rules.specs.SyncStage.{new_epoch_of}
+use Rattle.rb_rules.proofs.QuietTicks.{nothing}
 use Rattle.rb_rules.proofs.RoundStates.{Stays, stays-refl, keeping-stays}
 use Rattle.rb_eligible.specs.Inboxes.{Received, HoldsArrivals, KeptArrivals, arrivals_of}
 use Rattle.rb_slot.specs.Engines.{IsSameFrame, Seated, outcome_on}
 use Rattle.rb_node.specs.Acts.{IsAct}
-use Rattle.rb_node.specs.Aheads.{window_of_tick}
+use Rattle.rb_node.specs.Aheads.{busy_at, window_of_tick}
 use Rattle.rb_node.specs.Cores.{IsCore, Running, received_of, tick_of}
 use Rattle.rb_node.specs.Saids.{said_in}
 use Rattle.rb_node.specs.declared.act.Step.{Step}
 use Rattle.rb_node.proofs.Busy.{no-turn, said-form, turned-epoch}
-use Rattle.rb_node.proofs.Cores.{arrivals-are, tick-now}
+use Rattle.rb_node.proofs.Cores.{arrivals-are, quiet-any, tick-now, tick-spent}
 
 pub kept-stays : (sizes : Sizes) (me : Side) (index : ℕ) (st : NodeState) (word : ℕ) (m : Option Message) → Stays st (state_kept sizes me index st word m)
 kept-stays sizes me index st word None = stays-refl st
@@ -172,3 +173,52 @@ turns me v v1 k is le = subst (λ x. Turned v x k) (sym is) (by (is_tick (new_ep
         let g : (state_at v.sizes v.plan me v.state k).epoch ≡ k = turned-epoch v me k e in
         record { frame = omega arith; epoch = omega arith }
     by false e = subst (λ s. Turned v (record v { state = s }) k) (sym (no-turn v me k e)) (record { frame = omega arith; epoch = le })
+
+-- Ticks at which nothing happens.
+
+abbrev pub Nothing : Step → Type 0
+Nothing s = s ≡ (let x : Step = record { epoch = None; message = None; closed = false } in x)
+
+pub spent-gives : (me : Side) (n : Running) (s : Step) (word : ℕ) (c : Core) → Nothing s → IsCore n c → 2 ^ 31 ≤ n.had
+    → Gives me n s (tick_of me n c word)
+spent-gives me n s word c is core spent =
+    let had : c.had ≡ n.had = core.had in
+    let act : tick_of me n c word ≡ record { core = c; epoch = None; message = None; closed = None } =
+    tick-spent n.seat.sizes n.seat.plan me n.seat.index c word (omega arith) in
+    subst (λ x. Gives me n s x) (sym act) (subst (λ y. Gives me n y (record { core = c; epoch = None; message = None; closed = None })) (sym is)
+    (record { core = core; act = record { epoch = refl; message = refl; closed = refl } }))
+
+pub quiet-gives : (me : Side) (n : Running) (s : Step) (word : ℕ) (c : Core) → Nothing s → IsCore n c → busy_at me n.seat n.had ≡ false
+    → n.had < 2 ^ 31 → Gives me (record n { had = n.had + 1 }) s (tick_of me n c word)
+quiet-gives me n s word c is core quiet below =
+    let had : c.had ≡ n.had = core.had in
+    let here : is_busy n.seat.sizes n.seat.plan me n.seat.index c.state c.had ≡ false =
+    ap (λ st. is_busy n.seat.sizes n.seat.plan me n.seat.index st c.had) core.state ∙ ap (busy_at me n.seat) had ∙ quiet in
+    let act : tick_of me n c word ≡ nothing c = quiet-any n.seat.sizes n.seat.plan me n.seat.index c word here (omega arith) in
+    let m : Running = record n { had = n.had + 1 } in
+    subst (λ x. Gives me m s x) (sym act) (subst (λ y. Gives me m y (nothing c)) (sym is)
+    (record {
+      core = record { state = core.state; had = ap (λ k. k + 1) had; inbox = core.inbox };
+      act = record { epoch = refl; message = refl; closed = refl };
+    }))
+
+-- What holds between two calls holds after a busy tick.
+
+pub record Kept (v v3 : Seated) (now : ℕ) : Type 0 where
+  pub index : v3.index ≡ v.index
+  pub frame : v3.state.frame ≤ v.state.frame + 1
+  pub epoch : v3.state.epoch ≤ now
+
+pub keeps : (me : Side) (v v1 v2 v3 : Seated) (now word : ℕ) (message : Option Message) → v.state.epoch ≤ now
+    → v1 ≡ record v { state = state_at v.sizes v.plan me v.state now }
+    → v2 ≡ record v1 { state = state_kept v1.sizes me v1.index v1.state word message } → IsSameFrame v2 v3 → Kept v v3 now
+keeps me v v1 v2 v3 now word message le turned kept same =
+    let t : Turned v v1 now = turns me v v1 now turned le in
+    let stays : Stays v1.state (state_kept v1.sizes me v1.index v1.state word message) = kept-stays v1.sizes me v1.index v1.state word message in
+    let frame : v3.state.frame ≡ v1.state.frame = same.frame ∙ ap (λ (x : Seated). x.state.frame) kept ∙ stays.frame in
+    let epoch : v3.state.epoch ≡ v1.state.epoch = same.epoch ∙ ap (λ (x : Seated). x.state.epoch) kept ∙ stays.epoch in
+    record {
+      index = same.index ∙ ap (λ (x : Seated). x.index) kept ∙ ap (λ (x : Seated). x.index) turned;
+      frame = subst (λ k. k ≤ v.state.frame + 1) (sym frame) t.frame;
+      epoch = subst (λ k. k ≤ now) (sym epoch) t.epoch;
+    }

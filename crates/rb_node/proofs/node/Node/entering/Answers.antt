@@ -21,6 +21,6 @@ returns-else-is_tick g c =
     let me = side_of g.K.Kind.CODE in
     let stays : is_tick (new_epoch_of v.plan me v.state) c.self.inside.had ≡ false = rw c.new_epoch.ensures at (sym c.is_tick.ensures ∙ c.if-is_tick.false) in
     rw (← c.self.view_is)
-    (c.span_at.ensures ∙ ap (λ f. span_if f c.epoch.result c.self.inside.ahead.window c.self.inside.had) c.frame.ensures
+    (c.span_at-else-is_tick.ensures ∙ ap (λ f. span_if f c.epoch.result c.self.inside.ahead.window c.self.inside.had) c.frame-else-is_tick.ensures
     ∙ ap (λ e. span_if v.state.frame e c.self.inside.ahead.window c.self.inside.had) c.epoch.ensures
     ∙ sym (span-staying v me c.self.inside.had c.self.inside.ahead.window stays c.self.invariant.ahead.window.is))
