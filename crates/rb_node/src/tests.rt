@@ -46,7 +46,7 @@ fn first_ticks(rt: HostRuntime) -> Result<(), Fail> {
 #[test]
 fn any_bytes(rt: HostRuntime) -> Result<(), Fail> {
     let plan = bus()?;
-    let mut rmu: Node<Rmu> = Node::new(&plan, 2);
+    let mut rmu: Node<Rmu> = Node::new(&plan, 0);
     for from in 0..=255u8 {
         rmu.arrive(from, &[from; 40]);
         rmu.arrive(from, &[]);
