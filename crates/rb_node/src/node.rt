@@ -1,5 +1,5 @@
 //! One node core.
-ghost use Rattle.std.specs.Prelude.{◌≡◌, ℕ, ◌+◌, ◌<◌, ◌≤◌, ◌^◌, false, IfSome, option_map};
+ghost use Rattle.std.specs.Prelude.{◌≡◌, ℕ, ◌+◌, ◌<◌, ◌≤◌, ◌^◌, false, IfSome, option_map, unwrap_or};
 ghost use Rattle.rb_base.specs.Nodes.{side_of};
 ghost use Rattle.rb_rules.specs.Core.{Core, first_core, pass_to};
 ghost use Rattle.rb_rules.specs.NodeState.{first_state};
@@ -108,6 +108,7 @@ impl<K: Kind> Node<K> {
     /// closes a window. None exactly where that number would not be below 2^31. It is kept at hand.
     pub fn next_tick(&self) -> Option<u64>
         ensures core { (c : Core) → IsCore self.now c → result ≡ next_of (side_of K.CODE) self.now c }
+        ensures passing { passing_end (side_of K.CODE) self.now ≡ unwrap_or result (2 ^ 31) }
         ensures later { IfSome result (λ k. self.now.had ≤ k) }
         ensures below { IfSome result (λ k. k < 2 ^ 31) }
     {
@@ -237,8 +238,8 @@ impl<K: Kind> Node<K> {
         }
     }
 
-    /// So many quiet ticks pass, at once: up to the next tick that isn't quiet, or where there is none, up to the last that a
-    /// node can have. It leaves what so many calls of `tick` leave.
+    /// So many quiet ticks pass, at once: at most up to the tick that `next_tick` gives, which is not among them, and where it
+    /// gives none, up to the last that a node can have. It leaves what so many calls of `tick` leave, which give nothing.
     pub fn pass(&mut self, ticks: u64)
         requires { self.old.had + ticks ≤ passing_end (side_of K.CODE) self.old }
         ensures value { self.new ≡ record self.old { had = self.old.had + ticks } }
@@ -250,7 +251,8 @@ impl<K: Kind> Node<K> {
 }
 
 /// A list of events may be given to a node in parts: what the core is after them, and their acts, don't depend on where the list
-/// is cut. So whoever feeds a node one event after another has, after each, the core after all of them, and their acts.
+/// is cut, and ticks that pass are so many events with word 0. So whoever feeds a node one event after another has, after each,
+/// the core after all of them, and their acts.
 pub fn events_come_in_parts()
     ensures { EventsComeInParts }
 {
