@@ -16,13 +16,13 @@ use Rattle.rb_rules.specs.declared.role.Role.{Role}
 use Rattle.rb_rules.specs.declared.sense.Expect.{Expect}
 use Rattle.rb_rules.specs.declared.sense.Sense.{Sense}
 use Rattle.rb_rules.specs.declared.sense.Sense.TheVariants.{Silent, One, Bad}
-use Rattle.rb_rules.specs.Core.{Act, Core, act_at, act_on, epoch_at, is_last, is_spent, of_source, said_at, state_at, state_kept, tick, window_here}
-use Rattle.rb_rules.specs.ExactStage.{Outcome, close_exact, closing_of, each_node, outcome_of, see_value}
+use Rattle.rb_rules.specs.Core.{Act, Core, act_at, act_on, epoch_at, is_last, is_spent, of_source, tick, window_here}
+use Rattle.rb_rules.specs.ExactStage.{Outcome, close_exact, each_node, outcome_of, see_value}
 use Rattle.rb_rules.specs.Hearing.{close_window}
-use Rattle.rb_rules.specs.NodeState.{NodeState}
+use Rattle.rb_rules.specs.NodeState.{NodeState, sender_at}
 use Rattle.rb_rules.specs.NodeSteps.{close, expect_of}
 use Rattle.rb_rules.specs.Sense.{Arrival, sense_of, stamp_in}
-use Rattle.rb_rules.specs.Slots.{Sender, expects, role_of, sender_at}
+use Rattle.rb_rules.specs.Slots.{Sender}
 use Rattle.rb_rules.specs.Standing.{Standing, is_eligible, taken_of}
 use Rattle.rb_rules.specs.SyncStage.{close_sync, expects_call, see_time, sync_closing_of, sync_outcome_of}
 

@@ -79,7 +79,7 @@ sees-same times inbox got shown together holds sole =
 
 -- One more comes.
 
-together-more : (inbox : List (ℕ × Arrival)) (got : List Coming) (a : ℕ × Arrival) (c : Coming) → a.0 ≡ c.from → ComeTogether inbox got
+pub together-more : (inbox : List (ℕ × Arrival)) (got : List Coming) (a : ℕ × Arrival) (c : Coming) → a.0 ≡ c.from → ComeTogether inbox got
     → ComeTogether (inbox ++ a ∷ []) (got ++ c ∷ [])
 together-more inbox got a c e h =
     map-end (λ (a : ℕ × Arrival). a.0) inbox a ∙ ap (λ xs. xs ++ a.0 ∷ []) h ∙ ap (λ n. map (λ (c : Coming). c.from) got ++ n ∷ []) e

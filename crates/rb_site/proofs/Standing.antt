@@ -1,5 +1,5 @@
 -- What is kept stands for the site after each step.
-use Rattle.std.proofs.Common.{◌≡◌, ℕ, ◌+◌, ◌<◌, ◌≤◌, ◌^◌, ◌==◌, max, Bool, true, false, Option, Some, None, List, [], ◌∷◌, ◌++◌, map, length, refl, sym, ◌∙◌, ap, subst, arith, inl, inr, if◌then◌else◌}
+use Rattle.std.proofs.Common.{◌≡◌, ℕ, ◌+◌, ◌-◌, ◌<◌, ◌≤◌, ◌^◌, ◌==◌, max, unwrap_or, Bool, true, false, Option, Some, None, List, [], ◌∷◌, ◌++◌, map, length, refl, sym, ◌∙◌, ap, subst, arith, inl, inr, if◌then◌else◌}
 use Rattle.std.specs.Prelude.{option_map, slice_set}
 use Rattle.std.proofs.lemmas.Bool.{cases_lt}
 use Rattle.rb_base.specs.Nodes.{Side, other}
@@ -9,7 +9,7 @@ use Rattle.rb_rules.specs.declared.closing.Closed.{Closed}
 use Rattle.rb_rules.specs.declared.plan.Plan.{Plan}
 use Rattle.rb_rules.specs.declared.record.Epoch.{Epoch}
 use Rattle.rb_rules.specs.Clock.{stamp_of}
-use Rattle.rb_rules.specs.Core.{Act, Core, arrive, first_core, of_source, pass_to, tick}
+use Rattle.rb_rules.specs.Core.{Act, Core, arrive, busy_among, first_core, of_source, pass_to, tick}
 use Rattle.rb_rules.specs.Goodness.{Scenario, clock_of}
 use Rattle.rb_rules.specs.Hearing.{Coming, row_of}
 use Rattle.rb_rules.specs.NodeState.{NodeState, trusted_of}
@@ -17,8 +17,9 @@ use Rattle.rb_rules.specs.Ports.{PortState}
 use Rattle.rb_rules.specs.Sense.{Arrival}
 use Rattle.rb_rules.specs.Slots.{count_of}
 use Rattle.rb_rules.specs.WorldStep.{Site, after_arrival, await, coming_from, fresh_site, pass_and_tick, stop, wants_in, with_close, with_epoch, word_of}
+use Rattle.rb_rules.proofs.QuietTicks.{next-is}
 use Rattle.rb_node.specs.Acts.{IsAct}
-use Rattle.rb_node.specs.Cores.{IsCore, IsSameNode, Running, tick_of}
+use Rattle.rb_node.specs.Cores.{IsCore, IsSameNode, Running, bare_core, next_of, passing_end, tick_of}
 use Rattle.rb_node.specs.declared.act.Step.{Step}
 use Rattle.rb_node.proofs.Between.{arrive-spent, arrive-takes}
 use Rattle.rb_node.proofs.Cores.{tick-spent}
@@ -174,3 +175,21 @@ stopped sc me k s is = record { sizes = is.sizes; plan = is.plan; core = is.core
 -- what is pending is not kept here
 pub awaits : (sc : Scenario) (me : Side) (i : ℕ) (more : List Coming) (k : Kept) (s : Site) → Stands sc me k s → Stands sc me k (await sc me i more s)
 awaits sc me i more k s is = record { sizes = is.sizes; plan = is.plan; core = is.core; runs = is.runs; together = is.together; times = is.times }
+
+-- How far ticks may pass.
+
+pub passing-most : (me : Side) (n : Running) → passing_end me n ≤ 2 ^ 31
+passing-most me n = by (next_of me n (bare_core n)) refl
+  where
+    early : (k : ℕ) → next_of me n (bare_core n) ≡ Some k → n.had ≤ 2 ^ 31
+    early k e =
+        elim (cases_lt (2 ^ 31) n.had) [
+          | inl over ↦
+              let none : 2 ^ 31 - n.had ≡ 0 = omega arith in
+              let nothing : next_of me n (bare_core n) ≡ None = ap (λ m. busy_among n.seat.sizes n.seat.plan me n.seat.index n.seat.state m n.had) none in
+              absurd (cc)
+          | inr le ↦ le
+        ]
+    by : (o : Option ℕ) → next_of me n (bare_core n) ≡ o → unwrap_or o (2 ^ 31) ≤ 2 ^ 31
+    by None e = omega arith
+    by (Some k) e = let below : k < 2 ^ 31 = (next-is n.seat.sizes n.seat.plan me n.seat.index (bare_core n) k (early k e) e).below in omega arith

@@ -1,5 +1,5 @@
 //! One node of a world.
-ghost use Rattle.std.specs.Prelude.{◌≡◌, ℕ, ◌<◌, ◌≤◌, max, IfSome, List, option_map, slice_set};
+ghost use Rattle.std.specs.Prelude.{◌≡◌, ℕ, ◌<◌, ◌≤◌, false, max, IfSome, List, option_map, slice_set};
 ghost use Rattle.rb_base.specs.Nodes.{other, side_of};
 ghost use Rattle.rb_rules.specs.Clock.{ComesBy};
 ghost use Rattle.rb_rules.specs.Core.{Core, pass_to};
@@ -51,11 +51,11 @@ fn pass_to<K: Kind>(node: &mut Node<K>, k: u64)
 }
 
 // The time of what came of a source last is kept. No other number is one of a source.
-fn keep_time(times: &mut [u64], from: u8, time: u64)
+fn keep_time(times: &mut [u64; 16], from: u8, time: u64)
     ensures { times.new ≡ slice_set times.old from time }
 {
-    if let Some(kept) = times.get_mut(usize::from(from)) {
-        *kept = time;
+    if from < 16 {
+        times[usize::from(from)] = time;
     }
 }
 
