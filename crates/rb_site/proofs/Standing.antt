@@ -1,5 +1,5 @@
 -- What is kept stands for the site after each step.
-use Rattle.std.proofs.Common.{◌≡◌, ℕ, ◌+◌, ◌-◌, ◌<◌, ◌≤◌, ◌^◌, ◌==◌, max, unwrap_or, Bool, true, false, ◌&&◌, not, Option, Some, None, IfSome, List, [], ◌∷◌, ◌++◌, map, length, refl, sym, ◌∙◌, ap, subst, arith, inl, inr, if◌then◌else◌}
+use Rattle.std.proofs.Common.{◌≡◌, ℕ, ◌-◌, ◌<◌, ◌≤◌, ◌^◌, ◌==◌, max, unwrap_or, Bool, true, false, not, Option, Some, None, IfSome, List, [], ◌∷◌, ◌++◌, map, length, refl, sym, ◌∙◌, ap, subst, arith, inl, inr, if◌then◌else◌}
 use Rattle.std.specs.Prelude.{option_map, slice_set}
 use Rattle.std.proofs.lemmas.Bool.{cases_lt}
 use Rattle.std.proofs.lemmas.Bool.Decides.{nat_tests}
@@ -11,11 +11,10 @@ use Rattle.rb_rules.specs.declared.message.Message.{Message}
 use Rattle.rb_rules.specs.declared.plan.Plan.{Plan}
 use Rattle.rb_rules.specs.declared.record.Epoch.{Epoch}
 use Rattle.rb_rules.specs.Book.{Row}
-use Rattle.rb_rules.specs.Clock.{Timeline, stamp_of, time_of}
-use Rattle.rb_rules.specs.Core.{Act, Core, act_at, act_on, arrive, busy_among, epoch_at, is_last, next_tick, of_source, pass_to, state_at, tick, wants}
+use Rattle.rb_rules.specs.Clock.{stamp_of}
+use Rattle.rb_rules.specs.Core.{Act, Core, act_at, act_on, arrive, busy_among, epoch_at, is_last, of_source, pass_to, state_at, tick}
 use Rattle.rb_rules.specs.Goodness.{Scenario, clock_of}
-use Rattle.rb_rules.specs.Hearing.{Coming, Span, begun_of, epoch_of, row_of}
-use Rattle.rb_rules.specs.Links.{name_of}
+use Rattle.rb_rules.specs.Hearing.{Coming, Span, epoch_of, row_of}
 use Rattle.rb_rules.specs.NodeState.{NodeState, trusted_of}
 use Rattle.rb_rules.specs.Ports.{PortState}
 use Rattle.rb_rules.specs.Sense.{Arrival}
@@ -24,7 +23,6 @@ use Rattle.rb_rules.specs.WorldStep.{Site, after_arrival, await, coming_from, en
 use Rattle.rb_rules.proofs.QuietTicks.{next-is}
 use Rattle.rb_node.specs.Acts.{IsAct}
 use Rattle.rb_node.specs.Cores.{IsCore, IsSameNode, Running, bare_core, next_of, passing_end, tick_of}
-use Rattle.rb_node.specs.Wants.{want_for, want_then}
 use Rattle.rb_node.specs.declared.act.Step.{Step}
 use Rattle.rb_node.proofs.Between.{arrive-spent, arrive-takes}
 use Rattle.rb_node.proofs.Cores.{tick-now, tick-spent}
@@ -157,6 +155,7 @@ close-row me i st s k closed o number state e rows =
   where
     same : row_at me i st k.times k.node.shown ≡ row_at me (number_of k) k.node.seat.state k.times k.node.shown
     same = ap (λ j. row_at me j st k.times k.node.shown) (sym number) ∙ ap (λ z. row_at me (number_of k) z k.times k.node.shown) state
+
     by : (b : Bool) → (if b then Some k.node.shown else None) ≡ o
         → (with_close me i st (if b then Some k.node.shown else None) s).row ≡ row_after me k b s.row
     by true f = row-picked (k.node.shown.place.stage == 4) s.row _ _ (rows k.node.shown (sym f) ∙ same)
@@ -200,13 +199,13 @@ ticks sc ports me k passed node step t word s is same then_same word_is core act
       core = core_is;
       act = act_is;
       row = epoch-row sc ports me i x.epoch closed
-        ∙ close-row me i x.core.state left after step.closed x.closed both.index core_is.state act_is.closed
-        (λ shown found.
-        let below : max s.core.had t < 2 ^ 31 = ticked-running sc ports me i t s.core shown found in
-        row-same me i x.core.state k.times s.core.inbox s.got shown (is.together (omega (arith, below, passes))) is.times (leaves.sole shown found));
+          ∙ close-row me i x.core.state left after step.closed x.closed both.index core_is.state act_is.closed
+          (λ shown found.
+          let below : max s.core.had t < 2 ^ 31 = ticked-running sc ports me i t s.core shown found in
+          row-same me i x.core.state k.times s.core.inbox s.got shown (is.together (omega (arith, below, passes))) is.times (leaves.sole shown found));
       begun = epoch-begun sc ports me i x.epoch closed
-        ∙ ap (begun_after sc ports me i x.epoch) (close-begun me i x.core.state x.closed left)
-        ∙ ap (λ o. begun_after sc ports me i o s.begun) (sym act_is.epoch);
+          ∙ ap (begun_after sc ports me i x.epoch) (close-begun me i x.core.state x.closed left)
+          ∙ ap (λ o. begun_after sc ports me i o s.begun) (sym act_is.epoch);
     }
 
 -- The frame of a step begins at a tick that the node has had.
@@ -301,6 +300,7 @@ passing-most me n = by (next_of me n (bare_core n)) refl
               absurd (cc)
           | inr le ↦ le
         ]
+
     by : (o : Option ℕ) → next_of me n (bare_core n) ≡ o → unwrap_or o (2 ^ 31) ≤ 2 ^ 31
     by None e = omega arith
     by (Some k) e = let below : k < 2 ^ 31 = (next-is n.seat.sizes n.seat.plan me n.seat.index (bare_core n) k (early k e) e).below in omega arith
