@@ -12,7 +12,7 @@ use Rattle.rb_rules.specs.declared.plan.Plan.{Plan}
 use Rattle.rb_rules.specs.declared.record.Epoch.{Epoch}
 use Rattle.rb_rules.specs.Book.{Row}
 use Rattle.rb_rules.specs.Clock.{stamp_of}
-use Rattle.rb_rules.specs.Core.{Act, Core, act_at, act_on, arrive, busy_among, epoch_at, is_last, of_source, pass_to, state_at, tick}
+use Rattle.rb_rules.specs.Core.{Act, Core, act_at, act_on, arrive, busy_among, epoch_at, is_last, next_tick, of_source, pass_to, state_at, tick}
 use Rattle.rb_rules.specs.Goodness.{Scenario, clock_of}
 use Rattle.rb_rules.specs.Hearing.{Coming, Span, epoch_of, row_of}
 use Rattle.rb_rules.specs.NodeState.{NodeState, trusted_of}
@@ -21,6 +21,7 @@ use Rattle.rb_rules.specs.Sense.{Arrival}
 use Rattle.rb_rules.specs.Slots.{count_of}
 use Rattle.rb_rules.specs.WorldStep.{Site, after_arrival, await, coming_from, enter, pass_and_tick, proceed, says_in, span_from, stop, wants_in, with_close, with_epoch, word_of}
 use Rattle.rb_rules.proofs.QuietTicks.{next-is}
+use Rattle.rb_slot.specs.Engines.{Seated}
 use Rattle.rb_node.specs.Acts.{IsAct}
 use Rattle.rb_node.specs.Cores.{IsCore, IsSameNode, Running, bare_core, next_of, passing_end, tick_of}
 use Rattle.rb_node.specs.declared.act.Step.{Step}
@@ -304,3 +305,14 @@ passing-most me n = by (next_of me n (bare_core n)) refl
     by : (o : Option ℕ) → next_of me n (bare_core n) ≡ o → unwrap_or o (2 ^ 31) ≤ 2 ^ 31
     by None e = omega arith
     by (Some k) e = let below : k < 2 ^ 31 = (next-is n.seat.sizes n.seat.plan me n.seat.index (bare_core n) k (early k e) e).below in omega arith
+
+-- up to the next busy tick of a site that is stood for
+pub passing-next : (sc : Scenario) (me : Side) (k : Kept) (s : Site) → Stands sc me k s
+    → passing_end me k.node ≡ unwrap_or (next_tick sc.sizes sc.plan me (number_of k) s.core) (2 ^ 31)
+passing-next sc me k s is =
+    let v : Seated = k.node.seat in
+    ap (λ o. unwrap_or o (2 ^ 31))
+    (ap (λ st. busy_among v.sizes v.plan me v.index st (2 ^ 31 - k.node.had) k.node.had) (sym is.core.state)
+    ∙ ap (λ had. busy_among v.sizes v.plan me v.index s.core.state (2 ^ 31 - had) had) (sym is.core.had)
+    ∙ ap (λ sizes. next_tick sizes v.plan me v.index s.core) is.sizes
+    ∙ ap (λ plan. next_tick sc.sizes plan me v.index s.core) is.plan)

@@ -1,6 +1,6 @@
 //! One node of a world.
 ghost use Rattle.std.specs.Prelude.{◌≡◌, ℕ, ◌-◌, ◌^◌, ◌<◌, ◌≤◌, ◌&&◌, false, max, IfSome, List, Some, option_map, slice_set, unwrap_or};
-ghost use Rattle.rb_base.specs.Nodes.{other, side_of};
+ghost use Rattle.rb_base.specs.Nodes.{Side, other, side_of};
 ghost use Rattle.rb_rules.specs.Clock.{ComesBy};
 ghost use Rattle.rb_rules.specs.Core.{Core, next_tick, pass_to};
 ghost use Rattle.rb_rules.specs.Hearing.{begun_of};
@@ -12,7 +12,7 @@ ghost use Rattle.rb_rules.specs.WorldStep.{Site as WorldSite, after_arrival, fre
 ghost use Rattle.rb_node.specs.Acts.{IsSendable, span_in};
 ghost use Rattle.rb_node.specs.Cores.{IsCore, IsSameNode, passing_end};
 ghost use Rattle.rb_node.specs.Wants.{want_for};
-ghost use Rattle.rb_site.specs.Sites.{Stands, goes_on, number_of};
+ghost use Rattle.rb_site.specs.Sites.{Kept, Stands, goes_on, number_of};
 ghost use Rattle.rb_site.specs.Tells.{IsTicked};
 
 use rb_base::{Kind, NodeName};
@@ -219,4 +219,12 @@ impl<K: Kind> Site<K> {
         pass_to(&mut self.node, k);
         self.node.step(word)
     }
+}
+
+/// Ticks may pass at a node up to the next busy tick of each site that it stands for, and where that has none up to the last of
+/// all. So what is due no later than that tick may come to the node.
+pub fn ticks_pass_to_the_next()
+    ensures { (sc : Scenario) (me : Side) (k : Kept) (s : WorldSite) → Stands sc me k s
+        → passing_end me k.node ≡ unwrap_or (next_tick sc.sizes sc.plan me (number_of k) s.core) (2 ^ 31) }
+{
 }
