@@ -226,5 +226,4 @@ impl<K: Kind> Site<K> {
 pub fn ticks_pass_to_the_next()
     ensures { (sc : Scenario) (me : Side) (k : Kept) (s : WorldSite) → Stands sc me k s
         → passing_end me k.node ≡ unwrap_or (next_tick sc.sizes sc.plan me (number_of k) s.core) (2 ^ 31) }
-{
-}
+{}
