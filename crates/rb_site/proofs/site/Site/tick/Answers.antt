@@ -23,4 +23,4 @@ returns-clause-ticked g c =
 pub returns-clause-epoch : goal.returns-clause-epoch
 returns-clause-epoch g c =
     let d = c.pass_to.ensures.stands in
-    begins-in-time (side_of g.K.Kind.CODE) c.pass_to.new.node c.step.new.self.shown c.step.result d.0 c.args.word (c.step.ensures.act d.0 d.1)
+    begins-in-time (side_of g.K.Kind.CODE) c.pass_to.new.node c.step.new.self.shown c.step.result d.0 _ (c.step.ensures.act d.0 d.1)
