@@ -1,5 +1,5 @@
 -- Single parts of a tick.
-use Rattle.std.proofs.Common.{◌≡◌, ℕ, ◌+◌, ◌<◌, ◌≤◌, ◌^◌, ◌==◌, ◌&&◌, not, nat_lt, Bool, true, false, refl, ap, sym, ◌∙◌, subst, arith, Option, Some, None, IsSome, IfSome, List, option_map, if◌then◌else◌}
+use Rattle.std.proofs.Common.{◌≡◌, ℕ, ◌<◌, ◌≤◌, ◌^◌, ◌==◌, ◌&&◌, not, nat_lt, Bool, true, false, refl, ap, sym, ◌∙◌, subst, arith, Option, Some, None, IsSome, IfSome, List, option_map, if◌then◌else◌}
 use Rattle.std.proofs.lemmas.Bool.Decides.{nat_tests}
 use Rattle.rb_base.specs.Nodes.{Side, has, other, set_of}
 use Rattle.rb_base.specs.Nodes.Side.{Biu, Rmu}
@@ -8,19 +8,18 @@ use Rattle.rb_base.specs.declared.values.Heard.{Heard}
 use Rattle.rb_base.specs.declared.values.Heard.TheVariants as heard
 use Rattle.rb_base.proofs.Sets.{has-set_of, same_set_of}
 use Rattle.rb_rules.specs.declared.message.Message.{Message}
-use Rattle.rb_rules.specs.declared.plan.Plan.{Plan}
 use Rattle.rb_rules.specs.declared.plan.Window.{Window}
 use Rattle.rb_rules.specs.declared.record.Epoch.{Epoch}
 use Rattle.rb_rules.specs.declared.role.Role.TheVariants.{Sync}
 use Rattle.rb_rules.specs.Core.{epoch_at, if_at, is_tick, state_kept}
 use Rattle.rb_rules.specs.ExactStage.{keep_sent, message_of, says}
 use Rattle.rb_rules.specs.Hearing.{epoch_of, sending}
-use Rattle.rb_rules.specs.NodeState.{NodeState, trusted_of}
+use Rattle.rb_rules.specs.NodeState.{NodeState}
 use Rattle.rb_rules.specs.NodeSteps.{convicted_of, message_said}
 use Rattle.rb_rules.specs.Sense.{sense_of}
 use Rattle.rb_rules.specs.NodeSteps.{expect_of}
-use Rattle.rb_rules.specs.Slots.{count_of, listens}
-use Rattle.rb_rules.specs.SyncStage.{call_of, calls, send_tick_of}
+use Rattle.rb_rules.specs.Slots.{listens}
+use Rattle.rb_rules.specs.SyncStage.{call_of, send_tick_of}
 use Rattle.rb_rules.proofs.RoundStates.{Stays, close-stays}
 use Rattle.rb_eligible.specs.Inboxes.{Received, arrivals_of}
 use Rattle.rb_slot.specs.Engines.{IsSameFrame, Seated, is_active, kept_by, outcome_on, said_by}

@@ -1,16 +1,14 @@
 -- Which tick is the next one that isn't quiet.
-use Rattle.std.proofs.Common.{◌≡◌, ℕ, zero, suc, ◌+◌, ◌-◌, ◌<◌, ◌≤◌, ◌^◌, ◌⊎◌, ◌==◌, ◌||◌, nat_lt, Bool, true, false, refl, ap, sym, ◌∙◌, subst, arith, inl, inr, Option, Some, None, is_some}
+use Rattle.std.proofs.Common.{◌≡◌, ℕ, ◌+◌, ◌≤◌, ◌^◌, ◌⊎◌, ◌==◌, ◌||◌, Bool, true, false, refl, ap, sym, ◌∙◌, subst, arith, inl, inr, Option, Some, None, is_some}
 use Rattle.std.specs.Option.{option_or}
 use Rattle.std.proofs.lemmas.Bool.{cases_lt}
 use Rattle.std.proofs.lemmas.Bool.Decides.{nat_tests}
 use Rattle.rb_base.specs.Nodes.{Side}
-use Rattle.rb_base.specs.Sizes.{Sizes}
 use Rattle.rb_rules.specs.declared.message.Message.{Message}
-use Rattle.rb_rules.specs.declared.plan.Plan.{Plan}
 use Rattle.rb_rules.specs.declared.plan.Window.{Window}
 use Rattle.rb_rules.specs.Conviction.{turn}
-use Rattle.rb_rules.specs.Core.{Core, if_at, is_busy, is_last, is_tick, said_at, state_at, window_here, busy_among, next_tick}
-use Rattle.rb_rules.specs.Hearing.{Sending, sending}
+use Rattle.rb_rules.specs.Core.{if_at, is_busy, is_last, is_tick, said_at, state_at}
+use Rattle.rb_rules.specs.Hearing.{sending}
 use Rattle.rb_rules.specs.NodeState.{NodeState}
 use Rattle.rb_rules.specs.NodeSteps.{message_said}
 use Rattle.rb_rules.specs.SyncStage.{new_epoch_of, send_tick_of}
@@ -244,10 +242,10 @@ soonest-is me v w had b1 b2 b3 b4 b5 b6 ticks epoch is s =
     let m5 : b5 ≤ b4 = s.s5.most in
     let m6 : b6 ≤ b5 = s.s6.most in
     let here : (k : ℕ) → had ≤ k → k ≤ b6 → window_of_tick me v k ≡ w = λ k lo hi.
-        goes-on v.sizes v.plan me v.state had k ticks epoch lo
-        (λ from. subst (λ (x : Window). had ≤ v.state.epoch + x.last → k ≤ v.state.epoch + x.last) is
-        (not-over had (v.state.epoch + w.last) b1 b2 k s.s2 (omega arith)) from)
-        ∙ sym is in
+    goes-on v.sizes v.plan me v.state had k ticks epoch lo
+    (λ from. subst (λ (x : Window). had ≤ v.state.epoch + x.last → k ≤ v.state.epoch + x.last) is
+    (not-over had (v.state.epoch + w.last) b1 b2 k s.s2 (omega arith)) from)
+    ∙ sym is in
     record {
       later = s.s6.later;
       most = omega arith;

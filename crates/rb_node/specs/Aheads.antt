@@ -1,12 +1,9 @@
 -- What a node keeps at hand of what is ahead of it.
-use Rattle.std.specs.Prelude.{ℕ, ◌≡◌, ◌≤◌, ◌<◌, ◌^◌, ◌+◌, ◌⊎◌, nat_lt, if◌then◌else◌, Bool, true, false, is_some, Option, Some, None}
+use Rattle.std.specs.Prelude.{ℕ, ◌≡◌, ◌≤◌, ◌<◌, ◌^◌, ◌+◌, ◌⊎◌, nat_lt, if◌then◌else◌, Bool, true, false, is_some, Option, None}
 use Rattle.rb_base.specs.Nodes.{Side}
-use Rattle.rb_base.specs.Sizes.{Sizes, sync_slot_of}
-use Rattle.rb_rules.specs.declared.message.Message.{Message}
-use Rattle.rb_rules.specs.declared.plan.Plan.{Plan}
+use Rattle.rb_base.specs.Sizes.{sync_slot_of}
 use Rattle.rb_rules.specs.declared.plan.Window.{Window}
 use Rattle.rb_rules.specs.Core.{is_busy, is_tick, said_at, slot_wanted, state_at, window_here}
-use Rattle.rb_rules.specs.NodeState.{NodeState}
 use Rattle.rb_rules.specs.NodeSteps.{message_said}
 use Rattle.rb_rules.specs.SyncStage.{send_tick_of}
 use Rattle.rb_eligible.specs.Inboxes.{KeptArrivals, StampsUpTo}

@@ -89,13 +89,7 @@ fn sooner(before: u64, had: u64, candidate: Option<u64>) -> u64
 }
 
 // The same with the tick at which the node sends a message of the stage.
-fn sooner_send<K: Kind>(
-    before: u64,
-    had: u64,
-    engine: &Engine<K>,
-    slot: u16,
-    stage: u8,
-) -> u64
+fn sooner_send<K: Kind>(before: u64, had: u64, engine: &Engine<K>, slot: u16, stage: u8) -> u64
     requires had { had ≤ before }
     requires index { engine.now.index < 16 }
     requires slot { slot ≤ sync_slot_of engine.now.sizes }

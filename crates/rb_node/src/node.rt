@@ -15,8 +15,8 @@ ghost use Rattle.rb_node.specs.Wants.{want_of, want_then};
 use crate::act::{Act, Span, Step, Want};
 use crate::ahead::{Ahead, MOST_TICKS, is_tick, look_ahead};
 use crate::parts::{
-    bytes_of, close_at, delivered_in, epoch_at, first_window, if_closed, nothing, others, say_at, span_at,
-    turn_at,
+    bytes_of, close_at, delivered_in, epoch_at, first_window, if_closed, nothing, others, say_at,
+    span_at, turn_at,
 };
 use rb_base::{Kind, NodeId};
 use rb_eligible::Inbox;
@@ -255,5 +255,4 @@ impl<K: Kind> Node<K> {
 /// the core after all of them, and their acts.
 pub fn events_come_in_parts()
     ensures { EventsComeInParts }
-{
-}
+{}

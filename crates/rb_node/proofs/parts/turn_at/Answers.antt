@@ -1,6 +1,6 @@
-use Rattle.std.proofs.Common.{◌≡◌, ◌≤◌, true, false, sym, ◌∙◌, ap, arith}
+use Rattle.std.proofs.Common.{◌≡◌, true, false, sym, ◌∙◌, ap}
 use Rattle.rb_base.specs.Nodes.{side_of}
-use Rattle.rb_rules.specs.Core.{is_tick, state_at}
+use Rattle.rb_rules.specs.Core.{is_tick}
 use Rattle.rb_rules.specs.NodeState.{NodeState}
 use Rattle.rb_rules.specs.SyncStage.{new_epoch_of}
 use Rattle.rb_node.proofs.Busy.{no-turn}

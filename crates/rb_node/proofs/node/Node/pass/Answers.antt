@@ -1,4 +1,4 @@
-use Rattle.std.proofs.Common.{◌≡◌, ◌+◌, ◌≤◌, ◌^◌, sym, ap, subst, arith}
+use Rattle.std.proofs.Common.{◌+◌, ◌≤◌, ◌^◌, sym, ap, subst, arith}
 use Rattle.rb_node.specs.Cores.{IsCore, Running}
 use Rattle.rb_node.proofs.Between.{passing-is, runs-on}
 use Rattle.rb_node.proofs.Cores.{passes}
