@@ -106,7 +106,7 @@ parts-some k (Some m) (Some n) (Some t) h = by (t == k)
     by true = refl
     by false = refl
 
-stage-some : (me : Side) (v : Seated) (slot stage a b k : ℕ) → is_some (stage_at me v slot stage a k) ≡ is_some (stage_at me v slot stage b k)
+pub stage-some : (me : Side) (v : Seated) (slot stage a b k : ℕ) → is_some (stage_at me v slot stage a k) ≡ is_some (stage_at me v slot stage b k)
 stage-some me v slot stage a b k =
     ap (λ s. is_some (if_at k s)) (sending-is v.sizes v.plan me v.index v.state slot stage a)
     ∙ parts-some k (message_said v.sizes me v.index v.state slot stage a) (message_said v.sizes me v.index v.state slot stage b)
