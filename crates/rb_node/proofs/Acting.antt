@@ -14,7 +14,7 @@ use Rattle.rb_rules.specs.declared.record.Epoch.{Epoch}
 use Rattle.rb_rules.specs.declared.role.Role.TheVariants.{Sync}
 use Rattle.rb_rules.specs.Core.{epoch_at, if_at, is_tick, state_kept}
 use Rattle.rb_rules.specs.ExactStage.{keep_sent, message_of, says}
-use Rattle.rb_rules.specs.Hearing.{epoch_of, sending}
+use Rattle.rb_rules.specs.Hearing.{epoch_of}
 use Rattle.rb_rules.specs.NodeState.{NodeState}
 use Rattle.rb_rules.specs.NodeSteps.{convicted_of, message_said}
 use Rattle.rb_rules.specs.Sense.{sense_of}

@@ -79,6 +79,7 @@ fn tail<K: Kind>(engine: &Engine<K>) -> Window
 }
 
 // The window of a tick of the node's frame.
+#[inline(always)]
 pub(crate) fn window_of<K: Kind>(engine: &Engine<K>, tick: u64) -> Window
     requires epoch { engine.now.state.epoch ≤ tick }
     requires tick { tick ≤ 2 ^ 31 }
@@ -103,13 +104,8 @@ fn sooner(before: u64, had: u64, candidate: Option<u64>) -> u64
 }
 
 // The same with the tick at which the node sends a message of the stage, which comes before later stages at the same tick.
-fn sooner_send<K: Kind>(
-    before: Busy,
-    had: u64,
-    engine: &Engine<K>,
-    slot: u16,
-    stage: u8,
-) -> Busy
+#[inline(always)]
+fn sooner_send<K: Kind>(before: Busy, had: u64, engine: &Engine<K>, slot: u16, stage: u8) -> Busy
     requires had { had ≤ before.tick }
     requires index { engine.now.index < 16 }
     requires slot { slot ≤ sync_slot_of engine.now.sizes }
@@ -205,6 +201,7 @@ fn want_ahead<K: Kind>(engine: &Engine<K>, window: &Window, busy: Busy) -> Want
 }
 
 // What is ahead of a node that has had so many ticks.
+#[inline(always)]
 pub(crate) fn look_ahead<K: Kind>(engine: &Engine<K>, had: u64) -> Ahead
     requires index { engine.now.index < 16 }
     requires epoch { engine.now.state.epoch ≤ had }

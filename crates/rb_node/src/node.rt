@@ -202,7 +202,12 @@ impl<K: Kind> Node<K> {
         if now < self.ahead.busy.tick {
             return nothing();
         }
-        let here = turn_at(&mut self.engine, &self.ahead.window, self.ahead.busy.stage, now);
+        let here = turn_at(
+            &mut self.engine,
+            &self.ahead.window,
+            self.ahead.busy.stage,
+            now,
+        );
         let epoch = epoch_at(&self.engine, now);
         let message = say_at(&mut self.engine, &here, now, word);
         let closed = close_at(

@@ -26,12 +26,7 @@ use rb_slot::Engine;
 
 // The node turns, if this is the tick of its next epoch. It gives the tick's window and the stage of what is said in it, which
 // were these in the state before.
-pub(crate) fn turn_at<K: Kind>(
-    engine: &mut Engine<K>,
-    window: &Window,
-    stage: u8,
-    now: u64,
-) -> Here
+pub(crate) fn turn_at<K: Kind>(engine: &mut Engine<K>, window: &Window, stage: u8, now: u64) -> Here
     requires now { now < 2 ^ 31 }
     requires frame { engine.old.state.frame < 2 ^ 31 }
     requires epoch { engine.old.state.epoch ≤ now }

@@ -1,4 +1,4 @@
-use Rattle.std.proofs.Common.{◌≡◌, ◌≤◌, sym, ◌∙◌, ap, arith}
+use Rattle.std.proofs.Common.{◌∙◌, ap}
 use Rattle.rb_base.specs.Nodes.{side_of}
 use Rattle.rb_rules.specs.NodeState.{NodeState}
 use Rattle.rb_node.proofs.Acting.{keeps-now, said-sendable, says-active, says-none, says-stage, some-stage, stage-most}

@@ -1,4 +1,4 @@
-use Rattle.std.proofs.Common.{◌≡◌, ◌<◌, ◌≤◌, ◌^◌, sym, subst, ap, arith}
+use Rattle.std.proofs.Common.{◌<◌, ◌≤◌, ◌^◌, sym, subst, ap, arith}
 use Rattle.rb_base.specs.Nodes.{side_of}
 use Rattle.rb_base.specs.Sizes.{IsShape}
 use Rattle.rb_rules.specs.Slots.{count_of}
