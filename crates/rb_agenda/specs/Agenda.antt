@@ -1,0 +1,2 @@
+-- What is due among all lanes.
+use Rattle.std.specs.Prelude.{ℕ}

@@ -1,0 +1,2 @@
+//! What is due at the nodes of a bus.
+#![tactic(auto)]
