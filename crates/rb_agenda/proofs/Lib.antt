@@ -1,1 +1,4 @@
 pub mod OneNode
+pub mod Heads
+pub mod Dues
+pub mod Which

@@ -2,7 +2,7 @@
 use Rattle.std.specs.Prelude.{⊤, ◌≡◌, ℕ, ◌<◌, Option, Some, None, option_map, option_to_list, unwrap_or, List, [], ◌∷◌, All, length, take, filter_map}
 use Rattle.rb_base.specs.Nodes.{Side, other}
 use Rattle.rb_base.specs.Nodes.Side.{Biu, Rmu}
-use Rattle.rb_base.specs.Sizes.{Sizes}
+use Rattle.rb_base.specs.Sizes.{IsShape, Sizes}
 use Rattle.rb_base.specs.declared.event.EventKind.{EventKind}
 use Rattle.rb_base.specs.declared.event.EventKind.TheVariants as kind
 use Rattle.rb_rules.specs.Book.{Each}
@@ -47,8 +47,9 @@ HoldsAll sizes me [] (s ∷ ss) = ⊥
 HoldsAll sizes me (l ∷ ls) [] = ⊥
 HoldsAll sizes me (l ∷ ls) (s ∷ ss) = HoldsSite sizes me l s × HoldsAll sizes me ls ss
 
--- the lanes of all nodes hold what is pending at the sites of a world
+-- the lanes of all nodes of a bus hold what is pending at the sites of a world
 pub record HoldsSites (sizes : Sizes) (lanes : Each Held) (sites : Each Site) : Type 0 where
+  pub shape : IsShape sizes
   pub bius : HoldsAll sizes Biu lanes.bius sites.bius
   pub rmus : HoldsAll sizes Rmu lanes.rmus sites.rmus
 
