@@ -2,3 +2,4 @@ pub mod OneNode
 pub mod Heads
 pub mod Dues
 pub mod Which
+pub mod Keeping
