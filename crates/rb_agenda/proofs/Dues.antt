@@ -20,7 +20,7 @@ use Rattle.rb_rules.specs.WorldStep.{Due, Site, World, due_at, least, ready_at, 
 use Rattle.rb_queue.specs.declared.pending.Pending.{Pending}
 use Rattle.rb_queue.specs.Waiting.{HasLane, Held, empty_lane, head_of, lane_of, ready_from, ready_of}
 use Rattle.rb_queue.proofs.Sources.{get-left, get-right}
-use Rattle.rb_agenda.specs.Agenda.{AreKept, IsDue, StandsAt, due_count, due_in, first_time, how_many, key_of, least_key, node_at}
+use Rattle.rb_agenda.specs.Agenda.{due_count, due_in, due_now, first_time, how_many, key_of, least_key, node_at}
 use Rattle.rb_agenda.specs.Holding.{HoldsAll, HoldsSite, HoldsSites, due_with}
 use Rattle.rb_agenda.proofs.OneNode.{ready-is}
 use Rattle.rb_agenda.proofs.Heads.{AreLow, AreTimes, IsLow, IsTime, all-low, due-by, first-is, first-time, first_head, key-is, low-itself}
@@ -78,10 +78,6 @@ due-sites sc w (Some t) =
 low-append : (o : Option ℕ) (ls ms : List Held) → AreLow o (ls ++ ms) → AreLow o ls × AreLow o ms
 low-append o [] ms h = (tt, h)
 low-append o (l ∷ ls) ms h = let more = low-append o ls ms h.1 in ((h.0, more.0), more.1)
-
--- what is due in the world of these sites
-abbrev pub due_now : Scenario → World → List Due
-due_now sc w = due_at sc w (least (flat_map times_of (in_order w.sites)))
 
 few : {n : ℕ} → n ≤ 16 → n ≤ 256
 few h = omega arith

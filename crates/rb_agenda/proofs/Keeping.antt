@@ -6,7 +6,8 @@ use Rattle.std.proofs.Math.Seq.{take-append-add}
 use Rattle.std.proofs.lemmas.Bool.{cases_lt}
 use Rattle.std.proofs.lemmas.Bool.Decides.{nat_tests}
 use Rattle.std.proofs.lemmas.List.{length-map, length-set, map-append, map-set, set-append_left, set-append_right, get_or-map, take_more}
-use Rattle.std.proofs.lemmas.List.Elements.{All-append, All-replicate, All-set, All-head, All-tail}
+use Rattle.std.proofs.lemmas.List.Elements.{All-append, All-cons, All-nil, All-replicate, All-set, All-head, All-tail}
+use Rattle.std.proofs.lemmas.List.FromFn.{length-range_with_len}
 use Rattle.std.proofs.lemmas.Option.{slice_get-get_or}
 use Rattle.rb_base.specs.Counting.{numbers}
 use Rattle.rb_base.specs.Nodes.{Side}
@@ -57,11 +58,10 @@ has-key lanes keys bius name kept h =
     go (node.Biu i) h many split = omega arith
     go (node.Rmu i) h many split = omega arith
 
--- a lane changes, and its key with it
-pub kept-with : (lanes new : Each Held) (keys : List ℕ) (bius : ℕ) (name : NodeName) (lane : Held) (key : ℕ) → AreKept lanes keys bius → HasLane lanes name
+kept-there : (lanes new : Each Held) (keys : List ℕ) (bius : ℕ) (name : NodeName) (lane : Held) (key : ℕ) → AreKept lanes keys bius → HasLane lanes name
     → new ≡ with_lane name lane lanes → lane.room ≤ 65536 → key ≡ key_of (lane_of new name) → key ≤ 18446744073709551615
     → AreKept new (slice_set keys (position_of bius name) key) bius
-kept-with lanes new keys bius name lane key kept h after room is small =
+kept-there lanes new keys bius name lane key kept h after room is small =
     let changed : key ≡ key_of lane = is ∙ ap (λ x. key_of (lane_of x name)) after ∙ ap key_of (lane-with lanes name lane h) in
     let order : in_order new ≡ slice_set (in_order lanes) (position_of bius name) lane =
     ap in_order after ∙ with-in-order lanes name lane h ∙ ap (λ b. slice_set (in_order lanes) (position_of b name) lane) (sym kept.split) in
@@ -79,6 +79,14 @@ kept-with lanes new keys bius name lane key kept h after room is small =
     many : (name : NodeName) → (length (with_lane name lane lanes).bius ≡ length lanes.bius) × (length (with_lane name lane lanes).rmus ≡ length lanes.rmus)
     many (node.Biu i) = (length-set lanes.bius i lane, refl)
     many (node.Rmu i) = (refl, length-set lanes.rmus i lane)
+
+-- a lane changes, and its key with it
+pub kept-with : (lanes new : Each Held) (keys : List ℕ) (bius position : ℕ) (name : NodeName) (lane : Held) (key : ℕ) → position ≡ position_of bius name → AreKept lanes keys bius → HasLane lanes name
+    → new ≡ with_lane name lane lanes → lane.room ≤ 65536 → key ≡ key_of (lane_of new name) → key ≤ 18446744073709551615
+    → AreKept new (slice_set keys position key) bius
+kept-with lanes new keys bius position name lane key place kept h after room is small =
+    subst (λ p. AreKept new (slice_set keys p key) bius) (sym place)
+    (kept-there lanes new keys bius name lane key kept h after room is small)
 
 -- the lane at a position
 pub lane-at : (lanes : Each Held) (bius position : ℕ) → bius ≡ length lanes.bius → position < length (in_order lanes)
@@ -145,3 +153,33 @@ kept-times lanes keys bius kept = times-of (in_order lanes) keys kept.each kept.
 map-const : {X Y : Type 0} (f : Y → ℕ) (y : Y) (k : ℕ) (xs : List X) → f y ≡ k → map f (map (λ _. y) xs) ≡ replicate (length xs) k
 map-const f y k [] e = refl
 map-const f y k (x ∷ xs) e = ap (λ a. a ∷ map f (map (λ _. y) xs)) e ∙ ap (λ l. k ∷ l) (map-const f y k xs e)
+
+pub kept-empty : (sizes : Sizes) (lanes : Each Held) (keys : List ℕ) (room bius n : ℕ) → IsShape sizes → room ≤ 65536 → bius ≡ sizes.bius → n ≡ bius + sizes.rmus
+    → keys ≡ replicate n 18446744073709551615 → lanes ≡ each_of sizes (λ side i. empty_lane room) → AreKept lanes keys bius
+kept-empty sizes lanes keys room bius n shape small split all are is =
+    let l : Held = empty_lane room in
+    let b : List Held = map (λ _. l) (numbers sizes.bius) in
+    let r : List Held = map (λ _. l) (numbers sizes.rmus) in
+    let lb : length b ≡ sizes.bius = length-map (numbers sizes.bius) (λ _. l) ∙ length-range_with_len 0 sizes.bius in
+    let lr : length r ≡ sizes.rmus = length-map (numbers sizes.rmus) (λ _. l) ∙ length-range_with_len 0 sizes.rmus in
+    let both : b ++ r ≡ map (λ _. l) (numbers sizes.bius ++ numbers sizes.rmus) = sym (map-append (λ _. l) (numbers sizes.bius) (numbers sizes.rmus)) in
+    let long : length (numbers sizes.bius ++ numbers sizes.rmus) ≡ n =
+    length-append (numbers sizes.bius) (numbers sizes.rmus) ∙ omega (arith, length-range_with_len 0 sizes.bius, length-range_with_len 0 sizes.rmus) in
+    let order : in_order lanes ≡ map (λ _. l) (numbers sizes.bius ++ numbers sizes.rmus) = ap in_order is ∙ both in
+    let most_bius : sizes.bius ≤ 16 = shape.most_bius in
+    let most_rmus : sizes.rmus ≤ 16 = shape.most_rmus in
+    let bius_are : length lanes.bius ≡ length b = ap (λ x. length x.bius) is in
+    let rmus_are : length lanes.rmus ≡ length r = ap (λ x. length x.rmus) is in
+    record {
+      each = are ∙ ap (λ n. replicate n 18446744073709551615) (sym long)
+          ∙ sym (map-const key_of l 18446744073709551615 (numbers sizes.bius ++ numbers sizes.rmus) refl) ∙ ap (map key_of) (sym order);
+      small = subst (All (λ k. k ≤ 18446744073709551615)) (sym are) (All-replicate (λ k. k ≤ 18446744073709551615) n 18446744073709551615 (omega arith));
+      split = split ∙ omega arith;
+      few_bius = omega arith;
+      few_rmus = omega arith;
+      short = subst (All (λ l. l.room ≤ 65536)) (sym order) (all-const (numbers sizes.bius ++ numbers sizes.rmus));
+    }
+  where
+    all-const : (xs : List ℕ) → All (λ l. l.room ≤ 65536) (map (λ _. empty_lane room) xs)
+    all-const [] = All-nil (λ l. l.room ≤ 65536)
+    all-const (x ∷ xs) = All-cons (λ l. l.room ≤ 65536) (empty_lane room) (map (λ _. empty_lane room) xs) small (all-const xs)

@@ -19,9 +19,9 @@ use Rattle.rb_rules.specs.WorldStep.{Due, Site, World}
 use Rattle.rb_queue.specs.declared.pending.Pending.{Pending}
 use Rattle.rb_queue.specs.Waiting.{HasLane, Held, empty_lane, lane_of, ready_of}
 use Rattle.rb_queue.proofs.Sources.{get-left, get-right, is_within}
-use Rattle.rb_agenda.specs.Agenda.{IsDue, StandsAt, due_count, due_in, first_time, key_of, node_at}
+use Rattle.rb_agenda.specs.Agenda.{IsDue, StandsAt, due_count, due_in, due_now, first_time, key_of, node_at}
 use Rattle.rb_agenda.specs.Holding.{HoldsAll, HoldsSites, due_with}
-use Rattle.rb_agenda.proofs.Dues.{count-append, due-lanes, due_now, dues_from, length-dues}
+use Rattle.rb_agenda.proofs.Dues.{count-append, due-lanes, dues_from, length-dues}
 use Rattle.rb_agenda.proofs.Heads.{AreTimes}
 
 -- Lists.

@@ -1,15 +1,16 @@
 -- What is due among all lanes: the events of the least time, node by node.
 use Rattle.std.specs.Prelude.{◌≡◌, ℕ, ◌+◌, ◌-◌, ◌<◌, ◌≤◌, ◌==◌, nat_lt, min, Bool, true, false, if◌then◌else◌, unwrap_or, Option, Some, List, [], ◌∷◌, ◌++◌, All, flat_map, length, map, slice_get, take}
+use Rattle.rb_base.specs.declared.event.Event.{Event}
 use Rattle.rb_base.specs.declared.node.NodeName.{NodeName}
 use Rattle.rb_base.specs.declared.node.NodeName.TheVariants as node
 use Rattle.rb_base.specs.Nodes.{Side}
 use Rattle.rb_rules.specs.Book.{Each, in_order, of_kind}
 use Rattle.rb_rules.specs.Goodness.{Scenario}
 use Rattle.rb_rules.specs.Links.{name_of}
-use Rattle.rb_rules.specs.WorldStep.{Site, World, due_at, least, times_of}
+use Rattle.rb_rules.specs.WorldStep.{Due, Site, World, at_node, due_at, least, times_of}
 use Rattle.rb_queue.specs.declared.pending.Pending.{Pending}
-use Rattle.rb_queue.specs.Waiting.{Held, HasLane, head_of, lane_of, ready_of}
-use Rattle.rb_agenda.specs.Holding.{due_with}
+use Rattle.rb_queue.specs.Waiting.{Held, HasLane, head_of, lane_of, ready_event, ready_of, with_lane, without_ready}
+use Rattle.rb_agenda.specs.Holding.{HoldsSites, Shows, due_with, without_waiting}
 
 -- the least time of a lane. Where it holds nothing it is the last time that there is
 abbrev pub key_of : Held → ℕ
@@ -56,6 +57,10 @@ pub record StandsAt (lanes : Each Held) (time i : ℕ) (name : NodeName) (place 
   pub ready : place < length (ready_of (lane_of lanes name))
   pub before : i ≡ due_count time (take position (in_order lanes)) + place
 
+-- what is due in a world at the least time of its sites
+abbrev pub due_now : Scenario → World → List Due
+due_now sc w = due_at sc w (least (flat_map times_of (in_order w.sites)))
+
 -- The event at this place among the ready events of a node is the i-th that is due in a world: it is the node's, and stands in the
 -- node's lane
 pub record IsDue (sc : Scenario) (w : World) (lanes : Each Held) (i : ℕ) (name : NodeName) (place : ℕ) : Type 0 where
@@ -66,7 +71,24 @@ pub record IsDue (sc : Scenario) (w : World) (lanes : Each Held) (i : ℕ) (name
   pub there : slice_get (of_kind side w.sites) number ≡ Some site
   pub event : ℕ × Pending
   pub ready : slice_get (ready_of (lane_of lanes name)) place ≡ Some event
-  pub due : slice_get (due_at sc w (least (flat_map times_of (in_order w.sites)))) i ≡ Some (due_with side number (lane_of lanes name).events site event)
+  pub due : slice_get (due_now sc w) i ≡ Some (due_with side number (lane_of lanes name).events site event)
+
+-- the i-th event that is due is taken out of its lane, and no other
+pub record Takes (before : Each Held) (i : ℕ) (event : Event) (after : Each Held) : Type 0 where
+  pub node : NodeName
+  pub place : ℕ
+  pub stands : StandsAt before (first_time before) i node place
+  pub taken : ready_event place (lane_of before node) ≡ Some event
+  pub left : after ≡ with_lane node (without_ready place (lane_of before node)) before
+
+-- The i-th event that is due in a world is taken: this event shows it, and the lanes hold afterwards what waits without it
+pub record TakesDue (sc : Scenario) (w : World) (i : ℕ) (event : Event) (after : Each Held) : Type 0 where
+  pub due : Due
+  pub site : Site
+  pub found : slice_get (due_now sc w) i ≡ Some due
+  pub there : slice_get (of_kind due.side w.sites) due.node ≡ Some site
+  pub shows : Shows due.pending event.kind
+  pub left : HoldsSites sc.sizes after (at_node due.side due.node (without_waiting due.pending) w.sites)
 
 -- beside the lanes their least times are kept. There are at most 16 nodes of a kind, and lanes are short
 pub record AreKept (lanes : Each Held) (keys : List ℕ) (bius : ℕ) : Type 0 where

@@ -1,5 +1,5 @@
 -- What lanes hold of a world: at each node what comes to it and its tick.
-use Rattle.std.specs.Prelude.{⊤, ◌≡◌, ℕ, ◌<◌, Option, Some, None, option_map, option_to_list, unwrap_or, List, [], ◌∷◌, All, length, take, filter_map}
+use Rattle.std.specs.Prelude.{⊤, ◌≡◌, ℕ, ◌<◌, Option, Some, None, option_map, option_to_list, unwrap_or, List, [], ◌∷◌, All, length, remove, take, filter_map}
 use Rattle.rb_base.specs.Nodes.{Side, other}
 use Rattle.rb_base.specs.Nodes.Side.{Biu, Rmu}
 use Rattle.rb_base.specs.Sizes.{IsShape, Sizes}
@@ -65,3 +65,15 @@ waits_with events ahead place time (kind.Tick word wanted) = Tick (unwrap_or (op
 -- an event of the lane of a node, with its place, as it is due in the world
 abbrev pub due_with : Side → ℕ → List Pending → Site → ℕ × Pending → Due
 due_with me i events s c = record { side = me; node = i; pending = waits_with events s.ahead c.0 c.1.time c.1.event.kind }
+
+-- it waits no more
+abbrev pub without_waiting : Waits → Site → Site
+without_waiting (Tick k) s = record s { ahead = None }
+without_waiting (Arrival place c) s = record s { coming = remove s.coming place }
+
+-- an event, as it is shown, is what waits: the arrival of these bytes from this sender, or a tick
+abbrev pub Shows : Waits → EventKind → Type 0
+Shows (Tick k) (kind.Tick word wanted) = ⊤
+Shows (Tick k) (kind.Arrive from bytes) = ⊥
+Shows (Arrival place c) (kind.Tick word wanted) = ⊥
+Shows (Arrival place c) (kind.Arrive from bytes) = (from ≡ c.from) × (bytes.items ≡ c.bytes)

@@ -1,2 +1,7 @@
-//! What is due at the nodes of a bus.
+//! What is due at the nodes of a bus: the pending events of all nodes, beside the least time of each node in a flat array.
 #![tactic(auto)]
+
+pub mod agenda;
+mod scan;
+
+pub use agenda::Agenda;
