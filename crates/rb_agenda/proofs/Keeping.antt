@@ -15,7 +15,8 @@ use Rattle.rb_base.specs.Sizes.{IsShape, Sizes}
 use Rattle.rb_base.specs.declared.node.NodeName.{NodeName}
 use Rattle.rb_base.specs.declared.node.NodeName.TheVariants as node
 use Rattle.rb_rules.specs.Book.{Each, each_of, in_order}
-use Rattle.rb_queue.specs.Waiting.{HasLane, Held, empty_lane, head_of, lane_of, ready_of, with_lane}
+use Rattle.rb_queue.specs.declared.pending.Pending.{Pending}
+use Rattle.rb_queue.specs.Waiting.{HasLane, Held, empty_lane, head_of, lane_of, ready_of, with_lane, without_found, without_ready}
 use Rattle.rb_agenda.specs.Agenda.{AreKept, due_count, due_in, key_of, least_key, node_at, position_of}
 use Rattle.rb_agenda.proofs.Heads.{AreTimes, IsTime}
 use Rattle.rb_agenda.proofs.Which.{has-item}
@@ -183,3 +184,11 @@ kept-empty sizes lanes keys room bius n shape small split all are is =
     all-const : (xs : List ℕ) → All (λ l. l.room ≤ 65536) (map (λ _. empty_lane room) xs)
     all-const [] = All-nil (λ l. l.room ≤ 65536)
     all-const (x ∷ xs) = All-cons (λ l. l.room ≤ 65536) (empty_lane room) (map (λ _. empty_lane room) xs) small (all-const xs)
+
+-- a lane keeps its room
+pub room-without : (place : ℕ) (lane : Held) → lane.room ≤ 65536 → (without_ready place lane).room ≤ 65536
+room-without place lane h = go (slice_get (ready_of lane) place)
+  where
+    go : (o : Option (ℕ × Pending)) → (without_found o lane).room ≤ 65536
+    go None = h
+    go (Some c) = h

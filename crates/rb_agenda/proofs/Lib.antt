@@ -6,3 +6,4 @@ pub mod Keeping
 pub mod Scans
 pub mod Places
 pub mod Changes
+pub mod Taking
