@@ -1,26 +1,18 @@
 -- What is due in all lanes is what is due in the world.
-use Rattle.std.proofs.Common.{◌≡◌, ℕ, zero, suc, ◌+◌, ◌-◌, ◌<◌, ◌≤◌, ◌==◌, ◌&&◌, min, nat_lt, Bool, true, false, cond, Option, Some, None, List, [], ◌∷◌, ◌++◌, All, length, map, take, slice_get, refl, sym, ap, ◌∙◌, subst, arith, append_assoc, length-append, add-zero}
-use Rattle.std.specs.Prelude.{⊤, option_map, unwrap_or}
+use Rattle.std.proofs.Common.{◌≡◌, ℕ, ◌+◌, ◌≤◌, Option, Some, None, List, [], ◌∷◌, ◌++◌, length, map, refl, sym, ap, ◌∙◌, arith, length-append}
+use Rattle.std.specs.Prelude.{unwrap_or}
 use Rattle.std.specs.List.{flat_map}
-use Rattle.std.proofs.lemmas.Bool.{cases_lt}
-use Rattle.std.proofs.lemmas.Bool.Decides.{nat_tests}
 use Rattle.std.proofs.lemmas.Grind.{flat_map-append}
-use Rattle.std.proofs.lemmas.List.{append-nil, map-append, length-map}
-use Rattle.std.proofs.lemmas.Option.{slice_get-map}
+use Rattle.std.proofs.lemmas.List.{length-map}
 use Rattle.rb_base.specs.Nodes.{Side, other}
 use Rattle.rb_base.specs.Nodes.Side.{Biu, Rmu}
 use Rattle.rb_base.specs.Sizes.{Sizes}
-use Rattle.rb_base.specs.declared.node.NodeName.{NodeName}
-use Rattle.rb_base.specs.declared.node.NodeName.TheVariants as node
-use Rattle.rb_rules.specs.Book.{Each, in_order, map_each, map_from, of_kind}
+use Rattle.rb_rules.specs.Book.{Each, in_order, map_from}
 use Rattle.rb_rules.specs.Goodness.{Scenario}
-use Rattle.rb_rules.specs.Links.{name_of}
 use Rattle.rb_rules.specs.Slots.{count_of}
-use Rattle.rb_rules.specs.WorldStep.{Due, Site, World, due_at, least, ready_at, times_of}
-use Rattle.rb_queue.specs.declared.pending.Pending.{Pending}
-use Rattle.rb_queue.specs.Waiting.{HasLane, Held, empty_lane, head_of, lane_of, ready_from, ready_of}
-use Rattle.rb_queue.proofs.Sources.{get-left, get-right}
-use Rattle.rb_agenda.specs.Agenda.{due_count, due_in, due_now, first_time, how_many, key_of, least_key, node_at}
+use Rattle.rb_rules.specs.WorldStep.{Due, Site, World, due_at, ready_at}
+use Rattle.rb_queue.specs.Waiting.{Held, head_of}
+use Rattle.rb_agenda.specs.Agenda.{due_count, due_in, due_now, first_time, how_many}
 use Rattle.rb_agenda.specs.Holding.{HoldsAll, HoldsSite, HoldsSites, due_with}
 use Rattle.rb_agenda.proofs.OneNode.{ready-is}
 use Rattle.rb_agenda.proofs.Heads.{AreLow, AreTimes, IsLow, IsTime, all-low, due-by, first-is, first-time, first_head, key-is, low-itself}

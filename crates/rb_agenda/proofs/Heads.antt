@@ -1,10 +1,9 @@
 -- The least time of all lanes is that of the world.
-use Rattle.std.proofs.Common.{◌≡◌, ℕ, zero, suc, ◌+◌, ◌<◌, ◌≤◌, ◌==◌, ◌&&◌, min, Bool, true, false, cond, Option, Some, None, List, [], ◌∷◌, ◌++◌, All, length, map, refl, sym, ap, ◌∙◌, subst, arith}
+use Rattle.std.proofs.Common.{◌≡◌, ℕ, ◌+◌, ◌<◌, ◌≤◌, ◌==◌, ◌&&◌, min, Bool, true, false, Option, Some, None, List, [], ◌∷◌, ◌++◌, length, map, refl, sym, ap, ◌∙◌, arith}
 use Rattle.std.specs.Prelude.{⊤, option_map, option_to_list, unwrap_or}
 use Rattle.std.specs.List.{cons_option, flat_map}
 use Rattle.std.proofs.lemmas.Bool.Decides.{nat_tests}
 use Rattle.std.proofs.lemmas.Grind.{flat_map-append}
-use Rattle.std.proofs.lemmas.List.{append-nil, map-append}
 use Rattle.rb_base.specs.Counting.{count_if}
 use Rattle.rb_base.specs.Nodes.{Side}
 use Rattle.rb_base.specs.Nodes.Side.{Biu, Rmu}
@@ -15,10 +14,10 @@ use Rattle.rb_rules.specs.Book.{Each, in_order}
 use Rattle.rb_rules.specs.Hearing.{Coming}
 use Rattle.rb_rules.specs.WorldStep.{Site, least, times_of}
 use Rattle.rb_queue.specs.declared.pending.Pending.{Pending}
-use Rattle.rb_queue.specs.Waiting.{Held, comes, coming_at, head_of, ready_from, ready_of, source_of}
+use Rattle.rb_queue.specs.Waiting.{Held, comes, coming_at, head_of, ready_from, source_of}
 use Rattle.rb_queue.specs.Waiting.{ready_at as ready_in, unless_any as unless_some, arrivals_at as arrivals_of, ticks_at as ticks_of}
 use Rattle.rb_queue.proofs.Sources.{arrivals_are, from_on, from_on-skip, from_on-zero, length-coming_at}
-use Rattle.rb_agenda.specs.Agenda.{due_in, key_of, least_key}
+use Rattle.rb_agenda.specs.Agenda.{key_of, least_key}
 use Rattle.rb_agenda.specs.Holding.{HoldsAll, HoldsSite, HoldsSites, arrivals_in, coming_with, tick_with, ticks_in}
 
 -- The sooner of two times, each of which may be missing.
@@ -58,7 +57,7 @@ least-append (x ∷ xs) ys =
 -- One lane.
 one_time : (time : ℕ) (ticks : List ℕ) (arrivals : List Coming) (k : EventKind)
     → sooner (Some time) (sooner (least ticks) (least (map (λ c. c.time) arrivals)))
-        ≡ sooner (least (cons_option (tick_with time k) ticks)) (least (map (λ c. c.time) (cons_option (coming_with time k) arrivals)))
+    ≡ sooner (least (cons_option (tick_with time k) ticks)) (least (map (λ c. c.time) (cons_option (coming_with time k) arrivals)))
 one_time time ticks arrivals (kind.Arrive from bytes) =
     sooner-swap (Some time) (least ticks) (least (map (λ c. c.time) arrivals)) ∙ ap (sooner (least ticks)) (sym (least-cons time (map (λ c. c.time) arrivals)))
 one_time time ticks arrivals (kind.Tick word wanted) =
@@ -171,9 +170,10 @@ AreLow o (l ∷ ls) = IsLow o (head_of l) × AreLow o ls
 
 pub all-low : (o : Option ℕ) (ls : List Held) → IsLow o (first_head ls) → AreLow o ls
 all-low o [] h = tt
-all-low o (l ∷ ls) h =
-    (low-low o (sooner (head_of l) (first_head ls)) (head_of l) h (low-left (head_of l) (first_head ls)),
-    all-low o ls (low-low o (sooner (head_of l) (first_head ls)) (first_head ls) h (low-right (head_of l) (first_head ls))))
+all-low o (l ∷ ls) h = (
+  low-low o (sooner (head_of l) (first_head ls)) (head_of l) h (low-left (head_of l) (first_head ls)),
+  all-low o ls (low-low o (sooner (head_of l) (first_head ls)) (first_head ls) h (low-right (head_of l) (first_head ls))),
+)
 
 pub low-itself : (o : Option ℕ) → IsLow o o
 low-itself None = tt

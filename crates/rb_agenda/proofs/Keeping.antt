@@ -1,25 +1,20 @@
 -- How the least times are kept beside the lanes.
-use Rattle.std.proofs.Common.{◌≡◌, ℕ, zero, suc, ◌+◌, ◌-◌, ◌<◌, ◌≤◌, ◌==◌, min, nat_lt, Bool, true, false, Option, Some, None, List, [], ◌∷◌, ◌++◌, All, length, map, take, get_or, slice_get, if◌then◌else◌, refl, sym, ap, ◌∙◌, subst, arith, length-append, inl, inr}
-use Rattle.std.specs.Prelude.{option_map, unwrap_or, slice_set}
+use Rattle.std.proofs.Common.{◌≡◌, ℕ, zero, suc, ◌+◌, ◌-◌, ◌<◌, ◌≤◌, nat_lt, Bool, true, false, Option, Some, None, List, [], ◌∷◌, ◌++◌, All, length, map, slice_get, if◌then◌else◌, refl, sym, ap, ◌∙◌, subst, arith, length-append}
+use Rattle.std.specs.Prelude.{unwrap_or, slice_set}
 use Rattle.std.proofs.Math.ListN.{replicate}
-use Rattle.std.proofs.Math.Seq.{take-append-add}
-use Rattle.std.proofs.lemmas.Bool.{cases_lt}
 use Rattle.std.proofs.lemmas.Bool.Decides.{nat_tests}
-use Rattle.std.proofs.lemmas.List.{length-map, length-set, map-append, map-set, set-append_left, set-append_right, get_or-map, take_more}
-use Rattle.std.proofs.lemmas.List.Elements.{All-append, All-cons, All-nil, All-replicate, All-set, All-head, All-tail}
+use Rattle.std.proofs.lemmas.List.{length-map, length-set, map-append, map-set, set-append_left, set-append_right}
+use Rattle.std.proofs.lemmas.List.Elements.{All-cons, All-nil, All-replicate, All-set, All-head, All-tail}
 use Rattle.std.proofs.lemmas.List.FromFn.{length-range_with_len}
-use Rattle.std.proofs.lemmas.Option.{slice_get-get_or}
 use Rattle.rb_base.specs.Counting.{numbers}
-use Rattle.rb_base.specs.Nodes.{Side}
 use Rattle.rb_base.specs.Sizes.{IsShape, Sizes}
 use Rattle.rb_base.specs.declared.node.NodeName.{NodeName}
 use Rattle.rb_base.specs.declared.node.NodeName.TheVariants as node
 use Rattle.rb_rules.specs.Book.{Each, each_of, in_order}
 use Rattle.rb_queue.specs.declared.pending.Pending.{Pending}
 use Rattle.rb_queue.specs.Waiting.{HasLane, Held, empty_lane, head_of, lane_of, ready_of, with_lane, without_found, without_ready}
-use Rattle.rb_agenda.specs.Agenda.{AreKept, due_count, due_in, key_of, least_key, node_at, position_of}
+use Rattle.rb_agenda.specs.Agenda.{AreKept, key_of, node_at, position_of}
 use Rattle.rb_agenda.proofs.Heads.{AreTimes, IsTime}
-use Rattle.rb_agenda.proofs.Which.{has-item}
 
 -- A lane changes.
 get-set : {X : Type 0} (xs : List X) (i : ℕ) (x : X) → i < length xs → slice_get (slice_set xs i x) i ≡ Some x
@@ -98,11 +93,13 @@ lane-at lanes bius position split h = go (nat_lt position bius) refl
     left [] ys i h = absurd (omega arith)
     left (x ∷ xs) ys zero h = refl
     left (x ∷ xs) ys (suc i) h = left xs ys i (omega arith)
+
     right : (xs ys : List Held) (i : ℕ) → i < length ys → slice_get (xs ++ ys) (length xs + i) ≡ Some (unwrap_or (slice_get ys i) (empty_lane 0))
     right [] [] i h = absurd (omega arith)
     right [] (y ∷ ys) zero h = refl
     right [] (y ∷ ys) (suc i) h = let e : 0 + suc i ≡ suc (0 + i) = omega arith in ap (slice_get (y ∷ ys)) e ∙ right [] ys i (omega arith)
     right (x ∷ xs) ys i h = let e : length (x ∷ xs) + i ≡ suc (length xs + i) = omega arith in ap (slice_get (x ∷ (xs ++ ys))) e ∙ right xs ys i h
+
     go : (b : Bool) → nat_lt position bius ≡ b
         → HasLane lanes (if b then node.Biu position else node.Rmu (position - bius)) × (slice_get (in_order lanes) position ≡ Some (lane_of lanes (if b then node.Biu position else node.Rmu (position - bius))))
     go true e =
@@ -124,13 +121,16 @@ room-of lanes keys bius name kept h = go name h
     at [] i all h = absurd (omega arith)
     at (x ∷ xs) zero all h = All-head (λ l. l.room ≤ 65536) x xs all
     at (x ∷ xs) (suc i) all h = at xs i (All-tail (λ l. l.room ≤ 65536) x xs all) (omega arith)
+
     front : (xs ys : List Held) → All (λ l. l.room ≤ 65536) (xs ++ ys) → All (λ l. l.room ≤ 65536) ys
     front [] ys all = all
     front (x ∷ xs) ys all = front xs ys (All-tail (λ l. l.room ≤ 65536) x (xs ++ ys) all)
+
     back : (xs ys : List Held) (i : ℕ) → All (λ l. l.room ≤ 65536) (xs ++ ys) → i < length xs → (unwrap_or (slice_get xs i) (empty_lane 0)).room ≤ 65536
     back [] ys i all h = absurd (omega arith)
     back (x ∷ xs) ys zero all h = All-head (λ l. l.room ≤ 65536) x (xs ++ ys) all
     back (x ∷ xs) ys (suc i) all h = back xs ys i (All-tail (λ l. l.room ≤ 65536) x (xs ++ ys) all) (omega arith)
+
     go : (name : NodeName) → HasLane lanes name → (lane_of lanes name).room ≤ 65536
     go (node.Biu i) h = back lanes.bius lanes.rmus i kept.short h
     go (node.Rmu i) h = at lanes.rmus i (front lanes.bius lanes.rmus kept.short) h
@@ -142,6 +142,7 @@ times-of ls keys is all = go ls (subst (All (λ k. k ≤ 18446744073709551615)) 
     one : (o : Option ℕ) → unwrap_or o 18446744073709551615 ≤ 18446744073709551615 → IsTime o
     one None h = tt
     one (Some t) h = h
+
     go : (ls : List Held) → All (λ k. k ≤ 18446744073709551615) (map key_of ls) → AreTimes ls
     go [] all = tt
     go (l ∷ ls) all =

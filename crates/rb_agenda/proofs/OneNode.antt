@@ -44,7 +44,7 @@ not_a_tick j b h = grind (arith, nat_tests)
 one_arrival : (me : Side) (i t j place time n : ℕ) (ahead : Option Timed) (events : List Pending) (more : List Due) (rest : List Coming) (k : EventKind)
     → j < 256 → length (arrivals_in (take place events)) ≡ n → more ≡ map (arrival_due me i) (filter (is_then t j) (enumerate_from (n + one_of time k) rest))
     → cond ((source_of k == j) && (time == t)) (record { side = me; node = i; pending = waits_with events ahead place time k } ∷ more) more
-        ≡ map (arrival_due me i) (filter (is_then t j) (enumerate_from n (cons_option (coming_with time k) rest)))
+    ≡ map (arrival_due me i) (filter (is_then t j) (enumerate_from n (cons_option (coming_with time k) rest)))
 one_arrival me i t j place time n ahead events more rest (kind.Arrive from bytes) h before same =
     let c : Coming = record { time = time; from = from; bytes = bytes.items } in
     let b : Bool = (from == j) && (time == t) in
@@ -77,6 +77,7 @@ arrivals_from me i t j s whole h (x ∷ events) k n before =
         let a : k + 0 ≡ k = omega arith in
         let b : n + 0 ≡ n = omega arith in
         ap (λ k. length (arrivals_in (take k whole))) (sym a) ∙ e ∙ b
+
     next : (m : ℕ) → length (arrivals_in (take (k + suc m) whole)) ≡ n + length (arrivals_in (take (suc m) (x ∷ events)))
         → length (arrivals_in (take (k + 1 + m) whole)) ≡ n + one_of x.time x.event.kind + length (arrivals_in (take m events))
     next m e =
@@ -143,7 +144,7 @@ one_tick : (me : Side) (i t place time top : ℕ) (ahead : Option Timed) (events
     → top ≤ 256 → All (λ c. c.from < top) (cons_option (coming_with time k) later)
     → (All (λ c. c.from < top) later → more ≡ map (λ _. record { side = me; node = i; pending = Tick (unwrap_or (option_map (λ a. a.tick) ahead) 0) }) (filter (λ u. u == t) rest))
     → cond ((source_of k == 256) && (time == t)) (record { side = me; node = i; pending = waits_with events ahead place time k } ∷ more) more
-        ≡ map (λ _. record { side = me; node = i; pending = Tick (unwrap_or (option_map (λ a. a.tick) ahead) 0) }) (filter (λ u. u == t) (cons_option (tick_with time k) rest))
+    ≡ map (λ _. record { side = me; node = i; pending = Tick (unwrap_or (option_map (λ a. a.tick) ahead) 0) }) (filter (λ u. u == t) (cons_option (tick_with time k) rest))
 one_tick me i t place time top ahead events more rest later (kind.Arrive from bytes) h all others =
     let c : Coming = record { time = time; from = from; bytes = bytes.items } in
     let small : from < top = All-head (λ c. c.from < top) c later all in
@@ -156,7 +157,7 @@ one_tick me i t place time top ahead events more rest later (kind.Tick word want
 
 ticks_from : (me : Side) (i t top : ℕ) (s : Site) (whole : List Pending) → top ≤ 256 → (events : List Pending) (k : ℕ) → All (λ c. c.from < top) (arrivals_in events)
     → map (due_with me i whole s) (filter (λ c. comes t 256 c.1) (enumerate_from k events))
-        ≡ map (λ _. record { side = me; node = i; pending = Tick (unwrap_or (option_map (λ a. a.tick) s.ahead) 0) }) (filter (λ u. u == t) (ticks_in events))
+    ≡ map (λ _. record { side = me; node = i; pending = Tick (unwrap_or (option_map (λ a. a.tick) s.ahead) 0) }) (filter (λ u. u == t) (ticks_in events))
 ticks_from me i t top s whole h [] k all = refl
 ticks_from me i t top s whole h (x ∷ events) k all =
     let more : List (ℕ × Pending) = filter (λ c. comes t 256 c.1) (enumerate_from (k + 1) events) in

@@ -1,7 +1,7 @@
 -- A ready event stands at its place, and is taken out there.
-use Rattle.std.proofs.Common.{◌≡◌, ℕ, zero, suc, ◌+◌, ◌-◌, ◌<◌, ◌≤◌, Bool, true, false, cond, Option, Some, None, List, [], ◌∷◌, ◌++◌, All, length, map, filter, take, drop, remove, slice_get, refl, sym, ap, ◌∙◌, subst, arith, length-append}
+use Rattle.std.proofs.Common.{◌≡◌, ℕ, zero, suc, ◌+◌, ◌<◌, Bool, true, false, cond, Option, Some, None, List, [], ◌∷◌, ◌++◌, All, length, filter, take, drop, remove, slice_get, refl, sym, ap, ◌∙◌, subst, arith, length-append}
 use Rattle.std.specs.Prelude.{option_map, option_to_list, unwrap_or}
-use Rattle.std.specs.List.{cons_option, enumerate_from, filter_map, flat_map, range_with_len}
+use Rattle.std.specs.List.{cons_option, enumerate_from}
 use Rattle.std.proofs.lemmas.List.Elements.{All-cons, All-head, All-tail, filter_map-append}
 use Rattle.rb_base.specs.Nodes.{Side, other}
 use Rattle.rb_base.specs.Sizes.{Sizes}
@@ -9,10 +9,10 @@ use Rattle.rb_base.specs.declared.event.EventKind.{EventKind}
 use Rattle.rb_base.specs.declared.event.EventKind.TheVariants as kind
 use Rattle.rb_rules.specs.Hearing.{Coming}
 use Rattle.rb_rules.specs.Slots.{count_of}
-use Rattle.rb_rules.specs.WorldStep.{Site, Timed}
+use Rattle.rb_rules.specs.WorldStep.{Site}
 use Rattle.rb_queue.specs.declared.pending.Pending.{Pending}
 use Rattle.rb_queue.specs.Waiting.{Held, comes, coming_at, head_of, ready_from, ready_of, without_found, without_ready}
-use Rattle.rb_queue.specs.Waiting.{ready_at as ready_in, unless_any as unless_some, arrivals_at as arrivals_of, ticks_at as ticks_of}
+use Rattle.rb_queue.specs.Waiting.{unless_any as unless_some, arrivals_at as arrivals_of, ticks_at as ticks_of}
 use Rattle.rb_queue.proofs.Sources.{arrivals_are, from_on, from_on-suc, from_on-zero}
 use Rattle.rb_agenda.specs.Holding.{HoldsSite, arrivals_in, coming_with, tick_with, ticks_in, waits_with, without_waiting}
 
@@ -43,8 +43,10 @@ at-filter q events (x ∷ suffix) k same = pick (q (k, x)) (at-filter q events s
   where
     next : (m : ℕ) → slice_get events (k + 1 + m) ≡ slice_get suffix m
     next m = let e : k + 1 + m ≡ k + suc m = omega arith in ap (slice_get events) e ∙ same (suc m)
+
     here : slice_get events k ≡ Some x
     here = let e : k ≡ k + 0 = omega arith in ap (slice_get events) e ∙ same 0
+
     pick : (b : Bool) → AreAt events (filter q (enumerate_from (k + 1) suffix)) → AreAt events (cond b ((k, x) ∷ filter q (enumerate_from (k + 1) suffix)) (filter q (enumerate_from (k + 1) suffix)))
     pick true more = at-cons events (k, x) (filter q (enumerate_from (k + 1) suffix)) here more
     pick false more = more

@@ -1,7 +1,6 @@
 -- A due event is taken.
-use Rattle.std.proofs.Common.{◌≡◌, ℕ, ◌≤◌, Option, Some, None, List, slice_get, refl, sym, ap, ◌∙◌, subst}
+use Rattle.std.proofs.Common.{◌≡◌, ℕ, Option, Some, List, slice_get, refl, sym, ap, ◌∙◌, subst}
 use Rattle.std.specs.Prelude.{option_map, unwrap_or}
-use Rattle.rb_base.specs.Nodes.{Side}
 use Rattle.rb_base.specs.declared.event.Event.{Event}
 use Rattle.rb_base.specs.declared.event.EventKind.{EventKind}
 use Rattle.rb_base.specs.declared.event.EventKind.TheVariants as kind
@@ -9,10 +8,10 @@ use Rattle.rb_base.specs.declared.node.NodeName.{NodeName}
 use Rattle.rb_rules.specs.Book.{Each, in_order, of_kind}
 use Rattle.rb_rules.specs.Goodness.{Scenario}
 use Rattle.rb_rules.specs.Links.{name_of}
-use Rattle.rb_rules.specs.WorldStep.{Due, Pending as Waits, Site, Timed, World, at_node}
+use Rattle.rb_rules.specs.WorldStep.{Pending as Waits, Site, Timed, World, at_node}
 use Rattle.rb_queue.specs.declared.pending.Pending.{Pending}
-use Rattle.rb_queue.specs.Waiting.{HasLane, Held, lane_of, ready_event, ready_of, with_lane, without_ready}
-use Rattle.rb_agenda.specs.Agenda.{IsDue, StandsAt, TakesDue, first_time}
+use Rattle.rb_queue.specs.Waiting.{HasLane, Held, lane_of, ready_event, with_lane, without_ready}
+use Rattle.rb_agenda.specs.Agenda.{StandsAt, TakesDue, first_time}
 use Rattle.rb_agenda.specs.Holding.{HoldsSite, HoldsSites, Shows, due_with, waits_with, without_waiting}
 use Rattle.rb_agenda.proofs.Changes.{holds-at}
 use Rattle.rb_agenda.proofs.Heads.{AreTimes}
@@ -38,7 +37,7 @@ takes-due sc w lanes new i event name place holds times at shown after =
     let lane : lane_of lanes (name_of d.side d.number) ≡ l = ap (lane_of lanes) (sym d.named) in
     let change : Site → Site = without_waiting waits in
     let step : (s : Site) → slice_get (of_kind d.side w.sites) d.number ≡ Some s → HoldsSite sc.sizes d.side (lane_of lanes (name_of d.side d.number)) s
-        → HoldsSite sc.sizes d.side (without_ready place l) (change s) =
+    → HoldsSite sc.sizes d.side (without_ready place l) (change s) =
     λ s e h.
     let same : d.site ≡ s = some-same d.site s (sym d.there ∙ e) in
     subst (λ x. HoldsSite sc.sizes d.side (without_ready place l) (change x)) same

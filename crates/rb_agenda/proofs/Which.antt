@@ -1,7 +1,6 @@
 -- Which event is the i-th that is due.
-use Rattle.std.proofs.Common.{◌≡◌, ℕ, zero, suc, ◌+◌, ◌-◌, ◌<◌, ◌≤◌, ◌==◌, nat_lt, Bool, true, false, Option, Some, None, List, [], ◌∷◌, ◌++◌, length, map, take, slice_get, if◌then◌else◌, refl, sym, ap, ◌∙◌, subst, arith, length-append, inl, inr}
+use Rattle.std.proofs.Common.{◌≡◌, ℕ, zero, suc, ◌+◌, ◌-◌, ◌<◌, ◌≤◌, ◌==◌, nat_lt, Bool, true, false, Option, Some, None, List, [], ◌∷◌, ◌++◌, length, map, take, slice_get, if◌then◌else◌, refl, sym, ap, ◌∙◌, subst, arith, length-append}
 use Rattle.std.specs.Prelude.{option_map, unwrap_or}
-use Rattle.std.proofs.lemmas.Bool.{cases_lt}
 use Rattle.std.proofs.lemmas.Bool.Decides.{nat_tests}
 use Rattle.std.proofs.Math.Seq.{take-append-add}
 use Rattle.std.proofs.lemmas.List.{length-map, take-append-le}
@@ -11,15 +10,13 @@ use Rattle.rb_base.specs.Nodes.Side.{Biu, Rmu}
 use Rattle.rb_base.specs.Sizes.{Sizes}
 use Rattle.rb_base.specs.declared.node.NodeName.{NodeName}
 use Rattle.rb_base.specs.declared.node.NodeName.TheVariants as node
-use Rattle.rb_base.proofs.Sets.{lt_false, lt_true}
-use Rattle.rb_rules.specs.Book.{Each, in_order, of_kind}
+use Rattle.rb_rules.specs.Book.{Each, in_order}
 use Rattle.rb_rules.specs.Goodness.{Scenario}
-use Rattle.rb_rules.specs.Links.{name_of}
 use Rattle.rb_rules.specs.WorldStep.{Due, Site, World}
 use Rattle.rb_queue.specs.declared.pending.Pending.{Pending}
-use Rattle.rb_queue.specs.Waiting.{HasLane, Held, empty_lane, lane_of, ready_of}
+use Rattle.rb_queue.specs.Waiting.{Held, empty_lane, lane_of, ready_of}
 use Rattle.rb_queue.proofs.Sources.{get-left, get-right, is_within}
-use Rattle.rb_agenda.specs.Agenda.{IsDue, StandsAt, due_count, due_in, due_now, first_time, key_of, node_at}
+use Rattle.rb_agenda.specs.Agenda.{IsDue, StandsAt, due_count, due_in, first_time, key_of}
 use Rattle.rb_agenda.specs.Holding.{HoldsAll, HoldsSites, due_with}
 use Rattle.rb_agenda.proofs.Dues.{count-append, due-lanes, dues_from, length-dues}
 use Rattle.rb_agenda.proofs.Heads.{AreTimes}

@@ -3,5 +3,7 @@
 
 pub mod agenda;
 mod scan;
+#[cfg(test)]
+mod tests;
 
 pub use agenda::Agenda;

@@ -57,11 +57,7 @@ fn due_in(lanes: &Lanes, node: NodeName, key: u64, time: u64) -> usize
     ensures value { result ≡ length (due_in time (lane_of lanes.now node)) }
     ensures few { result ≤ 65536 }
 {
-    if key == time {
-        lanes.ready(node)
-    } else {
-        0
-    }
+    if key == time { lanes.ready(node) } else { 0 }
 }
 
 // How many events are due at a time.

@@ -1,8 +1,7 @@
-use Rattle.std.proofs.Common.{◌≡◌, ◌<◌, ◌≤◌, ◌*◌, get_or, length, arith, subst, sym, ap, refl, ◌∙◌}
-use Rattle.rb_base.specs.declared.node.NodeName.{NodeName}
+use Rattle.std.proofs.Common.{◌≡◌, ◌≤◌, get_or, length, arith, subst, sym, ap, refl, ◌∙◌}
 use Rattle.rb_queue.specs.Waiting.{HasLane, lane_of}
 use Rattle.rb_agenda.specs.Agenda.{due_in, key_of}
-use Rattle.rb_agenda.proofs.Scans.{count-all, count-more, is-here, many-keys}
+use Rattle.rb_agenda.proofs.Scans.{count-all, count-more, is-here}
 use Rattle.rb_agenda.proofs.scan.due_count.Goals as goal
 use Rattle.rb_agenda.specs.Agenda.{due_count}
 

@@ -1,5 +1,4 @@
-use Rattle.std.proofs.Common.{◌≡◌, ◌<◌, ◌≤◌, get_or, length, arith, subst, sym, ap, refl, ◌∙◌}
-use Rattle.rb_base.specs.declared.node.NodeName.{NodeName}
+use Rattle.std.proofs.Common.{◌≡◌, ◌≤◌, get_or, length, arith, subst, sym, ap, ◌∙◌}
 use Rattle.rb_queue.specs.Waiting.{HasLane, lane_of}
 use Rattle.rb_agenda.specs.Agenda.{StandsAt, due_in, key_of}
 use Rattle.rb_agenda.proofs.Scans.{count-all, count-more, is-here, stands-here}

@@ -1,4 +1,4 @@
-use Rattle.std.proofs.Common.{◌≡◌, ◌+◌, ap, ◌∙◌}
+use Rattle.std.proofs.Common.{◌+◌, ap, ◌∙◌}
 use Rattle.rb_agenda.proofs.Keeping.{kept-empty}
 use Rattle.rb_agenda.proofs.agenda.Agenda.new.Goals as goal
 

@@ -1,6 +1,6 @@
 use Rattle.std.proofs.Common.{sym, subst}
 use Rattle.rb_queue.specs.Waiting.{HasLane, lane_of, with_event}
-use Rattle.rb_agenda.proofs.Keeping.{has-key, kept-with, room-of}
+use Rattle.rb_agenda.proofs.Keeping.{kept-with, room-of}
 use Rattle.rb_agenda.proofs.agenda.Agenda.push.Goals as goal
 
 pub invariant_of-self : goal.invariant_of-self
