@@ -14,9 +14,9 @@ ghost use Rattle.rb_agenda.specs.Holding.{HoldsSites};
 ghost use Rattle.rb_traffic.specs.Arriving.{AreRunning, HaveRoom, arriving, coming_to, lanes_with, number_of};
 ghost use Rattle.rb_traffic.specs.Departing.{IsOfScenario, with_departure, with_sent};
 
-use arrayvec::ArrayVec;
+use crate::arriving::{arrive, number_of, receiver};
 use rb_agenda::Agenda;
-use rb_base::{Event, EventKind, NodeName, NodeSet, Place, Rmu};
+use rb_base::{NodeName, NodeSet, Place, Rmu};
 use rb_clock::Clock;
 use rb_frame::encode;
 use rb_link::Delays;
@@ -29,57 +29,6 @@ pub struct Departure {
     pub frame: u32,
     pub tick: u64,
     pub message: Message,
-}
-
-// The node of the other kind with this number.
-fn receiver(from: NodeName, i: u8) -> NodeName
-    ensures { result ≡ name_of (other (kind_of from)) i }
-{
-    match from {
-        NodeName::Biu(_) => NodeName::Rmu(i),
-        NodeName::Rmu(_) => NodeName::Biu(i),
-    }
-}
-
-fn number_of(node: NodeName) -> u8
-    ensures { result ≡ number_of node }
-{
-    match node {
-        NodeName::Biu(i) => i,
-        NodeName::Rmu(i) => i,
-    }
-}
-
-// The bytes with room for as many as an arrival may have.
-fn copied(bytes: &[u8]) -> ArrayVec<u8, 32>
-    requires { length bytes.now ≤ 32 }
-    ensures { result.items ≡ bytes.now }
-{
-    let mut copy = ArrayVec::new();
-    let _ = copy.try_extend_from_slice(bytes);
-    copy
-}
-
-// What comes to a node at a time is put into its lane.
-pub(crate) fn arrive(agenda: &mut Agenda, node: NodeName, time: u64, from: u8, bytes: &[u8])
-    requires in_shape { HasLane agenda.old node }
-    requires spare { 1 ≤ spare_of (lane_of agenda.old node) }
-    requires few { length bytes.now ≤ 32 }
-    ensures { agenda.new
-        ≡ with_lane node (with_event (arriving node (record { time = time; from = from; bytes = bytes.now })) (lane_of agenda.old node)) agenda.old }
-{
-    let kind = EventKind::Arrive {
-        from,
-        bytes: copied(bytes),
-    };
-    agenda.push(
-        time,
-        Event {
-            node,
-            quiet: 0,
-            kind,
-        },
-    );
 }
 
 // Whether node i is in the set.
