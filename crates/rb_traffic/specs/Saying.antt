@@ -2,9 +2,9 @@
 use Rattle.std.specs.Prelude.{◌≡◌, ℕ, ◌+◌, ◌-◌, ◌<◌, ◌&&◌, not, nat_le, Bool, Option, Some, None, List, [], ◌∷◌, ◌++◌, cond, filter, filter_map, flat_map, length, map, slice_get, unwrap_or}
 use Rattle.rb_base.specs.Counting.{numbers}
 use Rattle.rb_base.specs.Nodes.{Side, other}
+use Rattle.rb_base.specs.Nodes.Side.{Biu, Rmu}
 use Rattle.rb_base.specs.Sizes.{Sizes}
 use Rattle.rb_base.specs.declared.node.NodeName.{NodeName}
-use Rattle.rb_base.specs.declared.node.NodeName.TheVariants as node
 use Rattle.rb_base.specs.declared.values.Place.{Place}
 use Rattle.rb_rules.specs.declared.message.Version.{Version}
 use Rattle.rb_rules.specs.declared.say.Say.{Say}
@@ -55,22 +55,22 @@ pub record AreFor (says : List Say) (to : NodeName) (senders : ℕ) (places : Li
   pub entries : entries_at says places ≡ entries_to to senders says
   pub many : length places ≡ length (entries_to to senders says)
 
--- the list of a node, where there is one for each node of a kind
-abbrev pub list_of : List (List ℕ) → List (List ℕ) → NodeName → List ℕ
-list_of bius rmus (node.Biu i) = unwrap_or (slice_get bius i) []
-list_of bius rmus (node.Rmu i) = unwrap_or (slice_get rmus i) []
-
 -- there is a list for each node of a kind, with the numbers of the entries for it
 pub record AreOfKind (says : List Say) (side : Side) (count senders : ℕ) (lists : List (List ℕ)) : Type 0 where
   pub many : length lists ≡ count
   pub each : (i : ℕ) → i < count → AreFor says (name_of side i) senders (unwrap_or (slice_get lists i) [])
 
+-- so for both kinds
+pub record AreIndexed (sizes : Sizes) (says : List Say) (bius rmus : List (List ℕ)) : Type 0 where
+  pub to_bius : AreOfKind says Biu sizes.bius sizes.rmus bius
+  pub to_rmus : AreOfKind says Rmu sizes.rmus sizes.bius rmus
+
 -- In a window.
 
--- the entry is said by its sender in a window: the sender is not good there, the entry is for the place, and comes inside of it
+-- the entry is said by its sender in a window: it is for the place, comes inside of the window, and the sender is not good there
 abbrev pub is_said_in : Scenario → Span → Say → Bool
 is_said_in sc span s =
-    not (is_node_good sc s.from span.place.frame span.place.slot) && (covers s.frames s.slots s.stages span.place && nat_le (span.first + s.offset) span.last)
+    covers s.frames s.slots s.stages span.place && nat_le (span.first + s.offset) span.last && not (is_node_good sc s.from span.place.frame span.place.slot)
 
 -- the entry as it comes to a node with this clock
 abbrev pub brought : Version → Timeline → Span → Say → Coming

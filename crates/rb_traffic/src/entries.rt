@@ -108,3 +108,28 @@ fn numbers_to(
     }
     Ok(Numbers { items })
 }
+
+fn add_list(lists: &mut Vec<Numbers>, list: Numbers) -> Result<(), OutOfMemory>
+    ensures { IfOk result (λ _. lists.new.items ≡ lists.old.items ++ list ∷ []) }
+{
+    lists.push(list).map_err(|_| OutOfMemory)
+}
+
+// For each of so many nodes, of the kind that this one sends to, the numbers of its entries.
+pub(crate) fn lists_for(
+    alloc: Global,
+    says: &SayList,
+    sender: NodeName,
+    count: u8,
+    senders: u8,
+) -> Result<Vec<Numbers>, OutOfMemory>
+    requires { length says.now ≤ 65536 }
+    ensures { IfOk result (λ lists. AreOfKind says.now (other (kind_of sender)) count senders lists.items) }
+{
+    let mut lists = Vec::with_capacity(alloc, usize::from(count))?;
+    for i in 0..count {
+        let list = numbers_to(alloc, says, receiver(sender, i), senders)?;
+        add_list(&mut lists, list)?;
+    }
+    Ok(lists)
+}
