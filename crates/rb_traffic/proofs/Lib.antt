@@ -1,3 +1,4 @@
 pub mod Lanes
 pub mod Sent
 pub mod EntryLists
+pub mod Says

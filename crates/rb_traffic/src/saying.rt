@@ -1,8 +1,114 @@
 //! What nodes that are not good say.
-pub struct Sayings {
-    x: u8,
+ghost use Rattle.std.specs.Prelude.{◌≡◌, ℕ, ◌+◌, ◌<◌, ◌≤◌, ◌^◌, ◌∷◌, [], IfOk, length, min};
+ghost use Rattle.rb_rules.specs.Book.{Each};
+ghost use Rattle.rb_rules.specs.Goodness.{Scenario, clock_of};
+ghost use Rattle.rb_rules.specs.Hearing.{bytes_of, message_at};
+ghost use Rattle.rb_rules.specs.Lawful.{IsNodeOf, kind_of};
+ghost use Rattle.rb_rules.specs.Spelling.{IsZeroUnlessWord, spelling_of};
+ghost use Rattle.rb_rules.specs.WorldStep.{Site, at_node, says_in};
+ghost use Rattle.rb_queue.specs.Waiting.{HasLane, lane_of, spare_of, with_event, with_lane};
+ghost use Rattle.rb_onset.specs.Faults.{faults_of};
+ghost use Rattle.rb_agenda.specs.Holding.{HoldsSites};
+ghost use Rattle.rb_traffic.specs.Arriving.{arriving, number_of};
+ghost use Rattle.rb_traffic.specs.Saying.{AreFor, all_brought, entries_at, hears, is_said_in, kept_of, most_to, senders_to, with_arrivals};
+ghost use Rattle.rb_traffic.specs.Spans.{span_of};
+
+use crate::arriving::{arrive, number_of};
+use crate::entries::{Numbers, covers, lists_for};
+use arrayvec::ArrayVec;
+use rb_agenda::Agenda;
+use rb_base::{NodeName, OutOfMemory, Place, Shape};
+use rb_clock::Clock;
+use rb_frame::encode;
+use rb_onset::Onsets;
+use rb_rules::{Content, Message, Say, Tag, Version};
+use rb_scenario::SayList;
+use std::alloc::Global;
+use std::marker::Model;
+
+/// A window as a node goes through it: its place, and its first and last tick.
+#[derive(Clone, Copy, Debug, PartialEq, Eq)]
+pub struct Span {
+    pub place: Place,
+    pub first: u64,
+    pub last: u64,
 }
 
-pub struct Span {
-    x: u8,
+/// What nodes that are not good say, by receiver.
+#[derive(Drop)]
+pub struct Sayings {
+    onsets: Onsets,
+    version: Version,
+    says: SayList,
+    to_bius: Vec<Numbers>,
+    to_rmus: Vec<Numbers>,
+}
+
+impl Model for Sayings {
+    ghost use Rattle.rb_traffic.specs.Saying.{AreIndexed, Kept};
+
+    ghost Value = { Kept };
+
+    ghost view = { λ s. record { faults = s.onsets; version = s.version; says = s.says } };
+
+    ghost invariant = { λ s. AreIndexed s.onsets.sizes s.says s.to_bius.items s.to_rmus.items };
+}
+
+// A message with the header of a place, as bytes. The tail has no stage of its own in messages.
+fn spelled(version: Version, place: Place, tag: Tag, value: u32) -> ArrayVec<u8, 12>
+    requires stage { 1 ≤ place.stage }
+    requires value { IsZeroUnlessWord tag value }
+    ensures { result.items ≡ spelling_of version (message_at place tag value) }
+{
+    let message = Message {
+        tag,
+        frame: (place.frame % 65536) as u16,
+        slot: place.slot,
+        stage: place.stage.min(3),
+        value,
+    };
+    encode(version, &message)
+}
+
+// What an entry says in a window of this place comes to a node at a time.
+fn bring(
+    agenda: &mut Agenda,
+    to: NodeName,
+    time: u64,
+    from: u8,
+    version: Version,
+    place: Place,
+    content: &Content,
+)
+    requires lane { HasLane agenda.old to }
+    requires spare { 1 ≤ spare_of (lane_of agenda.old to) }
+    requires stage { 1 ≤ place.stage }
+    ensures { agenda.new
+        ≡ with_lane to (with_event (arriving to (record { time = time; from = from; bytes = bytes_of version place content.now })) (lane_of agenda.old to)) agenda.old }
+{
+    match content {
+        Content::Word(word) => {
+            let bytes = spelled(version, place, Tag::Word, *word);
+            arrive(agenda, to, time, from, &bytes)
+        }
+        Content::Fault => {
+            let bytes = spelled(version, place, Tag::Fault, 0);
+            arrive(agenda, to, time, from, &bytes)
+        }
+        Content::Sync => {
+            let bytes = spelled(version, place, Tag::Sync, 0);
+            arrive(agenda, to, time, from, &bytes)
+        }
+        Content::Raw(bytes) => arrive(agenda, to, time, from, bytes),
+    }
+}
+
+// Whether the entry is said by its sender in a window.
+fn is_said_in(onsets: &Onsets, span: &Span, say: &Say) -> bool
+    requires { span.now.first ≤ 2 ^ 31 }
+    ensures { (sc : Scenario) → onsets.now ≡ faults_of sc → result ≡ is_said_in sc (span_of span.now) say.now }
+{
+    covers(say, span.place)
+        && span.first + u64::from(say.offset) <= span.last
+        && !onsets.is_good(say.from, span.place.frame, span.place.slot)
 }
