@@ -2,3 +2,4 @@ pub mod Lanes
 pub mod Sent
 pub mod EntryLists
 pub mod Says
+pub mod Arrivals

@@ -1,5 +1,5 @@
 //! What nodes that are not good say.
-ghost use Rattle.std.specs.Prelude.{◌≡◌, ℕ, ◌+◌, ◌<◌, ◌≤◌, ◌^◌, ◌∷◌, [], IfOk, length, min};
+ghost use Rattle.std.specs.Prelude.{◌≡◌, ℕ, ◌+◌, ◌<◌, ◌≤◌, ◌^◌, ◌∷◌, [], IfOk, IsTrue, length, min, take};
 ghost use Rattle.rb_rules.specs.Book.{Each};
 ghost use Rattle.rb_rules.specs.Goodness.{Scenario, clock_of};
 ghost use Rattle.rb_rules.specs.Hearing.{bytes_of, message_at};
@@ -106,9 +106,73 @@ fn bring(
 // Whether the entry is said by its sender in a window.
 fn is_said_in(onsets: &Onsets, span: &Span, say: &Say) -> bool
     requires { span.now.first ≤ 2 ^ 31 }
-    ensures { (sc : Scenario) → onsets.now ≡ faults_of sc → result ≡ is_said_in sc (span_of span.now) say.now }
+    ensures value { (sc : Scenario) → onsets.now ≡ faults_of sc → result ≡ is_said_in sc (span_of span.now) say.now }
+    ensures inside { IsTrue result → span.now.first + say.now.offset ≤ span.now.last }
 {
     covers(say, span.place)
         && span.first + u64::from(say.offset) <= span.last
         && !onsets.is_good(say.from, span.place.frame, span.place.slot)
+}
+
+// What an entry brings to a node in a window comes to it.
+fn say_one(
+    agenda: &mut Agenda,
+    say: &Say,
+    onsets: &Onsets,
+    version: Version,
+    clock: &Clock,
+    to: NodeName,
+    span: &Span,
+)
+    requires lane { HasLane agenda.old to }
+    requires spare { 1 ≤ spare_of (lane_of agenda.old to) }
+    requires stage { 1 ≤ span.now.place.stage }
+    requires first { span.now.first ≤ 2 ^ 31 }
+    requires last { span.now.last ≤ 2 ^ 31 }
+    ensures lanes { (sc : Scenario) → onsets.now ≡ faults_of sc → version ≡ sc.plan.version
+        → agenda.new ≡ with_lane to (with_arrivals to (all_brought sc clock.now (span_of span.now) (say.now ∷ [])) (lane_of agenda.old to)) agenda.old }
+    ensures lane { HasLane agenda.new to }
+    ensures spare { spare_of (lane_of agenda.old to) ≤ spare_of (lane_of agenda.new to) + 1 }
+{
+    if is_said_in(onsets, span, say) {
+        let at = clock.at(span.first + u64::from(say.offset));
+        let time = at.saturating_sub(u64::from(say.early));
+        let from = number_of(say.from);
+        bring(agenda, to, time, from, version, span.place, &say.content);
+    }
+}
+
+// What the entries with these numbers bring.
+fn say_all(
+    agenda: &mut Agenda,
+    says: &SayList,
+    places: &[u16],
+    onsets: &Onsets,
+    version: Version,
+    clock: &Clock,
+    to: NodeName,
+    span: &Span,
+)
+    requires lane { HasLane agenda.old to }
+    requires spare { length places.now ≤ spare_of (lane_of agenda.old to) }
+    requires stage { 1 ≤ span.now.place.stage }
+    requires first { span.now.first ≤ 2 ^ 31 }
+    requires last { span.now.last ≤ 2 ^ 31 }
+    ensures { (sc : Scenario) → onsets.now ≡ faults_of sc → version ≡ sc.plan.version
+        → agenda.new ≡ with_lane to (with_arrivals to (all_brought sc clock.now (span_of span.now) (entries_at says.now places.now)) (lane_of agenda.old to)) agenda.old }
+{
+    for number in places {
+        let number = usize::from(*number);
+        if number < says.len() {
+            say_one(
+                agenda,
+                says.get(number),
+                onsets,
+                version,
+                clock,
+                to,
+                span,
+            );
+        }
+    }
 }
