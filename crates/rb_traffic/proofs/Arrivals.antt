@@ -1,9 +1,10 @@
 -- A lane with more arrivals.
-use Rattle.std.proofs.Common.{◌≡◌, ℕ, zero, suc, ◌+◌, ◌-◌, ◌<◌, ◌≤◌, Bool, true, false, cond, Option, Some, None, List, [], ◌∷◌, ◌++◌, All, filter, length, map, slice_get, refl, sym, ap, ◌∙◌, subst, arith, append_assoc, length-append}
+use Rattle.std.proofs.Common.{◌≡◌, ℕ, zero, suc, ◌+◌, ◌-◌, ◌<◌, ◌≤◌, Bool, true, false, cond, Option, Some, None, List, [], ◌∷◌, ◌++◌, All, filter, get_or, length, map, slice_get, take, refl, sym, ap, ◌∙◌, subst, arith, append_assoc, length-append}
 use Rattle.std.specs.Prelude.{unwrap_or, slice_set}
 use Rattle.std.specs.List.{cons_option, filter_map, flat_map, range_with_len}
-use Rattle.std.proofs.lemmas.List.{append-nil, map-append}
+use Rattle.std.proofs.lemmas.List.{append-nil, map-append, take_more}
 use Rattle.std.proofs.lemmas.List.Elements.{All-append, All-cons, All-nil, filter_map-append}
+use Rattle.std.proofs.lemmas.Option.{slice_get_past}
 use Rattle.rb_base.specs.Counting.{numbers}
 use Rattle.rb_base.specs.Nodes.{Side, other}
 use Rattle.rb_base.specs.Nodes.Side.{Biu, Rmu}
@@ -25,7 +26,8 @@ use Rattle.rb_agenda.specs.Holding.{HoldsSite, HoldsSites, arrivals_in, coming_w
 use Rattle.rb_agenda.proofs.Changes.{holds-at}
 use Rattle.rb_agenda.proofs.Keeping.{has-with, lane-with}
 use Rattle.rb_traffic.specs.Arriving.{arriving, number_of}
-use Rattle.rb_traffic.specs.Saying.{all_brought, brought, hears, is_said_in, with_arrivals}
+use Rattle.rb_traffic.proofs.Says.{brought-append}
+use Rattle.rb_traffic.specs.Saying.{all_brought, brought, entries_at, hears, is_said_in, with_arrivals}
 
 -- Lanes.
 set-same : (xs : List Held) (i : ℕ) (x : Held) → i < length xs → x ≡ unwrap_or (slice_get xs i) (empty_lane 0) → slice_set xs i x ≡ xs
@@ -144,3 +146,33 @@ said-holds sc lanes new sites to span holds h is =
     subst (λ x. HoldsSites sc.sizes x (at_node me i (hears sc to span) sites)) (sym (is ∙ ap (λ m. with_lane m (with_arrivals to cs (lane_of lanes to)) lanes) n))
     (holds-at sc.sizes lanes sites me i (with_arrivals to cs (lane_of lanes to)) (hears sc to span) holds (subst (HasLane lanes) n h)
     (λ s at its. holds-arrivals sc.sizes me to (lane_of lanes to) s cs (subst (λ x. HoldsSite sc.sizes me x s) lane its) (says-small sc me i span)))
+
+-- the entries with one number more
+pub entries-more : (says : List Say) (places : List ℕ) (i n : ℕ) → i < length places → n ≡ get_or places i 0
+    → entries_at says (take (i + 1) places) ≡ entries_at says (take i places) ++ cons_option (slice_get says n) []
+entries-more says places i n h is =
+    ap (entries_at says) (take_more places i 0 h) ∙ filter_map-append (slice_get says) (take i places) (get_or places i 0 ∷ [])
+    ∙ ap (λ m. entries_at says (take i places) ++ cons_option (slice_get says m) []) (sym is)
+
+-- one entry more is gone through
+pub so-far-said : (sc : Scenario) (clock : Timeline) (span : Span) (lanes now new : Each Held) (to : NodeName) (says : List Say) (places : List ℕ) (i n : ℕ) (s : Say) → HasLane lanes to
+    → i < length places → n ≡ get_or places i 0 → slice_get says n ≡ Some s
+    → now ≡ with_lane to (with_arrivals to (all_brought sc clock span (entries_at says (take i places))) (lane_of lanes to)) lanes
+    → new ≡ with_lane to (with_arrivals to (all_brought sc clock span (s ∷ [])) (lane_of now to)) now
+    → new ≡ with_lane to (with_arrivals to (all_brought sc clock span (entries_at says (take (i + 1) places))) (lane_of lanes to)) lanes
+so-far-said sc clock span lanes now new to says places i n s h within is at so_far more =
+    let before : List Say = entries_at says (take i places) in
+    let next : entries_at says (take (i + 1) places) ≡ before ++ s ∷ [] = entries-more says places i n within is ∙ ap (λ o. before ++ cons_option o []) at in
+    more ∙ with-both lanes now to (all_brought sc clock span before) (all_brought sc clock span (s ∷ [])) h so_far
+    ∙ ap (λ cs. with_lane to (with_arrivals to cs (lane_of lanes to)) lanes) (sym (brought-append sc clock span before (s ∷ [])) ∙ ap (all_brought sc clock span) (sym next))
+
+-- a number without an entry
+pub so-far-none : (sc : Scenario) (clock : Timeline) (span : Span) (lanes now : Each Held) (to : NodeName) (says : List Say) (places : List ℕ) (i n : ℕ)
+    → i < length places → n ≡ get_or places i 0 → length says ≤ n
+    → now ≡ with_lane to (with_arrivals to (all_brought sc clock span (entries_at says (take i places))) (lane_of lanes to)) lanes
+    → now ≡ with_lane to (with_arrivals to (all_brought sc clock span (entries_at says (take (i + 1) places))) (lane_of lanes to)) lanes
+so-far-none sc clock span lanes now to says places i n within is past so_far =
+    let before : List Say = entries_at says (take i places) in
+    let next : entries_at says (take (i + 1) places) ≡ before =
+    entries-more says places i n within is ∙ ap (λ o. before ++ cons_option o []) (slice_get_past says n past) ∙ append-nil before in
+    so_far ∙ ap (λ es. with_lane to (with_arrivals to (all_brought sc clock span es) (lane_of lanes to)) lanes) (sym next)

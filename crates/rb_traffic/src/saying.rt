@@ -176,3 +176,74 @@ fn say_all(
         }
     }
 }
+
+impl Sayings {
+    /// What the entries say on a bus of this shape, whose nodes have these onsets. `says` are at most 65536 entries. All memory is
+    /// taken here.
+    pub fn new(
+        alloc: Global,
+        shape: &Shape,
+        onsets: Onsets,
+        version: Version,
+        says: SayList,
+    ) -> Result<Sayings, OutOfMemory>
+        requires sizes { onsets.sizes ≡ shape.now }
+        requires few { length says ≤ 65536 }
+        ensures { IfOk result (λ s. s ≡ record { faults = onsets; version = version; says = says }) }
+    {
+        let to_bius = lists_for(alloc, &says, NodeName::Rmu(0), shape.biu(), shape.rmu())?;
+        let to_rmus = lists_for(alloc, &says, NodeName::Biu(0), shape.rmu(), shape.biu())?;
+        Ok(Sayings {
+            onsets,
+            version,
+            says,
+            to_bius,
+            to_rmus,
+        })
+    }
+
+    fn places(&self, to: NodeName) -> &[u16]
+        requires { IsNodeOf self.now.faults.sizes to }
+        ensures { AreFor self.now.says to (senders_to self.now.faults.sizes to) result.now }
+    {
+        match to {
+            NodeName::Biu(i) => &self.to_bius[usize::from(i)].items,
+            NodeName::Rmu(i) => &self.to_rmus[usize::from(i)].items,
+        }
+    }
+
+    /// How much is said to the node in a window at most: the number of entries for it.
+    pub fn most(&self, to: NodeName) -> usize
+        requires node { IsNodeOf self.now.faults.sizes to }
+        ensures value { result ≡ most_to self.now to }
+    {
+        self.places(to).len()
+    }
+
+    /// What nodes that are not good say to the node in a window comes to it: by sender, and then in the order of the entries. `clock`
+    /// is the node's. There is room for as much as is said to it in a window at most.
+    pub fn say(&self, agenda: &mut Agenda, clock: &Clock, to: NodeName, span: &Span)
+        requires node { IsNodeOf self.now.faults.sizes to }
+        requires in_shape { HasLane agenda.old to }
+        requires room { most_to self.now to ≤ spare_of (lane_of agenda.old to) }
+        requires stage { 1 ≤ span.now.place.stage }
+        requires first { span.now.first ≤ 2 ^ 31 }
+        requires last { span.now.last ≤ 2 ^ 31 }
+        ensures lanes { (sc : Scenario) → self.now ≡ kept_of sc → clock.now ≡ clock_of sc (kind_of to) (number_of to)
+            → agenda.new ≡ with_lane to (with_arrivals to (says_in sc (kind_of to) (number_of to) (span_of span.now)) (lane_of agenda.old to)) agenda.old }
+        ensures world { (sc : Scenario) → (sites : Each Site) → self.now ≡ kept_of sc → clock.now ≡ clock_of sc (kind_of to) (number_of to)
+            → HoldsSites sc.sizes agenda.old sites
+            → HoldsSites sc.sizes agenda.new (at_node (kind_of to) (number_of to) (hears sc to (span_of span.now)) sites) }
+    {
+        say_all(
+            agenda,
+            &self.says,
+            self.places(to),
+            &self.onsets,
+            self.version,
+            clock,
+            to,
+            span,
+        );
+    }
+}
