@@ -164,15 +164,7 @@ fn say_all(
     for number in places {
         let number = usize::from(*number);
         if number < says.len() {
-            say_one(
-                agenda,
-                says.get(number),
-                onsets,
-                version,
-                clock,
-                to,
-                span,
-            );
+            say_one(agenda, says.get(number), onsets, version, clock, to, span);
         }
     }
 }

@@ -1,9 +1,9 @@
-use Rattle.std.proofs.Common.{◌≡◌, ◌+◌, ◌-◌, ◌∷◌, [], cond, false, true, ap, subst, sym, ◌∙◌}
+use Rattle.std.proofs.Common.{◌≡◌, ◌+◌, ◌-◌, false, true, ap, sym, ◌∙◌}
 use Rattle.rb_queue.specs.Waiting.{lane_of, with_event, with_lane}
 use Rattle.rb_rules.specs.Clock.{time_of}
 use Rattle.rb_rules.specs.Hearing.{bytes_of}
 use Rattle.rb_traffic.specs.Arriving.{arriving}
-use Rattle.rb_traffic.specs.Saying.{brought, is_said_in, with_arrivals}
+use Rattle.rb_traffic.specs.Saying.{brought, with_arrivals}
 use Rattle.rb_traffic.specs.Spans.{span_of}
 use Rattle.rb_traffic.proofs.Arrivals.{one-brought, one-place, with-nothing}
 use Rattle.rb_traffic.proofs.saying.say_one.Goals as goal
