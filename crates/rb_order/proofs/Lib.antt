@@ -66,3 +66,4 @@ pub mod Pace
 pub mod Behind
 pub mod UpToThere
 pub mod EventsHold
+pub mod BreachTimes

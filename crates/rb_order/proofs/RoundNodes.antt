@@ -161,7 +161,7 @@ less-true : (a b : ℕ) → a < b → nat_lt a b ≡ true
 less-true a b h = grind (arith, nat_tests)
 
 -- at the end of a frame a node knows its next epoch
-epoch-known : (sizes : Sizes) (plan : Plan) (me : Side) (st : NodeState) → Knows sizes me (windows_in sizes) st → is_some (new_epoch_of plan me st) ≡ true
+pub epoch-known : (sizes : Sizes) (plan : Plan) (me : Side) (st : NodeState) → Knows sizes me (windows_in sizes) st → is_some (new_epoch_of plan me st) ≡ true
 epoch-known sizes plan Biu st h =
     map-some (λ k2. k2 + plan.v + plan.z + plan.c) st.k2 ∙ h.k2 ∙ less-true (3 * sync_slot_of sizes + 2 - 1) (windows_in sizes) (omega arith)
 epoch-known sizes plan Rmu st h =
