@@ -67,3 +67,4 @@ pub mod Behind
 pub mod UpToThere
 pub mod EventsHold
 pub mod BreachTimes
+pub mod BreachEpochs

@@ -44,7 +44,7 @@ said-comes sc me i j span version s lengths early within =
           omega arith,
     )
 
-said-all : (sc : Scenario) (me : Side) (i j : ℕ) (span : Span) → HasLengths (shortest_of sc.plan) (longest_of sc.plan) (clock_of sc me i)
+pub said-all : (sc : Scenario) (me : Side) (i j : ℕ) (span : Span) → HasLengths (shortest_of sc.plan) (longest_of sc.plan) (clock_of sc me i)
     → (says : List Say) → All (IsSayOf sc) says
     → Every (ComesIn (clock_of sc me i) span) (map (coming_said sc.plan.version (clock_of sc me i) j span) (filter (is_said me i j span) says))
 said-all sc me i j span lengths [] all = tt
