@@ -68,3 +68,4 @@ pub mod UpToThere
 pub mod EventsHold
 pub mod BreachTimes
 pub mod BreachEpochs
+pub mod BreachWindows
