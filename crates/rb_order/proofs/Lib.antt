@@ -69,3 +69,4 @@ pub mod EventsHold
 pub mod BreachTimes
 pub mod BreachEpochs
 pub mod BreachWindows
+pub mod DeafCloses
