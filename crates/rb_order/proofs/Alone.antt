@@ -1,4 +1,4 @@
--- For the law that events are rounds, which is still to come: where no node is good any more, what is settled by itself leaves nothing that waits
+-- For the law that events are rounds: where no node is good any more, what is settled by itself leaves nothing that waits
 -- for an event.
 use Rattle.std.proofs.Common.{◌≡◌, ℕ, zero, suc, ◌+◌, ◌*◌, ◌<◌, ◌≤◌, ◌==◌, ◌&&◌, ◌⊎◌, not, nat_lt, Bool, true, false, List, [], ◌∷◌, ◌++◌, length, refl, ap, sym, ◌∙◌, subst, arith, inl, inr, Option, Some, None, slice_get, if◌then◌else◌}
 use Rattle.std.proofs.lemmas.Bool.{cases_lt}
@@ -17,7 +17,8 @@ use Rattle.rb_rules.specs.Rounds.{moment, windows_in}
 use Rattle.rb_rules.specs.Slots.{count_of}
 use Rattle.rb_rules.specs.WorldStep.{Site, World, book_with, comes_so, frame_in, is_complete, needs_no_event, nobody_good, record_since, settle, settle_next}
 use Rattle.rb_rules.specs.WorldStep.Way.{ByItself}
-use Rattle.rb_order.proofs.Completing.{FrameGiven, Settled, frame-given, frame-record, next_world, none-turn, ended-still, settle-still, stage-silent, still-settled}
+use Rattle.rb_order.proofs.Completing.{next_world}
+use Rattle.rb_order.proofs.SettledOnce.{FrameGiven, Settled, frame-given, frame-record, none-turn, ended-still, settle-still, stage-silent, still-settled}
 use Rattle.rb_order.proofs.HandedMoments.{place-of}
 use Rattle.rb_order.proofs.Invariant.{is_good_at}
 use Rattle.rb_order.proofs.MomentBooks.{end-ended, stage-book-next}

@@ -1,4 +1,4 @@
--- For the law that events are rounds, which is still to come: it holds of a scenario in whose worlds the nodes are in time where they stand.
+-- For the law that events are rounds: it holds of a scenario in whose worlds the nodes are in time where they stand.
 use Rattle.std.proofs.Common.{◌≡◌, ℕ, zero, suc, ◌+◌, ◌*◌, ◌-◌, ◌<◌, ◌≤◌, ◌⊎◌, ◌||◌, Bool, true, false, List, [], ◌∷◌, ◌++◌, length, append_assoc, refl, ap, sym, ◌∙◌, subst, arith, inl, inr, Option, Some, None, flat_map, fold, is_some, slice_get}
 use Rattle.std.proofs.lemmas.Bool.{cases_lt}
 use Rattle.std.proofs.lemmas.Nat.{mul-le}
@@ -17,7 +17,7 @@ use Rattle.rb_rules.specs.WorldStep.Choice.{Take, GoOn, Hand}
 use Rattle.rb_rules.specs.WorldStep.Way.{ByItself}
 use Rattle.rb_rules.proofs.Books.{GoesOn, moments-on}
 use Rattle.rb_order.proofs.Alone.{go-on-settled}
-use Rattle.rb_order.proofs.Completing.{Settled}
+use Rattle.rb_order.proofs.SettledOnce.{Settled}
 use Rattle.rb_order.proofs.EventsLaw.{IsBookOfRounds, law-from}
 use Rattle.rb_order.proofs.FirstWorld.{at_begin, first-stands}
 use Rattle.rb_order.proofs.MomentBooks.{number-of}

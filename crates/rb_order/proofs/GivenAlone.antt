@@ -16,7 +16,8 @@ use Rattle.rb_rules.specs.Judging.{ClassSets, JudgedStage, are_few_good, cause_o
 use Rattle.rb_rules.specs.WorldStep.{Site, World, all_have_told, begun_for, comes_so, go_on, is_complete, needs_no_event, nobody_good, record_since, row_for, settle, settle_next}
 use Rattle.rb_rules.specs.WorldStep.Way.{ByItself}
 use Rattle.rb_order.proofs.Alone.{nobody-each}
-use Rattle.rb_order.proofs.Completing.{FrameGiven, frame-given, next_world}
+use Rattle.rb_order.proofs.Completing.{next_world}
+use Rattle.rb_order.proofs.SettledOnce.{FrameGiven, frame-given}
 use Rattle.rb_order.proofs.Waiting.{no-good, told-all}
 use Rattle.rb_order.proofs.WorldBooks.{go-on-turn, last-one, settle_rest}
 

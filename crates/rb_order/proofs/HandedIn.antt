@@ -1,4 +1,4 @@
--- For the law that events are rounds, which is still to come: a state that is handed in while all nodes are before the data slots of the frame
+-- For the law that events are rounds: a state that is handed in while all nodes are before the data slots of the frame
 -- keeps the world in the rounds.
 use Rattle.std.proofs.Common.{◌≡◌, ◌≢◌, ℕ, zero, suc, ◌+◌, ◌-◌, ◌*◌, ◌<◌, ◌≤◌, Bool, true, false, List, [], ◌∷◌, ◌++◌, length, refl, ap, sym, ◌∙◌, subst, arith, inl, inr, Option, Some, slice_get, get_or, option_map, option_to_list, if◌then◌else◌}
 use Rattle.std.proofs.Math.Path.{fun_ext}

@@ -1,4 +1,4 @@
--- For the law that events are rounds, which is still to come: what is handed in at a frame's begin changes the ports of that moment, and up to
+-- For the law that events are rounds: what is handed in at a frame's begin changes the ports of that moment, and up to
 -- the first data slot nothing else.
 use Rattle.std.proofs.Common.{◌≡◌, ℕ, zero, suc, ◌+◌, ◌-◌, ◌*◌, ◌<◌, ◌≤◌, ◌==◌, ◌&&◌, nat_le, nat_lt, Bool, true, false, List, [], ◌∷◌, ◌++◌, refl, ap, sym, ◌∙◌, subst, arith, inl, inr, Option, None, if◌then◌else◌}
 use Rattle.std.proofs.Math.Path.{fun_ext}

@@ -33,6 +33,7 @@ pub mod ToldInOrder
 pub mod HandedMoments
 pub mod HandedIn
 pub mod Waiting
+pub mod SettledOnce
 pub mod Completing
 pub mod PortsInRounds
 pub mod EventNodes

@@ -1,4 +1,4 @@
--- For the law that events are rounds, which is still to come: one due event keeps the whole invariant, as long as the nodes are in time where
+-- For the law that events are rounds: one due event keeps the whole invariant, as long as the nodes are in time where
 -- they stand and where the node of the event stands next.
 use Rattle.std.proofs.Common.{◌≡◌, ℕ, zero, suc, ◌<◌, ◌≤◌, ◌&&◌, not, Bool, true, false, List, [], ◌∷◌, ◌++◌, flat_map, length, length-set, option_and_then, refl, ap, sym, ◌∙◌, subst, arith, inl, inr, Option, Some, None, slice_get}
 use Rattle.rb_base.specs.Nodes.{Side, other}
@@ -27,7 +27,8 @@ use Rattle.rb_rules.specs.WorldStep.Way.{ByAnEvent}
 use Rattle.rb_rules.proofs.Drift.{HasLengths}
 use Rattle.rb_rules.proofs.Stamps.{Moves}
 use Rattle.rb_order.proofs.CloseOrder.{good-clock, shortest-some}
-use Rattle.rb_order.proofs.Completing.{EventAt, Settled, event-settled, next-eta}
+use Rattle.rb_order.proofs.Completing.{EventAt, event-settled}
+use Rattle.rb_order.proofs.SettledOnce.{Settled, next-eta}
 use Rattle.rb_order.proofs.DueEvents.{IsDue, IsReady, every-at, every-back, every-front, every-unflat}
 use Rattle.rb_order.proofs.EventNodes.{arrival-at, arrival-site, handed-arrival, ports-arrival, tick-at}
 use Rattle.rb_order.proofs.NodeActs.{HasRoom}

@@ -1,4 +1,4 @@
--- For the law that events are rounds, which is still to come: an event keeps the ports of the nodes that run those of the rounds, and what is
+-- For the law that events are rounds: an event keeps the ports of the nodes that run those of the rounds, and what is
 -- handed in is of frames that all good nodes have begun.
 use Rattle.std.proofs.Common.{◌≡◌, ℕ, zero, suc, ◌+◌, ◌*◌, ◌<◌, ◌≤◌, ◌==◌, ◌&&◌, ◌⊎◌, nat_le, Bool, true, false, List, [], ◌∷◌, length, refl, ap, sym, ◌∙◌, subst, arith, inl, inr, Option, Some, None, slice_get, option_and_then, option_map}
 use Rattle.std.proofs.lemmas.Bool.{cases_lt}

@@ -1,4 +1,4 @@
--- For the law that events are rounds, which is still to come: the port of a BIU that closes a window is that of the rounds in the moment
+-- For the law that events are rounds: the port of a BIU that closes a window is that of the rounds in the moment
 -- where the node stands then.
 use Rattle.std.proofs.Common.{◌≡◌, ℕ, suc, ◌+◌, ◌-◌, ◌*◌, ◌<◌, ◌≤◌, ◌==◌, ◌&&◌, ◌⊎◌, nat_le, nat_lt, Bool, true, false, List, [], ◌∷◌, length, refl, ap, sym, ◌∙◌, subst, arith, inl, inr, Option, Some, None, slice_get, option_and_then, option_map, if◌then◌else◌}
 use Rattle.std.proofs.lemmas.Bool.{cases_lt, lt-ltb, le-ltb}

@@ -1,4 +1,4 @@
--- For the law that something is due, which is still to come: as long as a node runs, something is pending, and so some event is due.
+-- For the law that something is due: as long as a node runs, something is pending, and so some event is due.
 use Rattle.std.proofs.Common.{◌≡◌, ℕ, ◌≤◌, ◌||◌, true, false, List, [], ◌∷◌, ◌++◌, flat_map, length, map, refl, ap, ◌∙◌, subst, arith, Option, Some, None, option_map, option_to_list, slice_get}
 use Rattle.rb_base.specs.Nodes.{Side}
 use Rattle.rb_base.specs.Nodes.Side.{Biu, Rmu}

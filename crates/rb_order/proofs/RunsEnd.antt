@@ -1,4 +1,4 @@
--- For the law that every run ends, which is still to come: where each world stands in the rounds, only so many events are taken, whatever is
+-- For the law that every run ends: where each world stands in the rounds, only so many events are taken, whatever is
 -- chosen.
 use Rattle.std.proofs.Common.{◌≡◌, ℕ, zero, suc, ◌+◌, ◌*◌, ◌^◌, ◌<◌, ◌≤◌, ◌==◌, ◌&&◌, Bool, true, false, List, [], ◌∷◌, ◌++◌, length, map, refl, sym, ◌∙◌, subst, arith, Option, Some, None, slice_get}
 use Rattle.std.specs.List.{range_with_len}

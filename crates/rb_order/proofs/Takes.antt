@@ -1,4 +1,4 @@
--- For the law that every run ends, which is still to come: each event that is taken leaves fewer ticks before 2^31, or fewer messages on their
+-- For the law that every run ends: each event that is taken leaves fewer ticks before 2^31, or fewer messages on their
 -- way, so only so many are taken.
 use Rattle.std.proofs.Common.{◌≡◌, ℕ, zero, suc, ◌+◌, ◌-◌, ◌*◌, ◌^◌, ◌<◌, ◌≤◌, ◌==◌, ◌&&◌, Bool, true, false, List, [], ◌∷◌, ◌++◌, cond, filter, flat_map, length, map, refl, ap, sym, ◌∙◌, subst, arith, Option, Some, None, option_map, remove, slice_get}
 use Rattle.std.specs.List.{range_with_len}

@@ -1,4 +1,4 @@
--- For the law that events are rounds, which is still to come: what a node has told is of moments before that in which it stands, and no
+-- For the law that events are rounds: what a node has told is of moments before that in which it stands, and no
 -- node is more than a stage ahead of one that runs.
 use Rattle.std.proofs.Common.{◌≡◌, ℕ, suc, ◌+◌, ◌-◌, ◌*◌, ◌%◌, ◌<◌, ◌≤◌, ◌==◌, ◌⊎◌, Bool, true, false, List, refl, ap, sym, ◌∙◌, subst, arith, inl, inr, Option, Some, None, slice_get, if◌then◌else◌}
 use Rattle.std.proofs.lemmas.Bool.{cases_lt, lt-ltb, le-ltb}

@@ -1,4 +1,4 @@
--- For the law that events are rounds, which is still to come: after each event what comes by an event next still waits for a node. So the
+-- For the law that events are rounds: after each event what comes by an event next still waits for a node. So the
 -- node of the event that completes a milestone stands at that milestone, and no other is far ahead.
 use Rattle.std.proofs.Common.{◌≡◌, ℕ, suc, ◌+◌, ◌*◌, ◌<◌, ◌≤◌, ◌==◌, ◌&&◌, ◌||◌, not, Bool, true, false, List, [], ◌∷◌, ◌++◌, length, refl, ap, sym, ◌∙◌, arith, Option, Some, None, is_some, slice_get, option_map, if◌then◌else◌, lit≤}
 use Rattle.std.specs.List.{list_all}
