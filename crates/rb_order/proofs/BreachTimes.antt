@@ -1,4 +1,4 @@
--- For the law that events are rounds also where the premise on faults is broken in a sync slot, which is still to come: in the window
+-- For the law that events are rounds also where the premise on faults is broken in a sync slot (not proved): in the window
 -- in which the run breaks off all good nodes are in time, whatever the verdict on it, and what is sent in the next stage to the kind that
 -- listens in it comes later.
 use Rattle.std.proofs.Common.{◌≡◌, ℕ, zero, suc, ◌+◌, ◌*◌, ◌-◌, ◌<◌, ◌≤◌, ◌==◌, ◌&&◌, nat_lt, Bool, true, false, List, [], ◌∷◌, length, refl, ap, sym, ◌∙◌, subst, arith, inl, inr, Option, Some, None, is_some, slice_get, option_map, option_to_list, unwrap_or, lit<}

@@ -1,4 +1,4 @@
--- For the law that events are rounds also where the premise on faults is broken in a sync slot, which is still to come: good nodes are in
+-- For the law that events are rounds also where the premise on faults is broken in a sync slot (not proved): good nodes are in
 -- time in each window that the run reaches, whatever the verdict on it.
 use Rattle.std.proofs.Common.{◌≡◌, ℕ, suc, ◌+◌, ◌*◌, ◌-◌, ◌<◌, ◌≤◌, true, List, refl, ap, sym, ◌∙◌, subst, arith, inl, inr, Option, Some, None, slice_get, option_map, option_to_list, lit<}
 use Rattle.std.proofs.lemmas.Bool.{cases_lt}

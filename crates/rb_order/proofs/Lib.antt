@@ -69,5 +69,6 @@ pub mod UpToThere
 pub mod EventsHold
 pub mod BreachTimes
 pub mod BreachEpochs
+pub mod BreachSends
 pub mod BreachWindows
 pub mod DeafCloses

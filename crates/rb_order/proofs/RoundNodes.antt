@@ -1,4 +1,4 @@
--- For the law that events are rounds, which is still to come: in every moment of the rounds each good node is in the moment's
+-- For the law that events are rounds: in every moment of the rounds each good node is in the moment's
 -- frame, and knows the middles of the windows passed.
 use Rattle.std.proofs.Common.{◌≡◌, ℕ, zero, suc, ◌+◌, ◌-◌, ◌*◌, ◌/◌, ◌<◌, ◌≤◌, ◌==◌, ◌&&◌, nat_lt, min, Bool, true, false, List, [], ◌∷◌, length, refl, subst, inl, inr, sym, ◌∙◌, ap, arith, Option, Some, None, get_or, slice_get, option_map, is_some}
 use Rattle.std.proofs.lemmas.Bool.{cases_lt}

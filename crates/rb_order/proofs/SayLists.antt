@@ -1,4 +1,4 @@
--- For the law that events are rounds, which is still to come: what nodes that are not good say in a window that opens: it comes in the
+-- For the law that events are rounds: what nodes that are not good say in a window that opens: it comes in the
 -- window, and stands together with what good nodes have already sent for it.
 use Rattle.std.proofs.Common.{◌≡◌, ℕ, zero, suc, ◌+◌, ◌<◌, ◌≤◌, ◌==◌, ◌&&◌, ◌⊎◌, nat_le, nat_lt, Bool, true, false, cond, All, List, [], ◌∷◌, ◌++◌, filter, flat_map, map, length, refl, ap, sym, ◌∙◌, subst, arith, inl, inr}
 use Rattle.std.specs.List.{range_with_len}
