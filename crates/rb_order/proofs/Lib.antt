@@ -70,5 +70,6 @@ pub mod EventsHold
 pub mod BreachTimes
 pub mod BreachEpochs
 pub mod BreachSends
+pub mod SentAlready
 pub mod BreachWindows
 pub mod DeafCloses
