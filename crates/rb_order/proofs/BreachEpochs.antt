@@ -1,6 +1,6 @@
 -- For the law that events are rounds also where the premise on faults is broken in a sync slot (not proved): whatever the
 -- verdict on the last stage, each good node begins the next frame after all stages of this one.
-use Rattle.std.proofs.Common.{◌≡◌, ℕ, zero, suc, ◌+◌, ◌*◌, ◌-◌, ◌<◌, ◌≤◌, nat_le, cond, Bool, true, false, List, [], ◌∷◌, length, map, filter_map, refl, ap, sym, ◌∙◌, subst, arith, inl, inr, Option, Some, None, slice_get, option_map, unwrap_or, lit<}
+use Rattle.std.proofs.Common.{◌≡◌, ℕ, zero, suc, ◌+◌, ◌*◌, ◌<◌, ◌≤◌, nat_le, cond, Bool, true, false, List, [], ◌∷◌, map, filter_map, refl, ap, sym, ◌∙◌, subst, arith, inl, inr, Option, Some, None, option_map, unwrap_or, lit<}
 use Rattle.std.proofs.lemmas.Bool.{cases_lt}
 use Rattle.std.proofs.lemmas.Bool.Decides.{nat_tests}
 use Rattle.std.proofs.lemmas.List.Elements.{All-head}
@@ -40,7 +40,7 @@ use Rattle.rb_order.specs.Closing.{HaveBegunAFrame, stages_in}
 use Rattle.rb_order.proofs.BreachTimes.{KnewThen, knew-then}
 use Rattle.rb_order.proofs.CloseOrder.{good-clock, has-ticks}
 use Rattle.rb_order.proofs.FrameTimes.{node-in}
-use Rattle.rb_order.proofs.Invariant.{InTime, entry_of, is_good_at, last_tick, next_stage}
+use Rattle.rb_order.proofs.Invariant.{entry_of, is_good_at}
 use Rattle.rb_order.proofs.MomentSteps.{good-state}
 use Rattle.rb_order.proofs.NodeCloses.{heard-all}
 use Rattle.rb_order.proofs.RoundNodes.{Stands, moments-stand, some-same}

@@ -1,6 +1,6 @@
 -- For the law that events are rounds also where the premise on faults is broken in a sync slot (not proved): what good nodes send in a
 -- stage of the sync slot has come everywhere before any of them closes it, whatever the verdict on it.
-use Rattle.std.proofs.Common.{◌≡◌, ℕ, zero, suc, ◌+◌, ◌-◌, ◌*◌, ◌<◌, ◌≤◌, true, false, List, refl, ap, sym, ◌∙◌, subst, arith, Some, slice_get, lit<}
+use Rattle.std.proofs.Common.{◌≡◌, ℕ, zero, suc, ◌+◌, ◌*◌, ◌<◌, ◌≤◌, true, false, List, refl, ap, sym, ◌∙◌, subst, arith, Some, slice_get, lit<}
 use Rattle.rb_base.specs.Nodes.{Side, other}
 use Rattle.rb_base.specs.Nodes.Side.{Biu, Rmu}
 use Rattle.rb_base.specs.Sizes.{sync_slot_of}

@@ -1,22 +1,19 @@
 -- For the law that events are rounds also where the premise on faults is broken in a sync slot (not proved): in the window
 -- in which the run breaks off all good nodes are in time, whatever the verdict on it, and what is sent in the next stage to the kind that
 -- listens in it comes later.
-use Rattle.std.proofs.Common.{◌≡◌, ℕ, zero, suc, ◌+◌, ◌*◌, ◌-◌, ◌<◌, ◌≤◌, ◌==◌, ◌&&◌, nat_lt, Bool, true, false, List, [], ◌∷◌, length, refl, ap, sym, ◌∙◌, subst, arith, inl, inr, Option, Some, None, is_some, slice_get, option_map, option_to_list, unwrap_or, lit<}
-use Rattle.std.proofs.lemmas.Bool.{cases_lt}
-use Rattle.std.proofs.lemmas.Bool.Decides.{nat_tests}
+use Rattle.std.proofs.Common.{◌≡◌, ℕ, suc, ◌+◌, ◌*◌, ◌<◌, ◌≤◌, true, false, List, refl, ap, sym, ◌∙◌, subst, arith, Option, Some, None, is_some, slice_get, option_map, option_to_list}
 use Rattle.rb_base.specs.Nodes.{Side, other}
 use Rattle.rb_base.specs.Nodes.Side.{Biu, Rmu}
-use Rattle.rb_base.specs.Sizes.{Sizes, sync_slot_of}
+use Rattle.rb_base.specs.Sizes.{sync_slot_of}
 use Rattle.rb_rules.specs.declared.plan.Plan.{Plan}
 use Rattle.rb_rules.specs.declared.role.Role.TheVariants.{Sync}
 use Rattle.rb_rules.specs.Book.{of_kind}
 use Rattle.rb_rules.specs.Clock.{time_of}
 use Rattle.rb_rules.specs.Goodness.{Scenario, clock_of, is_good}
 use Rattle.rb_rules.specs.declared.plan.Window.{Window}
-use Rattle.rb_rules.specs.Hearing.{Coming, Sending, coming_of, sending}
+use Rattle.rb_rules.specs.Hearing.{Sending, coming_of, sending}
 use Rattle.rb_rules.specs.SyncStage.{new_epoch_of}
 use Rattle.rb_rules.specs.Lawful.{IsLawful}
-use Rattle.rb_rules.specs.Moments.{IsRunning}
 use Rattle.rb_rules.specs.NodeState.{NodeState}
 use Rattle.rb_rules.specs.NodeSteps.{turn_if_known}
 use Rattle.rb_rules.specs.Ports.{HandIn}
@@ -25,7 +22,7 @@ use Rattle.rb_rules.specs.Slots.{listens}
 use Rattle.rb_rules.proofs.RoundStates.{Knows, state-after, state-turned}
 use Rattle.rb_agree.proofs.Goodnesses.{slot_last}
 use Rattle.rb_agree.proofs.Invariant.{IsGoodNode}
-use Rattle.rb_agree.proofs.NodeWindows.{sync_tick, sync_windows_are, tail_windows}
+use Rattle.rb_agree.proofs.NodeWindows.{sync_windows_are, tail_windows}
 use Rattle.rb_agree.proofs.Settings.{after}
 use Rattle.rb_sync.proofs.KeptMiddles.{Leaves, tail_leaves}
 use Rattle.rb_sync.proofs.TakenCalls.{call_sent}

@@ -1,8 +1,7 @@
 -- For the law that events are rounds also where the premise on faults is broken in a sync slot (not proved): good nodes are in
 -- time in each window that the run reaches, whatever the verdict on it.
-use Rattle.std.proofs.Common.{◌≡◌, ℕ, suc, ◌+◌, ◌*◌, ◌-◌, ◌<◌, ◌≤◌, true, List, refl, ap, sym, ◌∙◌, subst, arith, inl, inr, Option, Some, None, slice_get, option_map, option_to_list, lit<}
+use Rattle.std.proofs.Common.{◌≡◌, ℕ, suc, ◌+◌, ◌*◌, ◌<◌, ◌≤◌, true, List, refl, ap, sym, ◌∙◌, subst, arith, inl, inr, Option, Some, None, slice_get, option_map, option_to_list, lit<}
 use Rattle.std.proofs.lemmas.Bool.{cases_lt}
-use Rattle.rb_base.specs.Nodes.{Side, other}
 use Rattle.rb_base.specs.Nodes.Side.{Biu, Rmu}
 use Rattle.rb_base.specs.Sizes.{sync_slot_of}
 use Rattle.rb_base.specs.declared.values.Place.{Place}
@@ -16,7 +15,7 @@ use Rattle.rb_rules.specs.Links.{delay_of, name_of}
 use Rattle.rb_rules.specs.Moments.{IsRunning}
 use Rattle.rb_rules.specs.NodeState.{NodeState}
 use Rattle.rb_rules.specs.Ports.{HandIn}
-use Rattle.rb_rules.specs.Rounds.{Moment, moment, windows_in}
+use Rattle.rb_rules.specs.Rounds.{Moment, moment}
 use Rattle.rb_rules.specs.SyncStage.{new_epoch_of}
 use Rattle.rb_agree.proofs.Goodnesses.{slot_last}
 use Rattle.rb_agree.proofs.NodeWindows.{HasTick, Windows, sync_tick, sync_windows_are}
@@ -25,11 +24,10 @@ use Rattle.rb_sync.proofs.KeptMiddles.{Keeps, keeps}
 use Rattle.rb_sync.proofs.NextMessages.{next_message}
 use Rattle.rb_sync.proofs.Synchrony.{IsSynchronous, synchrony}
 use Rattle.rb_sync.proofs.TakenCalls.{IsStage, is_set}
-use Rattle.rb_sync.proofs.TimelyWindows.{IsSet}
 use Rattle.rb_order.specs.Closing.{stages_in}
 use Rattle.rb_order.proofs.BreachEpochs.{begins-after}
 use Rattle.rb_order.proofs.BreachTimes.{KnewThen, knew-then}
-use Rattle.rb_order.proofs.CloseOrder.{IsFrameLater, IsWindowLater, frame-later, has-ticks, window-later}
+use Rattle.rb_order.proofs.CloseOrder.{IsWindowLater, frame-later, has-ticks, window-later}
 use Rattle.rb_order.proofs.FrameTimes.{BegunWell, begun-well, good-node}
 use Rattle.rb_order.proofs.Invariant.{ComesLater, InTime, is_good_at, last_tick, next_stage, sending_of, word_at}
 use Rattle.rb_order.proofs.MomentSteps.{good-state, next-inner, next-outer}

@@ -1,6 +1,6 @@
 -- For the law that events are rounds also where the premise on faults is broken in a sync slot (not proved): a node that closes
 -- a stage of the sync slot in which it does not listen tells the same of it whatever came to it, and knows the same but for accusations.
-use Rattle.std.proofs.Common.{◌≡◌, ℕ, zero, suc, ◌==◌, ◌&&◌, if◌then◌else◌, Bool, true, false, List, [], ◌∷◌, map, refl, ap, sym, ◌∙◌, Option, Some, None, get_or}
+use Rattle.std.proofs.Common.{◌≡◌, ℕ, zero, suc, ◌==◌, ◌&&◌, if◌then◌else◌, Bool, true, false, List, [], ◌∷◌, map, refl, ap, ◌∙◌, Option, Some, None, get_or}
 use Rattle.rb_base.specs.Counting.{numbers}
 use Rattle.rb_base.specs.Nodes.{Side, has}
 use Rattle.rb_base.specs.Nodes.Side.{Biu, Rmu}
@@ -10,14 +10,13 @@ use Rattle.rb_base.specs.declared.values.See.TheVariants.{Nothing}
 use Rattle.rb_rules.specs.declared.role.Role.TheVariants.{Sync}
 use Rattle.rb_rules.specs.declared.sense.Sense.{Sense}
 use Rattle.rb_rules.specs.Book.{Row}
-use Rattle.rb_rules.specs.ExactStage.{Outcome, each_node}
+use Rattle.rb_rules.specs.ExactStage.{each_node}
 use Rattle.rb_rules.specs.Hearing.{Coming, judged_see, row_of, sole_time}
 use Rattle.rb_rules.specs.NodeState.{NodeState, trusted_of}
 use Rattle.rb_rules.specs.Sense.{stamp_in}
-use Rattle.rb_rules.specs.Slots.{expects, listens}
-use Rattle.rb_rules.specs.Slots.Sender.{EachTrusted}
+use Rattle.rb_rules.specs.Slots.{listens}
 use Rattle.rb_rules.specs.Standing.{has_evidence, is_eligible, taken_of, with_evidence}
-use Rattle.rb_rules.specs.SyncStage.{close_sync, expects_call, middle_after, see_time, sync_closing_of, sync_outcome_of}
+use Rattle.rb_rules.specs.SyncStage.{close_sync, expects_call, see_time, sync_closing_of, sync_outcome_of}
 
 -- it takes nothing
 takes-none : (me : Side) (st : NodeState) (stage : ℕ) (sense : ℕ → Sense) → listens me Sync stage ≡ false → (j : ℕ)

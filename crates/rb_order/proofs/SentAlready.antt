@@ -18,7 +18,7 @@ use Rattle.rb_order.proofs.NodeSends.{sending_at}
 use Rattle.rb_order.proofs.NodeTicks.{Like, like-in, like-tick, state_in}
 use Rattle.rb_order.proofs.NodeWords.{at_its_tick, none-message, said-at-tick}
 use Rattle.rb_order.proofs.StageOrder.{last_of}
-use Rattle.rb_order.proofs.TickWindows.{IsTickIn, last-is}
+use Rattle.rb_order.proofs.TickWindows.{last-is}
 
 -- after the tick of its message a node says nothing, whatever word it is given
 said-nothing : (sizes : Sizes) (plan : Plan) (me : Side) (i : ℕ) (st y : NodeState) (n word k : ℕ) → HasRoom plan → n ≤ stages_in sizes → (stands : IsInWindow sizes plan me i st n word k y)
