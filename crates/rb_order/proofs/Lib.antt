@@ -71,5 +71,6 @@ pub mod BreachTimes
 pub mod BreachEpochs
 pub mod BreachSends
 pub mod SentAlready
+pub mod PastTicks
 pub mod BreachWindows
 pub mod DeafCloses

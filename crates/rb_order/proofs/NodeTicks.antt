@@ -35,7 +35,7 @@ pub record Like (sizes : Sizes) (plan : Plan) (me : Side) (i : ℕ) (st y : Node
   pub k1 : y.k1 ≡ st.k1
   pub k2 : y.k2 ≡ st.k2
 
-like-itself : (sizes : Sizes) (plan : Plan) (me : Side) (i : ℕ) (st : NodeState) → Like sizes plan me i st st
+pub like-itself : (sizes : Sizes) (plan : Plan) (me : Side) (i : ℕ) (st : NodeState) → Like sizes plan me i st st
 like-itself sizes plan me i st = record {
   epoch = refl;
   next = refl;
