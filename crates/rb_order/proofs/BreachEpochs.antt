@@ -79,7 +79,7 @@ every-present P f all (n ∷ ns) = by (f n) refl (every-present P f all ns)
     by (Some k) e rest = (all n k e, rest)
 
 -- the middle that is kept of stamps of a window comes in it
-middle-least : (bound first : ℕ) (f : ℕ → Option ℕ) → ((j k : ℕ) → f j ≡ Some k → bound ≤ k) → bound ≤ first → bound ≤ unwrap_or (middle_of (present (each_node f))) first
+pub middle-least : (bound first : ℕ) (f : ℕ → Option ℕ) → ((j k : ℕ) → f j ≡ Some k → bound ≤ k) → bound ≤ first → bound ≤ unwrap_or (middle_of (present (each_node f))) first
 middle-least bound first f all le = by (middle_of (present (each_node f))) refl
   where
     by : (o : Option ℕ) → middle_of (present (each_node f)) ≡ o → bound ≤ unwrap_or o first
@@ -100,7 +100,7 @@ first-stamp clock moves (suc m) time before =
     ]
 
 -- all that a good node hears in a window has a stamp from its first tick on
-heard-from : (sc : Scenario) (hands : List HandIn) → IsLawful sc → (p : ℕ) → IsRunning (moment sc hands p) → (moment sc hands p).window < windows_in sc.sizes → (me : Side) (i j : ℕ) (st : NodeState) (c : Coming)
+pub heard-from : (sc : Scenario) (hands : List HandIn) → IsLawful sc → (p : ℕ) → IsRunning (moment sc hands p) → (moment sc hands p).window < windows_in sc.sizes → (me : Side) (i j : ℕ) (st : NodeState) (c : Coming)
     → IsGoodNode sc (moment sc hands p) me i st → heard_at sc me i st (window_in sc (moment sc hands p) me st) (sent_in sc (moment sc hands p)) j ≡ c ∷ []
     → st.epoch + (window_in sc (moment sc hands p) me st).first ≤ stamp_of (clock_of sc me i) c.time
 heard-from sc hands lawful p running inside me i j st c h heard =
@@ -138,7 +138,7 @@ third-first : (sc : Scenario) (m : Moment) → m.window ≡ 3 * sync_slot_of sc.
 third-first sc m at me st = ap (λ n. (window_numbered sc.sizes sc.plan me st n).first) at ∙ ap (λ (w : Window). w.first) (sync-numbered sc.sizes sc.plan me st 2)
 
 -- the middle that an RMU keeps of it comes in it, whatever the verdict
-rmu-middle : (sc : Scenario) (hands : List HandIn) → IsLawful sc → (p : ℕ) → IsRunning (moment sc hands p) → (moment sc hands p).window ≡ 3 * sync_slot_of sc.sizes + 2 → (i : ℕ) (st : NodeState)
+pub rmu-middle : (sc : Scenario) (hands : List HandIn) → IsLawful sc → (p : ℕ) → IsRunning (moment sc hands p) → (moment sc hands p).window ≡ 3 * sync_slot_of sc.sizes + 2 → (i : ℕ) (st : NodeState)
     → IsGoodNode sc (moment sc hands p) Rmu i st
     → (k : ℕ) × (((after sc (moment sc hands p) Rmu i st).k3 ≡ Some k) × (st.epoch + (f0_of sc.sizes sc.plan + sc.plan.l + sc.plan.v) ≤ k))
 rmu-middle sc hands lawful p running at i st h =

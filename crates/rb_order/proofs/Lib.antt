@@ -72,5 +72,6 @@ pub mod BreachEpochs
 pub mod BreachSends
 pub mod SentAlready
 pub mod PastTicks
+pub mod BreachMiddles
 pub mod BreachWindows
 pub mod DeafCloses
