@@ -73,5 +73,6 @@ pub mod BreachSends
 pub mod SentAlready
 pub mod PastTicks
 pub mod BreachMiddles
+pub mod SilentThere
 pub mod BreachWindows
 pub mod DeafCloses
