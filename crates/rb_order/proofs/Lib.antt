@@ -74,5 +74,6 @@ pub mod SentAlready
 pub mod PastTicks
 pub mod BreachMiddles
 pub mod SilentThere
+pub mod LastCloses
 pub mod BreachWindows
 pub mod DeafCloses
