@@ -75,5 +75,6 @@ pub mod PastTicks
 pub mod BreachMiddles
 pub mod SilentThere
 pub mod LastCloses
+pub mod BreakSites
 pub mod BreachWindows
 pub mod DeafCloses
