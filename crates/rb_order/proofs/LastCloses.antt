@@ -53,6 +53,7 @@ pub shows-heard : (sc : Scenario) (hands : List HandIn) (sent : Side → ℕ →
     → HasWord sc ports me i st (moment sc hands p).window (word_at sc (moment sc hands p) me i st)
     → Every (λ c. a.time < c.time) s.coming → a.tick ≡ last_tick sc (moment sc hands p) me st → NodeStands sc hands sent now me i p s st a
     → ShowsRounds sc (moment sc hands p) me i st s a.tick (pass_and_tick sc ports me i a.tick s.core)
+    × ((pass_and_tick sc ports me i a.tick s.core).core.state ≡ (go_through sc (moment sc hands p) (sent_in sc (moment sc hands p)) me i st (window_in sc (moment sc hands p) me st)).state)
 unfolding pass_and_tick
 shows-heard sc hands sent now ports me i p s st a room frame all_sent words later last h =
     let m : Moment = moment sc hands p in
@@ -86,12 +87,12 @@ shows-heard sc hands sent now ports me i p s st a room frame all_sent words late
     let outcome : Outcome = closing_of sc m me i st w s.core.inbox in
     let result : Result = record { state = outcome.state; row = Some (row_of me i outcome.state (coming_from s.got) outcome.closed) } in
     let is : go_through sc m (sent_in sc m) me i st w ≡ result = result-is sc m (sent_in sc m) me i st w s.core.inbox s.got holds in
-    record {
+    (record {
       shown = outcome.closed;
       closed = acts.closed;
       row = ap (λ (r : Result). r.row) is ∙ ap (λ z. Some (row_of me i z (coming_from s.got) outcome.closed)) (sym (ap (λ (c : Core). c.state) acts.core));
       act = acts;
-    }
+    }, ap (λ (c : Core). c.state) acts.core ∙ sym (ap (λ (r : Result). r.state) is))
 
 -- the row of a close in which a node doesn't listen
 deaf-window : (sizes : Sizes) (plan : Plan) (me : Side) (i : ℕ) (st : NodeState) (w : Window) (arrivals : ℕ → List Arrival) (heard : ℕ → List Coming)

@@ -76,5 +76,6 @@ pub mod BreachMiddles
 pub mod SilentThere
 pub mod LastCloses
 pub mod BreakSites
+pub mod BreakEnters
 pub mod BreachWindows
 pub mod DeafCloses

@@ -164,7 +164,7 @@ after-knows sc hands me i p st ticks h =
     numbered-knows sc m (sent_in sc m) me i m.window st ticks (omega arith) (ap (is_good sc me i m.frame) (slot-is sc.sizes sc.plan me st m.window) ∙ h.good) h.knows
 
 -- windows of stages begin alike at all states of a frame
-first-alike : (sizes : Sizes) (plan : Plan) (me : Side) (a b : NodeState) (n : ℕ) → HasTicks plan → n < stages_in sizes
+pub first-alike : (sizes : Sizes) (plan : Plan) (me : Side) (a b : NodeState) (n : ℕ) → HasTicks plan → n < stages_in sizes
     → first_of sizes plan me b (n + 1) ≡ last_of sizes plan me a n + 1
 first-alike sizes plan me a b n ticks h =
     let t : Tiles sizes plan me b n = tiles sizes plan me b n ticks h in
