@@ -77,5 +77,6 @@ pub mod SilentThere
 pub mod LastCloses
 pub mod BreakSites
 pub mod BreakEnters
+pub mod DeafEnds
 pub mod BreachWindows
 pub mod DeafCloses
