@@ -80,7 +80,7 @@ waits-then sc hands lawful room sent now p q running small at me i s st a h you 
         (λ x e. sent-then sc hands lawful p q running small at me i st h.state h.good you j yours there2 good2 a h.receives.at_time le x (sending-of-is sc m me i st h.state ∙ e))
 
     by : (b : Bool) → listens me Sync (window_in sc m me st).stage ≡ b → WaitsHearing sc hands sent now me i p s ⊎ WaitsDeaf sc hands me i p s
-    by true e = inl (record { st = st; a = a; stands = h; last = last })
+    by true e = inl (record { st = st; a = a; stands = h; hears = e; last = last })
     by false e = inr (record {
       st = st;
       a = a;
@@ -128,3 +128,7 @@ hearing-closes sc hands lawful room sent now ports p q running small at me i s h
           let low = next-after sc hands lawful p q running small at me i st (good-node sc m me i st h.stands.state h.stands.good) k known in
           omega (arith, low, epoch);
     }))
+    (λ deaf. absurd (true-false (sym h.hears ∙ deaf)))
+  where
+    true-false : true ≡ false → ⊥
+    true-false e = cc

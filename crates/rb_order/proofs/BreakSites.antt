@@ -30,7 +30,8 @@ use Rattle.rb_order.proofs.Invariant.{NodeStands, is_good_at, last_tick, word_at
 use Rattle.rb_order.proofs.LastCloses.{ShowsRounds}
 use Rattle.rb_order.proofs.NodeActs.{HasRoom, IsInWindow}
 use Rattle.rb_order.proofs.NodeClosing.{closed-stage}
-use Rattle.rb_order.proofs.NodeTicks.{like-itself}
+use Rattle.rb_order.proofs.NodeSends.{KeepsTime}
+use Rattle.rb_order.proofs.NodeTicks.{like-itself, like-keeps}
 use Rattle.rb_order.proofs.PastTicks.{IsPast, TellsNone, past-arrival, past-kept, past-tick}
 use Rattle.rb_order.proofs.StageOrder.{last_of}
 use Rattle.rb_order.proofs.Takes.{busy-later}
@@ -41,6 +42,7 @@ pub record WaitsHearing (sc : Scenario) (hands : List HandIn) (sent : Side → �
   pub st : NodeState
   pub a : Timed
   pub stands : NodeStands sc hands sent now me i p s st a
+  pub hears : listens me Sync (window_in sc (moment sc hands p) me st).stage ≡ true
   pub last : a.tick ≡ last_tick sc (moment sc hands p) me st
 
 -- and one that doesn't. Anything may have come to it
@@ -66,6 +68,7 @@ pub record HasClosed (sc : Scenario) (hands : List HandIn) (me : Side) (i p : �
   pub told : s.row ≡ Some row
   pub is : (go_through sc (moment sc hands p) (sent_in sc (moment sc hands p)) me i st (window_in sc (moment sc hands p) me st)).row ≡ Some row
   pub past : IsPast sc.sizes sc.plan me st.frame st.epoch ((moment sc hands p).window + 1) s.core.state s.core.had
+  pub keeps : listens me Sync (window_in sc (moment sc hands p) me st).stage ≡ false → KeepsTime sc.sizes sc.plan me s.core.state
   pub ahead : (a : Timed) → s.ahead ≡ Some a → (s.core.had ≤ a.tick) × (a.time ≡ time_of (clock_of sc me i) a.tick)
 
 -- Arrivals.
@@ -118,6 +121,7 @@ closed-arrives sc hands me i p n c s moves h before =
       row = h.row;
       told = h.told;
       is = h.is;
+      keeps = λ deaf. subst (KeepsTime sc.sizes sc.plan me) (sym (arrive-same sc.sizes me passed c.from c.bytes).0) (h.keeps deaf);
       past = past-arrival sc.sizes sc.plan me h.st.frame h.st.epoch (m.window + 1) passed c.from c.bytes later;
       ahead = λ a e.
           let was = h.ahead a e in
@@ -195,7 +199,7 @@ closed-ticks sc hands ports me i p k s ticks le h had begun before =
     let x : Act = pass_and_tick sc ports me i k s.core in
     let later : IsPast sc.sizes sc.plan me h.st.frame h.st.epoch n c.state c.had =
     past-kept sc.sizes sc.plan me i h.st.frame h.st.epoch n s.core.state s.core.state s.core.had c.had (like-itself sc.sizes sc.plan me i s.core.state) refl (omega arith) h.past in
-    let none : TellsNone sc.sizes sc.plan me h.st.frame h.st.epoch n x = past-tick sc.sizes sc.plan me i h.st.frame h.st.epoch n c _ ticks le later (omega arith) (omega arith) in
+    let none : TellsNone sc.sizes sc.plan me i h.st.frame h.st.epoch n s.core.state x = past-tick sc.sizes sc.plan me i h.st.frame h.st.epoch n c _ ticks le later (omega arith) (omega arith) in
     let z : Site = after_act sc ports me i x s in
     let go : Proceeds sc me i (with_close me i x.core.state x.closed (record s { core = x.core })).row x.core z = acted sc ports me i x s in
     let row : z.row ≡ s.row = go.row_is ∙ ap (λ c. (with_close me i x.core.state c (record s { core = x.core })).row) none.closed in
@@ -206,6 +210,7 @@ closed-ticks sc hands ports me i p k s ticks le h had begun before =
       told = row ∙ h.told;
       is = h.is;
       past = subst (λ (c : Core). IsPast sc.sizes sc.plan me h.st.frame h.st.epoch n c.state c.had) (sym go.core_is) none.past;
+      keeps = λ deaf. subst (λ (c : Core). KeepsTime sc.sizes sc.plan me c.state) (sym go.core_is) (like-keeps sc.sizes sc.plan me i s.core.state x.core.state none.like (h.keeps deaf));
       ahead = λ a e. let was = go.ahead a e in (subst (λ (c : Core). c.had ≤ a.tick) (sym go.core_is) was.0, was.1);
     }
 
@@ -213,8 +218,9 @@ closed-ticks sc hands ports me i p k s ticks le h had begun before =
 pub closes-told : (sc : Scenario) (hands : List HandIn) (ports : List PortState) (me : Side) (i p k : ℕ) (s : Site) (st : NodeState) (x : Act)
     → slice_get (of_kind me (moment sc hands p).nodes) i ≡ Some st → ShowsRounds sc (moment sc hands p) me i st s k x → ((window_in sc (moment sc hands p) me st).stage == 4) ≡ false
     → IsPast sc.sizes sc.plan me st.frame st.epoch ((moment sc hands p).window + 1) x.core.state x.core.had
+    → (listens me Sync (window_in sc (moment sc hands p) me st).stage ≡ false → KeepsTime sc.sizes sc.plan me x.core.state)
     → HasClosed sc hands me i p (after_act sc ports me i x s)
-closes-told sc hands ports me i p k s st x there h stage past =
+closes-told sc hands ports me i p k s st x there h stage past keeps =
     let m : Moment = moment sc hands p in
     let w : Window = window_in sc m me st in
     let z : Site = after_act sc ports me i x s in
@@ -233,6 +239,7 @@ closes-told sc hands ports me i p k s st x there h stage past =
       told = told;
       is = h.row;
       past = subst (λ (c : Core). IsPast sc.sizes sc.plan me st.frame st.epoch (m.window + 1) c.state c.had) (sym go.core_is) past;
+      keeps = λ deaf. subst (λ (c : Core). KeepsTime sc.sizes sc.plan me c.state) (sym go.core_is) (keeps deaf);
       ahead = λ a e. let was = go.ahead a e in (subst (λ (c : Core). c.had ≤ a.tick) (sym go.core_is) was.0, was.1);
     }
   where

@@ -73,7 +73,6 @@ pub deaf-closes : (sc : Scenario) (hands : List HandIn) → HasRoom sc.plan → 
     → (moment sc hands p).window ≡ 3 * sync_slot_of sc.sizes + q → (me : Side) (i : ℕ) (s : Site) → (h : WaitsDeaf sc hands me i p s)
     → HasWord sc ports me i h.st (moment sc hands p).window (word_at sc (moment sc hands p) me i h.st)
     → HasClosed sc hands me i p (after_act sc ports me i (pass_and_tick sc ports me i h.a.tick s.core) s)
-    × KeepsTime sc.sizes sc.plan me (pass_and_tick sc ports me i h.a.tick s.core).core.state
 deaf-closes sc hands room ports p q small at me i s h words =
     let m : Moment = moment sc hands p in
     let st : NodeState = h.st in
@@ -96,8 +95,8 @@ deaf-closes sc hands room ports p q small at me i s h words =
       next = leaves.keeps.next;
     } in
     (closes-told sc hands ports me i p h.a.tick s st x h.state shows (ap (λ (w : Window). w.stage == 4) ((sync_windows_are sc m q small at).are me st) ∙ differs (q + 1) (omega arith))
-    (subst (λ z. IsPast sc.sizes sc.plan me st.frame st.epoch (m.window + 1) z x.core.had) (sym state) past),
-    subst (KeepsTime sc.sizes sc.plan me) (sym state) leaves.keeps)
+    (subst (λ z. IsPast sc.sizes sc.plan me st.frame st.epoch (m.window + 1) z x.core.had) (sym state) past)
+    (λ deaf. subst (KeepsTime sc.sizes sc.plan me) (sym state) leaves.keeps))
   where
     differs : (a : ℕ) → a < 4 → (a == 4) ≡ false
     differs a h = grind (arith, nat_tests)

@@ -81,14 +81,15 @@ past-kept sizes plan me i frame e n c y had more like same le h =
     }
 
 -- what an act gives in which no window ends
-pub record TellsNone (sizes : Sizes) (plan : Plan) (me : Side) (frame e n : ℕ) (x : Act) : Type 0 where
+pub record TellsNone (sizes : Sizes) (plan : Plan) (me : Side) (i frame e n : ℕ) (was : NodeState) (x : Act) : Type 0 where
   pub closed : x.closed ≡ None
   pub epoch : x.epoch ≡ None
+  pub like : Like sizes plan me i was x.core.state
   pub past : IsPast sizes plan me frame e n x.core.state x.core.had
 
 -- at a tick of the window before its last a node that stands in it closes no window and begins no frame
 pub past-tick : (sizes : Sizes) (plan : Plan) (me : Side) (i frame e n : ℕ) (c : Core) (word : ℕ) → HasTicks plan → n ≤ stages_in sizes → IsPast sizes plan me frame e n c.state c.had
-    → e < c.had → c.had < c.state.epoch + last_of sizes plan me c.state n → TellsNone sizes plan me frame e n (tick sizes plan me i c word)
+    → e < c.had → c.had < c.state.epoch + last_of sizes plan me c.state n → TellsNone sizes plan me i frame e n c.state (tick sizes plan me i c word)
 unfolding tick act_at act_on
 past-tick sizes plan me i frame e n c word ticks le h begun before = by (is_spent c)
   where
@@ -112,7 +113,7 @@ past-tick sizes plan me i frame e n c word ticks le h begun before = by (is_spen
         let start : st.epoch ≡ e = h.epoch in
         ap (λ b. elim b as (λ _. Option Epoch) [ true ↦ Some (epoch_of sizes me st) | false ↦ None ]) (differs st.epoch c.had (omega (arith, start, begun)))
 
-    act : (m : Option Message) → TellsNone sizes plan me frame e n (act_on sizes plan me i c st m (state_kept sizes me i st word m))
+    act : (m : Option Message) → TellsNone sizes plan me i frame e n c.state (act_on sizes plan me i c st m (state_kept sizes me i st word m))
     act m = go (is_last sizes plan me st c.had) not-last
       where
         kept : NodeState
@@ -137,19 +138,19 @@ past-tick sizes plan me i frame e n c word ticks le h begun before = by (is_spen
           }
         ]
 
-        go : (b : Bool) → b ≡ false → TellsNone sizes plan me frame e n (acts b)
+        go : (b : Bool) → b ≡ false → TellsNone sizes plan me i frame e n c.state (acts b)
         go true e = cc
         go false _ =
             let like = kept-like sizes plan me i st word m in
-            record { closed = refl; epoch = no-begin; past = past-kept sizes plan me i frame e n st kept c.had (c.had + 1) like.0 like.1 (omega arith) h }
+            record { closed = refl; epoch = no-begin; like = like.0; past = past-kept sizes plan me i frame e n st kept c.had (c.had + 1) like.0 like.1 (omega arith) h }
 
-    by : (b : Bool) → TellsNone sizes plan me frame e n (elim b as (λ _. Act) [
+    by : (b : Bool) → TellsNone sizes plan me i frame e n c.state (elim b as (λ _. Act) [
       | true ↦ record { core = c; epoch = None; message = None; closed = None }
       | false ↦ act_at sizes plan me i c word
     ])
-    by true = record { closed = refl; epoch = refl; past = h }
+    by true = record { closed = refl; epoch = refl; like = like-itself sizes plan me i c.state; past = h }
     by false =
-        subst (λ z. TellsNone sizes plan me frame e n (act_on sizes plan me i c z (said_at sizes plan me i z word c.had) (state_kept sizes me i z word (said_at sizes plan me i z word c.had))))
+        subst (λ z. TellsNone sizes plan me i frame e n c.state (act_on sizes plan me i c z (said_at sizes plan me i z word c.had) (state_kept sizes me i z word (said_at sizes plan me i z word c.had))))
         (sym now) (act (said_at sizes plan me i st word c.had))
 
 -- nor does it where something comes
