@@ -78,5 +78,6 @@ pub mod LastCloses
 pub mod BreakSites
 pub mod BreakEnters
 pub mod DeafEnds
+pub mod BreakMessages
 pub mod BreachWindows
 pub mod DeafCloses

@@ -31,7 +31,7 @@ pub record IsPast (sizes : Sizes) (plan : Plan) (me : Side) (frame e n : ℕ) (c
   pub next : (x : ℕ) → new_epoch_of plan me c ≡ Some x → c.epoch + tail_start_of sizes plan ≤ x
 
 -- it turns at no tick of the window
-turns-later : (sizes : Sizes) (plan : Plan) (me : Side) (c : NodeState) (n k : ℕ) → HasTicks plan → ((x : ℕ) → new_epoch_of plan me c ≡ Some x → c.epoch + tail_start_of sizes plan ≤ x)
+pub turns-later : (sizes : Sizes) (plan : Plan) (me : Side) (c : NodeState) (n k : ℕ) → HasTicks plan → ((x : ℕ) → new_epoch_of plan me c ≡ Some x → c.epoch + tail_start_of sizes plan ≤ x)
     → n ≤ stages_in sizes → IsTickIn sizes plan me c n k → state_at sizes plan me c k ≡ c
 unfolding state_at
 turns-later sizes plan me c n k ticks next le at =
