@@ -79,5 +79,6 @@ pub mod BreakSites
 pub mod BreakEnters
 pub mod DeafEnds
 pub mod BreakMessages
+pub mod BreakTicks
 pub mod BreachWindows
 pub mod DeafCloses
