@@ -119,7 +119,7 @@ hearing-closes sc hands lawful room sent now ports p q running small at me i s h
     let epoch : end.epoch ≡ st.epoch = stays.epoch in
     let had : x.core.had ≡ h.a.tick + 1 = ap (λ (c : Core). c.had) shows.0.act.core in
     let first : first_of sc.sizes sc.plan me end (m.window + 1) ≡ last_of sc.sizes sc.plan me st m.window + 1 = first-alike sc.sizes sc.plan me st end m.window room.ticks (omega (arith, at, small)) in
-    closes-told sc hands ports me i p h.a.tick s st x h.stands.state shows.0 (stage-four sc m q small at me st)
+    closes-told sc hands ports me i p h.a.tick s st x h.stands.state h.stands.good shows.0 (stage-four sc m q small at me st)
     (subst (λ z. IsPast sc.sizes sc.plan me st.frame st.epoch (m.window + 1) z x.core.had) (sym shows.1) (record {
       in_frame = stays.frame;
       epoch = stays.epoch;

@@ -59,6 +59,7 @@ closed-more : (sc : Scenario) (hands : List HandIn) (p : ℕ) (side : Side) (j :
 closed-more sc hands p side j s z core ahead row h = record {
   st = h.st;
   state = h.state;
+  good = h.good;
   row = h.row;
   told = row ∙ h.told;
   is = h.is;

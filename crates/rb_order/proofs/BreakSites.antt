@@ -64,6 +64,7 @@ pub record WaitsDeaf (sc : Scenario) (hands : List HandIn) (me : Side) (i p : �
 pub record HasClosed (sc : Scenario) (hands : List HandIn) (me : Side) (i p : ℕ) (s : Site) : Type 0 where
   pub st : NodeState
   pub state : slice_get (of_kind me (moment sc hands p).nodes) i ≡ Some st
+  pub good : is_good_at sc (moment sc hands p) me i ≡ true
   pub row : Row
   pub told : s.row ≡ Some row
   pub is : (go_through sc (moment sc hands p) (sent_in sc (moment sc hands p)) me i st (window_in sc (moment sc hands p) me st)).row ≡ Some row
@@ -118,6 +119,7 @@ closed-arrives sc hands me i p n c s moves h before =
     record {
       st = h.st;
       state = h.state;
+      good = h.good;
       row = h.row;
       told = h.told;
       is = h.is;
@@ -206,6 +208,7 @@ closed-ticks sc hands ports me i p k s ticks le h had begun before =
     record {
       st = h.st;
       state = h.state;
+      good = h.good;
       row = h.row;
       told = row ∙ h.told;
       is = h.is;
@@ -216,11 +219,11 @@ closed-ticks sc hands ports me i p k s ticks le h had begun before =
 
 -- a node that closes the window with what the rounds tell of it has told its row
 pub closes-told : (sc : Scenario) (hands : List HandIn) (ports : List PortState) (me : Side) (i p k : ℕ) (s : Site) (st : NodeState) (x : Act)
-    → slice_get (of_kind me (moment sc hands p).nodes) i ≡ Some st → ShowsRounds sc (moment sc hands p) me i st s k x → ((window_in sc (moment sc hands p) me st).stage == 4) ≡ false
+    → slice_get (of_kind me (moment sc hands p).nodes) i ≡ Some st → is_good_at sc (moment sc hands p) me i ≡ true → ShowsRounds sc (moment sc hands p) me i st s k x → ((window_in sc (moment sc hands p) me st).stage == 4) ≡ false
     → IsPast sc.sizes sc.plan me st.frame st.epoch ((moment sc hands p).window + 1) x.core.state x.core.had
     → (listens me Sync (window_in sc (moment sc hands p) me st).stage ≡ false → KeepsTime sc.sizes sc.plan me x.core.state)
     → HasClosed sc hands me i p (after_act sc ports me i x s)
-closes-told sc hands ports me i p k s st x there h stage past keeps =
+closes-told sc hands ports me i p k s st x there good h stage past keeps =
     let m : Moment = moment sc hands p in
     let w : Window = window_in sc m me st in
     let z : Site = after_act sc ports me i x s in
@@ -235,6 +238,7 @@ closes-told sc hands ports me i p k s st x there h stage past keeps =
     record {
       st = st;
       state = there;
+      good = good;
       row = row;
       told = told;
       is = h.row;

@@ -35,11 +35,11 @@ use Rattle.rb_order.proofs.TickWindows.{ends-before-later, first_of}
 
 -- up to the last tick of the stage at any good node no good node comes to the last tick of the next stage
 pub before-next : (sc : Scenario) (hands : List HandIn) → IsLawful sc → HasRoom sc.plan → (p q : ℕ) → IsRunning (moment sc hands p) → q < 2 → (moment sc hands p).window ≡ 3 * sync_slot_of sc.sizes + q
-    → (me : Side) (i : ℕ) (s : Site) → HasClosed sc hands me i p s → is_good_at sc (moment sc hands p) me i ≡ true
+    → (me : Side) (i : ℕ) (s : Site) → HasClosed sc hands me i p s
     → (you : Side) (j : ℕ) (yours : NodeState) → slice_get (of_kind you (moment sc hands p).nodes) j ≡ Some yours → is_good_at sc (moment sc hands p) you j ≡ true
     → (a : Timed) → a.time ≡ time_of (clock_of sc me i) a.tick → a.time ≤ time_of (clock_of sc you j) (last_tick sc (moment sc hands p) you yours)
     → a.tick < s.core.state.epoch + last_of sc.sizes sc.plan me s.core.state ((moment sc hands p).window + 1)
-before-next sc hands lawful room p q running small at me i s h good you j yours there2 good2 a at_time le =
+before-next sc hands lawful room p q running small at me i s h you j yours there2 good2 a at_time le =
     let m : Moment = moment sc hands p in
     let m2 : Moment = moment sc hands (suc p) in
     let end : NodeState = state_after sc m me i h.st in
@@ -48,7 +48,7 @@ before-next sc hands lawful room p q running small at me i s h good you j yours 
     let is : next_stage sc.sizes m p ≡ suc p = next-inner sc.sizes m p inner in
     let times : InTime sc m m2 = subst (λ q. InTime sc m (moment sc hands q)) is (in-reached sc hands lawful p running (omega arith)) in
     let there : slice_get (of_kind me m2.nodes) i ≡ Some end = get-later sc hands p me i h.st (omega arith) h.state in
-    let good_then : is_good_at sc m2 me i ≡ true = good-in-sync sc hands me i p (omega arith) (omega (arith, at)) good in
+    let good_then : is_good_at sc m2 me i ≡ true = good-in-sync sc hands me i p (omega arith) (omega (arith, at)) h.good in
     let order : time_of (clock_of sc you j) (last_tick sc m you yours) < time_of (clock_of sc me i) (last_tick sc m2 me end) =
     times.order you me j i yours end there2 good2 there good_then in
     let stays : Stays h.st end = after-stays sc m me i h.st in
@@ -70,11 +70,11 @@ before-next sc hands lawful room p q running small at me i s h good you j yours 
 -- so its tick tells nothing
 pub closed-goes-on : (sc : Scenario) (hands : List HandIn) → IsLawful sc → HasRoom sc.plan → (ports : List PortState) (p q : ℕ) → IsRunning (moment sc hands p) → q < 2
     → (moment sc hands p).window ≡ 3 * sync_slot_of sc.sizes + q
-    → (me : Side) (i : ℕ) (s : Site) → HasClosed sc hands me i p s → is_good_at sc (moment sc hands p) me i ≡ true
+    → (me : Side) (i : ℕ) (s : Site) → HasClosed sc hands me i p s
     → (you : Side) (j : ℕ) (yours : NodeState) → slice_get (of_kind you (moment sc hands p).nodes) j ≡ Some yours → is_good_at sc (moment sc hands p) you j ≡ true
     → (a : Timed) → s.ahead ≡ Some a → a.time ≤ time_of (clock_of sc you j) (last_tick sc (moment sc hands p) you yours)
     → HasClosed sc hands me i p (after_act sc ports me i (pass_and_tick sc ports me i a.tick s.core) s)
-closed-goes-on sc hands lawful room ports p q running small at me i s h good you j yours there2 good2 a pend le =
+closed-goes-on sc hands lawful room ports p q running small at me i s h you j yours there2 good2 a pend le =
     let m : Moment = moment sc hands p in
     let n : ℕ = m.window + 1 in
     let is = h.ahead a pend in
@@ -82,7 +82,7 @@ closed-goes-on sc hands lawful room ports p q running small at me i s h good you
     ends-before-later sc.sizes sc.plan me s.core.state 0 n room.ticks (omega arith) (omega (arith, at, small)) in
     let epoch : s.core.state.epoch ≡ h.st.epoch = h.past.epoch in
     closed-ticks sc hands ports me i p a.tick s room.ticks (omega (arith, at, small)) h is.0 (omega (arith, first, epoch, h.past.from, is.0))
-    (before-next sc hands lawful room p q running small at me i s h good you j yours there2 good2 a is.1 le)
+    (before-next sc hands lawful room p q running small at me i s h you j yours there2 good2 a is.1 le)
 
 -- An arrival.
 

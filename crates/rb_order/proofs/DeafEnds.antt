@@ -94,7 +94,7 @@ deaf-closes sc hands room ports p q small at me i s h words =
       from = let last : h.a.tick ≡ last_tick sc m me st = h.last in omega (arith, first, epoch, had, last);
       next = leaves.keeps.next;
     } in
-    (closes-told sc hands ports me i p h.a.tick s st x h.state shows (ap (λ (w : Window). w.stage == 4) ((sync_windows_are sc m q small at).are me st) ∙ differs (q + 1) (omega arith))
+    (closes-told sc hands ports me i p h.a.tick s st x h.state h.good shows (ap (λ (w : Window). w.stage == 4) ((sync_windows_are sc m q small at).are me st) ∙ differs (q + 1) (omega arith))
     (subst (λ z. IsPast sc.sizes sc.plan me st.frame st.epoch (m.window + 1) z x.core.had) (sym state) past)
     (λ deaf. subst (KeepsTime sc.sizes sc.plan me) (sym state) leaves.keeps))
   where

@@ -80,5 +80,6 @@ pub mod BreakEnters
 pub mod DeafEnds
 pub mod BreakMessages
 pub mod BreakTicks
+pub mod BreakEvents
 pub mod BreachWindows
 pub mod DeafCloses
