@@ -81,5 +81,6 @@ pub mod DeafEnds
 pub mod BreakMessages
 pub mod BreakTicks
 pub mod BreakEvents
+pub mod BreakWorld
 pub mod BreachWindows
 pub mod DeafCloses
