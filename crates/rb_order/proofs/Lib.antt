@@ -82,5 +82,6 @@ pub mod BreakMessages
 pub mod BreakTicks
 pub mod BreakEvents
 pub mod BreakWorld
+pub mod BreakBegins
 pub mod BreachWindows
 pub mod DeafCloses
