@@ -1,6 +1,6 @@
 -- For the law that events are rounds also where the premise on faults is broken in a sync slot (not proved): whatever the verdict on a stage
 -- of the sync slot, each good node's next frame, as far as it knows when, begins after all stages of this one.
-use Rattle.std.proofs.Common.{◌≡◌, ℕ, zero, suc, ◌+◌, ◌*◌, ◌<◌, ◌≤◌, true, List, ◌∷◌, [], refl, ap, sym, ◌∙◌, subst, arith, Option, Some, None, option_map, unwrap_or, lit<}
+use Rattle.std.proofs.Common.{◌≡◌, ℕ, zero, suc, ◌+◌, ◌*◌, ◌<◌, ◌≤◌, true, List, ◌∷◌, [], ap, sym, ◌∙◌, arith, Option, Some, option_map, unwrap_or, lit<}
 use Rattle.rb_base.specs.Nodes.{Side}
 use Rattle.rb_base.specs.Nodes.Side.{Biu, Rmu}
 use Rattle.rb_base.specs.Sizes.{sync_slot_of}
@@ -23,7 +23,6 @@ use Rattle.rb_agree.proofs.Goodnesses.{slot_last}
 use Rattle.rb_agree.proofs.Invariant.{IsGoodNode}
 use Rattle.rb_agree.proofs.NodeWindows.{HasTick, Windows, kept_in, word_at, sync_tick, sync_windows_are}
 use Rattle.rb_agree.proofs.Settings.{after}
-use Rattle.rb_sync.proofs.CallTicks.{KeepsTicks, all_keep_ticks}
 use Rattle.rb_sync.proofs.KeptMiddles.{Keeps, keeps}
 use Rattle.rb_sync.proofs.TakenCalls.{IsTaken, taken_from, took}
 use Rattle.rb_order.proofs.BreachEpochs.{heard-from, middle-least, rmu-middle}

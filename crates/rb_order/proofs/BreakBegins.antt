@@ -1,6 +1,6 @@
 -- For the law that events are rounds also where the premise on faults is broken in a sync slot (not proved): when the first node closes the stage with
 -- which the run breaks off, all that run wait for their last tick of it, and have sent what they send in it.
-use Rattle.std.proofs.Common.{◌≡◌, ℕ, ◌+◌, ◌*◌, ◌<◌, ◌≤◌, ◌==◌, ◌&&◌, ◌||◌, ◌⊎◌, nat_lt, Bool, true, false, List, [], refl, ap, sym, ◌∙◌, subst, arith, inl, inr, Option, Some, None, option_and_then, option_map, option_to_list, slice_get}
+use Rattle.std.proofs.Common.{◌≡◌, ℕ, ◌+◌, ◌*◌, ◌<◌, ◌≤◌, ◌==◌, ◌&&◌, ◌||◌, ◌⊎◌, nat_lt, Bool, true, false, List, [], refl, ap, ◌∙◌, subst, arith, inl, inr, Option, Some, None, option_and_then, option_map, option_to_list, slice_get}
 use Rattle.std.proofs.lemmas.Bool.Decides.{nat_tests}
 use Rattle.rb_base.specs.Nodes.{Side, other}
 use Rattle.rb_base.specs.Sizes.{sync_slot_of}
@@ -13,12 +13,12 @@ use Rattle.rb_rules.specs.Moments.{IsRunning}
 use Rattle.rb_rules.specs.NodeState.{NodeState}
 use Rattle.rb_rules.specs.Ports.{HandIn}
 use Rattle.rb_rules.specs.Rounds.{Moment, moment}
-use Rattle.rb_rules.specs.WorldStep.{Site, Timed, times_of}
+use Rattle.rb_rules.specs.WorldStep.{Site, times_of}
 use Rattle.rb_order.proofs.BreakEnters.{sent-then, waits-then}
 use Rattle.rb_order.proofs.BreakMessages.{SiteBreaks}
 use Rattle.rb_order.proofs.BreakSites.{HasClosed, WaitsDeaf, WaitsHearing}
 use Rattle.rb_order.proofs.BreakWorld.{SitesBreak}
-use Rattle.rb_order.proofs.Invariant.{NodeStands, entry_of, has_sent, is_good_at, is_past, last_tick, sending_of}
+use Rattle.rb_order.proofs.Invariant.{entry_of, has_sent, is_good_at, last_tick, sending_of}
 use Rattle.rb_order.proofs.NodeActs.{HasRoom}
 use Rattle.rb_order.proofs.NodeEvents.{tick-after}
 use Rattle.rb_order.proofs.SameHeard.{Every}

@@ -1,6 +1,6 @@
 -- For the law that events are rounds also where the premise on faults is broken in a sync slot (not proved): once a good node closes a stage of
 -- the sync slot, all others that stand in it wait for its last tick; and at that tick they tell what the rounds tell.
-use Rattle.std.proofs.Common.{◌≡◌, ℕ, zero, suc, ◌+◌, ◌-◌, ◌*◌, ◌^◌, ◌<◌, ◌≤◌, ◌==◌, ◌⊎◌, Bool, true, false, List, [], refl, ap, sym, ◌∙◌, subst, arith, inl, inr, Option, Some, slice_get, lit<}
+use Rattle.std.proofs.Common.{◌≡◌, ℕ, ◌+◌, ◌*◌, ◌<◌, ◌≤◌, ◌==◌, ◌⊎◌, Bool, true, false, List, [], refl, ap, sym, ◌∙◌, subst, arith, inl, inr, Some, slice_get}
 use Rattle.std.proofs.lemmas.Bool.{cases_lt}
 use Rattle.std.proofs.lemmas.Bool.Decides.{nat_tests}
 use Rattle.rb_base.specs.Nodes.{Side, other}
@@ -11,7 +11,7 @@ use Rattle.rb_rules.specs.Book.{of_kind}
 use Rattle.rb_rules.specs.Clock.{time_of}
 use Rattle.rb_rules.specs.Core.{Act, Core}
 use Rattle.rb_rules.specs.Goodness.{Scenario, clock_of}
-use Rattle.rb_rules.specs.Hearing.{Coming, Sending}
+use Rattle.rb_rules.specs.Hearing.{Sending}
 use Rattle.rb_rules.specs.Lawful.{IsLawful}
 use Rattle.rb_rules.specs.Moments.{IsRunning}
 use Rattle.rb_rules.specs.NodeState.{NodeState}
@@ -22,13 +22,12 @@ use Rattle.rb_rules.specs.WorldStep.{Site, Timed, after_act, pass_and_tick}
 use Rattle.rb_rules.proofs.Drift.{times_rise_to}
 use Rattle.rb_rules.proofs.RoundStates.{Stays}
 use Rattle.rb_agree.proofs.NodeWindows.{sync_windows_are}
-use Rattle.rb_order.specs.Closing.{stages_in}
 use Rattle.rb_order.proofs.BreachMiddles.{next-after}
 use Rattle.rb_order.proofs.BreachSends.{sent-before}
 use Rattle.rb_order.proofs.BreakSites.{HasClosed, WaitsDeaf, WaitsHearing, closes-told}
 use Rattle.rb_order.proofs.FrameTimes.{good-node}
 use Rattle.rb_order.proofs.Invariant.{NodeStands, entry_of, is_good_at, last_tick, sending_of, word_at}
-use Rattle.rb_order.proofs.LastCloses.{ShowsRounds, shows-heard}
+use Rattle.rb_order.proofs.LastCloses.{shows-heard}
 use Rattle.rb_order.proofs.NodeActs.{HasRoom, HasWord}
 use Rattle.rb_order.proofs.NodeMoves.{after-stays, first-alike}
 use Rattle.rb_order.proofs.PastTicks.{IsPast}

@@ -1,6 +1,6 @@
 -- For the law that events are rounds also where the premise on faults is broken in a sync slot (not proved): a due tick of a node of a world in which
 -- the run breaks off with the first or the second stage of the sync slot. After it the node has told its row, and it says nothing to those that listen.
-use Rattle.std.proofs.Common.{◌≡◌, ℕ, zero, suc, ◌+◌, ◌*◌, ◌<◌, ◌≤◌, ◌==◌, ◌⊎◌, Bool, true, false, List, [], ◌∷◌, refl, ap, sym, ◌∙◌, subst, arith, inl, inr, Option, Some, None, slice_get}
+use Rattle.std.proofs.Common.{◌≡◌, ℕ, zero, suc, ◌+◌, ◌*◌, ◌<◌, ◌≤◌, ◌==◌, ◌⊎◌, Bool, true, false, List, [], refl, ap, sym, ◌∙◌, subst, arith, inl, inr, Option, Some, None, slice_get}
 use Rattle.std.proofs.lemmas.Bool.Decides.{nat_tests}
 use Rattle.rb_base.specs.Nodes.{Side, other}
 use Rattle.rb_base.specs.Nodes.Side.{Biu, Rmu}
@@ -12,7 +12,7 @@ use Rattle.rb_rules.specs.Book.{of_kind}
 use Rattle.rb_rules.specs.Clock.{time_of}
 use Rattle.rb_rules.specs.Core.{if_at}
 use Rattle.rb_rules.specs.Goodness.{Scenario, clock_of}
-use Rattle.rb_rules.specs.Hearing.{Coming, Sending}
+use Rattle.rb_rules.specs.Hearing.{Sending}
 use Rattle.rb_rules.specs.Lawful.{IsLawful}
 use Rattle.rb_rules.specs.Moments.{IsRunning}
 use Rattle.rb_rules.specs.NodeState.{NodeState}
@@ -21,13 +21,12 @@ use Rattle.rb_rules.specs.Rounds.{Moment, moment, window_in}
 use Rattle.rb_rules.specs.Slots.{listens, same_side}
 use Rattle.rb_rules.specs.WorldStep.{Site, Timed, after_act, pass_and_tick}
 use Rattle.rb_agree.proofs.NodeWindows.{sync_windows_are}
-use Rattle.rb_order.specs.Closing.{stages_in}
 use Rattle.rb_order.proofs.BreakEnters.{hearing-closes, sent-then}
 use Rattle.rb_order.proofs.BreakMessages.{SiteBreaks, closed-silent}
-use Rattle.rb_order.proofs.BreakSites.{HasClosed, WaitsDeaf, WaitsHearing}
+use Rattle.rb_order.proofs.BreakSites.{HasClosed, WaitsHearing}
 use Rattle.rb_order.proofs.BreakTicks.{before-next, closed-goes-on}
 use Rattle.rb_order.proofs.DeafEnds.{deaf-closes}
-use Rattle.rb_order.proofs.Invariant.{entry_of, is_good_at, last_tick, sending_of, word_at}
+use Rattle.rb_order.proofs.Invariant.{entry_of, is_good_at, last_tick, word_at}
 use Rattle.rb_order.proofs.LastCloses.{shows-deaf}
 use Rattle.rb_order.proofs.NodeActs.{HasRoom, HasWord}
 use Rattle.rb_order.proofs.NodeSends.{sending_at}

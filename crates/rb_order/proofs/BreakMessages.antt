@@ -1,7 +1,7 @@
 -- For the law that events are rounds also where the premise on faults is broken in a sync slot (not proved): where the run breaks off messages
 -- reach only nodes that don't listen in the stage, or have closed it; a node that has told its row of it, and is of the kind heard in it,
 -- says nothing up to the last tick of the next window.
-use Rattle.std.proofs.Common.{◌≡◌, ℕ, zero, suc, ◌+◌, ◌*◌, ◌^◌, ◌<◌, ◌≤◌, ◌&&◌, ◌++◌, ◌∷◌, [], ◌⊎◌, Bool, true, false, List, refl, ap, sym, ◌∙◌, subst, arith, inl, inr, Option, Some, None}
+use Rattle.std.proofs.Common.{◌≡◌, ℕ, ◌+◌, ◌*◌, ◌<◌, ◌≤◌, ◌&&◌, ◌++◌, ◌∷◌, [], ◌⊎◌, Bool, true, false, List, refl, ap, sym, ◌∙◌, subst, arith, inl, inr, Option, Some, None}
 use Rattle.rb_base.specs.Nodes.{Side, other}
 use Rattle.rb_base.specs.Sizes.{Sizes, sync_slot_of}
 use Rattle.rb_rules.specs.declared.message.Message.{Message}
@@ -13,10 +13,9 @@ use Rattle.rb_rules.specs.Goodness.{Scenario}
 use Rattle.rb_rules.specs.Hearing.{close_window, coming_of}
 use Rattle.rb_rules.specs.NodeState.{NodeState}
 use Rattle.rb_rules.specs.Ports.{HandIn, PortState}
-use Rattle.rb_rules.specs.Rounds.{Moment, moment, window_in}
+use Rattle.rb_rules.specs.Rounds.{moment, window_in}
 use Rattle.rb_rules.specs.Slots.{listens, same_side}
 use Rattle.rb_rules.specs.WorldStep.{Site, pass_and_tick, wants_in, word_of}
-use Rattle.rb_order.specs.Closing.{stages_in}
 use Rattle.rb_order.proofs.BreakSites.{HasClosed, WaitsDeaf, WaitsHearing}
 use Rattle.rb_order.proofs.Invariant.{word_at}
 use Rattle.rb_order.proofs.NodeActs.{HasRoom, IsInWindow}

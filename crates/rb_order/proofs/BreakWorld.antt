@@ -1,6 +1,6 @@
 -- For the law that events are rounds also where the premise on faults is broken in a sync slot (not proved): a due event keeps all nodes of a world
 -- in which the run breaks off with the first or the second stage of the sync slot: they wait for the last tick of it, or have told their rows.
-use Rattle.std.proofs.Common.{◌≡◌, ℕ, ◌+◌, ◌*◌, ◌<◌, ◌≤◌, Bool, true, false, List, refl, inl, inr, Option, Some, None, slice_get}
+use Rattle.std.proofs.Common.{◌≡◌, ℕ, ◌+◌, ◌*◌, ◌<◌, ◌≤◌, Bool, List, inl, inr, Option, Some, None, slice_get}
 use Rattle.rb_base.specs.Nodes.{Side}
 use Rattle.rb_base.specs.Sizes.{sync_slot_of}
 use Rattle.rb_rules.specs.declared.message.Message.{Message}
@@ -23,7 +23,7 @@ use Rattle.rb_order.proofs.PendingLists.{StandsAt}
 use Rattle.rb_order.proofs.Receiving.{ArrivesNow}
 use Rattle.rb_order.proofs.SameHeard.{Every}
 use Rattle.rb_order.proofs.ToldInOrder.{one-changes}
-use Rattle.rb_order.proofs.WorldStands.{AllPend, is_node}
+use Rattle.rb_order.proofs.WorldStands.{AllPend}
 
 abbrev pub SitesBreak : Scenario → List HandIn → (Side → ℕ → ℕ → Bool) → ℕ → ℕ → Each Site → Type 0
 SitesBreak sc hands sent now p sites = (side : Side) (j : ℕ) (z : Site) → slice_get (of_kind side sites) j ≡ Some z → SiteBreaks sc hands sent now p side j z

@@ -1,6 +1,6 @@
 -- For the law that events are rounds also where the premise on faults is broken in a sync slot (not proved): a node that doesn't listen in a stage
 -- of the sync slot tells what the rounds tell at its last tick, whatever came to it, and closes nothing before the last tick of the next window.
-use Rattle.std.proofs.Common.{◌≡◌, ℕ, zero, suc, ◌+◌, ◌*◌, ◌^◌, ◌<◌, ◌≤◌, ◌==◌, Bool, true, false, List, refl, ap, sym, ◌∙◌, subst, arith, slice_get}
+use Rattle.std.proofs.Common.{◌≡◌, ℕ, ◌+◌, ◌*◌, ◌<◌, ◌==◌, Bool, true, false, List, ap, sym, ◌∙◌, subst, arith}
 use Rattle.std.proofs.lemmas.Bool.Decides.{nat_tests}
 use Rattle.rb_base.specs.Nodes.{Side}
 use Rattle.rb_base.specs.Sizes.{Sizes, sync_slot_of}
@@ -23,7 +23,6 @@ use Rattle.rb_rules.specs.SyncStage.{close_sync, expects_call}
 use Rattle.rb_rules.specs.WorldStep.{Site, after_act, pass_and_tick}
 use Rattle.rb_rules.proofs.RoundStates.{Stays, keeping-stays}
 use Rattle.rb_agree.proofs.NodeWindows.{sync_windows_are}
-use Rattle.rb_order.specs.Closing.{stages_in}
 use Rattle.rb_order.proofs.BreakSites.{HasClosed, WaitsDeaf, closes-told}
 use Rattle.rb_order.proofs.ClosingTicks.{closing_of, spoken}
 use Rattle.rb_order.proofs.DeafCloses.{deaf-state}

@@ -1,7 +1,7 @@
 -- For the law that events are rounds also where the premise on faults is broken in a sync slot (not proved): the last tick of a window at a
 -- node, with nothing known of what comes after. It shows what the rounds tell of the window, where all that was sent to the node has
 -- come; and whatever came to it, where it doesn't listen.
-use Rattle.std.proofs.Common.{◌≡◌, ℕ, ◌+◌, ◌*◌, ◌^◌, ◌<◌, ◌≤◌, ◌==◌, ◌&&◌, ◌⊎◌, nat_le, Bool, true, false, List, [], ◌∷◌, map, refl, ap, sym, ◌∙◌, subst, arith, Option, Some, None, slice_get}
+use Rattle.std.proofs.Common.{◌≡◌, ℕ, ◌+◌, ◌^◌, ◌<◌, ◌≤◌, ◌==◌, ◌&&◌, ◌⊎◌, nat_le, Bool, true, false, List, [], map, ap, sym, ◌∙◌, subst, arith, Some, None}
 use Rattle.std.proofs.lemmas.Bool.Decides.{nat_tests}
 use Rattle.rb_base.specs.Nodes.{Side, other}
 use Rattle.rb_base.specs.Sizes.{Sizes, sync_slot_of}
@@ -10,9 +10,8 @@ use Rattle.rb_rules.specs.declared.plan.Plan.{Plan}
 use Rattle.rb_rules.specs.declared.plan.Window.{Window}
 use Rattle.rb_rules.specs.declared.role.Role.TheVariants.{Sync}
 use Rattle.rb_rules.specs.declared.sense.Sense.{Sense}
-use Rattle.rb_rules.specs.Book.{Row, of_kind}
 use Rattle.rb_rules.specs.Clock.{Timeline, time_of}
-use Rattle.rb_rules.specs.Core.{Act, Core, if_at, of_source, pass_to}
+use Rattle.rb_rules.specs.Core.{Act, Core, of_source, pass_to}
 use Rattle.rb_rules.specs.ExactStage.{Outcome, close_exact}
 use Rattle.rb_rules.specs.Goodness.{Scenario, clock_of, is_good}
 use Rattle.rb_rules.specs.Hearing.{Coming, arrival_of, close_window, row_of, span_of}
@@ -29,7 +28,6 @@ use Rattle.rb_order.proofs.DeafCloses.{deaf-row, silent_row}
 use Rattle.rb_order.proofs.Invariant.{NodeStands, ahead_so_far, entry_of, heard_so_far, is_good_at, last_tick, next_stage, word_at}
 use Rattle.rb_order.proofs.NodeActs.{ActsClose, HasRoom, HasWord, IsInWindow, acts-close}
 use Rattle.rb_order.proofs.NodeCloses.{all-here, heard-all}
-use Rattle.rb_order.proofs.NodeSends.{sending_at}
 use Rattle.rb_order.proofs.Receiving.{Receives}
 use Rattle.rb_order.proofs.RoundNodes.{slot-is}
 use Rattle.rb_order.proofs.SameHeard.{AllOf, Every}
@@ -86,13 +84,15 @@ shows-heard sc hands sent now ports me i p s st a room frame all_sent words late
     } in
     let outcome : Outcome = closing_of sc m me i st w s.core.inbox in
     let result : Result = record { state = outcome.state; row = Some (row_of me i outcome.state (coming_from s.got) outcome.closed) } in
-    let is : go_through sc m (sent_in sc m) me i st w ≡ result = result-is sc m (sent_in sc m) me i st w s.core.inbox s.got holds in
-    (record {
-      shown = outcome.closed;
-      closed = acts.closed;
-      row = ap (λ (r : Result). r.row) is ∙ ap (λ z. Some (row_of me i z (coming_from s.got) outcome.closed)) (sym (ap (λ (c : Core). c.state) acts.core));
-      act = acts;
-    }, ap (λ (c : Core). c.state) acts.core ∙ sym (ap (λ (r : Result). r.state) is))
+    let is : go_through sc m (sent_in sc m) me i st w ≡ result = result-is sc m (sent_in sc m) me i st w s.core.inbox s.got holds in (
+      record {
+        shown = outcome.closed;
+        closed = acts.closed;
+        row = ap (λ (r : Result). r.row) is ∙ ap (λ z. Some (row_of me i z (coming_from s.got) outcome.closed)) (sym (ap (λ (c : Core). c.state) acts.core));
+        act = acts;
+      },
+      ap (λ (c : Core). c.state) acts.core ∙ sym (ap (λ (r : Result). r.state) is),
+    )
 
 -- the row of a close in which a node doesn't listen
 deaf-window : (sizes : Sizes) (plan : Plan) (me : Side) (i : ℕ) (st : NodeState) (w : Window) (arrivals : ℕ → List Arrival) (heard : ℕ → List Coming)

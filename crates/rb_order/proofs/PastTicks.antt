@@ -1,16 +1,15 @@
 -- For the law that events are rounds also where the premise on faults is broken in a sync slot (not proved): what a node does after it has
 -- closed the stage with which the run breaks off. Whatever middles it keeps, it tells nothing up to the last tick of the next window.
-use Rattle.std.proofs.Common.{◌≡◌, ℕ, zero, suc, ◌+◌, ◌^◌, ◌<◌, ◌≤◌, ◌==◌, ◌&&◌, if◌then◌else◌, Bool, true, false, List, [], ◌∷◌, ◌++◌, not, nat_lt, refl, ap, sym, ◌∙◌, subst, arith, inl, inr, Option, Some, None, is_some}
+use Rattle.std.proofs.Common.{◌≡◌, ℕ, ◌+◌, ◌<◌, ◌≤◌, ◌==◌, ◌&&◌, if◌then◌else◌, Bool, true, false, List, [], ◌∷◌, ◌++◌, not, nat_lt, refl, ap, sym, ◌∙◌, subst, arith, inl, inr, Option, Some, None, is_some}
 use Rattle.std.proofs.lemmas.Bool.{cases_lt}
 use Rattle.std.proofs.lemmas.Bool.Decides.{nat_tests}
 use Rattle.rb_base.specs.Nodes.{Side, other}
 use Rattle.rb_base.specs.Sizes.{Sizes}
-use Rattle.rb_rules.specs.declared.closing.Closed.{Closed}
 use Rattle.rb_rules.specs.declared.message.Message.{Message}
 use Rattle.rb_rules.specs.declared.plan.Plan.{Plan}
 use Rattle.rb_rules.specs.declared.record.Epoch.{Epoch}
 use Rattle.rb_rules.specs.Core.{Act, Core, act_at, act_on, arrive, epoch_at, is_last, is_spent, is_tick, of_source, said_at, state_at, state_kept, tick, window_here}
-use Rattle.rb_rules.specs.ExactStage.{Outcome, keep_sent, says}
+use Rattle.rb_rules.specs.ExactStage.{Outcome, says}
 use Rattle.rb_rules.specs.Hearing.{close_window, epoch_of}
 use Rattle.rb_rules.specs.NodeState.{NodeState}
 use Rattle.rb_rules.specs.NodeSteps.{turn_if_known}

@@ -1,10 +1,9 @@
 -- For the law that events are rounds also where the premise on faults is broken in a sync slot (not proved): nodes of the kind that is heard
 -- in a stage of the sync slot don't listen in it, so whatever came to them they say nothing in the next one, and in the tail.
-use Rattle.std.proofs.Common.{◌≡◌, ℕ, zero, suc, ◌+◌, ◌*◌, ◌<◌, ◌≤◌, true, false, refl, ap, sym, ◌∙◌, subst, arith, Option, Some, None, lit<}
+use Rattle.std.proofs.Common.{◌≡◌, ℕ, zero, suc, ◌+◌, ◌*◌, ◌<◌, true, false, refl, ap, sym, ◌∙◌, subst, arith, Option, Some, None}
 use Rattle.rb_base.specs.Nodes.{Side, other}
 use Rattle.rb_base.specs.Nodes.Side.{Biu, Rmu}
 use Rattle.rb_base.specs.Sizes.{Sizes, sync_slot_of}
-use Rattle.rb_rules.specs.declared.message.Message.{Message}
 use Rattle.rb_rules.specs.declared.plan.Plan.{Plan}
 use Rattle.rb_rules.specs.declared.plan.Window.{Window}
 use Rattle.rb_rules.specs.declared.role.Role.TheVariants.{Sync}
@@ -17,7 +16,6 @@ use Rattle.rb_rules.specs.Standing.{has_evidence, with_evidence}
 use Rattle.rb_rules.specs.SyncStage.{close_sync, expects_call}
 use Rattle.rb_rules.proofs.WindowNumbers.{sync-numbered}
 use Rattle.rb_sync.proofs.TakenCalls.{call_sent}
-use Rattle.rb_order.specs.Closing.{stages_in}
 use Rattle.rb_order.proofs.DeafCloses.{deaf-state}
 use Rattle.rb_order.proofs.NodeActs.{HasRoom}
 use Rattle.rb_order.proofs.NodeSends.{KeepsTime, said-is, sending_at}
