@@ -95,7 +95,7 @@ waits-then sc hands lawful room sent now p q running small at me i s st a h you 
       last = last;
     })
 
-stage-four : (sc : Scenario) (m : Moment) (q : ℕ) → q < 3 → m.window ≡ 3 * sync_slot_of sc.sizes + q → (me : Side) (st : NodeState) → ((window_in sc m me st).stage == 4) ≡ false
+pub stage-four : (sc : Scenario) (m : Moment) (q : ℕ) → q < 3 → m.window ≡ 3 * sync_slot_of sc.sizes + q → (me : Side) (st : NodeState) → ((window_in sc m me st).stage == 4) ≡ false
 stage-four sc m q small at me st = ap (λ (w : Window). w.stage == 4) ((sync_windows_are sc m q small at).are me st) ∙ differs (q + 1) (omega arith)
   where
     differs : (a : ℕ) → a < 4 → (a == 4) ≡ false

@@ -83,5 +83,6 @@ pub mod BreakTicks
 pub mod BreakEvents
 pub mod BreakWorld
 pub mod BreakBegins
+pub mod BreakTells
 pub mod BreachWindows
 pub mod DeafCloses
