@@ -1,15 +1,16 @@
 //! What the bytes of an arrival say, in a window.
-ghost use Rattle.std.specs.Prelude.{◌≡◌, ◌≤◌, ◌++◌, ℕ, IsTrue, Some, ◌<◌, drop, length, slice_index, take, true};
-ghost use Rattle.std.specs.Int.{from_le_bytes, to_le_bytes, w32, w64};
+ghost use Rattle.std.specs.Prelude.{◌≡◌, ◌≤◌, ℕ, IsTrue, Some, ◌<◌, drop, length, slice_index, take, true};
+ghost use Rattle.std.specs.Int.{from_le_bytes, w32, w64};
 ghost use Rattle.rb_rules.specs.ExactStage.{see_value};
 ghost use Rattle.rb_rules.specs.Sense.{is_one, sense_of_one, suits, tag_suits, value_in, value_of};
 ghost use Rattle.rb_rules.specs.Spelling.{message_in};
 ghost use Rattle.rb_base.specs.declared.values.Heard.{Heard};
 ghost use Rattle.rb_eligible.specs.Readings.{IsReading, Says, bytes_of, high_of, len_of};
 
+use crate::words::message_in;
 use byteorder::{ByteOrder, LittleEndian};
 use rb_base::{Heard, See};
-use rb_frame::{Message, Tag, decode};
+use rb_frame::{Message, Tag};
 use rb_rules::{Expect, Sense};
 
 // The bytes of the longest message.
@@ -37,6 +38,13 @@ pub struct Reading {
     pub see: See,
     pub candidate: Option<Heard>,
     pub agrees: bool,
+}
+
+/// Whether bytes are exactly one message that is meant for the window, and its value.
+#[derive(Clone, Copy, Debug, PartialEq, Eq)]
+pub(crate) struct Said {
+    pub one: bool,
+    pub value: Option<Heard>,
 }
 
 /// The reading before the first: no arrival that is kept has 13 bytes.
@@ -77,28 +85,40 @@ pub(crate) fn read(sole: &Sole, expect: &Expect, last: &mut Reading)
     }
 }
 
-// What an arrival says.
-#[inline(never)]
+/// Whether an arrival is one message that is meant for the window, and its value.
+#[inline(always)]
 #[tactic(auto, using(crate::proofs::Sensed::says_sense))]
+pub(crate) fn words_of(sole: &Sole, expect: &Expect) -> Said
+    requires { len_of sole.now.tail ≤ 12 }
+    ensures { Says expect.now (bytes_of sole.now) result.one result.value }
+{
+    let sense = sense_of_sole(sole, expect);
+    Said {
+        one: is_one(&sense),
+        value: value_in(&sense),
+    }
+}
+
+// Reads an arrival that is unlike the one before.
+#[inline(never)]
 fn read_anew(sole: &Sole, expect: &Expect, last: &mut Reading)
     requires { len_of sole.now.tail ≤ 12 }
     ensures reading { IsReading expect.now last.new }
     ensures says { Says expect.now (bytes_of sole.now) last.new.one last.new.value }
     ensures candidate { (h : Heard) → last.old.candidate ≡ Some h → last.new.candidate ≡ Some h }
 {
-    let sense = sense_of_sole(sole, expect);
-    let value = value_in(&sense);
+    let Said { one, value } = words_of(sole, expect);
     last.candidate = first_of(last.candidate, value);
     last.agrees = agrees(last.candidate, value);
     last.low = sole.low;
     last.tail = sole.tail;
-    last.one = is_one(&sense);
+    last.one = one;
     last.value = value;
     last.see = see_value(value);
 }
 
 // What is shown of a source, by the value that was taken of it.
-fn see_value(taken: Option<Heard>) -> See
+pub(crate) fn see_value(taken: Option<Heard>) -> See
     ensures { result ≡ see_value taken }
 {
     match taken {
@@ -160,33 +180,27 @@ fn value_in(sense: &Sense) -> Option<Heard>
     }
 }
 
-// Room with the bytes of an arrival.
-fn room_of(low: u64, high: u32) -> [u8; 12]
-    ensures { result ≡ to_le_bytes w64 low ++ to_le_bytes w32 high }
-{
-    let mut room = [0; 12];
-    LittleEndian::write_u64(&mut room[..8], low);
-    LittleEndian::write_u32(&mut room[8..], high);
-    room
-}
-
 /// The sense of an arrival that is the only one of its source.
-#[tactic(auto, unfolding(crate::specs::Readings::spelled))]
+#[inline(always)]
 pub(crate) fn sense_of_sole(sole: &Sole, expect: &Expect) -> Sense
     requires { len_of sole.now.tail ≤ 12 }
     ensures { result
         ≡ sense_of_one expect.now sole.now.at (message_in expect.now.version (bytes_of sole.now)) }
 {
-    let len = (sole.tail >> 32) as usize;
-    let room = room_of(sole.low, (sole.tail % 0x1_0000_0000) as u32);
-    sense_of_one(expect, sole.at, &room[..len])
+    let len = sole.tail >> 32;
+    let high = (sole.tail % 0x1_0000_0000) as u32;
+    sense_of_one(
+        expect,
+        sole.at,
+        message_in(expect.version, sole.low, high, len),
+    )
 }
 
-// The sense of a sole arrival.
-fn sense_of_one(expect: &Expect, at: u64, bytes: &[u8]) -> Sense
-    ensures sense { result ≡ sense_of_one expect.now at (message_in expect.now.version bytes.now) }
+// The sense of a sole arrival, by the message that it is.
+fn sense_of_one(expect: &Expect, at: u64, message: Option<Message>) -> Sense
+    ensures sense { result ≡ sense_of_one expect.now at message }
 {
-    match decode(expect.version, bytes) {
+    match message {
         Some(message) => {
             if suits(expect, message) {
                 Sense::One { at, message }

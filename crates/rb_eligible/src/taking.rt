@@ -1,17 +1,17 @@
 //! What a node takes in a window, and whom it accuses for what came.
-ghost use Rattle.std.specs.Prelude.{◌≡◌, ℕ, ◌<◌, ◌*◌, ◌^◌, List, ◌&&◌, ◌==◌, not, true, if◌then◌else◌, None, unwrap_or, IsTrue};
+ghost use Rattle.std.specs.Prelude.{◌≡◌, ℕ, ◌<◌, ◌*◌, ◌^◌, ◌&&◌, ◌==◌, not, true, if◌then◌else◌, None, unwrap_or, IfSome, IsTrue};
 ghost use Rattle.rb_base.specs.Nodes.{has, set_of, size};
 ghost use Rattle.rb_base.specs.declared.values.Heard.{Heard};
-ghost use Rattle.rb_rules.specs.ExactStage.{at_source, each_node, present};
+ghost use Rattle.rb_rules.specs.ExactStage.{present};
 ghost use Rattle.rb_rules.specs.Majority.{majority_of};
-ghost use Rattle.rb_rules.specs.Sense.{is_one, value_in};
-ghost use Rattle.rb_rules.specs.Standing.{has_evidence, is_eligible, taken_of, with_evidence};
-ghost use Rattle.rb_eligible.specs.Inboxes.{Received, HoldsArrivals, is_sole, sense_in};
+ghost use Rattle.rb_rules.specs.Standing.{is_eligible};
+ghost use Rattle.rb_eligible.specs.Inboxes.{is_sole};
 ghost use Rattle.rb_eligible.specs.Sheets.{IsSheet};
 ghost use Rattle.rb_eligible.specs.Standings.{standing_of};
+ghost use Rattle.rb_eligible.specs.Takings.{AccusesBy, AreOnesOf, AreTakenOf, AreValuesOf};
 
 use crate::inbox::Inbox;
-use crate::reading::{nothing_read, read};
+use crate::reading::{Said, nothing_read, read, see_value, words_of};
 use crate::standing::Standing;
 use rb_base::{Heard, NodeId, NodeSet, See};
 use rb_rules::Expect;
@@ -83,6 +83,55 @@ fn make_room<K: Copy>(
     }
 }
 
+// The only node of the set, if it has exactly one.
+#[inline(always)]
+fn only_of<K: Copy>(set: NodeSet<K>) -> Option<NodeId<K>>
+    ensures { IfSome result (λ source. (j : ℕ) → j < 16 → has set j ≡ (j == source)) }
+{
+    let mut left = set;
+    let Some(first) = left.pop_first() else {
+        return None;
+    };
+    if left.is_empty() { Some(first) } else { None }
+}
+
+// The set, or the empty one.
+fn set_if<K: Copy>(set: NodeSet<K>, stays: bool) -> NodeSet<K>
+    ensures { result ≡ (if stays then set else 0) }
+{
+    if stays { set } else { NodeSet::empty() }
+}
+
+// Takes what came of the only source of the set.
+#[inline(always)]
+fn take_only<K: Copy>(
+    inbox: &Inbox<K>,
+    due: NodeSet<K>,
+    source: NodeId<K>,
+    expect: &Expect,
+    taken: &mut [Option<Heard>; 16],
+    sees: &mut [See; 16],
+) -> Taking<K>
+    requires fits { due < 2 ^ 16 }
+    requires only { (j : ℕ) → j < 16 → has due j ≡ (j == source) }
+    requires due { (j : ℕ) → j < 16 → has due j ≡ true → is_sole inbox.now j ≡ true }
+    requires sheet { IsSheet due taken.old sees.old }
+    ensures ones { AreOnesOf inbox.now expect.now (has due) result.ones }
+    ensures taken { AreValuesOf inbox.now expect.now due taken.new }
+    ensures alike { IsTrue result.alike → majority_of (present taken.new) ≡ unwrap_or result.value Heard.Fault }
+    ensures sheet { IsSheet due taken.new sees.new }
+{
+    let Said { one, value } = words_of(inbox.sole_at(source), expect);
+    let at = usize::from(source.index());
+    taken[at] = value;
+    sees[at] = see_value(value);
+    Taking {
+        ones: set_if(due, one),
+        alike: true,
+        value,
+    }
+}
+
 // Takes what came of the sources of the set, of each of which there is one arrival.
 #[inline(always)]
 fn take_some<K: Copy>(
@@ -95,10 +144,8 @@ fn take_some<K: Copy>(
     requires fits { due < 2 ^ 16 }
     requires due { (j : ℕ) → j < 16 → has due j ≡ true → is_sole inbox.now j ≡ true }
     requires sheet { IsSheet due taken.old sees.old }
-    ensures ones { (received : List Received) → HoldsArrivals inbox.now received
-        → result.ones ≡ set_of (λ j. has due j && is_one (sense_in expect.now received j)) }
-    ensures taken { (received : List Received) → HoldsArrivals inbox.now received → (j : ℕ) → j < 16
-        → at_source taken.new j ≡ (if has due j then value_in (sense_in expect.now received j) else None) }
+    ensures ones { AreOnesOf inbox.now expect.now (has due) result.ones }
+    ensures taken { AreValuesOf inbox.now expect.now due taken.new }
     ensures alike { IsTrue result.alike → majority_of (present taken.new) ≡ unwrap_or result.value Heard.Fault }
     ensures sheet { IsSheet due taken.new sees.new }
 {
@@ -119,50 +166,132 @@ fn take_some<K: Copy>(
     }
 }
 
+// The same, where the only source of the set may be known.
+#[inline(always)]
+fn take_due<K: Copy>(
+    inbox: &Inbox<K>,
+    due: NodeSet<K>,
+    only: Option<NodeId<K>>,
+    expect: &Expect,
+    taken: &mut [Option<Heard>; 16],
+    sees: &mut [See; 16],
+) -> Taking<K>
+    requires fits { due < 2 ^ 16 }
+    requires only { IfSome only (λ source. (j : ℕ) → j < 16 → has due j ≡ (j == source)) }
+    requires due { (j : ℕ) → j < 16 → has due j ≡ true → is_sole inbox.now j ≡ true }
+    requires sheet { IsSheet due taken.old sees.old }
+    ensures ones { AreOnesOf inbox.now expect.now (has due) result.ones }
+    ensures taken { AreValuesOf inbox.now expect.now due taken.new }
+    ensures alike { IsTrue result.alike → majority_of (present taken.new) ≡ unwrap_or result.value Heard.Fault }
+    ensures sheet { IsSheet due taken.new sees.new }
+{
+    match only {
+        Some(source) => take_only(inbox, due, source, expect, taken, sees),
+        None => take_some(inbox, due, expect, taken, sees),
+    }
+}
+
 // The same of the sources of a set, where there may be no such arrivals.
 #[inline(always)]
 fn take_each<K: Copy>(
     inbox: &Inbox<K>,
     takable: NodeSet<K>,
+    only: Option<NodeId<K>>,
     expect: &Expect,
     written: &mut NodeSet<K>,
     taken: &mut [Option<Heard>; 16],
     sees: &mut [See; 16],
 ) -> Taking<K>
-    requires { IsSheet written.old taken.old sees.old }
-    ensures ones { (received : List Received) → HoldsArrivals inbox.now received
-        → result.ones ≡ set_of (λ j. has takable j && is_one (sense_in expect.now received j)) }
-    ensures taken { (received : List Received) → HoldsArrivals inbox.now received → (j : ℕ) → j < 16
-        → at_source taken.new j ≡ (if has takable j then value_in (sense_in expect.now received j) else None) }
+    requires only { IfSome only (λ source. (j : ℕ) → j < 16 → (has takable j && is_sole inbox.now j) ≡ (j == source)) }
+    requires sheet { IsSheet written.old taken.old sees.old }
+    ensures ones { AreOnesOf inbox.now expect.now (has takable) result.ones }
+    ensures taken { AreValuesOf inbox.now expect.now takable taken.new }
     ensures alike { IsTrue result.alike → majority_of (present taken.new) ≡ unwrap_or result.value Heard.Fault }
     ensures sheet { IsSheet written.new taken.new sees.new }
 {
     let due = takable.intersection(inbox.soles());
     make_room(due, written, taken, sees);
-    take_some(inbox, due, expect, taken, sees)
+    take_due(inbox, due, only, expect, taken, sees)
 }
 
 // The sources of the set of which exactly one message came that is meant for the window.
 #[inline(never)]
 fn ones_among<K: Copy>(inbox: &Inbox<K>, set: NodeSet<K>, expect: &Expect) -> NodeSet<K>
-    ensures { (received : List Received) → HoldsArrivals inbox.now received
-        → result ≡ set_of (λ j. has set j && is_one (sense_in expect.now received j)) }
+    ensures { AreOnesOf inbox.now expect.now (has set) result }
 {
     let mut written = NodeSet::empty();
     let mut taken = [None; 16];
     let mut sees = [See::Nothing; 16];
-    take_each(inbox, set, expect, &mut written, &mut taken, &mut sees).ones
+    take_each(
+        inbox,
+        set,
+        None,
+        expect,
+        &mut written,
+        &mut taken,
+        &mut sees,
+    )
+    .ones
 }
 
 // The same of the sources that are expected and accused already.
 fn ones_barred<K: Copy>(inbox: &Inbox<K>, barred: NodeSet<K>, expect: &Expect) -> NodeSet<K>
-    ensures { (received : List Received) → HoldsArrivals inbox.now received
-        → result ≡ set_of (λ j. has barred j && is_one (sense_in expect.now received j)) }
+    ensures { AreOnesOf inbox.now expect.now (has barred) result }
 {
     if barred.is_empty() {
         barred
     } else {
         ones_among(inbox, barred, expect)
+    }
+}
+
+// Takes and accuses.
+#[inline(always)]
+fn take_all<K: Copy>(
+    inbox: &Inbox<K>,
+    standing: &mut Standing<K>,
+    expect: &Expect,
+    expected: NodeSet<K>,
+    only: Option<NodeId<K>>,
+    written: &mut NodeSet<K>,
+    taken: &mut [Option<Heard>; 16],
+    sees: &mut [See; 16],
+) -> Taking<K>
+    requires only { IfSome only (λ source. (j : ℕ) → j < 16
+        → ((has expected j && is_eligible (standing_of standing.old) j) && is_sole inbox.now j) ≡ (j == source)) }
+    requires sheet { IsSheet written.old taken.old sees.old }
+    ensures ones { AreOnesOf inbox.now expect.now (λ j. has expected j && is_eligible (standing_of standing.old) j) result.ones }
+    ensures taken { AreTakenOf inbox.now (standing_of standing.old) expect.now expected taken.new }
+    ensures accused { AccusesBy inbox.now (standing_of standing.old) expect.now expected (standing_of standing.new) }
+    ensures alike { IsTrue result.alike → majority_of (present taken.new) ≡ unwrap_or result.value Heard.Fault }
+    ensures sheet { IsSheet written.new taken.new sees.new }
+{
+    let takable = standing.eligible_of(expected);
+    let barred = expected.intersection(standing.direct);
+    let taking = take_each(inbox, takable, only, expect, written, taken, sees);
+    let ones = taking.ones.union(ones_barred(inbox, barred, expect));
+    let evidence = standing.evidence(expected, ones, inbox.came());
+    standing.accuse_each(evidence);
+    taking
+}
+
+/// The only source of which something may be taken in a window, if there is exactly one and nobody who is expected is accused.
+/// None says nothing.
+#[inline(always)]
+pub fn single_of<K: Copy>(
+    inbox: &Inbox<K>,
+    standing: &Standing<K>,
+    expected: NodeSet<K>,
+) -> Option<NodeId<K>>
+    ensures { IfSome result (λ source. (j : ℕ) → j < 16
+        → ((has expected j && is_eligible (standing_of standing.now) j) && is_sole inbox.now j) ≡ (j == source)) }
+{
+    let eligible = standing.eligible_of(expected);
+    let due = eligible.intersection(inbox.soles());
+    if expected.intersection(standing.direct).is_empty() {
+        only_of(due)
+    } else {
+        None
     }
 }
 
@@ -182,25 +311,48 @@ pub fn take_with_evidence<K: Copy>(
     sees: &mut [See; 16],
 ) -> Taking<K>
     requires { IsSheet written.old taken.old sees.old }
-    ensures ones { (received : List Received) → HoldsArrivals inbox.now received
-        → result.ones ≡ set_of (λ j. (has expected j && is_eligible (standing_of standing.old) j)
-        && is_one (sense_in expect.now received j)) }
-    ensures taken { (received : List Received) → HoldsArrivals inbox.now received
-        → taken.new ≡ each_node (taken_of value_in (standing_of standing.old) (has expected) (sense_in expect.now received)) }
-    ensures accused { (received : List Received) → HoldsArrivals inbox.now received
-        → standing_of standing.new
-        ≡ with_evidence (has_evidence (standing_of standing.old) (has expected) (sense_in expect.now received))
-        (standing_of standing.old) }
+    ensures ones { AreOnesOf inbox.now expect.now (λ j. has expected j && is_eligible (standing_of standing.old) j) result.ones }
+    ensures taken { AreTakenOf inbox.now (standing_of standing.old) expect.now expected taken.new }
+    ensures accused { AccusesBy inbox.now (standing_of standing.old) expect.now expected (standing_of standing.new) }
     ensures alike { IsTrue result.alike → majority_of (present taken.new) ≡ unwrap_or result.value Heard.Fault }
     ensures sheet { IsSheet written.new taken.new sees.new }
 {
-    let takable = standing.eligible_of(expected);
-    let taking = take_each(inbox, takable, expect, written, taken, sees);
-    let barred = expected.intersection(standing.direct);
-    let ones = taking.ones.union(ones_barred(inbox, barred, expect));
-    let evidence = standing.evidence(expected, ones, inbox.came());
-    standing.accuse_each(evidence);
-    taking
+    take_all(
+        inbox, standing, expect, expected, None, written, taken, sees,
+    )
+}
+
+/// The same, quicker, where `source` is the only one of which something may be taken, as `single_of` gives it.
+#[inline(always)]
+pub fn take_single<K: Copy>(
+    inbox: &Inbox<K>,
+    standing: &mut Standing<K>,
+    expect: &Expect,
+    expected: NodeSet<K>,
+    source: NodeId<K>,
+    written: &mut NodeSet<K>,
+    taken: &mut [Option<Heard>; 16],
+    sees: &mut [See; 16],
+) -> Taking<K>
+    requires only { (j : ℕ) → j < 16
+        → ((has expected j && is_eligible (standing_of standing.old) j) && is_sole inbox.now j) ≡ (j == source) }
+    requires sheet { IsSheet written.old taken.old sees.old }
+    ensures ones { AreOnesOf inbox.now expect.now (λ j. has expected j && is_eligible (standing_of standing.old) j) result.ones }
+    ensures taken { AreTakenOf inbox.now (standing_of standing.old) expect.now expected taken.new }
+    ensures accused { AccusesBy inbox.now (standing_of standing.old) expect.now expected (standing_of standing.new) }
+    ensures alike { IsTrue result.alike → majority_of (present taken.new) ≡ unwrap_or result.value Heard.Fault }
+    ensures sheet { IsSheet written.new taken.new sees.new }
+{
+    take_all(
+        inbox,
+        standing,
+        expect,
+        expected,
+        Some(source),
+        written,
+        taken,
+        sees,
+    )
 }
 
 /// Whether a window is quiet: nothing came, and no trusted source is expected. Then nothing is taken, and nobody accused.

@@ -86,3 +86,5 @@ pub mod BreakBegins
 pub mod BreakTells
 pub mod BreachWindows
 pub mod DeafCloses
+pub mod SourceSums
+pub mod FewPending

@@ -5,6 +5,7 @@
 ghost use Rattle.rb_order.specs.ByItself.{WhatNeedsNoEventIsGiven};
 ghost use Rattle.rb_order.specs.Closing.{GoodNodesCloseInOrder};
 ghost use Rattle.rb_order.specs.Laws.{EventsAreRoundsIfSyncHolds, EventsOnlyAdd, EveryRunEndsIfSyncHolds, HandInsComeLate, OneTurnARecordIfSyncHolds, QuietTicksCount, RecordsAreOfAllSteps, RoundsOnlyAdd, SomethingIsDueIfSyncHolds};
+ghost use Rattle.rb_order.specs.PendingEvents.{PendingEventsAreFewIfSyncHolds};
 
 /// A run by rounds that stops at its end has all records.
 pub fn records_are_of_all_steps()
@@ -66,4 +67,11 @@ pub fn one_turn_a_record_if_sync_holds()
 /// without one.
 pub fn every_run_ends_if_sync_holds()
     ensures { EveryRunEndsIfSyncHolds }
+{}
+
+/// In such a scenario room for `most_pending` events at each node, reserved at opening, is enough: for its tick, for two messages of
+/// each node of the other kind, and for as many as there are entries of what is said. Whatever was chosen, no more is pending at a node
+/// (`now`), nor after a tick of its own (`own`), nor with the message that another node sends at its tick (`message`).
+pub fn pending_events_are_few_if_sync_holds()
+    ensures { PendingEventsAreFewIfSyncHolds }
 {}

@@ -6,9 +6,9 @@ ghost use Rattle.rb_base.specs.Nodes.{has};
 ghost use Rattle.rb_base.specs.Nodes.Side.{Biu, Rmu};
 ghost use Rattle.rb_eligible.specs.Inboxes.{Received, HoldsArrivals, StampsUpTo, sense_in, sole_at};
 ghost use Rattle.rb_eligible.specs.Standings.{standing_of};
+ghost use Rattle.rb_eligible.specs.Takings.{AccusesBy};
 ghost use Rattle.rb_rules.specs.ExactStage.{present};
 ghost use Rattle.rb_rules.specs.NodeState.{NodeState};
-ghost use Rattle.rb_rules.specs.Standing.{has_evidence, with_evidence};
 ghost use Rattle.rb_rules.specs.SyncStage.{new_epoch_of, sync_closing_of};
 
 use arrayvec::ArrayVec;
@@ -59,10 +59,7 @@ pub fn close_sync<K: Copy>(
 ) -> SyncClosing
     ensures closing { (received : List Received) → HoldsArrivals inbox.now received
         → result ≡ sync_closing_of (standing_of standing.old) (has expected) (sense_in expect.now received) first }
-    ensures accused { (received : List Received) → HoldsArrivals inbox.now received
-        → standing_of standing.new
-        ≡ with_evidence (has_evidence (standing_of standing.old) (has expected) (sense_in expect.now received))
-        (standing_of standing.old) }
+    ensures accused { AccusesBy inbox.now (standing_of standing.old) expect.now expected (standing_of standing.new) }
     ensures soon { (n : ℕ) → StampsUpTo n inbox.now → first ≤ n → result.middle ≤ n }
 {
     let mut written = NodeSet::empty();

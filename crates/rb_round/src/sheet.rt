@@ -1,13 +1,12 @@
 //! A closing that is written over from stage to stage.
-ghost use Rattle.std.specs.Prelude.{◌≡◌, List, None, map, replicate};
-ghost use Rattle.rb_base.specs.Nodes.{has};
+ghost use Rattle.std.specs.Prelude.{◌≡◌, None, map, replicate};
 ghost use Rattle.rb_base.specs.declared.values.Heard.{Heard};
 ghost use Rattle.rb_base.specs.declared.values.See.{See};
-ghost use Rattle.rb_eligible.specs.Inboxes.{Received, HoldsArrivals, sense_in};
 ghost use Rattle.rb_eligible.specs.Sheets.{IsSheet};
 ghost use Rattle.rb_eligible.specs.Standings.{standing_of};
-ghost use Rattle.rb_rules.specs.ExactStage.{closing_of, see_value};
-ghost use Rattle.rb_rules.specs.Standing.{has_evidence, with_evidence};
+ghost use Rattle.rb_eligible.specs.Takings.{AccusesBy};
+ghost use Rattle.rb_round.specs.Closes.{ClosesBy};
+ghost use Rattle.rb_rules.specs.ExactStage.{see_value};
 
 use crate::{close_busy, nothing_taken};
 use rb_base::{Heard, NodeSet, See};
@@ -98,12 +97,8 @@ impl<K: Copy> Sheet<K> {
         expect: &Expect,
         expected: NodeSet<K>,
     )
-        ensures closing { (received : List Received) → HoldsArrivals inbox.now received
-            → self.new ≡ closing_of (standing_of standing.old) (has expected) (sense_in expect.now received) }
-        ensures accused { (received : List Received) → HoldsArrivals inbox.now received
-            → standing_of standing.new
-            ≡ with_evidence (has_evidence (standing_of standing.old) (has expected) (sense_in expect.now received))
-            (standing_of standing.old) }
+        ensures closing { ClosesBy inbox.now (standing_of standing.old) expect.now expected self.new }
+        ensures accused { AccusesBy inbox.now (standing_of standing.old) expect.now expected (standing_of standing.new) }
     {
         if is_quiet(inbox, standing, expected) {
             leave_blank(&mut self.written, &mut self.closing, &mut self.sees);

@@ -13,7 +13,7 @@ pub struct Epoch {
 
 /// A node at the begin of a frame: the first tick and its reference time, and the convicted nodes of both kinds as the node
 /// holds them, as masks.
-#[derive(Clone, Copy, Debug, PartialEq, Eq)]
+#[derive(Clone, Copy, Debug, PartialEq, Eq, Default)]
 pub struct NodeLine {
     pub node: NodeName,
     pub tick: u64,
@@ -23,7 +23,7 @@ pub struct NodeLine {
 }
 
 /// The port of a BIU at the begin of a frame: its application's state, and how many of its last 64 deliveries were Fault.
-#[derive(Clone, Copy, Debug, PartialEq, Eq)]
+#[derive(Clone, Copy, Debug, PartialEq, Eq, Default)]
 pub struct PortLine {
     pub biu: u8,
     pub state: u64,
@@ -31,7 +31,7 @@ pub struct PortLine {
 }
 
 /// What BIU `receiver` delivered in a slot of BIU `sender`.
-#[derive(Clone, Copy, Debug, PartialEq, Eq)]
+#[derive(Clone, Copy, Debug, PartialEq, Eq, Default)]
 pub struct SlotLine {
     pub receiver: u8,
     pub sender: u8,

@@ -1,0 +1,124 @@
+//! The message that the bytes of an arrival spell, read from the two numbers that they are kept as.
+ghost use Rattle.std.specs.Prelude.{◌≡◌, ◌≤◌, ◌++◌, ◌*◌, ◌/◌, ◌%◌, ◌+◌, ◌==◌, ◌&&◌};
+ghost use Rattle.std.specs.Int.{to_le_bytes, w32, w64};
+ghost use Rattle.rb_rules.specs.Spelling.{check_of, has_form, may_have, message_in, message_with, tag_in};
+ghost use Rattle.rb_eligible.specs.Readings.{spelled};
+
+use rb_frame::{Message, Tag, Version};
+
+// The exclusive or of the four bytes of a number.
+fn check_of_four(word: u32) -> u8
+    ensures { result ≡ check_of (to_le_bytes w32 word) }
+{
+    let half = word ^ (word >> 16);
+    ((half ^ (half >> 8)) % 256) as u8
+}
+
+// The exclusive or of twelve bytes.
+fn check(low: u64, high: u32) -> u8
+    ensures { result ≡ check_of (to_le_bytes w64 low ++ to_le_bytes w32 high) }
+{
+    let first = (low % 0x1_0000_0000) as u32;
+    let second = (low >> 32) as u32;
+    check_of_four(first ^ second ^ high)
+}
+
+// Whether the bus's number and the check stand at the end.
+fn has_end(bus: u8, low: u64, high: u32) -> bool
+    ensures { result
+        ≡ ((high / 65536 % 256 == bus) && (check_of (to_le_bytes w64 low ++ to_le_bytes w32 high) == 0)) }
+{
+    (high >> 16) % 256 == u32::from(bus) && check(low, high) == 0
+}
+
+// Whether there are as many bytes as the version has, with the check at the end and the bus's number where it has one. The
+// check is right where the exclusive or of all bytes is 0.
+fn has_form(version: Version, low: u64, high: u32, len: u64) -> bool
+    requires { len ≤ 12 }
+    ensures { result ≡ has_form version (spelled low high len) }
+{
+    match version {
+        Version::One => len == 11 && check(low, high % 0x100_0000) == 0,
+        Version::Two { bus } => len == 12 && has_end(bus, low, high),
+    }
+}
+
+// The tag with this byte.
+fn tag_in(byte: u8) -> Option<Tag>
+    ensures { result ≡ tag_in byte }
+{
+    match byte {
+        1 => Some(Tag::Word),
+        2 => Some(Tag::Fault),
+        3 => Some(Tag::Sync),
+        _ => None,
+    }
+}
+
+// Whether the value may stand beside the tag.
+fn may_have(tag: Tag, value: u32) -> bool
+    ensures { result ≡ may_have tag value }
+{
+    match tag {
+        Tag::Word => true,
+        Tag::Fault => value == 0,
+        Tag::Sync => value == 0,
+    }
+}
+
+// The message with these fields, if there is one.
+fn message_with(tag: Option<Tag>, frame: u16, slot: u16, stage: u8, value: u32) -> Option<Message>
+    ensures { result ≡ message_with tag frame slot stage value }
+{
+    let tag = tag?;
+    if 1 <= stage && stage <= 3 && may_have(tag, value) {
+        Some(Message {
+            tag,
+            frame,
+            slot,
+            stage,
+            value,
+        })
+    } else {
+        None
+    }
+}
+
+// The frame's number.
+fn frame_in(low: u64) -> u16
+    ensures { result ≡ low / 256 % 256 * 256 + low / 65536 % 256 }
+{
+    (((low >> 8) % 0x1_0000) as u16).swap_bytes()
+}
+
+// The slot.
+fn slot_in(low: u64) -> u16
+    ensures { result ≡ low / 16777216 % 256 * 256 + low / 4294967296 % 256 }
+{
+    (((low >> 24) % 0x1_0000) as u16).swap_bytes()
+}
+
+// The value.
+fn value_in(low: u64, high: u32) -> u32
+    ensures { result ≡ low / 281474976710656 % 256 * 16777216 + low / 72057594037927936 % 256 * 65536 + high % 256 * 256 + high / 256 % 256 }
+{
+    ((low >> 48) as u32 + (high % 0x1_0000) * 0x1_0000).swap_bytes()
+}
+
+/// The message that so many bytes spell, if there is one.
+#[inline(always)]
+pub(crate) fn message_in(version: Version, low: u64, high: u32, len: u64) -> Option<Message>
+    requires { len ≤ 12 }
+    ensures { result ≡ message_in version (spelled low high len) }
+{
+    if !has_form(version, low, high, len) {
+        return None;
+    }
+    message_with(
+        tag_in((low % 256) as u8),
+        frame_in(low),
+        slot_in(low),
+        ((low >> 40) % 256) as u8,
+        value_in(low, high),
+    )
+}
