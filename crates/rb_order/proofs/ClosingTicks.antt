@@ -1,4 +1,4 @@
--- For the law that events are rounds, which is still to come: the tick with which a node closes a window does what the rounds
+-- For the law that events are rounds: the tick with which a node closes a window does what the rounds
 -- do with the node in that window.
 use Rattle.std.proofs.Common.{◌≡◌, ℕ, ◌+◌, ◌<◌, ◌^◌, ◌&&◌, nat_le, true, false, List, [], map, sym, ◌∙◌, ap, arith, Option, Some, None}
 use Rattle.std.proofs.lemmas.Bool.Decides.{nat_tests}

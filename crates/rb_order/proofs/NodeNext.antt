@@ -1,4 +1,4 @@
--- For the law that events are rounds, which is still to come: the next busy tick of a node in a window lies in it, and no message
+-- For the law that events are rounds: the next busy tick of a node in a window lies in it, and no message
 -- goes out before.
 use Rattle.std.proofs.Common.{◌≡◌, ℕ, zero, suc, ◌+◌, ◌-◌, ◌^◌, ◌<◌, ◌≤◌, ◌==◌, ◌||◌, nat_lt, Bool, true, false, refl, ap, sym, ◌∙◌, subst, arith, inl, inr, Option, Some, None, is_some}
 use Rattle.std.proofs.lemmas.Bool.{cases_lt}

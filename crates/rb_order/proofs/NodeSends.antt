@@ -1,4 +1,4 @@
--- For the law that events are rounds, which is still to come: at each tick of a window the core says what the rounds send in this
+-- For the law that events are rounds: at each tick of a window the core says what the rounds send in this
 -- window, if that is its tick.
 use Rattle.std.proofs.Common.{◌≡◌, ℕ, zero, suc, ◌+◌, ◌*◌, ◌-◌, ◌/◌, ◌%◌, ◌<◌, ◌≤◌, ◌==◌, ◌&&◌, ◌⊎◌, nat_lt, Bool, true, false, refl, ap, sym, ◌∙◌, subst, arith, inl, inr, Option, Some, None, is_some, option_and_then, option_map, if◌then◌else◌}
 use Rattle.std.proofs.lemmas.Bool.{cases_lt}

@@ -1,4 +1,4 @@
--- For the law that events are rounds, which is still to come: what has come of a source for the open window, what is pending
+-- For the law that events are rounds: what has come of a source for the open window, what is pending
 -- of it, and what was sent: how an arrival keeps them together.
 use Rattle.std.proofs.Common.{◌≡◌, ℕ, zero, suc, ◌+◌, ◌<◌, ◌≤◌, ◌^◌, ◌==◌, ◌&&◌, not, nat_lt, nat_le, Bool, true, false, List, [], ◌∷◌, ◌++◌, map, filter, remove, length, length-append, refl, sym, ◌∙◌, ap, subst, arith, cond}
 use Rattle.std.proofs.lemmas.Bool.Decides.{nat_tests}

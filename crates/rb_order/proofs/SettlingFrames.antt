@@ -1,4 +1,4 @@
--- For the law that events are rounds, which is still to come: where each node has told what it tells in the rounds, the begin of a frame that
+-- For the law that events are rounds: where each node has told what it tells in the rounds, the begin of a frame that
 -- the world settles is settled as in the rounds, and so whatever is settled makes the book one of the rounds'.
 use Rattle.std.proofs.Common.{◌≡◌, ℕ, zero, suc, ◌+◌, ◌<◌, ◌≤◌, ◌==◌, ◌&&◌, ◌||◌, ◌⊎◌, not, nat_lt, Bool, true, false, List, [], ◌∷◌, length, map, refl, ap, sym, ◌∙◌, subst, arith, inl, inr, Option, Some, None, is_some, slice_get, option_map, if◌then◌else◌}
 use Rattle.std.proofs.lemmas.Bool.{cases_lt, lt-ltb, le-ltb}

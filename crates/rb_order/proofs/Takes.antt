@@ -173,7 +173,7 @@ says-few sc me i span =
 
 -- A tick.
 
-busy-later : (sizes : Sizes) (plan : Plan) (me : Side) (i : ℕ) (st : NodeState) (n k x : ℕ) → busy_among sizes plan me i st n k ≡ Some x → k ≤ x
+pub busy-later : (sizes : Sizes) (plan : Plan) (me : Side) (i : ℕ) (st : NodeState) (n k x : ℕ) → busy_among sizes plan me i st n k ≡ Some x → k ≤ x
 busy-later sizes plan me i st zero k x e = cc
 busy-later sizes plan me i st (suc n) k x e = by (is_busy sizes plan me i st k) (λ h. busy-later sizes plan me i st n (suc k) x h) e
   where
