@@ -45,7 +45,7 @@ pub record TickBreaks (sc : Scenario) (hands : List HandIn) (sent : Side → ℕ
   pub there : slice_get (of_kind you (moment sc hands p).nodes) j ≡ Some yours
   pub good : is_good_at sc (moment sc hands p) you j ≡ true
   pub first : a.time ≤ time_of (clock_of sc you j) (last_tick sc (moment sc hands p) you yours)
-  pub frame : (st : NodeState) → slice_get (of_kind me (moment sc hands p).nodes) i ≡ Some st → st.frame ≡ (moment sc hands p).frame
+  pub frame : (st : NodeState) → slice_get (of_kind me (moment sc hands p).nodes) i ≡ Some st → is_good_at sc (moment sc hands p) me i ≡ true → st.frame ≡ (moment sc hands p).frame
   pub words : (st : NodeState) → slice_get (of_kind me (moment sc hands p).nodes) i ≡ Some st → HasWord sc ports me i st (moment sc hands p).window (word_at sc (moment sc hands p) me i st)
   pub all_sent : (n : ℕ) → is_good_at sc (moment sc hands p) (other me) n ≡ true → (sent (other me) n p ≡ true) ⊎ (entry_of sc (moment sc hands p) me i n ≡ [])
 
@@ -64,7 +64,7 @@ site-ticks sc hands lawful room sent now ports p q running small at me i s a t (
 site-ticks sc hands lawful room sent now ports p q running small at me i s a t (inr (inl h)) =
     let same : h.a ≡ a = same-timed h.a a (sym h.stands.receives.pends ∙ t.pend) in
     subst (λ (b : Timed). HasClosed sc hands me i p (after_act sc ports me i (pass_and_tick sc ports me i b.tick s.core) s)) same
-    (hearing-closes sc hands lawful room sent now ports p q running (omega arith) at me i s h (t.frame h.st h.stands.state) t.all_sent (t.words h.st h.stands.state)
+    (hearing-closes sc hands lawful room sent now ports p q running (omega arith) at me i s h (t.frame h.st h.stands.state h.stands.good) t.all_sent (t.words h.st h.stands.state)
     (subst (λ (b : Timed). Every (λ c. b.time < c.time) s.coming) (sym same) t.later))
 site-ticks sc hands lawful room sent now ports p q running small at me i s a t (inr (inr (inl h))) =
     let same : h.a ≡ a = same-timed h.a a (sym h.pends ∙ t.pend) in
@@ -92,11 +92,11 @@ stage-is : (sc : Scenario) (m : Moment) (q : ℕ) → q < 3 → m.window ≡ 3 *
 stage-is sc m q small at me st = ap (λ (w : Window). w.stage) ((sync_windows_are sc m q small at).are me st)
 
 -- and it says nothing to a node that listens in the stage
-pub ticks-quiet : (sc : Scenario) (hands : List HandIn) → IsLawful sc → HasRoom sc.plan → (sent : Side → ℕ → ℕ → Bool) (now : ℕ) (ports : List PortState) (p q : ℕ) → IsRunning (moment sc hands p) → q < 2
+pub ticks-quiet : (sc : Scenario) (hands : List HandIn) → IsLawful sc → HasRoom sc.plan → (sent : Side → ℕ → ℕ → Bool) (now then : ℕ) (ports : List PortState) (p q : ℕ) → IsRunning (moment sc hands p) → q < 2
     → (moment sc hands p).window ≡ 3 * sync_slot_of sc.sizes + q → (me : Side) (i : ℕ) (s : Site) (a : Timed) → TickBreaks sc hands sent ports p me i s a → SiteBreaks sc hands sent now p me i s
-    → (side : Side) (n : ℕ) (z : Site) → WaitsHearing sc hands sent now side n p z → same_side side (other me) ≡ true
+    → (side : Side) (n : ℕ) (z : Site) → WaitsHearing sc hands sent then side n p z → same_side side (other me) ≡ true
     → (pass_and_tick sc ports me i a.tick s.core).message ≡ None
-ticks-quiet sc hands lawful room sent now ports p q running small at me i s a t h side n z waits kind = by h
+ticks-quiet sc hands lawful room sent now then ports p q running small at me i s a t h side n z waits kind = by h
   where
     m : Moment
     m = moment sc hands p

@@ -84,6 +84,10 @@ pub mod BreakEvents
 pub mod BreakWorld
 pub mod BreakBegins
 pub mod BreakTells
+pub mod BreakNodes
+pub mod BreakKeeps
+pub mod BreakRuns
+pub mod BreakOff
 pub mod BreachWindows
 pub mod DeafCloses
 pub mod SourceSums

@@ -1,6 +1,7 @@
 -- For the law that events are rounds: one due event keeps the whole invariant, as long as the nodes are in time where
 -- they stand and where the node of the event stands next.
 use Rattle.std.proofs.Common.{◌≡◌, ℕ, zero, suc, ◌<◌, ◌≤◌, ◌&&◌, not, Bool, true, false, List, [], ◌∷◌, ◌++◌, flat_map, length, length-set, option_and_then, refl, ap, sym, ◌∙◌, subst, arith, inl, inr, Option, Some, None, slice_get}
+use Rattle.std.specs.Prelude.{⊤}
 use Rattle.rb_base.specs.Nodes.{Side, other}
 use Rattle.rb_base.specs.Nodes.Side.{Biu, Rmu}
 use Rattle.rb_base.specs.declared.values.Delivery.{Delivery}
@@ -69,7 +70,7 @@ pub record WorldInRounds (sc : Scenario) (now : ℕ) (at : Side → ℕ → ℕ)
   pub bound : Bound sc at w.sites w.book
 
 -- all that pends comes no earlier than a due event
-all-pend : (w : World) (t : ℕ) → Every (λ u. t ≤ u) (flat_map times_of (in_order w.sites)) → AllPend t w.sites
+pub all-pend : (w : World) (t : ℕ) → Every (λ u. t ≤ u) (flat_map times_of (in_order w.sites)) → AllPend t w.sites
 unfolding AllPend
 all-pend w t all = at
   where
@@ -80,7 +81,7 @@ all-pend w t all = at
     at Biu i s e = every-at (λ s. Every (λ u. t ≤ u) (times_of s)) w.sites.bius i s e (every-front (λ s. Every (λ u. t ≤ u) (times_of s)) w.sites.bius w.sites.rmus (every-unflat (λ u. t ≤ u) times_of (in_order w.sites) all))
     at Rmu i s e = every-at (λ s. Every (λ u. t ≤ u) (times_of s)) w.sites.rmus i s e (every-back (λ s. Every (λ u. t ≤ u) (times_of s)) w.sites.bius w.sites.rmus (every-unflat (λ u. t ≤ u) times_of (in_order w.sites) all))
 
-pend-of : (t : ℕ) (sites : Each Site) → AllPend t sites → (me : Side) (i : ℕ) (s : Site) → slice_get (of_kind me sites) i ≡ Some s → Every (λ u. t ≤ u) (times_of s)
+pub pend-of : (t : ℕ) (sites : Each Site) → AllPend t sites → (me : Side) (i : ℕ) (s : Site) → slice_get (of_kind me sites) i ≡ Some s → Every (λ u. t ≤ u) (times_of s)
 unfolding AllPend
 pend-of t sites all = all
 
@@ -92,7 +93,7 @@ none-stands n c [] e s = s
 none-stands n c (x ∷ xs) e s = cc
 
 -- the clock of a good node moves
-moves-of : (sc : Scenario) → IsLawful sc → (me : Side) (i : ℕ) → HasLengths (shortest_of sc.plan) (longest_of sc.plan) (clock_of sc me i) → Moves (clock_of sc me i)
+pub moves-of : (sc : Scenario) → IsLawful sc → (me : Side) (i : ℕ) → HasLengths (shortest_of sc.plan) (longest_of sc.plan) (clock_of sc me i) → Moves (clock_of sc me i)
 moves-of sc lawful me i lengths tick = let low = (lengths tick).0 in let some : 1 ≤ shortest_of sc.plan = shortest-some sc lawful in omega arith
 
 tell-rows : (sc : Scenario) (hands : List HandIn) (sites : Each Site) → TellRounds sc hands sites → (me : Side) (i : ℕ) (s : Site) → slice_get (of_kind me sites) i ≡ Some s
@@ -118,12 +119,25 @@ length-delivery : (sc : Scenario) (i : ℕ) (d : Option Delivery) (ports : List 
 length-delivery sc i None ports = refl
 length-delivery sc i (Some d) ports = length-set ports i (delivered_to (port_at sc ports i) d.value)
 
+-- an event may happen: all nodes are in time up to moment n, and none is beyond it
+pub record MayHappen (sc : Scenario) (at : Side → ℕ → ℕ) (w : World) (n : ℕ) : Type 0 where
+  pub stage : (moment sc w.hands n).window < stages_in sc.sizes
+  pub bound : (me : Side) (i : ℕ) (s : Site) → slice_get (of_kind me w.sites) i ≡ Some s → at me i ≤ n
+  pub within : (p : ℕ) → p ≤ n → IsWithin sc.sizes w.book.upcoming p
+  pub up_to : UpTo sc w.hands n
+
+-- and it is not the close of the window of moment n
+abbrev pub ClosesEarlier : Scenario → List HandIn → (Side → ℕ → ℕ) → ℕ → Side → ℕ → Pending → Type 0
+ClosesEarlier sc hands at n me i (Tick k) =
+    (st : NodeState) → slice_get (of_kind me (moment sc hands (at me i)).nodes) i ≡ Some st → k ≡ last_tick sc (moment sc hands (at me i)) me st → at me i < n
+ClosesEarlier sc hands at n me i (Arrival place c) = ⊤
+
 -- a tick of a node, in the world
 tick-happens : (sc : Scenario) (now : ℕ) (at : Side → ℕ → ℕ) (w : World) (n : ℕ) (me : Side) (i k t : ℕ) (s : Site) (a : Timed) → IsLawful sc → HasRoom sc.plan
-    → AreInTime sc w.hands at → WorldInRounds sc now at w → WaitsAt sc w.hands at w.sites w.book.upcoming n → UpTo sc w.hands n → slice_get (of_kind me w.sites) i ≡ Some s → s.ahead ≡ Some a → a.tick ≡ k → a.time ≡ t
+    → AreInTime sc w.hands at → WorldInRounds sc now at w → MayHappen sc at w n → ClosesEarlier sc w.hands at n me i (Tick k) → slice_get (of_kind me w.sites) i ≡ Some s → s.ahead ≡ Some a → a.tick ≡ k → a.time ≡ t
     → Every (λ c. t < c.time) s.coming → AllPend t w.sites → AfterEvent sc at w n t (with_act sc w me i k (pass_and_tick sc w.ports me i k s.core))
 unfolding with_act
-tick-happens sc now at w n me i k t s a lawful room times h waits up_to there pend tick time alone first =
+tick-happens sc now at w n me i k t s a lawful room times h may early there pend tick time alone first =
     let hands : List HandIn = w.hands in
     let x : Act = pass_and_tick sc w.ports me i a.tick s.core in
     let runs : s.runs ≡ true = is-up s.runs refl in
@@ -132,10 +146,7 @@ tick-happens sc now at w n me i k t s a lawful room times h waits up_to there pe
     let later : now ≤ a.time = subst (λ (b : Timed). now ≤ b.time) same up.stands.receives.tick_after in
     let at_time : a.time ≡ time_of (clock_of sc me i) a.tick = subst (λ (b : Timed). b.time ≡ time_of (clock_of sc me i) b.tick) same up.stands.receives.at_time in
     let closes_early : (st : NodeState) → slice_get (of_kind me (moment sc hands (at me i)).nodes) i ≡ Some st → a.tick ≡ last_tick sc (moment sc hands (at me i)) me st → at me i < n =
-    λ st e last.
-    closes-before sc hands now a.time at w.sites w.book.upcoming n lawful later h.sites h.passed (subst (λ t. AllPend t w.sites) (sym time) first) waits
-    (λ q lt within. up_to.times q (omega arith) within) up_to.well me i (at me i) refl
-    (record { st = st; state = e; good = up.stands.good; time = at_time ∙ ap (time_of (clock_of sc me i)) last }) (waits.bound me i s there) in
+    λ st e last. early st e (sym tick ∙ last) in
     let port : me ≡ Biu → port_at sc w.ports i ≡ port_at sc (moment sc hands (at me i)).ports i =
     λ e. h.ports i s (ap (λ y. slice_get (of_kind y w.sites) i) (sym e) ∙ there) runs ∙ ap (λ y. port_at sc (moment sc hands (at y i)).ports i) (sym e) in
     let after : AfterTick sc hands at w.sites w.ports me i s a x =
@@ -147,7 +158,7 @@ tick-happens sc now at w n me i k t s a lawful room times h waits up_to there pe
       first = subst (λ t. AllPend t w.sites) (sym time) first;
       later = later;
       word = λ st e. has-word sc w.ports (moment sc hands (at me i)) me i st port;
-      next = λ st e last. next-up-to sc hands n (at me i) up_to waits.stage (closes_early st e last) up.stands.stands.window;
+      next = λ st e last. next-up-to sc hands n (at me i) may.up_to may.stage (closes_early st e last) up.stands.stands.window;
     }) in
     let before = tell-rows sc hands w.sites h.tell me i s there in
     let line : (moment sc hands (at me i)).window ≡ 0 → after.st.epoch ≡ a.tick → port_line me i (port_at sc w.ports i) ≡ port_line me i (port_at sc (ports_before sc hands (at me i)) i) =
@@ -166,12 +177,12 @@ tick-happens sc now at w n me i k t s a lawful room times h waits up_to there pe
     ] in
     let frame : ℕ = x.core.state.frame in
     let moves : after.r ≤ n = elim after.node [
-      | inl stays ↦ let le : at me i ≤ n = waits.bound me i s there in omega (arith, le, stays.0)
+      | inl stays ↦ let le : at me i ≤ n = may.bound me i s there in omega (arith, le, stays.0)
       | inr closes ↦
           let before : at me i < n = closes_early after.st after.there closes.1.1.1 in
           elim closes.1.0.place [
             | inl stage ↦
-                let le : next_stage sc.sizes (moment sc hands (at me i)) (at me i) ≤ n = next-le sc hands (at me i) n after.stands.window waits.stage before in
+                let le : next_stage sc.sizes (moment sc hands (at me i)) (at me i) ≤ n = next-le sc hands (at me i) n after.stands.window may.stage before in
                 omega (arith, le, stage, closes.1.1.0)
             | inr tail ↦ omega (arith, before, tail.0, closes.1.1.0)
           ]
@@ -189,7 +200,7 @@ tick-happens sc now at w n me i k t s a lawful room times h waits up_to there pe
       so_far = all-have-told sc hands at w.sites me i frame a.tick after.r x.message (after_act sc w.ports me i x) s there
           (so-far-after sc hands at w.sites w.ports me i s a x pend after (h.so_far me i s there)) h.so_far;
       bound = one-changes (λ side j q z. q ≤ n) sc at w.sites me i frame a.tick after.r x.message (after_act sc w.ports me i x) s (λ side j q z le. le) there moves
-          (λ side j z other e. waits.bound side j z e);
+          (λ side j z other e. may.bound side j z e);
     } in
     subst (λ k. AfterEvent sc at w n t (with_act sc w me i k (pass_and_tick sc w.ports me i k s.core))) tick
     (subst (λ t. AfterEvent sc at w n t (with_act sc w me i a.tick (pass_and_tick sc w.ports me i a.tick s.core))) time done)
@@ -207,9 +218,9 @@ arrival-told sc hands sites me i n c s there h =
     still-tell sc hands sites me i 0 0 None (after_arrival sc me i n c) s there before.0 before.1 h
 
 arrival-happens : (sc : Scenario) (now : ℕ) (at : Side → ℕ → ℕ) (w : World) (most : ℕ) (me : Side) (i n t : ℕ) (c : Coming) (s : Site) → IsLawful sc → HasRoom sc.plan
-    → AreInTime sc w.hands at → WorldInRounds sc now at w → WaitsAt sc w.hands at w.sites w.book.upcoming most → slice_get (of_kind me w.sites) i ≡ Some s → StandsAt n c s.coming → c.time ≡ t → AllPend t w.sites
+    → AreInTime sc w.hands at → WorldInRounds sc now at w → MayHappen sc at w most → slice_get (of_kind me w.sites) i ≡ Some s → StandsAt n c s.coming → c.time ≡ t → AllPend t w.sites
     → AfterEvent sc at w most t (record w { sites = at_node me i (after_arrival sc me i n c) w.sites })
-arrival-happens sc now at w most me i n t c s lawful room times h waits there stands time first =
+arrival-happens sc now at w most me i n t c s lawful room times h may there stands time first =
     let hands : List HandIn = w.hands in
     let runs : s.runs ≡ true = is-up s.runs refl in
     let up : IsUp sc hands (sent_by sc hands at w.sites) now me i (at me i) s = h.sites.up me i s there runs in
@@ -230,7 +241,7 @@ arrival-happens sc now at w most me i n t c s lawful room times h waits there st
       handed = handed-arrival sc w.sites me i n c hands h.handed;
       hands = refl;
       so_far = so-far-arrival sc hands at w.sites me i n c h.so_far;
-      bound = λ side j z e. let old = arrival-site sc w.sites me i n c side j z e in waits.bound side j old.0 old.1.0;
+      bound = λ side j z e. let old = arrival-site sc w.sites me i n c side j z e in may.bound side j old.0 old.1.0;
     } in
     subst (λ t. AfterEvent sc at w most t (record w { sites = at_node me i (after_arrival sc me i n c) w.sites })) time done
   where
@@ -240,17 +251,26 @@ arrival-happens sc now at w most me i n t c s lawful room times h waits there st
 
 -- One take.
 
-happens-is : (sc : Scenario) (w : World) (d : Due) (s : Site) → slice_get (of_kind d.side w.sites) d.node ≡ Some s → happens sc w d ≡ with_pending sc w d.side d.node s d.pending
+-- a node with a pending tick runs
+pub up-there : (sc : Scenario) (now : ℕ) (at : Side → ℕ → ℕ) (w : World) (me : Side) (i : ℕ) (s : Site) (a : Timed) → SitesStand sc w.hands now at w.sites
+    → slice_get (of_kind me w.sites) i ≡ Some s → s.ahead ≡ Some a → IsUp sc w.hands (sent_by sc w.hands at w.sites) now me i (at me i) s
+up-there sc now at w me i s a h there pend = by s.runs refl
+  where
+    by : (b : Bool) → s.runs ≡ b → IsUp sc w.hands (sent_by sc w.hands at w.sites) now me i (at me i) s
+    by true e = h.up me i s there e
+    by false e = let down : IsDown sc w.hands me i (at me i) s = h.down me i s there e in absurd (some-none a (sym down.ahead ∙ pend))
+
+pub happens-is : (sc : Scenario) (w : World) (d : Due) (s : Site) → slice_get (of_kind d.side w.sites) d.node ≡ Some s → happens sc w d ≡ with_pending sc w d.side d.node s d.pending
 unfolding happens
 happens-is sc w d s there = ap (λ o. elim o as (λ _. World) [ None ↦ w | Some s ↦ with_pending sc w d.side d.node s d.pending ]) there
 
 pending-happens : (sc : Scenario) (now : ℕ) (at : Side → ℕ → ℕ) (w : World) (most : ℕ) (me : Side) (i t : ℕ) (s : Site) (p : Pending) → IsLawful sc → HasRoom sc.plan
-    → AreInTime sc w.hands at → WorldInRounds sc now at w → WaitsAt sc w.hands at w.sites w.book.upcoming most → UpTo sc w.hands most
+    → AreInTime sc w.hands at → WorldInRounds sc now at w → MayHappen sc at w most → ClosesEarlier sc w.hands at most me i p
     → slice_get (of_kind me w.sites) i ≡ Some s → IsReady t s p → AllPend t w.sites → AfterEvent sc at w most t (with_pending sc w me i s p)
-pending-happens sc now at w most me i t s (Tick k) lawful room times h waits up_to there ready first =
-    tick-happens sc now at w most me i k t s ready.0 lawful room times h waits up_to there ready.1.0 ready.1.1.0 ready.1.1.1.0 ready.1.1.1.1 first
-pending-happens sc now at w most me i t s (Arrival n c) lawful room times h waits up_to there ready first =
-    arrival-happens sc now at w most me i n t c s lawful room times h waits there ready.0 ready.1 first
+pending-happens sc now at w most me i t s (Tick k) lawful room times h may early there ready first =
+    tick-happens sc now at w most me i k t s ready.0 lawful room times h may early there ready.1.0 ready.1.1.0 ready.1.1.1.0 ready.1.1.1.1 first
+pending-happens sc now at w most me i t s (Arrival n c) lawful room times h may early there ready first =
+    arrival-happens sc now at w most me i n t c s lawful room times h may there ready.0 ready.1 first
 
 pub settle-hands : (sc : Scenario) (way : Way) (n : ℕ) (w : World) → (settle sc way n w).hands ≡ w.hands
 settle-hands sc way zero w = refl
@@ -283,24 +303,20 @@ settle-ports sc way (suc n) w = by (record_since w (settle_next sc way w)) (sett
 pub settled-stands : (sc : Scenario) (now : ℕ) (at : Side → ℕ → ℕ) (x y : World) (hands : List HandIn) → y.sites ≡ x.sites → y.hands ≡ hands → y.ports ≡ x.ports
     → SitesStand sc hands now at x.sites → HavePassed sc hands now at → TellRounds sc hands x.sites → AllTold sc hands at x.sites → IsOfMoment sc hands y.book
     → length x.ports ≡ sc.sizes.bius → PortsStand sc hands at x.sites x.ports → AllHanded sc x.sites hands → Settled sc at y → AllHaveTold sc hands at x.sites → Bound sc at x.sites y.book
-    → StandsInRounds sc y
+    → WorldInRounds sc now at y
 settled-stands sc now at x y hands same_sites same_hands same_ports sites passed tell told book many ports handed settled so_far bound = record {
-  now = now;
-  at = at;
-  stands = record {
-    sites = subst (λ hs. SitesStand sc hs now at y.sites) (sym same_hands) (subst (SitesStand sc hands now at) (sym same_sites) sites);
-    passed = subst (λ hs. HavePassed sc hs now at) (sym same_hands) passed;
-    tell = subst (λ hs. TellRounds sc hs y.sites) (sym same_hands) (subst (TellRounds sc hands) (sym same_sites) tell);
-    told = subst (λ hs. AllTold sc hs at y.sites) (sym same_hands) (subst (AllTold sc hands at) (sym same_sites) told);
-    book = subst (λ hs. IsOfMoment sc hs y.book) (sym same_hands) book;
-    many = ap length same_ports ∙ many;
-    ports = subst (λ hs. PortsStand sc hs at y.sites y.ports) (sym same_hands)
-        (subst (λ sites. PortsStand sc hands at sites y.ports) (sym same_sites) (subst (PortsStand sc hands at x.sites) (sym same_ports) ports));
-    handed = subst (λ hs. AllHanded sc y.sites hs) (sym same_hands) (subst (λ sites. AllHanded sc sites hands) (sym same_sites) handed);
-    settled = settled;
-    so_far = subst (λ hs. AllHaveTold sc hs at y.sites) (sym same_hands) (subst (AllHaveTold sc hands at) (sym same_sites) so_far);
-    bound = subst (λ sites. Bound sc at sites y.book) (sym same_sites) bound;
-  };
+  sites = subst (λ hs. SitesStand sc hs now at y.sites) (sym same_hands) (subst (SitesStand sc hands now at) (sym same_sites) sites);
+  passed = subst (λ hs. HavePassed sc hs now at) (sym same_hands) passed;
+  tell = subst (λ hs. TellRounds sc hs y.sites) (sym same_hands) (subst (TellRounds sc hands) (sym same_sites) tell);
+  told = subst (λ hs. AllTold sc hs at y.sites) (sym same_hands) (subst (AllTold sc hands at) (sym same_sites) told);
+  book = subst (λ hs. IsOfMoment sc hs y.book) (sym same_hands) book;
+  many = ap length same_ports ∙ many;
+  ports = subst (λ hs. PortsStand sc hs at y.sites y.ports) (sym same_hands)
+      (subst (λ sites. PortsStand sc hands at sites y.ports) (sym same_sites) (subst (PortsStand sc hands at x.sites) (sym same_ports) ports));
+  handed = subst (λ hs. AllHanded sc y.sites hs) (sym same_hands) (subst (λ sites. AllHanded sc sites hands) (sym same_sites) handed);
+  settled = settled;
+  so_far = subst (λ hs. AllHaveTold sc hs at y.sites) (sym same_hands) (subst (AllHaveTold sc hands at) (sym same_sites) so_far);
+  bound = subst (λ sites. Bound sc at sites y.book) (sym same_sites) bound;
 }
 
 pub is-paced : (sc : Scenario) (now : ℕ) (at : Side → ℕ → ℕ) (w : World) → WorldInRounds sc now at w → Paced sc at w.sites w.book
@@ -315,14 +331,14 @@ is-paced sc now at w h = record {
 
 -- what waits in a world, where the next record needs an event
 pub world-waits : (sc : Scenario) (now : ℕ) (at : Side → ℕ → ℕ) (w : World) → WorldInRounds sc now at w → w.book.ended ≡ false → needs_no_event sc w.book.upcoming ≡ false
-    → (n : ℕ) × WaitsAt sc w.hands at w.sites w.book.upcoming n
+    → (n : ℕ) × WaitsAt sc w.hands at w.sites w.book n
 world-waits sc now at w h going needs =
     waits-at sc w.hands now at w.sites w.book h.sites h.so_far (is-paced sc now at w h) going needs h.book
 
 -- so the nodes are in time where they stand
-pub are-in-time : (sc : Scenario) (now : ℕ) (at : Side → ℕ → ℕ) (w : World) (n : ℕ) → WorldInRounds sc now at w → WaitsAt sc w.hands at w.sites w.book.upcoming n → UpTo sc w.hands n
+pub are-in-time : (sc : Scenario) (now : ℕ) (at : Side → ℕ → ℕ) (w : World) (n : ℕ) → WorldInRounds sc now at w → MayHappen sc at w n
     → AreInTime sc w.hands at
-are-in-time sc now at w n h waits up_to =
+are-in-time sc now at w n h may =
     let hands : List HandIn = w.hands in
     let site : (me : Side) (i frame slot : ℕ) → is_good sc me i frame slot ≡ true → (s : Site) × (slice_get (of_kind me w.sites) i ≡ Some s) =
     λ me i frame slot good.
@@ -333,33 +349,70 @@ are-in-time sc now at w n h waits up_to =
     λ me i good.
     let s = site me i (moment sc hands (at me i)).frame (slot_numbered sc.sizes (moment sc hands (at me i)).window) good in
     let up : IsUp sc hands (sent_by sc hands at w.sites) now me i (at me i) s.0 = h.sites.up me i s.0 s.1 (runs-there sc hands now at w.sites h.sites me i s.0 s.1 good) in
-    (waits.bound me i s.0 s.1, up.stands.stands.window) in
+    (may.bound me i s.0 s.1, up.stands.stands.window) in
     record {
-      each = λ me i good. let in_it = within me i good in up_to.times (at me i) in_it.0 in_it.1;
+      each = λ me i good. let in_it = within me i good in may.up_to.times (at me i) in_it.0 in_it.1;
       later = λ me i j st there good is source.
           let in_it = within me i good in
           let next : NextIsStage sc hands (at me i) = next-is-stage sc hands (at me i) in_it.1 in
           let z = site (other me) j _ _ source in
-          let le : at (other me) j ≤ n = waits.bound (other me) j z.0 z.1 in
-          up_to.later (at me i) (omega (arith, le, is, next.later)) in_it.1 me i j st there good source;
+          let le : at (other me) j ≤ n = may.bound (other me) j z.0 z.1 in
+          may.up_to.later (at me i) (omega (arith, le, is, next.later)) in_it.1 me i j st there good source;
     }
+
+-- a world that stands in the rounds, no node being beyond moment n
+pub record StandsUpTo (sc : Scenario) (hands : List HandIn) (n : ℕ) (w : World) : Type 0 where
+  pub stands : StandsInRounds sc w
+  pub hands_are : w.hands ≡ hands
+  pub bound : (me : Side) (i : ℕ) (s : Site) → slice_get (of_kind me w.sites) i ≡ Some s → stands.at me i ≤ n
+
+-- where the next record needs an event, no event closes the window of the moment at which the book waits
+pub closes-earlier : (sc : Scenario) (now : ℕ) (at : Side → ℕ → ℕ) (w : World) (n : ℕ) (d : Due) → IsLawful sc → WorldInRounds sc now at w → WaitsAt sc w.hands at w.sites w.book n
+    → UpTo sc w.hands n → (due : IsDue w d) → ClosesEarlier sc w.hands at n d.side d.node d.pending
+closes-earlier sc now at w n d lawful h waits up_to due = by d.pending due.ready
+  where
+    by : (p : Pending) → IsReady due.t due.s p → ClosesEarlier sc w.hands at n d.side d.node p
+    by (Arrival place c) ready = tt
+    by (Tick k) ready = λ st e last.
+        let me : Side = d.side in
+        let i : ℕ = d.node in
+        let s : Site = due.s in
+        let a : Timed = ready.0 in
+        let up : IsUp sc w.hands (sent_by sc w.hands at w.sites) now me i (at me i) s = up-there sc now at w me i s a h.sites due.there ready.1.0 in
+        let same : up.a ≡ a = some-same up.a a (sym up.stands.receives.pends ∙ ready.1.0) in
+        let later : now ≤ a.time = subst (λ (b : Timed). now ≤ b.time) same up.stands.receives.tick_after in
+        let at_time : a.time ≡ time_of (clock_of sc me i) a.tick = subst (λ (b : Timed). b.time ≡ time_of (clock_of sc me i) b.tick) same up.stands.receives.at_time in
+        closes-before sc w.hands now a.time at w.sites n lawful later h.sites h.passed (subst (λ t. AllPend t w.sites) (sym ready.1.1.1.0) (all-pend w due.t due.first)) waits.stage waits.behind
+        (λ q lt within. up_to.times q (omega arith) within) up_to.well me i (at me i) refl
+        (record { st = st; state = e; good = up.stands.good; time = at_time ∙ ap (time_of (clock_of sc me i)) (ready.1.1.0 ∙ last) }) (waits.bound me i s due.there)
 
 -- a due event that is taken keeps it, and leaves the book one of the rounds'
 pub take-keeps : (sc : Scenario) (now : ℕ) (at : Side → ℕ → ℕ) (w : World) (d : Due) → IsLawful sc → HasRoom sc.plan → WorldInRounds sc now at w
-    → (n : ℕ) → WaitsAt sc w.hands at w.sites w.book.upcoming n → UpTo sc w.hands n → w.book.ended ≡ false → IsDue w d → StandsInRounds sc (take_if_due sc w (Some d))
-take-keeps sc now at w d lawful room h n waiting up_to going due =
+    → (n : ℕ) → MayHappen sc at w n → w.book.ended ≡ false → (due : IsDue w d) → ClosesEarlier sc w.hands at n d.side d.node d.pending
+    → StandsUpTo sc w.hands n (take_if_due sc w (Some d))
+take-keeps sc now at w d lawful room h n may going due early =
     let x : World = happens sc w d in
     let y : World = settle sc ByAnEvent 2 x in
-    let times : AreInTime sc w.hands at = are-in-time sc now at w n h waiting up_to in
+    let times : AreInTime sc w.hands at = are-in-time sc now at w n h may in
     let event : AfterEvent sc at w n due.t (with_pending sc w d.side d.node due.s d.pending) =
-    pending-happens sc now at w n d.side d.node due.t due.s d.pending lawful room times h waiting up_to due.there due.ready (all-pend w due.t due.first) in
+    pending-happens sc now at w n d.side d.node due.t due.s d.pending lawful room times h may early due.there due.ready (all-pend w due.t due.first) in
     let after : AfterEvent sc at w n due.t x = subst (AfterEvent sc at w n due.t) (sym (happens-is sc w d due.s due.there)) event in
     let same_book : x.book ≡ w.book = happens-book sc w d in
     let is : IsOfMoment sc w.hands x.book = subst (IsOfMoment sc w.hands) (sym same_book) h.book in
     let waits : is_due sc w.sites x.book.upcoming ≡ false = ap (λ (b : Book). is_due sc w.sites b.upcoming) same_book ∙ h.settled.waits going in
     let within : Bound sc after.now_at x.sites x.book =
-    λ going me i s there. subst (λ (b : Book). IsWithin sc.sizes b.upcoming (after.now_at me i)) (sym same_book) (waiting.within (after.now_at me i) (after.bound me i s there)) in
+    λ going me i s there. subst (λ (b : Book). IsWithin sc.sizes b.upcoming (after.now_at me i)) (sym same_book) (may.within (after.now_at me i) (after.bound me i s there)) in
     let paced : Paced sc after.now_at x.sites y.book = event-paced sc w.hands after.now_at x x.sites lawful.sizes refl after.sites.counts after.event.told within in
-    settled-stands sc due.t after.now_at x y w.hands (settle-sites sc ByAnEvent 2 x) (settle-hands sc ByAnEvent 2 x ∙ after.hands) (settle-ports sc ByAnEvent 2 x)
-    after.sites after.passed after.tell after.event.told (all-settled sc ByAnEvent 2 x w.hands x.sites room.ticks after.hands refl after.tell is) after.many after.ports after.handed
-    (event-settled sc w.hands at after.now_at w.sites x after.event (ap (λ (b : Book). b.ended) same_book ∙ going) is waits) after.so_far paced.bound
+    let same_sites : y.sites ≡ x.sites = settle-sites sc ByAnEvent 2 x in
+    let same_hands : y.hands ≡ w.hands = settle-hands sc ByAnEvent 2 x ∙ after.hands in
+    record {
+      stands = record {
+        now = due.t;
+        at = after.now_at;
+        stands = settled-stands sc due.t after.now_at x y w.hands same_sites same_hands (settle-ports sc ByAnEvent 2 x)
+          after.sites after.passed after.tell after.event.told (all-settled sc ByAnEvent 2 x w.hands x.sites room.ticks after.hands refl after.tell is) after.many after.ports after.handed
+          (event-settled sc w.hands at after.now_at w.sites x after.event (ap (λ (b : Book). b.ended) same_book ∙ going) is waits) after.so_far paced.bound;
+      };
+      hands_are = same_hands;
+      bound = λ me i s there. after.bound me i s (ap (λ sites. slice_get (of_kind me sites) i) (sym same_sites) ∙ there);
+    }

@@ -97,16 +97,24 @@ SyncSlotsHold sc =
     (hands : List HandIn) (n : ℕ) → IsRunning (moment sc hands n) → 3 * sync_slot_of sc.sizes ≤ (moment sc hands n).window
     → (moment sc hands n).window < stages_in sc.sizes → IsRunning (moment sc hands (n + 1))
 
--- What holds in each lawful scenario whose sync slots hold.
+-- and in the last stage of each
+abbrev pub LastStagesHold : Scenario → Type 0
+LastStagesHold sc =
+    (hands : List HandIn) (n : ℕ) → IsRunning (moment sc hands n) → (moment sc hands n).window ≡ 3 * sync_slot_of sc.sizes + 2
+    → IsRunning (moment sc hands (n + 1))
 
-abbrev pub EventsAreRoundsIfSyncHolds : Type 0
-EventsAreRoundsIfSyncHolds = (sc : Scenario) → IsLawful sc → SyncSlotsHold sc → EventsAreRounds sc
+-- What holds in each lawful scenario where it holds in the last stages of the sync slots.
 
-abbrev pub SomethingIsDueIfSyncHolds : Type 0
-SomethingIsDueIfSyncHolds = (sc : Scenario) → IsLawful sc → SyncSlotsHold sc → SomethingIsDue sc
+abbrev pub EventsAreRoundsIfLastHolds : Type 0
+EventsAreRoundsIfLastHolds = (sc : Scenario) → IsLawful sc → LastStagesHold sc → EventsAreRounds sc
 
-abbrev pub OneTurnARecordIfSyncHolds : Type 0
-OneTurnARecordIfSyncHolds = (sc : Scenario) → IsLawful sc → SyncSlotsHold sc → OneTurnARecord sc
+abbrev pub SomethingIsDueIfLastHolds : Type 0
+SomethingIsDueIfLastHolds = (sc : Scenario) → IsLawful sc → LastStagesHold sc → SomethingIsDue sc
+
+abbrev pub OneTurnARecordIfLastHolds : Type 0
+OneTurnARecordIfLastHolds = (sc : Scenario) → IsLawful sc → LastStagesHold sc → OneTurnARecord sc
+
+-- and in all of them
 
 abbrev pub EveryRunEndsIfSyncHolds : Type 0
 EveryRunEndsIfSyncHolds = (sc : Scenario) → IsLawful sc → SyncSlotsHold sc → EveryRunEnds sc
