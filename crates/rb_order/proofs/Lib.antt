@@ -88,3 +88,4 @@ pub mod BreachWindows
 pub mod DeafCloses
 pub mod SourceSums
 pub mod FewPending
+pub mod TailTicks
