@@ -89,3 +89,4 @@ pub mod DeafCloses
 pub mod SourceSums
 pub mod FewPending
 pub mod TailTicks
+pub mod TurnTicks

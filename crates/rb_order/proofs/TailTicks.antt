@@ -160,7 +160,7 @@ none-some (Some y) x e f = cc
 
 -- The first window of the next frame.
 
-turned-epoch : (plan : Plan) (me : Side) (frame x : ℕ) (c : NodeState) (had : ℕ) → HasTurned frame x c had → new_epoch_of plan me c ≡ None
+pub turned-epoch : (plan : Plan) (me : Side) (frame x : ℕ) (c : NodeState) (had : ℕ) → HasTurned frame x c had → new_epoch_of plan me c ≡ None
 turned-epoch plan Biu frame x c had h = ap (option_map (λ k2. k2 + plan.v + plan.z + plan.c)) h.k2
 turned-epoch plan Rmu frame x c had h = ap (option_map (λ k3. k3 + plan.z)) h.k3
 
@@ -200,7 +200,7 @@ turned-says sizes plan me i y frame x word k room h from before m e =
     by None is g = cc
     by (Some s) is g = at s is (s.tick == k) refl g
 
-turned-act : (sizes : Sizes) (plan : Plan) (me : Side) (i frame e x : ℕ) (c : Core) (y : NodeState) (word : ℕ) → HasRoom plan → HasTurned frame x y (c.had + 1) → c.had + 1 < x + plan.l
+pub turned-act : (sizes : Sizes) (plan : Plan) (me : Side) (i frame e x : ℕ) (c : Core) (y : NodeState) (word : ℕ) → HasRoom plan → HasTurned frame x y (c.had + 1) → c.had + 1 < x + plan.l
     → GoesOn sizes plan me frame e x c.had (act_on sizes plan me i c y (said_at sizes plan me i y word c.had) (state_kept sizes me i y word (said_at sizes plan me i y word c.had)))
 unfolding act_on
 turned-act sizes plan me i frame e x c y word room h before = go (is_last sizes plan me y c.had) (turned-last sizes plan me y x c.had room h.epoch from before)
@@ -272,7 +272,7 @@ in-tail sizes plan me frame e x c k low h lt =
     let epoch : c.epoch ≡ e = h.epoch in
     record { from = omega (arith, first, epoch, h.from); to = omega (arith, last, epoch, low, lt) }
 
-tail-act : (sizes : Sizes) (plan : Plan) (me : Side) (i frame e x : ℕ) (c : Core) (word : ℕ) → HasRoom plan → e + tail_start_of sizes plan ≤ x → IsInTail sizes plan me frame e x c.state c.had → c.had < x
+pub tail-act : (sizes : Sizes) (plan : Plan) (me : Side) (i frame e x : ℕ) (c : Core) (word : ℕ) → HasRoom plan → e + tail_start_of sizes plan ≤ x → IsInTail sizes plan me frame e x c.state c.had → c.had < x
     → GoesOn sizes plan me frame e x c.had (act_on sizes plan me i c c.state (said_at sizes plan me i c.state word c.had) (state_kept sizes me i c.state word (said_at sizes plan me i c.state word c.had)))
 unfolding act_on
 tail-act sizes plan me i frame e x c word room low h lt = go (is_last sizes plan me st c.had)
