@@ -90,3 +90,5 @@ pub mod SourceSums
 pub mod FewPending
 pub mod TailTicks
 pub mod TurnTicks
+pub mod LastSites
+pub mod LastTicks

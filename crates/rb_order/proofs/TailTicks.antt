@@ -88,10 +88,10 @@ deaf-tail : (me : Side) → listens me Sync 4 ≡ false
 deaf-tail Biu = refl
 deaf-tail Rmu = refl
 
--- the close of a tail
-closed-same : (sizes : Sizes) (plan : Plan) (me : Side) (i : ℕ) (st : NodeState) (w : Window) (arrivals : ℕ → List Arrival) → w.slot ≡ sync_slot_of sizes → w.stage ≡ 4
+-- a close in which the node doesn't listen
+pub closed-same : (sizes : Sizes) (plan : Plan) (me : Side) (i : ℕ) (st : NodeState) (w : Window) (arrivals : ℕ → List Arrival) → w.slot ≡ sync_slot_of sizes → listens me Sync w.stage ≡ false
     → KeepsMiddles st (close_window sizes plan me i st w arrivals).state
-closed-same sizes plan me i st w arrivals slot stage =
+closed-same sizes plan me i st w arrivals slot deaf =
     subst (λ b. KeepsMiddles st (outcome b).state) (sym (same-is w.slot (sync_slot_of sizes) slot)) (record {
       frame = ap (λ (s : NodeState). s.frame) state;
       epoch = ap (λ (s : NodeState). s.epoch) state;
@@ -110,7 +110,7 @@ closed-same sizes plan me i st w arrivals slot stage =
     ]
 
     state : (close_sync sizes me st w.stage (st.epoch + w.first) sense).state ≡ record st { far = with_evidence (has_evidence st.far (expects_call me st w.stage) sense) st.far }
-    state = deaf-state sizes me st w.stage (st.epoch + w.first) sense (ap (listens me Sync) stage ∙ deaf-tail me)
+    state = deaf-state sizes me st w.stage (st.epoch + w.first) sense deaf
 
     same-is : (a b : ℕ) → a ≡ b → (a == b) ≡ true
     same-is a b h = grind (arith, nat_tests)
@@ -358,7 +358,7 @@ tail-act sizes plan me i frame e x c word room low h lt = go (is_last sizes plan
     go true = record {
       closed = stage-of;
       epoch = λ b f. none-some (epoch_at sizes me st c.had) b no-begin f;
-      after = inl (still closing.state (and-so st kept closing.state kept-same (closed-same sizes plan me i kept w (of_source c.inbox) slot stage)), omega (arith, lt));
+      after = inl (still closing.state (and-so st kept closing.state kept-same (closed-same sizes plan me i kept w (of_source c.inbox) slot (ap (listens me Sync) stage ∙ deaf-tail me))), omega (arith, lt));
       message = λ deaf msg f. none-some m msg (silent deaf) f;
     }
     go false = record {
