@@ -92,3 +92,6 @@ pub mod TailTicks
 pub mod TurnTicks
 pub mod LastSites
 pub mod LastTicks
+pub mod LastEnds
+pub mod LastEvents
+pub mod LastWorld
