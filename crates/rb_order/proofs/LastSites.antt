@@ -139,16 +139,16 @@ told-arrives sc hands me i p n c s moves h before =
           };
     }
 
-pub site-comes : (sc : Scenario) (hands : List HandIn) (sent : Side → ℕ → ℕ → Bool) (p : ℕ) (me : Side) (i n : ℕ) (c : Coming) (s : Site) → Moves (clock_of sc me i) → StandsAt n c s.coming
+pub site-comes : (sc : Scenario) (hands : List HandIn) (sent : Side → ℕ → ℕ → Bool) (p : ℕ) (me : Side) (i n : ℕ) (c : Coming) (s : Site) → (is_good_at sc (moment sc hands p) me i ≡ true → Moves (clock_of sc me i)) → StandsAt n c s.coming
     → ((a : Timed) → s.ahead ≡ Some a → ArrivesNow n c s a) → SiteLast sc hands sent p me i s → SiteLast sc hands sent p me i (after_arrival sc me i n c s)
 site-comes sc hands sent p me i n c s moves stands due (inl stopped) = absurd (none-stands s.coming stopped.coming n stands)
   where
     none-stands : (cs : List Coming) → cs ≡ [] → (n : ℕ) → StandsAt n c cs → ⊥
     none-stands [] e n s = s
     none-stands (x ∷ xs) e n s = cc
-site-comes sc hands sent p me i n c s moves stands due (inr (inl h)) = inr (inl (ahead-arrives sc hands sent me i p n c s moves h (due h.waits.a h.waits.stands.receives.pends)))
-site-comes sc hands sent p me i n c s moves stands due (inr (inr (inl h))) = inr (inr (inl (deaf-arrives sc hands me i p n c s moves h (due h.a h.pends).before_tick)))
-site-comes sc hands sent p me i n c s moves stands due (inr (inr (inr h))) = inr (inr (inr (told-arrives sc hands me i p n c s moves h (λ a e. (due a e).before_tick))))
+site-comes sc hands sent p me i n c s moves stands due (inr (inl h)) = inr (inl (ahead-arrives sc hands sent me i p n c s (moves h.waits.stands.good) h (due h.waits.a h.waits.stands.receives.pends)))
+site-comes sc hands sent p me i n c s moves stands due (inr (inr (inl h))) = inr (inr (inl (deaf-arrives sc hands me i p n c s (moves h.good) h (due h.a h.pends).before_tick)))
+site-comes sc hands sent p me i n c s moves stands due (inr (inr (inr h))) = inr (inr (inr (told-arrives sc hands me i p n c s (moves h.good) h (λ a e. (due a e).before_tick))))
 
 -- A message on its way.
 

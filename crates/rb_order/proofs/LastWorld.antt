@@ -1,6 +1,6 @@
 -- For the law that events are rounds also where the premise on faults is broken in a sync slot (not proved): a due event keeps all nodes of a world
 -- in which the run breaks off with the last stage of the sync slot: they wait for its last tick, or have told their rows.
-use Rattle.std.proofs.Common.{◌≡◌, ℕ, ◌+◌, ◌*◌, ◌<◌, ◌≤◌, ◌⊎◌, Bool, true, false, List, [], ◌++◌, append_nil, refl, ap, sym, ◌∙◌, subst, arith, inl, inr, Option, Some, None, slice_get, lit<}
+use Rattle.std.proofs.Common.{◌≡◌, ℕ, ◌+◌, ◌*◌, ◌<◌, ◌≤◌, ◌⊎◌, Bool, true, false, List, [], ◌++◌, append-nil, refl, ap, sym, ◌∙◌, subst, arith, inl, inr, Option, Some, None, slice_get, lit<}
 use Rattle.rb_base.specs.Nodes.{Side}
 use Rattle.rb_base.specs.Sizes.{sync_slot_of}
 use Rattle.rb_rules.specs.declared.message.Message.{Message}
@@ -22,7 +22,7 @@ use Rattle.rb_order.proofs.BreakEnters.{waits-then}
 use Rattle.rb_order.proofs.BreakEvents.{TickBreaks}
 use Rattle.rb_order.proofs.BreakSites.{WaitsDeaf, WaitsHearing}
 use Rattle.rb_order.proofs.CloseOrder.{has-ticks}
-use Rattle.rb_order.proofs.Invariant.{last_tick}
+use Rattle.rb_order.proofs.Invariant.{is_good_at}
 use Rattle.rb_order.proofs.LastEvents.{last-ticks, ticks-late}
 use Rattle.rb_order.proofs.LastSites.{HasToldLast, SiteLast, WaitsAhead, message-comes, site-comes}
 use Rattle.rb_order.proofs.MomentBooks.{place_at}
@@ -44,7 +44,7 @@ SitesLast sc hands sent p sites = (side : Side) (j : ℕ) (z : Site) → slice_g
 
 nothing-more : (sc : Scenario) (hands : List HandIn) (sent : Side → ℕ → ℕ → Bool) (now : ℕ) (me : Side) (i p : ℕ) (s : Site) → WaitsHearing sc hands sent now me i p s → WaitsAhead sc hands sent me i p s
 nothing-more sc hands sent now me i p s h =
-    record { now = now; mine = s.coming; more = []; is = sym (append_nil s.coming); waits = record { st = h.st; a = h.a; stands = h.stands; hears = h.hears; last = h.last }; later = tt }
+    record { now = now; mine = s.coming; more = []; is = sym (append-nil s.coming); waits = record { st = h.st; a = h.a; stands = h.stands; hears = h.hears; last = h.last }; later = tt }
 
 pub last-begins : (sc : Scenario) (hands : List HandIn) → IsLawful sc → HasRoom sc.plan → (now : ℕ) (at : Side → ℕ → ℕ) (sites : Each Site) (p t : ℕ) → IsRunning (moment sc hands p)
     → (moment sc hands p).window ≡ 3 * sync_slot_of sc.sizes + 2 → FirstCloses sc hands now at sites p t → SitesLast sc hands (sent_by sc hands at sites) p sites
@@ -79,7 +79,8 @@ last-tick sc hands lawful room sent ports p running at sites h me i frame s a t 
     there (inr (inr (inr (last-ticks sc hands lawful room sent ports p running at me i s a t here))))
     (λ side j z other e. h side j z e)
 
-pub last-arrival : (sc : Scenario) (hands : List HandIn) (sent : Side → ℕ → ℕ → Bool) (p : ℕ) (sites : Each Site) → SitesLast sc hands sent p sites → (me : Side) (i n : ℕ) (c : Coming) (s : Site) → Moves (clock_of sc me i)
+pub last-arrival : (sc : Scenario) (hands : List HandIn) (sent : Side → ℕ → ℕ → Bool) (p : ℕ) (sites : Each Site) → SitesLast sc hands sent p sites → (me : Side) (i n : ℕ) (c : Coming) (s : Site)
+    → (is_good_at sc (moment sc hands p) me i ≡ true → Moves (clock_of sc me i))
     → slice_get (of_kind me sites) i ≡ Some s → StandsAt n c s.coming → ((a : Timed) → s.ahead ≡ Some a → ArrivesNow n c s a) → SitesLast sc hands sent p (at_node me i (after_arrival sc me i n c) sites)
 last-arrival sc hands sent p sites h me i n c s moves there stands due =
     let none : Option Message = None in
