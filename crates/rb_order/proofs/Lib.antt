@@ -92,3 +92,10 @@ pub mod BreachWindows
 pub mod DeafCloses
 pub mod SourceSums
 pub mod FewPending
+pub mod TailTicks
+pub mod TurnTicks
+pub mod LastSites
+pub mod LastTicks
+pub mod LastEnds
+pub mod LastEvents
+pub mod LastWorld
