@@ -125,7 +125,7 @@ last-ticks sc hands lawful room sent ports p running at me i s a t (inl stopped)
 last-ticks sc hands lawful room sent ports p running at me i s a t (inr (inl h)) =
     let same : h.waits.a ≡ a = same-timed h.waits.a a (sym h.waits.stands.receives.pends ∙ t.pend) in
     subst (λ (b : Timed). HasToldLast sc hands me i p (after_act sc ports me i (pass_and_tick sc ports me i b.tick s.core) s)) same
-    (hearing-last sc hands lawful room sent ports p running at me i s h (t.frame h.waits.st h.waits.stands.state) t.all_sent (t.words h.waits.st h.waits.stands.state)
+    (hearing-last sc hands lawful room sent ports p running at me i s h (t.frame h.waits.st h.waits.stands.state h.waits.stands.good) t.all_sent (t.words h.waits.st h.waits.stands.state)
     (subst (λ (b : Timed). Every (λ c. b.time < c.time) s.coming) (sym same) t.later))
 last-ticks sc hands lawful room sent ports p running at me i s a t (inr (inr (inl h))) =
     let same : h.a ≡ a = same-timed h.a a (sym h.pends ∙ t.pend) in

@@ -1,8 +1,8 @@
 -- For the law that events are rounds: the nodes of a world in which the run breaks off with the last stage of the sync slot keep what is asked of them.
-use Rattle.std.proofs.Common.{◌≡◌, ℕ, ◌+◌, ◌*◌, ◌⊎◌, Bool, true, false, List, ap, sym, ◌∙◌, inl, inr}
+use Rattle.std.proofs.Common.{◌≡◌, ℕ, ◌+◌, ◌*◌, ◌⊎◌, Bool, true, false, List, ap, sym, ◌∙◌, inl, inr, Some, slice_get}
 use Rattle.rb_base.specs.Nodes.{Side}
 use Rattle.rb_base.specs.Sizes.{sync_slot_of}
-use Rattle.rb_rules.specs.Book.{Each}
+use Rattle.rb_rules.specs.Book.{Each, of_kind}
 use Rattle.rb_rules.specs.Clock.{time_of}
 use Rattle.rb_rules.specs.Goodness.{Scenario, clock_of}
 use Rattle.rb_rules.specs.Lawful.{IsLawful}
@@ -15,14 +15,11 @@ use Rattle.rb_order.proofs.LastSites.{HasToldLast, SiteLast}
 use Rattle.rb_order.proofs.LastWorld.{SitesLast, last-arrival, last-begins, last-row, last-tick}
 use Rattle.rb_order.proofs.NodeActs.{HasRoom}
 
-abbrev pub NodesLast : Scenario → List HandIn → ℕ → (Side → ℕ → ℕ → Bool) → Each Site → Type 0
-NodesLast sc hands b sent sites = SitesLast sc hands sent b sites
-
 last-tells : (sc : Scenario) (hands : List HandIn) → IsLawful sc → (p : ℕ) → (moment sc hands p).window ≡ 3 * sync_slot_of sc.sizes + 2 → (me : Side) (i : ℕ) (s : Site)
     → HasToldLast sc hands me i p s → TellsStage sc hands p me i s
 last-tells sc hands lawful p at me i s h =
-    let its = last-row sc hands lawful p at me i s h in
-    record { row = h.row; is = h.told; place = its.0; rounds = its.1 }
+    let row = last-row sc hands lawful p at me i s h in
+    record { row = h.row; is = h.told; place = row.0; rounds = row.1 }
 
 last-waits : (sc : Scenario) (hands : List HandIn) → IsLawful sc → (sent : Side → ℕ → ℕ → Bool) (p : ℕ) → (moment sc hands p).window ≡ 3 * sync_slot_of sc.sizes + 2
     → (me : Side) (i : ℕ) (s : Site) → s.runs ≡ true → SiteLast sc hands sent p me i s → WaitsLast sc hands p me i s ⊎ TellsStage sc hands p me i s
@@ -40,6 +37,10 @@ last-waits sc hands lawful sent p at me i s runs (inr (inl h)) = inl (record {
 last-waits sc hands lawful sent p at me i s runs (inr (inr (inl h))) =
     inl (record { st = h.st; a = h.a; pends = h.pends; state = h.state; time = h.at_time ∙ ap (time_of (clock_of sc me i)) h.last })
 last-waits sc hands lawful sent p at me i s runs (inr (inr (inr h))) = inr (last-tells sc hands lawful p at me i s h)
+
+-- each node of the world
+abbrev pub NodesLast : Scenario → List HandIn → ℕ → (Side → ℕ → ℕ → Bool) → Each Site → Type 0
+NodesLast sc hands p sent sites = SitesLast sc hands sent p sites
 
 pub last-keeps : (sc : Scenario) → IsLawful sc → HasRoom sc.plan → KeepsNodes sc 2 (NodesLast sc)
 last-keeps sc lawful room = record {

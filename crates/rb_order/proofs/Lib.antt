@@ -99,3 +99,4 @@ pub mod LastTicks
 pub mod LastEnds
 pub mod LastEvents
 pub mod LastWorld
+pub mod LastKeeps

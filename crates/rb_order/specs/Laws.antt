@@ -97,24 +97,18 @@ SyncSlotsHold sc =
     (hands : List HandIn) (n : ℕ) → IsRunning (moment sc hands n) → 3 * sync_slot_of sc.sizes ≤ (moment sc hands n).window
     → (moment sc hands n).window < stages_in sc.sizes → IsRunning (moment sc hands (n + 1))
 
--- and in the last stage of each
-abbrev pub LastStagesHold : Scenario → Type 0
-LastStagesHold sc =
-    (hands : List HandIn) (n : ℕ) → IsRunning (moment sc hands n) → (moment sc hands n).window ≡ 3 * sync_slot_of sc.sizes + 2
-    → IsRunning (moment sc hands (n + 1))
+-- What holds in each lawful scenario.
 
--- What holds in each lawful scenario where it holds in the last stages of the sync slots.
+abbrev pub EventsAreRoundsInLawful : Type 0
+EventsAreRoundsInLawful = (sc : Scenario) → IsLawful sc → EventsAreRounds sc
 
-abbrev pub EventsAreRoundsIfLastHolds : Type 0
-EventsAreRoundsIfLastHolds = (sc : Scenario) → IsLawful sc → LastStagesHold sc → EventsAreRounds sc
+abbrev pub SomethingIsDueInLawful : Type 0
+SomethingIsDueInLawful = (sc : Scenario) → IsLawful sc → SomethingIsDue sc
 
-abbrev pub SomethingIsDueIfLastHolds : Type 0
-SomethingIsDueIfLastHolds = (sc : Scenario) → IsLawful sc → LastStagesHold sc → SomethingIsDue sc
+abbrev pub OneTurnARecordInLawful : Type 0
+OneTurnARecordInLawful = (sc : Scenario) → IsLawful sc → OneTurnARecord sc
 
-abbrev pub OneTurnARecordIfLastHolds : Type 0
-OneTurnARecordIfLastHolds = (sc : Scenario) → IsLawful sc → LastStagesHold sc → OneTurnARecord sc
-
--- and in all of them
+-- and in each whose sync slots hold
 
 abbrev pub EveryRunEndsIfSyncHolds : Type 0
 EveryRunEndsIfSyncHolds = (sc : Scenario) → IsLawful sc → SyncSlotsHold sc → EveryRunEnds sc
