@@ -14,6 +14,7 @@ use Rattle.rb_rules.specs.WorldStep.{Site, Timed, after_act, after_arrival, at_n
 use Rattle.rb_rules.proofs.Stamps.{Moves}
 use Rattle.rb_order.proofs.BreakBegins.{FirstCloses}
 use Rattle.rb_order.proofs.BreakEvents.{TickBreaks}
+use Rattle.rb_order.proofs.BreakMessages.{HasStopped}
 use Rattle.rb_order.proofs.Invariant.{is_good_at, last_tick}
 use Rattle.rb_order.proofs.MomentBooks.{place_at}
 use Rattle.rb_order.proofs.PendingLists.{StandsAt}
@@ -68,3 +69,8 @@ pub record KeepsNodes (sc : Scenario) (q : ℕ) (N : List HandIn → ℕ → (Si
   pub arrival : (hands : List HandIn) (b : ℕ) → BreaksAt sc hands b q → (sent : Side → ℕ → ℕ → Bool) (sites : Each Site) → N hands b sent sites
       → (me : Side) (i n : ℕ) (c : Coming) (s : Site) → (is_good_at sc (moment sc hands b) me i ≡ true → Moves (clock_of sc me i)) → slice_get (of_kind me sites) i ≡ Some s → StandsAt n c s.coming
       → ((a : Timed) → s.ahead ≡ Some a → ArrivesNow n c s a) → FirstOf sc hands b c.time → N hands b sent (at_node me i (after_arrival sc me i n c) sites)
+  -- a node at which something may happen was good then, and its next tick comes after those that it has had
+  pub goes : (hands : List HandIn) (b : ℕ) → BreaksAt sc hands b q → (sent : Side → ℕ → ℕ → Bool) (sites : Each Site) → N hands b sent sites → (me : Side) (i : ℕ) (s : Site)
+      → slice_get (of_kind me sites) i ≡ Some s → HasStopped s ⊎ (is_good_at sc (moment sc hands b) me i ≡ true)
+  pub ahead : (hands : List HandIn) (b : ℕ) → BreaksAt sc hands b q → (sent : Side → ℕ → ℕ → Bool) (sites : Each Site) → N hands b sent sites → (me : Side) (i : ℕ) (s : Site)
+      → slice_get (of_kind me sites) i ≡ Some s → (a : Timed) → s.ahead ≡ Some a → (s.core.had ≤ a.tick) × (a.time ≡ time_of (clock_of sc me i) a.tick)

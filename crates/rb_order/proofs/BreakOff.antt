@@ -1,6 +1,6 @@
 -- For the law that events are rounds: worlds in which the run breaks off in a sync slot. The book stays until all that are good have told of the
 -- stage, and then it is the rounds', and has ended.
-use Rattle.std.proofs.Common.{◌≡◌, ℕ, suc, ◌+◌, ◌*◌, ◌<◌, ◌≤◌, ◌==◌, ◌&&◌, ◌⊎◌, not, Bool, true, false, List, [], ◌∷◌, length, refl, ap, sym, ◌∙◌, subst, arith, inl, inr, Option, Some, None, slice_get, if◌then◌else◌}
+use Rattle.std.proofs.Common.{◌≡◌, ℕ, suc, ◌+◌, ◌*◌, ◌^◌, ◌<◌, ◌≤◌, ◌==◌, ◌&&◌, ◌⊎◌, not, Bool, true, false, List, [], ◌∷◌, length, refl, ap, sym, ◌∙◌, subst, arith, inl, inr, Option, Some, None, slice_get, if◌then◌else◌}
 use Rattle.std.proofs.lemmas.Bool.{cases_lt, lt-ltb}
 use Rattle.rb_base.specs.Nodes.{Side, other}
 use Rattle.rb_base.specs.Sizes.{sync_slot_of}
@@ -22,6 +22,8 @@ use Rattle.rb_order.specs.Closing.{stages_in}
 use Rattle.rb_order.proofs.Behind.{closes-before, runs-there, settled-next}
 use Rattle.rb_order.proofs.BreakBegins.{FirstCloses, all-have-sent}
 use Rattle.rb_order.proofs.BreakNodes.{BreaksAt, FirstOf, KeepsNodes}
+use Rattle.rb_rules.proofs.Drift.{times_rise_to}
+use Rattle.rb_order.proofs.BreakRooms.{HasLater, has-later}
 use Rattle.rb_order.proofs.BreakRuns.{AllSent, NodesOff, WaitsYet, first-of, pending-off, waits-yet}
 use Rattle.rb_order.proofs.DueEvents.{IsDue, IsReady}
 use Rattle.rb_order.proofs.Invariant.{entry_of, is_good_at, last_tick}
@@ -63,6 +65,7 @@ pub record IsOver (sc : Scenario) (w : World) : Type 0 where
   pub of : IsOfMoment sc w.hands w.book
   pub ended : w.book.ended ≡ true
   pub silent : frame_in w.turn ≡ None
+  pub small : (me : Side) (i : ℕ) (s : Site) → slice_get (of_kind me w.sites) i ≡ Some s → s.runs ≡ true → s.core.had < 2 ^ 31
 
 true-false : {P : Type 0} → true ≡ false → P
 true-false e = absurd (cc)
@@ -105,11 +108,19 @@ and-both a b e f = rw (e, f) refl
 not-is : (a : Bool) → a ≡ false → not a ≡ true
 not-is a e = rw e refl
 
+-- a node that runs was good, and has ticks left
+pub runs-small : (sc : Scenario) (N : ℕ → List HandIn → ℕ → (Side → ℕ → ℕ → Bool) → Each Site → Type 0) (hands : List HandIn) (b q : ℕ) (sent : Side → ℕ → ℕ → Bool) (sites : Each Site) → KeepsNodes sc q (N q)
+    → BreaksAt sc hands b q → NodesOff sc N hands b q sent sites → (me : Side) (i : ℕ) (s : Site) → slice_get (of_kind me sites) i ≡ Some s → s.runs ≡ true → s.core.had < 2 ^ 31
+runs-small sc N hands b q sent sites keeps off h me i s there runs = elim (keeps.goes hands b off sent sites h.nodes me i s there) [
+  | inl stopped ↦ true-false (sym runs ∙ stopped.runs)
+  | inr good ↦ h.small me i s there good
+]
+
 -- after an event that leaves the book: either the stage isn't complete, or the run has ended
 settles-off : (sc : Scenario) (N : ℕ → List HandIn → ℕ → (Side → ℕ → ℕ → Bool) → Each Site → Type 0) (hands : List HandIn) (b q : ℕ) (sent : Side → ℕ → ℕ → Bool) (x : World) → HasRoom sc.plan → x.hands ≡ hands
-    → BreaksAt sc hands b q → AllSent sc hands b sent → NodesOff sc N hands b q sent x.sites → x.book ≡ (moment sc hands b).book → needs_no_event sc x.book.upcoming ≡ false
+    → KeepsNodes sc q (N q) → BreaksAt sc hands b q → AllSent sc hands b sent → NodesOff sc N hands b q sent x.sites → x.book ≡ (moment sc hands b).book → needs_no_event sc x.book.upcoming ≡ false
     → BreaksOff sc N (settle sc ByAnEvent 2 x) ⊎ IsOver sc (settle sc ByAnEvent 2 x)
-settles-off sc N hands b q sent x room hands_are off all_sent nodes is needs = by (is_complete sc x.sites (Stage place)) refl
+settles-off sc N hands b q sent x room hands_are keeps off all_sent nodes is needs = by (is_complete sc x.sites (Stage place)) refl
   where
     place : Place
     place = place_at sc.sizes (moment sc hands b)
@@ -164,6 +175,7 @@ settles-off sc N hands b q sent x room hands_are off all_sent nodes is needs = b
           of = inr (suc b, book ∙ ap (λ hands. (moment sc hands (suc b)).book) (sym hands_are));
           ended = ended;
           silent = silent;
+          small = runs-small sc N hands b q sent x.sites keeps off nodes;
         }))
 
 -- an event
@@ -175,7 +187,7 @@ happens-off sc N b q sent w d lawful room keeps off all_sent nodes is needs due 
     let x_is : x ≡ with_pending sc w d.side d.node due.s d.pending = happens-is sc w d due.s due.there in
     let after = pending-off sc N b q sent w d.side d.node due.t due.s d.pending lawful room keeps off all_sent nodes due.there due.ready (all-pend w due.t due.first) first in
     let same : x.book ≡ w.book = happens-book sc w d in
-    settles-off sc N w.hands b q sent x room (ap (λ (w : World). w.hands) x_is ∙ after.1) off all_sent
+    settles-off sc N w.hands b q sent x room (ap (λ (w : World). w.hands) x_is ∙ after.1) keeps off all_sent
     (subst (λ (x : World). NodesOff sc N w.hands b q sent x.sites) (sym x_is) after.0) (same ∙ is) (ap (λ (b : Book). needs_no_event sc b.upcoming) same ∙ needs)
 
 pub take-off : (sc : Scenario) (N : ℕ → List HandIn → ℕ → (Side → ℕ → ℕ → Bool) → Each Site → Type 0) (w : World) (d : Due) → IsLawful sc → HasRoom sc.plan → ((q : ℕ) → q < 3 → KeepsNodes sc q (N q))
@@ -229,6 +241,11 @@ begins-off sc N now at w b q d k st lawful room keeps off h bound is needs due t
       counts = h.sites.counts;
       rows = h.tell.rows;
       live = λ me i s there good. inl (runs me i s there good);
+      small = λ me i s there good.
+          let up : IsUp sc hands (sent_by sc hands at w.sites) now me i (at me i) s = h.sites.up me i s there (runs me i s there good) in
+          let had = up.stands.receives.is_next.later in
+          let below = up.stands.receives.is_next.below in
+          omega (arith, had, below);
     } in
     let all_sent : AllSent sc hands b sent = λ me n good i.
     let counted : n < count_of (other me) sc.sizes = good-counts sc (other me) n m.frame (slot_numbered sc.sizes m.window) good in
@@ -237,3 +254,26 @@ begins-off sc N now at w b q d k st lawful room keeps off h bound is needs due t
     all-have-sent sc hands lawful now at w.sites b q due.t off.running off.small off.window first me i n z.0 z.1 (runs (other me) n z.0 z.1 good) in
     happens-off sc N b q sent w d lawful room keeps off all_sent nodes is needs due
     (record { you = d.side; j = d.node; yours = st; there = state; good = good; first = omega (arith, time) })
+
+-- a node whose tick may come next has ticks left
+pub left-off : (sc : Scenario) (N : ℕ → List HandIn → ℕ → (Side → ℕ → ℕ → Bool) → Each Site → Type 0) (w : World) → IsLawful sc → ((q : ℕ) → q < 3 → KeepsNodes sc q (N q)) → BreaksOff sc N w
+    → (me : Side) (i : ℕ) (s : Site) (a : Timed) → slice_get (of_kind me w.sites) i ≡ Some s → s.ahead ≡ Some a → AllPend a.time w.sites → (s.core.had ≤ a.tick) × (a.tick < 2 ^ 31)
+left-off sc N w lawful keeps h me i s a there pend first =
+    let k : BreakStands sc N w.hands w.sites w.book = h.stands in
+    let its : KeepsNodes sc k.q (N k.q) = keeps k.q k.off.small in
+    let yet : WaitsYet sc w.hands k.b w.sites = waits-yet sc N w.hands k.b k.q k.sent w.sites its k.off k.nodes k.open_still in
+    let ahead = its.ahead w.hands k.b k.off k.sent w.sites k.nodes.nodes me i s there a pend in
+    let good : is_good_at sc (moment sc w.hands k.b) me i ≡ true = elim (its.goes w.hands k.b k.off k.sent w.sites k.nodes.nodes me i s there) [ inl stopped ↦ none-some a s.ahead stopped.ahead pend | inr good ↦ good ] in
+    let later : HasLater sc a.time me i = has-later sc w.hands lawful k.b k.q a.time k.off (first-of sc w.hands k.b a.time w.sites yet first) me i good in
+    let small = later.small in
+    let after = later.later in
+    elim (cases_lt a.tick later.k) [
+      | inl lt ↦ (ahead.0, omega (arith, lt, small))
+      | inr ge ↦
+          let up : time_of (clock_of sc me i) later.k ≤ time_of (clock_of sc me i) a.tick = times_rise_to (clock_of sc me i) later.k a.tick ge in
+          absurd (omega (arith, up, after, ahead.1))
+    ]
+  where
+    none-some : {P : Type 0} (a : Timed) (o : Option Timed) → o ≡ None → o ≡ Some a → P
+    none-some a None e f = cc
+    none-some a (Some b) e f = cc

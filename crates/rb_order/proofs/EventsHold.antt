@@ -1,9 +1,9 @@
 -- What holds of runs event by event in every lawful scenario.
-use Rattle.std.proofs.Common.{◌≡◌, ℕ, zero, suc, ◌+◌, ◌*◌, ◌<◌, Bool, true, false, List, ap, sym, ◌∙◌, arith, inl, inr, subst}
+use Rattle.std.proofs.Common.{◌≡◌, ℕ, zero, suc, ◌+◌, ◌*◌, ◌^◌, ◌<◌, Bool, true, false, List, ap, sym, ◌∙◌, arith, inl, inr, Some, slice_get}
 use Rattle.std.proofs.lemmas.Bool.{cases_lt}
 use Rattle.rb_base.specs.Nodes.{Side}
 use Rattle.rb_base.specs.Sizes.{sync_slot_of}
-use Rattle.rb_rules.specs.Book.{Each}
+use Rattle.rb_rules.specs.Book.{Each, of_kind}
 use Rattle.rb_rules.specs.Goodness.{Scenario}
 use Rattle.rb_rules.specs.Lawful.{IsLawful}
 use Rattle.rb_rules.specs.Moments.{IsRunning}
@@ -11,9 +11,10 @@ use Rattle.rb_rules.specs.Ports.{HandIn}
 use Rattle.rb_rules.specs.Rounds.{moment}
 use Rattle.rb_rules.specs.WorldStep.{Choice, Site, World, needs_no_event, world_after}
 use Rattle.rb_order.specs.Closing.{stages_in}
-use Rattle.rb_order.specs.Laws.{EventsAreRoundsInLawful, EveryRunEndsIfSyncHolds, OneTurnARecordInLawful, SomethingIsDueInLawful, SyncSlotsHold}
+use Rattle.rb_order.specs.Laws.{EventsAreRoundsInLawful, EveryRunEndsInLawful, OneTurnARecordInLawful, SomethingIsDueInLawful, SyncSlotsHold}
 use Rattle.rb_order.proofs.BreakKeeps.{early-keeps}
 use Rattle.rb_order.proofs.BreakNodes.{BreaksAt, KeepsNodes}
+use Rattle.rb_order.proofs.BreakOff.{left-off, runs-small}
 use Rattle.rb_order.proofs.BreakRuns.{WaitsYet, waits-yet}
 use Rattle.rb_order.proofs.BreakWorld.{NodesBreak}
 use Rattle.rb_order.proofs.Behind.{IsBehind}
@@ -21,7 +22,7 @@ use Rattle.rb_order.proofs.EveryWorld.{AnyWorld, InRun, any-after, events-are-ro
 use Rattle.rb_order.proofs.LastKeeps.{NodesLast, last-keeps}
 use Rattle.rb_order.proofs.OneTake.{StandsInRounds, world-waits}
 use Rattle.rb_order.proofs.Progress.{SomePends, something-is-due}
-use Rattle.rb_order.proofs.RunsEnd.{every-run-ends}
+use Rattle.rb_order.proofs.RunsEnd.{HasTicksLeft, every-run-ends, in-rounds-left}
 use Rattle.rb_order.proofs.TickRooms.{has-room}
 use Rattle.rb_order.proofs.Turns.{turns-are-next}
 use Rattle.rb_order.proofs.WorldStands.{IsUp, sent_by}
@@ -67,6 +68,29 @@ due-holds sc lawful = something-is-due sc (λ choices. some-pends sc lawful (wor
 pub turns-hold : OneTurnARecordInLawful
 turns-hold sc lawful = turns-are-next sc (events-hold sc lawful)
 
+-- as long as the run has not ended each tick that may be taken is one of those that its node may have
+ticks-left : (sc : Scenario) → IsLawful sc → (w : World) → AnyWorld sc (nodes_at sc) w → w.book.ended ≡ false → HasTicksLeft sc w
+ticks-left sc lawful w (inl run) going = in-rounds-left sc w run.stands
+ticks-left sc lawful w (inr (inl off)) going = record { counts = off.stands.nodes.counts; left = left-off sc (nodes_at sc) w lawful (keeps sc lawful) off }
+ticks-left sc lawful w (inr (inr over)) going = true-false (sym over.ended ∙ going)
+
+-- and a node that runs has some left
+runs-left : (sc : Scenario) → IsLawful sc → (w : World) → AnyWorld sc (nodes_at sc) w → (me : Side) (i : ℕ) (s : Site) → slice_get (of_kind me w.sites) i ≡ Some s → s.runs ≡ true → s.core.had < 2 ^ 31
+runs-left sc lawful w (inl run) me i s there runs =
+    let h : StandsInRounds sc w = run.stands in
+    let up : IsUp sc w.hands (sent_by sc w.hands h.at w.sites) h.now me i (h.at me i) s = h.stands.sites.up me i s there runs in
+    let had = up.stands.receives.is_next.later in
+    let below = up.stands.receives.is_next.below in
+    omega (arith, had, below)
+runs-left sc lawful w (inr (inl off)) me i s there runs =
+    let k = off.stands in
+    runs-small sc (nodes_at sc) w.hands k.b k.q k.sent w.sites (keeps sc lawful k.q k.off.small) k.off k.nodes me i s there runs
+runs-left sc lawful w (inr (inr over)) me i s there runs = over.small me i s there runs
+
+pub ends-hold : EveryRunEndsInLawful
+ends-hold sc lawful =
+    every-run-ends sc (λ choices. ticks-left sc lawful (world_after sc choices) (any sc lawful choices)) (λ choices. runs-left sc lawful (world_after sc choices) (any sc lawful choices))
+
 -- Where the sync slots hold no run breaks off in one.
 
 never : {P : Type 0} (sc : Scenario) → SyncSlotsHold sc → (hands : List HandIn) (b q : ℕ) → BreaksAt sc hands b q → P
@@ -84,6 +108,3 @@ stands-hold sc lawful holds choices = by (any sc lawful choices)
     by (inl run) = run.stands
     by (inr (inl off)) = never sc holds (world_after sc choices).hands off.stands.b off.stands.q off.stands.off
     by (inr (inr over)) = never sc holds (world_after sc choices).hands over.b over.q over.off
-
-pub ends-hold : EveryRunEndsIfSyncHolds
-ends-hold sc lawful holds = every-run-ends sc (stands-hold sc lawful holds)

@@ -97,7 +97,7 @@ of-rounds sc w (inr at) = let n = within-steps sc w.hands at.0 in inr (n.0, (n.1
 -- Choices.
 
 -- where something is due, the run has not ended, and the next record needs an event
-due-going : (sc : Scenario) (w : World) (i : ℕ) (d : Due) → slice_get (due_of sc w) i ≡ Some d → (w.book.ended ≡ false) × (needs_no_event sc w.book.upcoming ≡ false)
+pub due-going : (sc : Scenario) (w : World) (i : ℕ) (d : Due) → slice_get (due_of sc w) i ≡ Some d → (w.book.ended ≡ false) × (needs_no_event sc w.book.upcoming ≡ false)
 unfolding due_of
 due-going sc w i d = by w.book.ended (needs_no_event sc w.book.upcoming)
   where

@@ -86,6 +86,7 @@ pub mod BreakBegins
 pub mod BreakTells
 pub mod BreakNodes
 pub mod BreakKeeps
+pub mod BreakRooms
 pub mod BreakRuns
 pub mod BreakOff
 pub mod BreachWindows

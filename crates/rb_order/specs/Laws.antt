@@ -108,7 +108,5 @@ SomethingIsDueInLawful = (sc : Scenario) → IsLawful sc → SomethingIsDue sc
 abbrev pub OneTurnARecordInLawful : Type 0
 OneTurnARecordInLawful = (sc : Scenario) → IsLawful sc → OneTurnARecord sc
 
--- and in each whose sync slots hold
-
-abbrev pub EveryRunEndsIfSyncHolds : Type 0
-EveryRunEndsIfSyncHolds = (sc : Scenario) → IsLawful sc → SyncSlotsHold sc → EveryRunEnds sc
+abbrev pub EveryRunEndsInLawful : Type 0
+EveryRunEndsInLawful = (sc : Scenario) → IsLawful sc → EveryRunEnds sc

@@ -4,7 +4,7 @@
 
 ghost use Rattle.rb_order.specs.ByItself.{WhatNeedsNoEventIsGiven};
 ghost use Rattle.rb_order.specs.Closing.{GoodNodesCloseInOrder};
-ghost use Rattle.rb_order.specs.Laws.{EventsAreRoundsInLawful, EventsOnlyAdd, EveryRunEndsIfSyncHolds, HandInsComeLate, OneTurnARecordInLawful, QuietTicksCount, RecordsAreOfAllSteps, RoundsOnlyAdd, SomethingIsDueInLawful};
+ghost use Rattle.rb_order.specs.Laws.{EventsAreRoundsInLawful, EventsOnlyAdd, EveryRunEndsInLawful, HandInsComeLate, OneTurnARecordInLawful, QuietTicksCount, RecordsAreOfAllSteps, RoundsOnlyAdd, SomethingIsDueInLawful};
 ghost use Rattle.rb_order.specs.PendingEvents.{PendingEventsAreFewIfSyncHolds};
 
 /// A run by rounds that stops at its end has all records.
@@ -62,11 +62,11 @@ pub fn one_turn_a_record()
     ensures { OneTurnARecordInLawful }
 {}
 
-/// Every run ends in a lawful scenario in which, whatever is handed in, the premise on faults is not broken in a sync slot: whatever is chosen, at most so many events are taken as the nodes, the number of their ticks and
+/// Every run ends in every lawful scenario: whatever is chosen, at most so many events are taken as the nodes, the number of their ticks and
 /// what is said allow (`most_takes`), and no node that runs has had 2^31 ticks. Until then some event is due, or the next record is given
 /// without one.
-pub fn every_run_ends_if_sync_holds()
-    ensures { EveryRunEndsIfSyncHolds }
+pub fn every_run_ends()
+    ensures { EveryRunEndsInLawful }
 {}
 
 /// In such a scenario room for `most_pending` events at each node, reserved at opening, is enough: for its tick, for two messages of
