@@ -1,74 +1,31 @@
--- For the law that events are rounds also where the premise on faults is broken in a sync slot (not proved): in the window
--- in which the run breaks off all good nodes are in time, whatever the verdict on it, and what is sent in the next stage to the kind that
--- listens in it comes later.
-use Rattle.std.proofs.Common.{◌≡◌, ℕ, suc, ◌+◌, ◌*◌, ◌<◌, ◌≤◌, true, false, List, refl, ap, sym, ◌∙◌, subst, arith, Option, Some, None, is_some, slice_get, option_map, option_to_list}
-use Rattle.rb_base.specs.Nodes.{Side, other}
+-- For the law that events are rounds where the premise on faults is broken in a sync slot: in the window
+-- in which the run breaks off a node that is good in the next frame knows when that begins, whatever the verdict.
+use Rattle.std.proofs.Common.{◌≡◌, ℕ, suc, ◌+◌, ◌<◌, ◌≤◌, true, List, refl, ap, sym, ◌∙◌, subst, arith, Option, Some, None, is_some, slice_get, option_map}
+use Rattle.rb_base.specs.Nodes.{Side}
 use Rattle.rb_base.specs.Nodes.Side.{Biu, Rmu}
 use Rattle.rb_base.specs.Sizes.{sync_slot_of}
 use Rattle.rb_rules.specs.declared.plan.Plan.{Plan}
-use Rattle.rb_rules.specs.declared.role.Role.TheVariants.{Sync}
 use Rattle.rb_rules.specs.Book.{of_kind}
-use Rattle.rb_rules.specs.Clock.{time_of}
-use Rattle.rb_rules.specs.Goodness.{Scenario, clock_of, is_good}
-use Rattle.rb_rules.specs.declared.plan.Window.{Window}
-use Rattle.rb_rules.specs.Hearing.{Sending, coming_of, sending}
+use Rattle.rb_rules.specs.Goodness.{Scenario, is_good}
 use Rattle.rb_rules.specs.SyncStage.{new_epoch_of}
 use Rattle.rb_rules.specs.Lawful.{IsLawful}
 use Rattle.rb_rules.specs.NodeState.{NodeState}
 use Rattle.rb_rules.specs.NodeSteps.{turn_if_known}
 use Rattle.rb_rules.specs.Ports.{HandIn}
 use Rattle.rb_rules.specs.Rounds.{Moment, moment, windows_in}
-use Rattle.rb_rules.specs.Slots.{listens}
 use Rattle.rb_rules.proofs.RoundStates.{Knows, state-after, state-turned}
 use Rattle.rb_agree.proofs.Goodnesses.{slot_last}
 use Rattle.rb_agree.proofs.Invariant.{IsGoodNode}
-use Rattle.rb_agree.proofs.NodeWindows.{sync_windows_are, tail_windows}
+use Rattle.rb_agree.proofs.NodeWindows.{tail_windows}
 use Rattle.rb_agree.proofs.Settings.{after}
 use Rattle.rb_sync.proofs.KeptMiddles.{Leaves, tail_leaves}
-use Rattle.rb_sync.proofs.TakenCalls.{call_sent}
 use Rattle.rb_order.specs.Closing.{stages_in}
 use Rattle.rb_order.proofs.CloseOrder.{IsFrameLater, IsWindowLater, frame-later, has-ticks, window-later}
 use Rattle.rb_order.proofs.FrameTimes.{good-node}
-use Rattle.rb_order.proofs.Invariant.{ComesLater, is_good_at, last_tick, sending_of, word_at}
+use Rattle.rb_order.proofs.Invariant.{is_good_at}
 use Rattle.rb_order.proofs.MomentSteps.{good-back, good-state}
-use Rattle.rb_order.proofs.NodeSends.{sending_at}
-use Rattle.rb_order.proofs.SentChanges.{sending-of-is}
 use Rattle.rb_order.proofs.RoundNodes.{Stands, epoch-known, moments-stand, some-same}
-use Rattle.rb_order.proofs.SameHeard.{Every}
-use Rattle.rb_order.proofs.WorldStands.{other-twice}
 use Rattle.rb_sync.proofs.Synchrony.{turned_epoch}
-
--- Who hears nothing.
-
--- in a stage of the sync slot in which a kind does not listen nothing is sent to it
-unsent : (sc : Scenario) (m : Moment) (q : ℕ) → q < 3 → m.window ≡ 3 * sync_slot_of sc.sizes + q → (me : Side) (j : ℕ) (source : NodeState) → listens me Sync (q + 1) ≡ false
-    → slice_get (of_kind (other me) m.nodes) j ≡ Some source → (s : Sending) → sending_of sc m (other me) j ≡ Some s → ⊥
-unsent sc m q small at me j source deaf there s e =
-    let word : ℕ = word_at sc m (other me) j source in
-    let is : sending_of sc m (other me) j ≡ sending_at sc.sizes sc.plan (other me) j source m.window word = sending-of-is sc m (other me) j source there in
-    let window : sending_at sc.sizes sc.plan (other me) j source m.window word ≡ sending sc.sizes sc.plan (other me) j source (sync_slot_of sc.sizes) (q + 1) word =
-    ap (λ (w : Window). sending sc.sizes sc.plan (other me) j source w.slot w.stage word) ((sync_windows_are sc m q small at).are (other me) source) in
-    let heard = call_sent sc.sizes sc.plan (other me) j source (q + 1) word s (sym window ∙ sym is ∙ e) in
-    true-false (sym heard.1 ∙ ap (λ k. listens k Sync (q + 1)) (other-twice me) ∙ deaf)
-  where
-    true-false : true ≡ false → ⊥
-    true-false e = cc
-
--- so what is sent in a stage in which it does not listen comes later than any other time
-pub later-deaf : (sc : Scenario) (hands : List HandIn) → IsLawful sc → (p q : ℕ) → q < 3 → (moment sc hands (suc p)).window ≡ 3 * sync_slot_of sc.sizes + q → (me : Side) (i j : ℕ) (st : NodeState)
-    → listens me Sync (q + 1) ≡ false → is_good_at sc (moment sc hands (suc p)) (other me) j ≡ true → ComesLater sc (moment sc hands p) (moment sc hands (suc p)) me i j st
-later-deaf sc hands lawful p q small at me i j st deaf good =
-    let m : Moment = moment sc hands p in
-    let m2 : Moment = moment sc hands (suc p) in
-    let source = good-state sc hands (suc p) (other me) j (has-ticks sc lawful) good in
-    let by : (s : Option Sending) → sending_of sc m2 (other me) j ≡ s
-    → Every (λ c. time_of (clock_of sc me i) (last_tick sc m me st) < c.time) (option_to_list (option_map (coming_of sc me i j m2.frame) s)) =
-    λ s. elim s as (λ s. sending_of sc m2 (other me) j ≡ s
-    → Every (λ c. time_of (clock_of sc me i) (last_tick sc m me st) < c.time) (option_to_list (option_map (coming_of sc me i j m2.frame) s))) [
-      | None ↦ λ e. tt
-      | Some x ↦ λ e. absurd (unsent sc m2 q small at me j source.0 deaf source.1 x e)
-    ] in
-    by (sending_of sc m2 (other me) j) refl
 
 -- States over the turn, whatever the verdict.
 

@@ -1,4 +1,4 @@
--- For the law that events are rounds also where the premise on faults is broken in a sync slot (not proved): when the first node closes the stage with
+-- For the law that events are rounds where the premise on faults is broken in a sync slot: when the first node closes the stage with
 -- which the run breaks off, all that run wait for their last tick of it, and have sent what they send in it.
 use Rattle.std.proofs.Common.{◌≡◌, ℕ, ◌+◌, ◌*◌, ◌<◌, ◌≤◌, ◌==◌, ◌&&◌, ◌||◌, ◌⊎◌, nat_lt, Bool, true, false, List, [], refl, ap, ◌∙◌, subst, arith, inl, inr, Option, Some, None, option_and_then, option_map, option_to_list, slice_get}
 use Rattle.std.proofs.lemmas.Bool.Decides.{nat_tests}

@@ -1,4 +1,4 @@
--- For the law that events are rounds also where the premise on faults is broken in a sync slot (not proved): a due tick of a node of a world in which
+-- For the law that events are rounds where the premise on faults is broken in a sync slot: a due tick of a node of a world in which
 -- the run breaks off with the first or the second stage of the sync slot. After it the node has told its row, and it says nothing to those that listen.
 use Rattle.std.proofs.Common.{◌≡◌, ℕ, zero, suc, ◌+◌, ◌*◌, ◌<◌, ◌≤◌, ◌==◌, ◌⊎◌, Bool, true, false, List, [], refl, ap, sym, ◌∙◌, subst, arith, inl, inr, Option, Some, None, slice_get}
 use Rattle.std.proofs.lemmas.Bool.Decides.{nat_tests}

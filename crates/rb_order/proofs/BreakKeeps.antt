@@ -1,9 +1,8 @@
 -- For the law that events are rounds: the nodes of a world in which the run breaks off with the first or the second stage of the sync slot keep what is
 -- asked of them.
-use Rattle.std.proofs.Common.{◌≡◌, ℕ, ◌+◌, ◌*◌, ◌<◌, ◌≤◌, ◌⊎◌, Bool, true, false, List, ap, sym, ◌∙◌, subst, arith, inl, inr, Option, Some, None, slice_get}
+use Rattle.std.proofs.Common.{◌≡◌, ℕ, ◌+◌, ◌*◌, ◌<◌, ◌≤◌, ◌⊎◌, Bool, true, false, List, ap, sym, ◌∙◌, subst, arith, inl, inr, Option, Some, None}
 use Rattle.rb_base.specs.Nodes.{Side}
 use Rattle.rb_base.specs.Sizes.{sync_slot_of}
-use Rattle.rb_rules.specs.Book.{of_kind}
 use Rattle.rb_rules.specs.Clock.{time_of}
 use Rattle.rb_rules.specs.Goodness.{Scenario, clock_of}
 use Rattle.rb_rules.specs.Lawful.{IsLawful}
@@ -18,7 +17,6 @@ use Rattle.rb_order.proofs.BreakSites.{HasClosed}
 use Rattle.rb_order.proofs.BreakTells.{closed-tells}
 use Rattle.rb_order.proofs.BreakWorld.{NodesBreak, break-arrival, break-tick}
 use Rattle.rb_order.proofs.Invariant.{is_good_at}
-use Rattle.rb_order.proofs.MomentBooks.{place_at}
 use Rattle.rb_order.proofs.NodeActs.{HasRoom}
 use Rattle.rb_order.proofs.RoundNodes.{moments-stand}
 use Rattle.rb_order.proofs.Telling.{place-is, row-place}

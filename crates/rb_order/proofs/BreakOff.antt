@@ -1,23 +1,21 @@
 -- For the law that events are rounds: worlds in which the run breaks off in a sync slot. The book stays until all that are good have told of the
 -- stage, and then it is the rounds', and has ended.
-use Rattle.std.proofs.Common.{◌≡◌, ℕ, suc, ◌+◌, ◌*◌, ◌^◌, ◌<◌, ◌≤◌, ◌==◌, ◌&&◌, ◌⊎◌, not, Bool, true, false, List, [], ◌∷◌, length, refl, ap, sym, ◌∙◌, subst, arith, inl, inr, Option, Some, None, slice_get, if◌then◌else◌}
+use Rattle.std.proofs.Common.{◌≡◌, ℕ, suc, ◌+◌, ◌^◌, ◌<◌, ◌≤◌, ◌==◌, ◌&&◌, ◌⊎◌, not, Bool, true, false, List, length, refl, ap, sym, ◌∙◌, subst, arith, inl, inr, Option, Some, None, slice_get, if◌then◌else◌}
 use Rattle.std.proofs.lemmas.Bool.{cases_lt, lt-ltb}
 use Rattle.rb_base.specs.Nodes.{Side, other}
-use Rattle.rb_base.specs.Sizes.{sync_slot_of}
 use Rattle.rb_base.specs.declared.values.Place.{Place}
-use Rattle.rb_rules.specs.Book.{Book, Each, Milestone, Record, of_kind}
+use Rattle.rb_rules.specs.Book.{Book, Each, of_kind}
 use Rattle.rb_rules.specs.Book.Milestone.{Begin, End, Stage}
 use Rattle.rb_rules.specs.Clock.{time_of}
 use Rattle.rb_rules.specs.Goodness.{Scenario, clock_of}
 use Rattle.rb_rules.specs.Lawful.{IsLawful}
-use Rattle.rb_rules.specs.Moments.{IsRunning}
 use Rattle.rb_rules.specs.NodeState.{NodeState}
 use Rattle.rb_rules.specs.Ports.{HandIn}
 use Rattle.rb_rules.specs.Rounds.{Moment, moment}
 use Rattle.rb_rules.specs.Slots.{count_of}
-use Rattle.rb_rules.specs.WorldStep.{Due, Pending, Site, Timed, World, book_with, comes_so, frame_in, happens, is_complete, needs_no_event, record_since, settle, settle_next, take_if_due, with_pending}
-use Rattle.rb_rules.specs.WorldStep.Pending.{Tick, Arrival}
-use Rattle.rb_rules.specs.WorldStep.Way.{ByAnEvent, ByItself}
+use Rattle.rb_rules.specs.WorldStep.{Due, Site, Timed, World, book_with, comes_so, frame_in, happens, is_complete, needs_no_event, record_since, settle, settle_next, take_if_due, with_pending}
+use Rattle.rb_rules.specs.WorldStep.Pending.{Tick}
+use Rattle.rb_rules.specs.WorldStep.Way.{ByAnEvent}
 use Rattle.rb_order.specs.Closing.{stages_in}
 use Rattle.rb_order.proofs.Behind.{closes-before, runs-there, settled-next}
 use Rattle.rb_order.proofs.BreakBegins.{FirstCloses, all-have-sent}
@@ -25,19 +23,18 @@ use Rattle.rb_order.proofs.BreakNodes.{BreaksAt, FirstOf, KeepsNodes}
 use Rattle.rb_rules.proofs.Drift.{times_rise_to}
 use Rattle.rb_order.proofs.BreakRooms.{HasLater, has-later}
 use Rattle.rb_order.proofs.BreakRuns.{AllSent, NodesOff, WaitsYet, first-of, pending-off, waits-yet}
-use Rattle.rb_order.proofs.DueEvents.{IsDue, IsReady}
-use Rattle.rb_order.proofs.Invariant.{entry_of, is_good_at, last_tick}
-use Rattle.rb_order.proofs.MomentBooks.{next_of, place_at}
+use Rattle.rb_order.proofs.DueEvents.{IsDue}
+use Rattle.rb_order.proofs.Invariant.{is_good_at, last_tick}
+use Rattle.rb_order.proofs.MomentBooks.{place_at}
 use Rattle.rb_order.proofs.MomentSteps.{good-back}
 use Rattle.rb_order.proofs.NodeActs.{HasRoom}
-use Rattle.rb_order.proofs.OneTake.{WorldInRounds, all-pend, happens-is, settle-hands, up-there}
+use Rattle.rb_order.proofs.OneTake.{WorldInRounds, all-pend, happens-is}
 use Rattle.rb_order.proofs.RoundNodes.{good-counts, item-at, slot_numbered}
 use Rattle.rb_order.proofs.SettledOnce.{ended-still, rest-still, settle-still, stage-silent, waits-still}
-use Rattle.rb_order.proofs.Settling.{RowsOfRounds, some-same, stage-settled}
+use Rattle.rb_order.proofs.Settling.{stage-settled}
 use Rattle.rb_order.proofs.SettlingFrames.{IsOfMoment}
 use Rattle.rb_order.proofs.UpToThere.{UpTo, from-running}
 use Rattle.rb_order.proofs.WorldBooks.{happens-book, settle_rest}
-use Rattle.rb_order.proofs.WorldNodes.{settle-sites}
 use Rattle.rb_order.proofs.WorldStands.{AllPend, IsUp, sent_by}
 
 -- a world in which the run breaks off with stage q at moment b, and some good node has not told of the stage

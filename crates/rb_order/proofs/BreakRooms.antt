@@ -1,10 +1,9 @@
 -- For the law that every run ends: as long as a node waits for its last tick of the stage with which the run breaks off, no other has had all its ticks.
-use Rattle.std.proofs.Common.{◌≡◌, ℕ, ◌+◌, ◌-◌, ◌*◌, ◌^◌, ◌<◌, ◌≤◌, true, List, ap, sym, ◌∙◌, subst, arith, inl, inr, Some, slice_get, lit≤}
+use Rattle.std.proofs.Common.{◌≡◌, ℕ, ◌+◌, ◌-◌, ◌*◌, ◌^◌, ◌<◌, ◌≤◌, true, List, ap, ◌∙◌, arith, inl, inr, lit≤}
 use Rattle.std.proofs.lemmas.Bool.{cases_lt}
 use Rattle.std.proofs.lemmas.Nat.{mul-le}
 use Rattle.rb_base.specs.Nodes.{Side}
 use Rattle.rb_base.specs.Sizes.{sync_slot_of}
-use Rattle.rb_rules.specs.Book.{of_kind}
 use Rattle.rb_rules.specs.Clock.{stamp_of, time_of}
 use Rattle.rb_rules.specs.Core.{Act, Core, pass_to}
 use Rattle.rb_rules.specs.Goodness.{Scenario, clock_of, is_good}
@@ -13,7 +12,7 @@ use Rattle.rb_rules.specs.Lawful.{IsLawful}
 use Rattle.rb_rules.specs.NodeState.{NodeState}
 use Rattle.rb_rules.specs.Plan.{tail_start_of}
 use Rattle.rb_rules.specs.Ports.{HandIn, PortState}
-use Rattle.rb_rules.specs.Rounds.{Moment, moment, window_in}
+use Rattle.rb_rules.specs.Rounds.{Moment, moment}
 use Rattle.rb_rules.specs.WorldStep.{Site, after_act, after_arrival, pass_and_tick}
 use Rattle.rb_rules.proofs.Drift.{times_rise_to}
 use Rattle.rb_rules.proofs.QuietTicks.{arrive-same}
@@ -23,7 +22,7 @@ use Rattle.rb_sync.proofs.EpochTicks.{frame_ticks}
 use Rattle.rb_sync.proofs.Times.{stamp_to}
 use Rattle.rb_order.specs.Closing.{stages_in}
 use Rattle.rb_order.proofs.BreakNodes.{BreaksAt, FirstOf}
-use Rattle.rb_order.proofs.BreakSites.{Proceeds, acted}
+use Rattle.rb_order.proofs.BreakSites.{acted}
 use Rattle.rb_order.proofs.CloseOrder.{good-clock, has-ticks, shortest-some, times-apart}
 use Rattle.rb_order.proofs.FrameTimes.{BegunWell, begun-well, good-node}
 use Rattle.rb_order.proofs.Invariant.{is_good_at, last_tick}

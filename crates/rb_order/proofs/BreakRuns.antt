@@ -1,10 +1,10 @@
 -- For the law that events are rounds: an event in a world in which the run breaks off in a sync slot. Until all that are good have told of the stage
 -- the book stays; then it is that of the rounds, and has ended.
-use Rattle.std.proofs.Common.{◌≡◌, ℕ, suc, ◌+◌, ◌*◌, ◌^◌, ◌<◌, ◌≤◌, ◌==◌, ◌&&◌, ◌⊎◌, not, Bool, true, false, List, [], ◌∷◌, ◌++◌, length, refl, ap, sym, ◌∙◌, subst, arith, inl, inr, Option, Some, None, is_some, slice_get}
+use Rattle.std.proofs.Common.{◌≡◌, ℕ, ◌^◌, ◌<◌, ◌≤◌, ◌&&◌, ◌⊎◌, Bool, true, false, List, [], ◌∷◌, ◌++◌, length, refl, ap, sym, ◌∙◌, subst, arith, inl, inr, Option, Some, None, is_some, slice_get}
 use Rattle.rb_base.specs.Nodes.{Side, other}
 use Rattle.rb_base.specs.declared.values.Place.{Place}
 use Rattle.rb_rules.specs.declared.message.Message.{Message}
-use Rattle.rb_rules.specs.Book.{Book, Each, Record, Row, of_kind, with_stage}
+use Rattle.rb_rules.specs.Book.{Each, Row, of_kind}
 use Rattle.rb_rules.specs.Book.Milestone.{Stage}
 use Rattle.rb_rules.specs.Clock.{time_of}
 use Rattle.rb_rules.specs.Core.{Act, Core}
@@ -16,10 +16,6 @@ use Rattle.rb_rules.specs.Rounds.{Moment, moment}
 use Rattle.rb_rules.specs.Slots.{count_of, same_side}
 use Rattle.rb_rules.specs.WorldStep.{Pending, Site, Timed, World, after_act, after_arrival, at_node, is_complete, pass_and_tick, row_for, same_place, times_of, with_act, with_message, with_pending}
 use Rattle.rb_rules.specs.WorldStep.Pending.{Tick, Arrival}
-use Rattle.rb_rules.specs.WorldStep.Way.{ByAnEvent}
-use Rattle.rb_rules.proofs.Drift.{HasLengths}
-use Rattle.rb_rules.proofs.Stamps.{Moves}
-use Rattle.rb_order.specs.Closing.{stages_in}
 use Rattle.rb_order.proofs.Behind.{place-same}
 use Rattle.rb_order.proofs.BreakEvents.{TickBreaks}
 use Rattle.rb_order.proofs.BreakMessages.{HasStopped}
@@ -27,24 +23,20 @@ use Rattle.rb_order.proofs.BreakRooms.{acted-small, arrived-small, has-later}
 use Rattle.rb_order.proofs.PendingLists.{StandsAt}
 use Rattle.rb_order.proofs.BreakNodes.{BreaksAt, FirstOf, KeepsNodes, TellsStage, WaitsLast}
 use Rattle.rb_order.proofs.CloseOrder.{good-clock}
-use Rattle.rb_order.proofs.DueEvents.{IsDue, IsReady}
+use Rattle.rb_order.proofs.DueEvents.{IsReady}
 use Rattle.rb_order.proofs.Invariant.{entry_of, is_good_at}
 use Rattle.rb_order.proofs.MomentBooks.{place_at}
 use Rattle.rb_order.proofs.NodeActs.{HasRoom}
 use Rattle.rb_order.proofs.NodeEvents.{all-after, tick-after}
-use Rattle.rb_order.proofs.OneTake.{all-pend, happens-is, moves-of, pend-of, settle-hands}
+use Rattle.rb_order.proofs.OneTake.{moves-of, pend-of}
 use Rattle.rb_order.proofs.PortsKept.{sync-word}
 use Rattle.rb_order.proofs.RoundNodes.{moments-stand, slot_numbered}
 use Rattle.rb_order.proofs.SameHeard.{Every}
-use Rattle.rb_order.proofs.SettledOnce.{ended-still, rest-still, settle-still, stage-silent, waits-still}
-use Rattle.rb_order.proofs.Settling.{RowOfRounds, RowsOfRounds, some-same, stage-settled}
-use Rattle.rb_order.proofs.SettlingFrames.{IsOfMoment}
+use Rattle.rb_order.proofs.Settling.{RowOfRounds, RowsOfRounds, some-same}
 use Rattle.rb_order.proofs.Telling.{reached-tells}
 use Rattle.rb_order.proofs.ToldInOrder.{one-changes}
 use Rattle.rb_order.proofs.ToldSoFar.{arrival-keeps}
 use Rattle.rb_order.proofs.Untold.{HasNotTold, not-told}
-use Rattle.rb_order.proofs.WorldBooks.{happens-book, settle_rest}
-use Rattle.rb_order.proofs.WorldNodes.{settle-sites}
 use Rattle.rb_order.proofs.WorldStands.{AllPend}
 use Rattle.rb_order.proofs.WorldTicks.{length-after, reached, reached-same}
 

@@ -1,4 +1,4 @@
--- For the law that events are rounds also where the premise on faults is broken in a sync slot (not proved): the nodes of a world in which the
+-- For the law that events are rounds where the premise on faults is broken in a sync slot: the nodes of a world in which the
 -- run breaks off at moment p. Each node that is good there waits for its last tick of the window, or has told its row of it. What happens at
 -- a node keeps this.
 use Rattle.std.proofs.Common.{◌≡◌, ℕ, ◌+◌, ◌^◌, ◌<◌, ◌≤◌, ◌==◌, Bool, true, false, List, [], refl, ap, sym, ◌∙◌, subst, arith, Option, Some, None, slice_get, option_map}

@@ -1,4 +1,4 @@
--- For the law that events are rounds also where the premise on faults is broken in a sync slot (not proved): a node that has told its row of the
+-- For the law that events are rounds where the premise on faults is broken in a sync slot: a node that has told its row of the
 -- stage with which the run breaks off has told one of the rounds'.
 use Rattle.std.proofs.Common.{◌≡◌, ℕ, ◌+◌, ◌*◌, ◌<◌, true, false, List, ap, sym, ◌∙◌, arith, Option, Some, None}
 use Rattle.rb_base.specs.Nodes.{Side}

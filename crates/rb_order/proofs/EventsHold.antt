@@ -1,8 +1,6 @@
 -- What holds of runs event by event in every lawful scenario.
-use Rattle.std.proofs.Common.{◌≡◌, ℕ, zero, suc, ◌+◌, ◌*◌, ◌^◌, ◌<◌, Bool, true, false, List, ap, sym, ◌∙◌, arith, inl, inr, Some, slice_get}
-use Rattle.std.proofs.lemmas.Bool.{cases_lt}
+use Rattle.std.proofs.Common.{◌≡◌, ℕ, zero, suc, ◌+◌, ◌^◌, ◌<◌, Bool, true, false, List, ap, sym, ◌∙◌, arith, inl, inr, Some, slice_get}
 use Rattle.rb_base.specs.Nodes.{Side}
-use Rattle.rb_base.specs.Sizes.{sync_slot_of}
 use Rattle.rb_rules.specs.Book.{Each, of_kind}
 use Rattle.rb_rules.specs.Goodness.{Scenario}
 use Rattle.rb_rules.specs.Lawful.{IsLawful}
@@ -10,7 +8,6 @@ use Rattle.rb_rules.specs.Moments.{IsRunning}
 use Rattle.rb_rules.specs.Ports.{HandIn}
 use Rattle.rb_rules.specs.Rounds.{moment}
 use Rattle.rb_rules.specs.WorldStep.{Choice, Site, World, needs_no_event, world_after}
-use Rattle.rb_order.specs.Closing.{stages_in}
 use Rattle.rb_order.specs.Laws.{EventsAreRoundsInLawful, EveryRunEndsInLawful, OneTurnARecordInLawful, SomethingIsDueInLawful, SyncSlotsHold}
 use Rattle.rb_order.proofs.BreakKeeps.{early-keeps}
 use Rattle.rb_order.proofs.BreakNodes.{BreaksAt, KeepsNodes}
@@ -18,7 +15,7 @@ use Rattle.rb_order.proofs.BreakOff.{left-off, runs-small}
 use Rattle.rb_order.proofs.BreakRuns.{WaitsYet, waits-yet}
 use Rattle.rb_order.proofs.BreakWorld.{NodesBreak}
 use Rattle.rb_order.proofs.Behind.{IsBehind}
-use Rattle.rb_order.proofs.EveryWorld.{AnyWorld, InRun, any-after, events-are-rounds}
+use Rattle.rb_order.proofs.EveryWorld.{AnyWorld, any-after, events-are-rounds}
 use Rattle.rb_order.proofs.LastKeeps.{NodesLast, last-keeps}
 use Rattle.rb_order.proofs.OneTake.{StandsInRounds, world-waits}
 use Rattle.rb_order.proofs.Progress.{SomePends, something-is-due}

@@ -1,6 +1,6 @@
--- For the law that events are rounds also where the premise on faults is broken in a sync slot (not proved): a node that waits for its last tick
+-- For the law that events are rounds where the premise on faults is broken in a sync slot: a node that waits for its last tick
 -- of the last stage has told its row of it after that tick, and knows when its next frame begins.
-use Rattle.std.proofs.Common.{◌≡◌, ℕ, ◌+◌, ◌*◌, ◌-◌, ◌<◌, ◌≤◌, ◌⊎◌, Bool, true, false, List, [], ◌∷◌, ◌++◌, refl, ap, sym, ◌∙◌, subst, arith, inl, inr, Option, Some, None, slice_get, option_map, lit<}
+use Rattle.std.proofs.Common.{◌≡◌, ℕ, ◌+◌, ◌*◌, ◌<◌, ◌≤◌, ◌⊎◌, Bool, true, false, List, [], ◌∷◌, ◌++◌, refl, ap, sym, ◌∙◌, subst, arith, inl, Option, Some, None, option_map, lit<}
 use Rattle.rb_base.specs.Nodes.{Side, other}
 use Rattle.rb_base.specs.Nodes.Side.{Biu, Rmu}
 use Rattle.rb_base.specs.Sizes.{sync_slot_of}
@@ -8,7 +8,6 @@ use Rattle.rb_rules.specs.declared.closing.Closed.{Closed as Shown}
 use Rattle.rb_rules.specs.declared.plan.Window.{Window}
 use Rattle.rb_rules.specs.declared.record.Epoch.{Epoch}
 use Rattle.rb_rules.specs.declared.role.Role.TheVariants.{Sync}
-use Rattle.rb_rules.specs.Book.{Row, of_kind}
 use Rattle.rb_rules.specs.Core.{Act, Core, of_source}
 use Rattle.rb_rules.specs.Goodness.{Scenario, is_good}
 use Rattle.rb_rules.specs.Hearing.{Coming, Span}
@@ -29,7 +28,7 @@ use Rattle.rb_order.specs.Closing.{stages_in}
 use Rattle.rb_order.proofs.BreachEpochs.{rmu-middle}
 use Rattle.rb_order.proofs.BreachMiddles.{next-after}
 use Rattle.rb_order.proofs.BreakEnters.{hearing-closes}
-use Rattle.rb_order.proofs.BreakSites.{HasClosed, WaitsDeaf, WaitsHearing, acted}
+use Rattle.rb_order.proofs.BreakSites.{HasClosed, WaitsDeaf}
 use Rattle.rb_order.proofs.ClosingTicks.{closing_of, spoken}
 use Rattle.rb_order.proofs.DeafEnds.{deaf-closes}
 use Rattle.rb_order.proofs.FrameTimes.{good-node}

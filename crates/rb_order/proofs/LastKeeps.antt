@@ -1,8 +1,8 @@
 -- For the law that events are rounds: the nodes of a world in which the run breaks off with the last stage of the sync slot keep what is asked of them.
-use Rattle.std.proofs.Common.{◌≡◌, ℕ, ◌+◌, ◌*◌, ◌≤◌, ◌⊎◌, Bool, true, false, List, ap, sym, ◌∙◌, subst, inl, inr, Option, Some, None, slice_get}
+use Rattle.std.proofs.Common.{◌≡◌, ℕ, ◌+◌, ◌*◌, ◌≤◌, ◌⊎◌, Bool, true, false, List, ap, sym, ◌∙◌, subst, inl, inr, Option, Some, None}
 use Rattle.rb_base.specs.Nodes.{Side}
 use Rattle.rb_base.specs.Sizes.{sync_slot_of}
-use Rattle.rb_rules.specs.Book.{Each, of_kind}
+use Rattle.rb_rules.specs.Book.{Each}
 use Rattle.rb_rules.specs.Clock.{time_of}
 use Rattle.rb_rules.specs.Goodness.{Scenario, clock_of}
 use Rattle.rb_rules.specs.Lawful.{IsLawful}

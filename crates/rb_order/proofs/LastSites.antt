@@ -1,9 +1,8 @@
--- For the law that events are rounds also where the premise on faults is broken in a sync slot (not proved): the nodes of a world in which the
+-- For the law that events are rounds where the premise on faults is broken in a sync slot: the nodes of a world in which the
 -- run breaks off with the last stage of the sync slot. A node that has told its row of it may go through the tail into the next frame, and
 -- what it says there comes to the others after their last tick of the stage. An arrival and a message keep each node.
-use Rattle.std.proofs.Common.{◌≡◌, ℕ, zero, suc, ◌+◌, ◌*◌, ◌^◌, ◌<◌, ◌≤◌, ◌&&◌, ◌⊎◌, Bool, true, false, List, [], ◌∷◌, ◌++◌, append_assoc, refl, ap, sym, ◌∙◌, subst, arith, inl, inr, Option, Some, None, slice_get, remove}
+use Rattle.std.proofs.Common.{◌≡◌, ℕ, zero, suc, ◌+◌, ◌^◌, ◌<◌, ◌≤◌, ◌&&◌, ◌⊎◌, Bool, true, false, List, [], ◌∷◌, ◌++◌, append_assoc, refl, ap, sym, ◌∙◌, subst, arith, inl, inr, Option, Some, None, slice_get, remove}
 use Rattle.rb_base.specs.Nodes.{Side, other}
-use Rattle.rb_base.specs.Sizes.{sync_slot_of}
 use Rattle.rb_rules.specs.declared.message.Message.{Message}
 use Rattle.rb_rules.specs.declared.role.Role.TheVariants.{Sync}
 use Rattle.rb_rules.specs.Book.{Row, of_kind}
@@ -14,7 +13,7 @@ use Rattle.rb_rules.specs.Hearing.{Coming, coming_of}
 use Rattle.rb_rules.specs.NodeState.{NodeState}
 use Rattle.rb_rules.specs.Plan.{tail_start_of}
 use Rattle.rb_rules.specs.Ports.{HandIn}
-use Rattle.rb_rules.specs.Rounds.{Moment, go_through, moment, sent_in, window_in}
+use Rattle.rb_rules.specs.Rounds.{go_through, moment, sent_in, window_in}
 use Rattle.rb_rules.specs.Slots.{listens, same_side}
 use Rattle.rb_rules.specs.SyncStage.{new_epoch_of}
 use Rattle.rb_rules.specs.WorldStep.{Site, Timed, after_arrival}
@@ -23,8 +22,7 @@ use Rattle.rb_rules.proofs.Stamps.{Moves}
 use Rattle.rb_sync.proofs.Times.{stamp_to}
 use Rattle.rb_order.proofs.BreakMessages.{HasStopped}
 use Rattle.rb_order.proofs.BreakSites.{WaitsDeaf, WaitsHearing, deaf-arrives}
-use Rattle.rb_order.proofs.Invariant.{is_good_at, word_at}
-use Rattle.rb_order.proofs.NodeActs.{IsInWindow}
+use Rattle.rb_order.proofs.Invariant.{is_good_at}
 use Rattle.rb_order.proofs.NodeEvents.{stands-arrival}
 use Rattle.rb_order.proofs.PendingLists.{StandsAt, each-append}
 use Rattle.rb_order.proofs.Receiving.{ArrivesNow, every-stands}

@@ -1,34 +1,24 @@
--- For the law that events are rounds also where the premise on faults is broken in a sync slot (not proved): a tick of a node that has told its
+-- For the law that events are rounds where the premise on faults is broken in a sync slot: a tick of a node that has told its
 -- row of the last stage of the sync slot, and the tick with which a node tells it.
-use Rattle.std.proofs.Common.{◌≡◌, ℕ, zero, suc, ◌+◌, ◌*◌, ◌-◌, ◌^◌, ◌<◌, ◌≤◌, ◌==◌, ◌⊎◌, Bool, true, false, List, [], refl, ap, sym, ◌∙◌, subst, arith, inl, inr, Option, Some, None, slice_get, option_map}
+use Rattle.std.proofs.Common.{◌≡◌, ℕ, zero, suc, ◌+◌, ◌-◌, ◌^◌, ◌<◌, ◌≤◌, ◌==◌, ◌⊎◌, Bool, true, false, List, [], refl, ap, sym, ◌∙◌, subst, arith, Option, Some, None, option_map}
 use Rattle.rb_base.specs.Nodes.{Side}
-use Rattle.rb_base.specs.Sizes.{Sizes, sync_slot_of}
+use Rattle.rb_base.specs.Sizes.{Sizes}
 use Rattle.rb_rules.specs.declared.closing.Closed.{Closed as Shown}
-use Rattle.rb_rules.specs.declared.message.Message.{Message}
 use Rattle.rb_rules.specs.declared.plan.Plan.{Plan}
 use Rattle.rb_rules.specs.declared.record.Epoch.{Epoch}
-use Rattle.rb_rules.specs.declared.role.Role.TheVariants.{Sync}
 use Rattle.rb_rules.specs.Book.{Row}
 use Rattle.rb_rules.specs.Clock.{time_of}
 use Rattle.rb_rules.specs.Core.{Act, Core, busy_among, is_busy, next_tick, pass_to}
 use Rattle.rb_rules.specs.Goodness.{Scenario, clock_of, is_good}
 use Rattle.rb_rules.specs.Hearing.{Coming, Span, row_of}
 use Rattle.rb_rules.specs.NodeState.{NodeState}
-use Rattle.rb_rules.specs.Plan.{tail_start_of}
 use Rattle.rb_rules.specs.Ports.{HandIn, PortState}
-use Rattle.rb_rules.specs.Rounds.{Moment, moment, window_in}
-use Rattle.rb_rules.specs.Slots.{listens}
-use Rattle.rb_rules.specs.SyncStage.{new_epoch_of}
 use Rattle.rb_rules.specs.WorldStep.{Site, Timed, after_act, await, coming_from, enter, pass_and_tick, proceed, says_in, span_from, stop, wants_in, with_close, with_epoch, word_of}
-use Rattle.rb_order.specs.Closing.{stages_in}
 use Rattle.rb_order.proofs.BreakSites.{acted}
 use Rattle.rb_order.proofs.LastSites.{AwaitsNext, HasToldLast}
 use Rattle.rb_order.proofs.NodeActs.{HasRoom}
-use Rattle.rb_order.proofs.NodeSends.{KeepsTime}
-use Rattle.rb_order.proofs.NodeTicks.{tail-first}
 use Rattle.rb_order.proofs.TailTicks.{GoesOn, HasTurned, IsAfter, IsInTail}
 use Rattle.rb_order.proofs.Takes.{busy-later}
-use Rattle.rb_order.proofs.TickWindows.{first_of}
 use Rattle.rb_order.proofs.TurnTicks.{after-later, awaits-next, next-tick}
 
 -- What pends after a tick.

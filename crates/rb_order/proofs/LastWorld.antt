@@ -1,17 +1,15 @@
--- For the law that events are rounds also where the premise on faults is broken in a sync slot (not proved): a due event keeps all nodes of a world
+-- For the law that events are rounds where the premise on faults is broken in a sync slot: a due event keeps all nodes of a world
 -- in which the run breaks off with the last stage of the sync slot: they wait for its last tick, or have told their rows.
-use Rattle.std.proofs.Common.{◌≡◌, ℕ, ◌+◌, ◌*◌, ◌<◌, ◌≤◌, ◌⊎◌, Bool, true, false, List, [], ◌++◌, append-nil, refl, ap, sym, ◌∙◌, subst, arith, inl, inr, Option, Some, None, slice_get, lit<}
+use Rattle.std.proofs.Common.{◌≡◌, ℕ, ◌+◌, ◌*◌, ◌<◌, ◌≤◌, ◌⊎◌, Bool, true, false, List, [], append-nil, refl, sym, ◌∙◌, subst, arith, inl, inr, Option, Some, None, slice_get, lit<}
 use Rattle.rb_base.specs.Nodes.{Side}
 use Rattle.rb_base.specs.Sizes.{sync_slot_of}
 use Rattle.rb_rules.specs.declared.message.Message.{Message}
-use Rattle.rb_rules.specs.Book.{Each, Row, of_kind}
-use Rattle.rb_rules.specs.Clock.{time_of}
+use Rattle.rb_rules.specs.Book.{Each, of_kind}
 use Rattle.rb_rules.specs.Core.{Act}
 use Rattle.rb_rules.specs.Goodness.{Scenario, clock_of}
 use Rattle.rb_rules.specs.Hearing.{Coming}
 use Rattle.rb_rules.specs.Lawful.{IsLawful}
 use Rattle.rb_rules.specs.Moments.{IsRunning}
-use Rattle.rb_rules.specs.NodeState.{NodeState}
 use Rattle.rb_rules.specs.Ports.{HandIn, PortState}
 use Rattle.rb_rules.specs.Rounds.{Moment, moment, window_in}
 use Rattle.rb_rules.specs.WorldStep.{Site, Timed, after_act, after_arrival, at_node, pass_and_tick, with_message}
@@ -31,7 +29,6 @@ use Rattle.rb_order.proofs.NodeEvents.{tick-after}
 use Rattle.rb_order.proofs.PendingLists.{StandsAt}
 use Rattle.rb_order.proofs.Receiving.{ArrivesNow}
 use Rattle.rb_order.proofs.RoundNodes.{moments-stand}
-use Rattle.rb_order.proofs.SameHeard.{Every}
 use Rattle.rb_order.proofs.Settling.{RowOfRounds}
 use Rattle.rb_order.proofs.Telling.{place-is, row-place}
 use Rattle.rb_order.proofs.ToldInOrder.{one-changes}

@@ -41,6 +41,8 @@ pub mod Alone
 pub mod GivenAlone
 pub mod OneTake
 pub mod OneHandIn
+pub mod AllSteps
+pub mod FirstInRounds
 pub mod EveryWorld
 pub mod Turns
 pub mod Progress

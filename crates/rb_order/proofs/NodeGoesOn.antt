@@ -64,11 +64,6 @@ tail-close sizes plan me i st w arrivals slot stage =
 
 -- Nothing is sent in a tail.
 
-none-sent : (sizes : Sizes) (plan : Plan) (me : Side) (i : ℕ) (st : NodeState) (word : ℕ) → HasRoom plan → KeepsTime sizes plan me st
-    → sending_at sizes plan me i st (stages_in sizes) word ≡ None
-none-sent sizes plan me i st word room keeps =
-    ap (λ (w : Window). sending sizes plan me i st w.slot w.stage word) (sync-numbered sizes plan me st 3) ∙ unsent sizes plan me i st word
-
 unsent-of : (sc : Scenario) (m : Moment) (side : Side) (j : ℕ) (o : Option NodeState) → slice_get (of_kind side m.nodes) j ≡ o → m.window ≡ stages_in sc.sizes
     → sending_of sc m side j ≡ None
 unfolding sent_in

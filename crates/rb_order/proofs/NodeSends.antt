@@ -115,9 +115,6 @@ apart sizes plan me st m n t k ticks lt le a b =
     let before : last_of sizes plan me st m < first_of sizes plan me st n = ends-before-later sizes plan me st m n ticks lt le in
     omega (arith, before, a.to, b.from)
 
-not-at : (a b : ℕ) → (a < b → ⊥) × (b < a → ⊥) → a ≡ b
-not-at a b h = omega (arith, h.0, h.1)
-
 if-at-none : (k : ℕ) (o : Option Sending) → ((s : Sending) → o ≡ Some s → (s.tick == k) ≡ false) → if_at k o ≡ None
 if-at-none k None other = refl
 if-at-none k (Some s) other = ap (λ b. elim b as (λ _. Option Message) [ true ↦ Some s.message | false ↦ None ]) (other s refl)

@@ -34,11 +34,6 @@ StandsAt n x [] = ⊥
 StandsAt zero x (y ∷ ys) = y ≡ x
 StandsAt (suc n) x (y ∷ ys) = StandsAt n x ys
 
--- One item is taken out of a list.
-kept-cond : (b : Bool) (P : Coming → Type 0) (x : Coming) (xs : List Coming) → P x → Every P xs → Every P (cond b (x ∷ xs) xs)
-kept-cond true P x xs p e = (p, e)
-kept-cond false P x xs p e = e
-
 left : (P : Coming → Type 0) (q : Coming → Bool) (n : ℕ) (x : Coming) (xs : List Coming) → StandsAt n x xs → Every P (filter q xs) → Every P (filter q (remove xs n))
 left P q n x [] s e = absurd s
 left P q zero x (y ∷ ys) s e =

@@ -73,9 +73,6 @@ comes-after sc lawful me i j frame x =
 
 -- What is known of who has sent what.
 
-pub same-function : (f g : ℕ → Bool) → ((j : ℕ) → f j ≡ g j) → f ≡ g
-same-function f g same = fun_ext same
-
 -- where it stays the same for all sources, the node stands as before
 pub stands-same : (sc : Scenario) (hands : List HandIn) (sent sent2 : Side → ℕ → ℕ → Bool) (now : ℕ) (me : Side) (i p : ℕ) (s : Site) (st : NodeState) (a : Timed)
     → ((j p : ℕ) → sent2 (other me) j p ≡ sent (other me) j p) → NodeStands sc hands sent now me i p s st a → NodeStands sc hands sent2 now me i p s st a

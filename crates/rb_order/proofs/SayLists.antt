@@ -123,9 +123,6 @@ every-both P Q (x ∷ xs) a b = ((a.0, b.0), every-both P Q xs a.1 b.1)
 same-true : (a b : ℕ) → a ≡ b → (a == b) ≡ true
 same-true a b h = grind (arith, nat_tests)
 
-differs : (a b : ℕ) → (a < b → ⊥) → (b < a → ⊥) → a ≡ b
-differs a b h k = omega (arith, h, k)
-
 not-same : (a j k : ℕ) → a ≡ k → (k < j) ⊎ (j < k) → (a == j) ≡ false
 not-same a j k e (inl lt) = grind (arith, nat_tests)
 not-same a j k e (inr gt) = grind (arith, nat_tests)

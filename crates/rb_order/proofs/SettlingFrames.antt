@@ -175,9 +175,6 @@ true-false e = absurd (cc)
 differs : (a b : ℕ) → (a == b) ≡ false → a ≤ b → a < b
 differs a b h le = grind (arith, nat_tests)
 
-same-is : (a b : ℕ) → a ≡ b → (a == b) ≡ true
-same-is a b h = grind (arith, nat_tests)
-
 pub runs-in : (sc : Scenario) (hands : List HandIn) (p : ℕ) → (moment sc hands p).book.ended ≡ false → RunsIn sc (moment sc hands p)
 unfolding begin_frame
 runs-in sc hands zero h = record { bound = omega arith; at_first = λ e. refl }
@@ -213,10 +210,6 @@ pub record TellRounds (sc : Scenario) (hands : List HandIn) (sites : Each Site) 
   pub rows : RowsOfRounds sc hands sites
   pub begun : BegunOfRounds sc hands sites
   pub counts : (me : Side) → length (of_kind me sites) ≡ count_of me sc.sizes
-
-not-same : (a b : ℕ) → (a < b) ⊎ (b < a) → (a == b) ≡ false
-not-same a b (inl h) = grind (arith, nat_tests)
-not-same a b (inr h) = grind (arith, nat_tests)
 
 tail-book : (sc : Scenario) (hands : List HandIn) (g : ℕ) → (moment sc hands g).window ≡ stages_in sc.sizes → ((moment sc hands g).frame == sc.frames) ≡ false
     → (moment sc hands (suc g)).book ≡ (moment sc hands g).book

@@ -1,8 +1,7 @@
--- For the law that events are rounds also where the premise on faults is broken in a sync slot (not proved): what a node does after it has
+-- For the law that events are rounds where the premise on faults is broken in a sync slot: what a node does after it has
 -- closed the last stage of its frame. It goes through the tail and begins the next frame, and closes no stage before the end of that one's
 -- first window.
 use Rattle.std.proofs.Common.{◌≡◌, ℕ, ◌+◌, ◌*◌, ◌-◌, ◌<◌, ◌≤◌, ◌==◌, ◌&&◌, ◌⊎◌, if◌then◌else◌, Bool, true, false, List, [], refl, ap, sym, ◌∙◌, subst, arith, inl, inr, Option, Some, None, is_some, option_map, unwrap_or, slice_get}
-use Rattle.std.proofs.lemmas.Bool.{cases_lt}
 use Rattle.std.proofs.lemmas.Bool.Decides.{nat_tests}
 use Rattle.rb_base.specs.Nodes.{Side, other}
 use Rattle.rb_base.specs.Nodes.Side.{Biu, Rmu}
@@ -14,12 +13,11 @@ use Rattle.rb_rules.specs.declared.plan.Window.{Window}
 use Rattle.rb_rules.specs.declared.record.Epoch.{Epoch}
 use Rattle.rb_rules.specs.declared.role.Role.TheVariants.{Sync}
 use Rattle.rb_rules.specs.declared.sense.Sense.{Sense}
-use Rattle.rb_rules.specs.Conviction.{turn}
-use Rattle.rb_rules.specs.Core.{Act, Core, act_at, act_on, epoch_at, if_at, is_last, is_spent, is_tick, of_source, said_at, state_at, state_kept, tick, window_here}
+use Rattle.rb_rules.specs.Core.{Act, Core, act_on, epoch_at, if_at, is_last, of_source, said_at, state_kept, window_here}
 use Rattle.rb_rules.specs.ExactStage.{Outcome, close_exact, says}
 use Rattle.rb_rules.specs.Hearing.{Sending, close_window, epoch_of, window_numbered}
 use Rattle.rb_rules.specs.NodeState.{NodeState}
-use Rattle.rb_rules.specs.NodeSteps.{expect_of, turn_if_known}
+use Rattle.rb_rules.specs.NodeSteps.{expect_of}
 use Rattle.rb_rules.specs.Plan.{tail_start_of}
 use Rattle.rb_rules.specs.Sense.{Arrival, sense_of}
 use Rattle.rb_rules.specs.Slots.{listens}
@@ -147,9 +145,6 @@ pub record GoesOn (sizes : Sizes) (plan : Plan) (me : Side) (frame e x k : ℕ) 
 
 differs : (a b : ℕ) → a < b → (a == b) ≡ false
 differs a b h = grind (arith, nat_tests)
-
-above-differs : (a b : ℕ) → b < a → (a == b) ≡ false
-above-differs a b h = grind (arith, nat_tests)
 
 same-of : (a b : ℕ) → (a == b) ≡ true → a ≡ b
 same-of a b h = grind (arith, nat_tests)

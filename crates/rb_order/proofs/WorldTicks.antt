@@ -134,12 +134,6 @@ sent-then-is sc hands at sites me i r frame k b m change s there ahead =
 
 -- The node itself afterwards.
 
-pub record Afterwards (sc : Scenario) (hands : List HandIn) (sent : Side → ℕ → ℕ → Bool) (t : ℕ) (me : Side) (i q k r : ℕ) (z : Site) : Type 0 where
-  pub b : Option Timed
-  pub ahead : z.ahead ≡ b
-  pub steps : Steps (λ p. sending_of sc (moment sc hands p) me i) q k r b
-  pub node : ((z.runs ≡ true) × IsUp sc hands sent t me i r z) ⊎ ((z.runs ≡ false) × IsDown sc hands me i r z)
-
 true-false : true ≡ false → ⊥
 true-false e = cc
 
