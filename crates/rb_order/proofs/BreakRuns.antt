@@ -192,8 +192,7 @@ pending-off sc N b q sent w me i t s (Arrival n c) lawful room keeps off all_sen
     let none : Option Message = None in
     let own : Every (λ u. c.time ≤ u) (times_of s) = pend-of c.time w.sites (subst (λ t. AllPend t w.sites) (sym ready.1) pend) me i s there in
     let same = arrival-keeps sc me i n c s in
-    let m : Moment = moment sc w.hands b in
-    (
+    let m : Moment = moment sc w.hands b in (
       changes-off sc N w.hands b q sent w.sites me i 0 0 none (after_arrival sc me i n c) s there
           (keeps.arrival w.hands b off sent w.sites h.nodes me i n c s (λ good. moves-of sc lawful me i (good-clock sc lawful me i m.frame (slot_numbered sc.sizes m.window) good)) there ready.0
           (λ a e. record { at = ready.0; least = all-after c.time s.ahead s.coming own; before_tick = tick-after c.time s.ahead a s.coming e own })

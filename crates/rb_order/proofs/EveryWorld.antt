@@ -166,9 +166,9 @@ take-run sc N w d lawful room keeps run going needs due = from-where waits.1.fro
                   let within : up.a.tick ≤ last_tick sc (moment sc hands p) me up.st = up.stands.receives.in_window in
                   elim (cases_lt k (last_tick sc (moment sc hands p) me up.st)) [
                     | inl lt ↦ still (subst (ClosesEarlier sc hands h.at b me i) (sym e) (λ st f last.
-                      let st_is : up.st ≡ st = some-same up.st st (sym up.stands.state ∙ f) in
-                      let its : last_tick sc (moment sc hands p) me up.st ≡ last_tick sc (moment sc hands p) me st = ap (last_tick sc (moment sc hands p) me) st_is in
-                      absurd (omega (arith, lt, its, last))))
+                        let st_is : up.st ≡ st = some-same up.st st (sym up.stands.state ∙ f) in
+                        let its : last_tick sc (moment sc hands p) me up.st ≡ last_tick sc (moment sc hands p) me st = ap (last_tick sc (moment sc hands p) me) st_is in
+                        absurd (omega (arith, lt, its, last))))
                     | inr not_lt ↦
                         let last : k ≡ last_tick sc (moment sc hands p) me up.st = omega (arith, not_lt, tick, within) in
                         let time : up.a.time ≡ due.t = ap (λ (a : Timed). a.time) a_is ∙ ready.1.1.1.0 in

@@ -410,8 +410,8 @@ take-keeps sc now at w d lawful room h n may going due early =
         now = due.t;
         at = after.now_at;
         stands = settled-stands sc due.t after.now_at x y w.hands same_sites same_hands (settle-ports sc ByAnEvent 2 x)
-          after.sites after.passed after.tell after.event.told (all-settled sc ByAnEvent 2 x w.hands x.sites room.ticks after.hands refl after.tell is) after.many after.ports after.handed
-          (event-settled sc w.hands at after.now_at w.sites x after.event (ap (λ (b : Book). b.ended) same_book ∙ going) is waits) after.so_far paced.bound;
+            after.sites after.passed after.tell after.event.told (all-settled sc ByAnEvent 2 x w.hands x.sites room.ticks after.hands refl after.tell is) after.many after.ports after.handed
+            (event-settled sc w.hands at after.now_at w.sites x after.event (ap (λ (b : Book). b.ended) same_book ∙ going) is waits) after.so_far paced.bound;
       };
       hands_are = same_hands;
       bound = λ me i s there. after.bound me i s (ap (λ sites. slice_get (of_kind me sites) i) (sym same_sites) ∙ there);
