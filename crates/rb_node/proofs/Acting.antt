@@ -117,7 +117,6 @@ keeps-now me v slot stage word m index said =
     ∙ ap (state_kept v.sizes me v.index v.state word) (sym (said ∙ says-active me v slot stage word index))
 
 -- a message can be spelled
-
 value-sendable : (st : NodeState) (slot stage : ℕ) (o : Option Heard) → 1 ≤ stage → stage ≤ 3 → IfSome (option_map (message_of st slot stage) o) IsSendable
 value-sendable st slot stage None some most = tt
 value-sendable st slot stage (Some (heard.Word word)) some most = record { some_stage = some; most_stages = most; value = tt }
