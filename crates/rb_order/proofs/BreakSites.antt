@@ -188,17 +188,17 @@ acted sc ports me i x s =
 
 -- a node that has told its row tells nothing at a tick before the last of the next window
 pub closed-ticks : (sc : Scenario) (hands : List HandIn) (ports : List PortState) (me : Side) (i p k : ℕ) (s : Site) → HasTicks sc.plan → (moment sc hands p).window + 1 ≤ stages_in sc.sizes
-    → (h : HasClosed sc hands me i p s) → s.core.had ≤ k → h.st.epoch < k → k < s.core.state.epoch + last_of sc.sizes sc.plan me s.core.state ((moment sc hands p).window + 1)
+    → (h : HasClosed sc hands me i p s) → s.core.had ≤ k → k < s.core.state.epoch + last_of sc.sizes sc.plan me s.core.state ((moment sc hands p).window + 1)
     → HasClosed sc hands me i p (after_act sc ports me i (pass_and_tick sc ports me i k s.core) s)
 unfolding pass_and_tick
-closed-ticks sc hands ports me i p k s ticks le h had begun before =
+closed-ticks sc hands ports me i p k s ticks le h had before =
     let n : ℕ = (moment sc hands p).window + 1 in
     let c : Core = pass_to k s.core in
     let c_had : c.had ≡ k = omega arith in
     let x : Act = pass_and_tick sc ports me i k s.core in
     let later : IsPast sc.sizes sc.plan me h.st.frame h.st.epoch n c.state c.had =
     past-kept sc.sizes sc.plan me i h.st.frame h.st.epoch n s.core.state s.core.state s.core.had c.had (like-itself sc.sizes sc.plan me i s.core.state) refl (omega arith) h.past in
-    let none : TellsNone sc.sizes sc.plan me i h.st.frame h.st.epoch n s.core.state x = past-tick sc.sizes sc.plan me i h.st.frame h.st.epoch n c _ ticks le later (omega arith) (omega arith) in
+    let none : TellsNone sc.sizes sc.plan me i h.st.frame h.st.epoch n s.core.state x = past-tick sc.sizes sc.plan me i h.st.frame h.st.epoch n c _ ticks le later (omega arith) in
     let z : Site = after_act sc ports me i x s in
     let go : Proceeds sc me i (with_close me i x.core.state x.closed (record s { core = x.core })).row x.core z = acted sc ports me i x s in
     let row : z.row ≡ s.row = go.row_is ∙ ap (λ c. (with_close me i x.core.state c (record s { core = x.core })).row) none.closed in

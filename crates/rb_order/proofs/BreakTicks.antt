@@ -31,7 +31,7 @@ use Rattle.rb_order.proofs.NodeMoves.{after-stays, first-alike, get-later, state
 use Rattle.rb_order.proofs.PendingLists.{StandsAt}
 use Rattle.rb_order.proofs.Receiving.{ArrivesNow}
 use Rattle.rb_order.proofs.StageOrder.{last_of}
-use Rattle.rb_order.proofs.TickWindows.{ends-before-later, first_of}
+use Rattle.rb_order.proofs.TickWindows.{first_of}
 
 -- up to the last tick of the stage at any good node no good node comes to the last tick of the next stage
 pub before-next : (sc : Scenario) (hands : List HandIn) → IsLawful sc → HasRoom sc.plan → (p q : ℕ) → IsRunning (moment sc hands p) → q < 2 → (moment sc hands p).window ≡ 3 * sync_slot_of sc.sizes + q
@@ -75,13 +75,8 @@ pub closed-goes-on : (sc : Scenario) (hands : List HandIn) → IsLawful sc → H
     → (a : Timed) → s.ahead ≡ Some a → a.time ≤ time_of (clock_of sc you j) (last_tick sc (moment sc hands p) you yours)
     → HasClosed sc hands me i p (after_act sc ports me i (pass_and_tick sc ports me i a.tick s.core) s)
 closed-goes-on sc hands lawful room ports p q running small at me i s h you j yours there2 good2 a pend le =
-    let m : Moment = moment sc hands p in
-    let n : ℕ = m.window + 1 in
     let is = h.ahead a pend in
-    let first : last_of sc.sizes sc.plan me s.core.state 0 < first_of sc.sizes sc.plan me s.core.state n =
-    ends-before-later sc.sizes sc.plan me s.core.state 0 n room.ticks (omega arith) (omega (arith, at, small)) in
-    let epoch : s.core.state.epoch ≡ h.st.epoch = h.past.epoch in
-    closed-ticks sc hands ports me i p a.tick s room.ticks (omega (arith, at, small)) h is.0 (omega (arith, first, epoch, h.past.from, is.0))
+    closed-ticks sc hands ports me i p a.tick s room.ticks (omega (arith, at, small)) h is.0
     (before-next sc hands lawful room p q running small at me i s h you j yours there2 good2 a is.1 le)
 
 -- An arrival.

@@ -7,10 +7,9 @@ use Rattle.rb_base.specs.Nodes.{Side, other}
 use Rattle.rb_base.specs.Sizes.{Sizes}
 use Rattle.rb_rules.specs.declared.message.Message.{Message}
 use Rattle.rb_rules.specs.declared.plan.Plan.{Plan}
-use Rattle.rb_rules.specs.declared.record.Epoch.{Epoch}
 use Rattle.rb_rules.specs.Core.{Act, Core, act_at, act_on, arrive, epoch_at, is_last, is_spent, is_tick, of_source, said_at, state_at, state_kept, tick, window_here}
 use Rattle.rb_rules.specs.ExactStage.{Outcome, says}
-use Rattle.rb_rules.specs.Hearing.{close_window, epoch_of}
+use Rattle.rb_rules.specs.Hearing.{close_window}
 use Rattle.rb_rules.specs.NodeState.{NodeState}
 use Rattle.rb_rules.specs.NodeSteps.{turn_if_known}
 use Rattle.rb_rules.specs.Plan.{tail_start_of}
@@ -82,15 +81,14 @@ past-kept sizes plan me i frame e n c y had more like same le h =
 -- what an act gives in which no window ends
 pub record TellsNone (sizes : Sizes) (plan : Plan) (me : Side) (i frame e n : ℕ) (was : NodeState) (x : Act) : Type 0 where
   pub closed : x.closed ≡ None
-  pub epoch : x.epoch ≡ None
   pub like : Like sizes plan me i was x.core.state
   pub past : IsPast sizes plan me frame e n x.core.state x.core.had
 
--- at a tick of the window before its last a node that stands in it closes no window and begins no frame
+-- at a tick of the window before its last a node that stands in it closes no window
 pub past-tick : (sizes : Sizes) (plan : Plan) (me : Side) (i frame e n : ℕ) (c : Core) (word : ℕ) → HasTicks plan → n ≤ stages_in sizes → IsPast sizes plan me frame e n c.state c.had
-    → e < c.had → c.had < c.state.epoch + last_of sizes plan me c.state n → TellsNone sizes plan me i frame e n c.state (tick sizes plan me i c word)
+    → c.had < c.state.epoch + last_of sizes plan me c.state n → TellsNone sizes plan me i frame e n c.state (tick sizes plan me i c word)
 unfolding tick act_at act_on
-past-tick sizes plan me i frame e n c word ticks le h begun before = by (is_spent c)
+past-tick sizes plan me i frame e n c word ticks le h before = by (is_spent c)
   where
     st : NodeState
     st = c.state
@@ -106,11 +104,6 @@ past-tick sizes plan me i frame e n c word ticks le h begun before = by (is_spen
 
     not-last : is_last sizes plan me st c.had ≡ false
     not-last = last-is sizes plan me st n c.had ticks le at ∙ differs c.had (st.epoch + last_of sizes plan me st n) before
-
-    no-begin : epoch_at sizes me st c.had ≡ None
-    no-begin =
-        let start : st.epoch ≡ e = h.epoch in
-        ap (λ b. elim b as (λ _. Option Epoch) [ true ↦ Some (epoch_of sizes me st) | false ↦ None ]) (differs st.epoch c.had (omega (arith, start, begun)))
 
     act : (m : Option Message) → TellsNone sizes plan me i frame e n c.state (act_on sizes plan me i c st m (state_kept sizes me i st word m))
     act m = go (is_last sizes plan me st c.had) not-last
@@ -141,13 +134,13 @@ past-tick sizes plan me i frame e n c word ticks le h begun before = by (is_spen
         go true e = cc
         go false _ =
             let like = kept-like sizes plan me i st word m in
-            record { closed = refl; epoch = no-begin; like = like.0; past = past-kept sizes plan me i frame e n st kept c.had (c.had + 1) like.0 like.1 (omega arith) h }
+            record { closed = refl; like = like.0; past = past-kept sizes plan me i frame e n st kept c.had (c.had + 1) like.0 like.1 (omega arith) h }
 
     by : (b : Bool) → TellsNone sizes plan me i frame e n c.state (elim b as (λ _. Act) [
       | true ↦ record { core = c; epoch = None; message = None; closed = None }
       | false ↦ act_at sizes plan me i c word
     ])
-    by true = record { closed = refl; epoch = refl; like = like-itself sizes plan me i c.state; past = h }
+    by true = record { closed = refl; like = like-itself sizes plan me i c.state; past = h }
     by false =
         subst (λ z. TellsNone sizes plan me i frame e n c.state (act_on sizes plan me i c z (said_at sizes plan me i z word c.had) (state_kept sizes me i z word (said_at sizes plan me i z word c.had))))
         (sym now) (act (said_at sizes plan me i st word c.had))

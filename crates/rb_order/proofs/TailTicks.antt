@@ -10,12 +10,11 @@ use Rattle.rb_rules.specs.declared.closing.Closed.{Closed as Shown}
 use Rattle.rb_rules.specs.declared.message.Message.{Message}
 use Rattle.rb_rules.specs.declared.plan.Plan.{Plan}
 use Rattle.rb_rules.specs.declared.plan.Window.{Window}
-use Rattle.rb_rules.specs.declared.record.Epoch.{Epoch}
 use Rattle.rb_rules.specs.declared.role.Role.TheVariants.{Sync}
 use Rattle.rb_rules.specs.declared.sense.Sense.{Sense}
 use Rattle.rb_rules.specs.Core.{Act, Core, act_on, epoch_at, if_at, is_last, of_source, said_at, state_kept, window_here}
 use Rattle.rb_rules.specs.ExactStage.{Outcome, close_exact, says}
-use Rattle.rb_rules.specs.Hearing.{Sending, close_window, epoch_of, window_numbered}
+use Rattle.rb_rules.specs.Hearing.{Sending, close_window, window_numbered}
 use Rattle.rb_rules.specs.NodeState.{NodeState}
 use Rattle.rb_rules.specs.NodeSteps.{expect_of}
 use Rattle.rb_rules.specs.Plan.{tail_start_of}
@@ -139,7 +138,6 @@ IsAfter sizes plan me frame e x c had k = (IsInTail sizes plan me frame e x c ha
 -- and what a tick gives. What it says, if it is one that calls in the last stage, goes out in the first window of the next frame
 pub record GoesOn (sizes : Sizes) (plan : Plan) (me : Side) (frame e x k : ℕ) (a : Act) : Type 0 where
   pub closed : (s : Shown) → a.closed ≡ Some s → (s.place.stage == 4) ≡ true
-  pub epoch : (b : Epoch) → a.epoch ≡ Some b → b.frame ≡ frame + 1
   pub after : (IsInTail sizes plan me frame e x a.core.state a.core.had × (a.core.had ≤ x)) ⊎ HasTurned frame x a.core.state a.core.had
   pub message : listens me Sync 3 ≡ false → (m : Message) → a.message ≡ Some m → x + plan.h ≤ k
 
@@ -228,20 +226,12 @@ turned-act sizes plan me i frame e x c y word room h before = go (is_last sizes 
       }
     ]
 
-    begins : (b : Epoch) (t : Bool) → (elim t as (λ _. Option Epoch) [ true ↦ Some (epoch_of sizes me y) | false ↦ None ]) ≡ Some b → b.frame ≡ frame + 1
-    begins b true f = let its : y.frame ≡ b.frame = frame-of (epoch_of sizes me y) b f in sym its ∙ h.in_frame
-      where
-        frame-of : (a b : Epoch) → Some a ≡ Some b → a.frame ≡ b.frame
-        frame-of a b e = cc
-    begins b false f = cc
-
     go : (b : Bool) → b ≡ false → GoesOn sizes plan me frame e x c.had (acts b)
     go true f = cc
     go false _ =
         let same : KeepsMiddles y kept = said-same sizes me i y word m in
         record {
           closed = λ s f. absurd (none-closed s f);
-          epoch = λ b f. begins b (y.epoch == c.had) f;
           after = inr (record {
             in_frame = same.frame ∙ h.in_frame;
             epoch = same.epoch ∙ h.epoch;
@@ -312,12 +302,6 @@ tail-act sizes plan me i frame e x c word room low h lt = go (is_last sizes plan
       }
     ]
 
-    no-begin : epoch_at sizes me st c.had ≡ None
-    no-begin =
-        let start : st.epoch ≡ e = h.epoch in
-        let some : 1 ≤ plan.l = room.ticks.l in
-        ap (λ b. elim b as (λ _. Option Epoch) [ true ↦ Some (epoch_of sizes me st) | false ↦ None ]) (differs st.epoch c.had (omega (arith, start, h.from, some)))
-
     silent : listens me Sync 3 ≡ false → m ≡ None
     silent deaf = silent-there sizes plan me i st 3 word c.had room (omega arith) (h.keeps deaf) (in-tail sizes plan me frame e x st c.had low h lt) (unheard me)
       where
@@ -352,13 +336,11 @@ tail-act sizes plan me i frame e x c word room low h lt = go (is_last sizes plan
     go : (b : Bool) → GoesOn sizes plan me frame e x c.had (acts b)
     go true = record {
       closed = stage-of;
-      epoch = λ b f. none-some (epoch_at sizes me st c.had) b no-begin f;
       after = inl (still closing.state (and-so st kept closing.state kept-same (closed-same sizes plan me i kept w (of_source c.inbox) slot (ap (listens me Sync) stage ∙ deaf-tail me))), omega (arith, lt));
       message = λ deaf msg f. none-some m msg (silent deaf) f;
     }
     go false = record {
       closed = λ s f. absurd (none-closed s f);
-      epoch = λ b f. none-some (epoch_at sizes me st c.had) b no-begin f;
       after = inl (still kept kept-same, omega (arith, lt));
       message = λ deaf msg f. none-some m msg (silent deaf) f;
     }

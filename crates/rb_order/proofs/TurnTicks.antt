@@ -75,7 +75,7 @@ next-tick sizes plan me i frame e x c word room low h before = by (is_spent c)
         (turned-act sizes plan me i frame e x c c.state word room (record { in_frame = t.in_frame; epoch = t.epoch; k1 = t.k1; k2 = t.k2; k3 = t.k3; begun = omega (arith, begun) }) before)
 
     still : IsAfter sizes plan me frame e x c.state c.had c.had → GoesOn sizes plan me frame e x c.had (record { core = c; epoch = None; message = None; closed = None })
-    still h = record { closed = λ s f. absurd (none-is f); epoch = λ b f. absurd (none-is f); after = h; message = λ deaf m f. absurd (none-is f) }
+    still h = record { closed = λ s f. absurd (none-is f); after = h; message = λ deaf m f. absurd (none-is f) }
       where
         none-is : {X : Type 0} {y : X} → None ≡ Some y → ⊥
         none-is f = cc
