@@ -28,7 +28,7 @@ use Rattle.rb_order.proofs.Invariant.{is_good_at, last_tick}
 use Rattle.rb_order.proofs.MomentBooks.{place_at}
 use Rattle.rb_order.proofs.MomentSteps.{good-back}
 use Rattle.rb_order.proofs.NodeActs.{HasRoom}
-use Rattle.rb_order.proofs.OneTake.{WorldInRounds, all-pend, happens-is}
+use Rattle.rb_order.proofs.OneEvent.{WorldInRounds, all-pend, happens-is}
 use Rattle.rb_order.proofs.RoundNodes.{good-counts, item-at, slot_numbered}
 use Rattle.rb_order.proofs.SettledOnce.{ended-still, rest-still, settle-still, stage-silent, waits-still}
 use Rattle.rb_order.proofs.Settling.{stage-settled}

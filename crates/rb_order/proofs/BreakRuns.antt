@@ -28,7 +28,7 @@ use Rattle.rb_order.proofs.Invariant.{entry_of, is_good_at}
 use Rattle.rb_order.proofs.MomentBooks.{place_at}
 use Rattle.rb_order.proofs.NodeActs.{HasRoom}
 use Rattle.rb_order.proofs.NodeEvents.{all-after, tick-after}
-use Rattle.rb_order.proofs.OneTake.{moves-of, pend-of}
+use Rattle.rb_order.proofs.OneEvent.{moves-of, pend-of}
 use Rattle.rb_order.proofs.PortsKept.{sync-word}
 use Rattle.rb_order.proofs.RoundNodes.{moments-stand, slot_numbered}
 use Rattle.rb_order.proofs.SameHeard.{Every}

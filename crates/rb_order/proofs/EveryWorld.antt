@@ -33,7 +33,8 @@ use Rattle.rb_order.proofs.MomentSteps.{NextIsStage, next-is-stage}
 use Rattle.rb_order.proofs.Pace.{settle-paced}
 use Rattle.rb_order.proofs.UpToThere.{Reaches, breaks-later, from-running, reach, reaches-first}
 use Rattle.rb_order.proofs.OneHandIn.{HandsIn, hand-keeps}
-use Rattle.rb_order.proofs.OneTake.{ClosesEarlier, MayHappen, StandsInRounds, StandsUpTo, WorldInRounds, closes-earlier, is-paced, settle-hands, settle-ports, settled-stands, take-keeps, up-there, world-waits}
+use Rattle.rb_order.proofs.OneEvent.{ClosesEarlier, MayHappen, WorldInRounds, up-there}
+use Rattle.rb_order.proofs.OneTake.{StandsInRounds, StandsUpTo, closes-earlier, is-paced, settle-hands, settle-ports, settled-stands, take-keeps, world-waits}
 use Rattle.rb_order.proofs.SettlingFrames.{IsOfMoment, all-settled}
 use Rattle.rb_order.proofs.WorldStands.{IsUp, sent_by, some-same}
 use Rattle.rb_order.proofs.WorldNodes.{events-due, settle-sites}

@@ -15,7 +15,7 @@ use Rattle.rb_order.proofs.NodeActs.{HasRoom}
 use Rattle.rb_order.proofs.MomentSteps.{NextIsStage, next-is-stage}
 use Rattle.rb_order.proofs.ToldSoFar.{so-far-first}
 use Rattle.rb_order.proofs.UpToThere.{Reaches, UpTo, reaches-first}
-use Rattle.rb_order.proofs.OneTake.{WorldInRounds}
+use Rattle.rb_order.proofs.OneEvent.{WorldInRounds}
 use Rattle.rb_order.proofs.SettlingFrames.{BegunOfRounds, TellRounds}
 use Rattle.rb_order.proofs.Timing.{AreInTime}
 use Rattle.rb_order.proofs.Settling.{RowsOfRounds}

@@ -39,6 +39,7 @@ pub mod PortsInRounds
 pub mod EventNodes
 pub mod Alone
 pub mod GivenAlone
+pub mod OneEvent
 pub mod OneTake
 pub mod OneHandIn
 pub mod AllSteps

@@ -20,7 +20,7 @@ use Rattle.rb_order.proofs.HandedMoments.{Alike, handed-alike}
 use Rattle.rb_order.proofs.MomentBooks.{next_of, number-of, place_at, settles-next, SettlesNext}
 use Rattle.rb_order.proofs.NodeActs.{HasRoom}
 use Rattle.rb_order.proofs.ToldSoFar.{so-far-handed}
-use Rattle.rb_order.proofs.OneTake.{WorldInRounds}
+use Rattle.rb_order.proofs.OneEvent.{WorldInRounds}
 use Rattle.rb_order.proofs.RoundNodes.{slot_numbered}
 use Rattle.rb_order.proofs.SameHeard.{Every}
 use Rattle.rb_order.proofs.Settling.{get-within}

@@ -17,7 +17,8 @@ use Rattle.rb_rules.proofs.WindowNumbers.{length-each}
 use Rattle.rb_order.specs.Laws.{EveryRunEnds, most_at_once, most_takes, nodes_of, taken_by, takes_from}
 use Rattle.rb_order.proofs.DueEvents.{IsDue, IsReady}
 use Rattle.rb_order.proofs.EveryWorld.{after-more, due-going}
-use Rattle.rb_order.proofs.OneTake.{StandsInRounds, all-pend, up-there}
+use Rattle.rb_order.proofs.OneEvent.{all-pend, up-there}
+use Rattle.rb_order.proofs.OneTake.{StandsInRounds}
 use Rattle.rb_order.proofs.Takes.{LeavesFew, all_left, arrival-left, enter-few, left_of, message-left, one-less, sum_left, tick-left, ticks_left}
 use Rattle.rb_order.proofs.WorldNodes.{events-due, settle-sites}
 use Rattle.rb_order.proofs.WorldStands.{AllPend, IsUp, sent_by, some-same}
