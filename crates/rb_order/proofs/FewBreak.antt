@@ -25,6 +25,7 @@ use Rattle.rb_order.proofs.BreakTicks.{before-next, closed-goes-on}
 use Rattle.rb_order.proofs.FewEntered.{BringsFew, act-brings}
 use Rattle.rb_order.proofs.FewOff.{StepsOn, messages_in}
 use Rattle.rb_order.proofs.FewSent.{CallsAlike, HasSpoken, IsSentThen, SaysAt, said-then, says-some, speaks-once, spoken-kept, spoken-quiet}
+use Rattle.rb_order.proofs.FewQuiet.{deaf-quiet, hearing-quiet}
 use Rattle.rb_order.proofs.NodeActs.{HasRoom}
 use Rattle.rb_order.proofs.NodeTicks.{like-tick}
 use Rattle.rb_order.proofs.PastTicks.{TellsNone, past-tick, turns-later, IsPast}
@@ -62,39 +63,26 @@ slot-in-sync sizes plan me y n le small =
 -- what a node may do yet: r messages, e windows
 abbrev pub MayBreak : Scenario → List HandIn → ℕ → Side → ℕ → ℕ → ℕ → Site → Type 0
 MayBreak sc hands p me i r e s =
-    ((2 ≤ r) × (1 ≤ e)) ⊎ (HasClosed sc hands me i p s × ((1 ≤ r) ⊎ HasSpoken sc.sizes sc.plan me s.core.state s.core.had))
+    ((1 ≤ r) × (1 ≤ e)) ⊎ (HasClosed sc hands me i p s × ((1 ≤ r) ⊎ HasSpoken sc.sizes sc.plan me s.core.state s.core.had))
 
 pub once-more : (e l : ℕ) → 1 ≤ e → l ≤ e * l
 once-more zero l le = absurd (omega (arith, le))
 once-more (suc e) l le = omega arith
 
 -- the tick with which it tells its row
-pub tells-few : (sc : Scenario) (hands : List HandIn) → IsLawful sc → HasRoom sc.plan → (sent : Side → ℕ → ℕ → Bool) (now : ℕ) (ports : List PortState) (p q : ℕ) → IsRunning (moment sc hands p) → q < 2
-    → (moment sc hands p).window ≡ 3 * sync_slot_of sc.sizes + q → (me : Side) (i : ℕ) (s : Site) (a : Timed) (r e : ℕ) → TickBreaks sc hands sent ports p me i s a → SiteBreaks sc hands sent now p me i s → 2 ≤ r → 1 ≤ e
-    → StepsOn sc (MayBreak sc hands p me i) (pass_and_tick sc ports me i a.tick s.core).message s (after_act sc ports me i (pass_and_tick sc ports me i a.tick s.core) s) r e
-tells-few sc hands lawful room sent now ports p q running small at me i s a r e t h two one =
-    let x : Act = pass_and_tick sc ports me i a.tick s.core in
+tells-few : (sc : Scenario) (hands : List HandIn) (ports : List PortState) (p : ℕ) (me : Side) (i k : ℕ) (s : Site) (r e : ℕ)
+    → HasClosed sc hands me i p (after_act sc ports me i (pass_and_tick sc ports me i k s.core) s) → (pass_and_tick sc ports me i k s.core).message ≡ None → 1 ≤ r → 1 ≤ e
+    → StepsOn sc (MayBreak sc hands p me i) (pass_and_tick sc ports me i k s.core).message s (after_act sc ports me i (pass_and_tick sc ports me i k s.core) s) r e
+tells-few sc hands ports p me i k s r e closes quiet some one =
+    let x : Act = pass_and_tick sc ports me i k s.core in
     let brings : BringsFew sc me x s (after_act sc ports me i x s) = act-brings sc ports me i x s in
     let most = brings.most in
     let more = once-more e (length sc.says) one in
-    record {
-      sends = r - messages_in x.message;
-      enters = 0;
-      may = inr (site-ticks sc hands lawful room sent now ports p q running small at me i s a t h, inl (left x.message));
-      sent = fits x.message;
-      room = omega (arith, most, more);
-    }
-  where
-    left : (m : Option Message) → 1 ≤ r - messages_in m
-    left None = omega (arith, two)
-    left (Some m) = omega (arith, two)
-
-    fits : (m : Option Message) → r - messages_in m + messages_in m ≤ r
-    fits None = omega arith
-    fits (Some m) = omega (arith, two)
+    let none : messages_in x.message ≡ 0 = ap messages_in quiet in
+    record { sends = r; enters = 0; may = inr (closes, inl some); sent = omega (arith, none); room = omega (arith, most, more) }
 
 -- a tick after it
-pub closed-few : (sc : Scenario) (hands : List HandIn) → IsLawful sc → HasRoom sc.plan → (sent : Side → ℕ → ℕ → Bool) (ports : List PortState) (p q : ℕ) → IsRunning (moment sc hands p) → q < 2
+closed-few : (sc : Scenario) (hands : List HandIn) → IsLawful sc → HasRoom sc.plan → (sent : Side → ℕ → ℕ → Bool) (ports : List PortState) (p q : ℕ) → IsRunning (moment sc hands p) → q < 2
     → (moment sc hands p).window ≡ 3 * sync_slot_of sc.sizes + q → (me : Side) (i : ℕ) (s : Site) (a : Timed) (r e : ℕ) → TickBreaks sc hands sent ports p me i s a → a.tick < 2 ^ 31
     → HasClosed sc hands me i p s → (1 ≤ r) ⊎ HasSpoken sc.sizes sc.plan me s.core.state s.core.had
     → StepsOn sc (MayBreak sc hands p me i) (pass_and_tick sc ports me i a.tick s.core).message s (after_act sc ports me i (pass_and_tick sc ports me i a.tick s.core) s) r e
@@ -210,3 +198,23 @@ closed-few sc hands lawful room sent ports p q running small at me i s a r e t f
             room = omega (arith, brings);
           }
         ]
+
+none-pends : {P : Type 0} (a : Timed) (o : Option Timed) → o ≡ None → o ≡ Some a → P
+none-pends a None e f = cc
+none-pends a (Some b) e f = cc
+
+-- a due tick
+pub breaks-few : (sc : Scenario) (hands : List HandIn) → IsLawful sc → HasRoom sc.plan → (sent : Side → ℕ → ℕ → Bool) (now : ℕ) (ports : List PortState) (p q : ℕ) → IsRunning (moment sc hands p) → q < 2
+    → (moment sc hands p).window ≡ 3 * sync_slot_of sc.sizes + q → (me : Side) (i : ℕ) (s : Site) (a : Timed) (r e : ℕ) → TickBreaks sc hands sent ports p me i s a → a.tick < 2 ^ 31
+    → SiteBreaks sc hands sent now p me i s → MayBreak sc hands p me i r e s
+    → StepsOn sc (MayBreak sc hands p me i) (pass_and_tick sc ports me i a.tick s.core).message s (after_act sc ports me i (pass_and_tick sc ports me i a.tick s.core) s) r e
+breaks-few sc hands lawful room sent now ports p q running small at me i s a r e t few h (inr told) = closed-few sc hands lawful room sent ports p q running small at me i s a r e t few told.0 told.1
+breaks-few sc hands lawful room sent now ports p q running small at me i s a r e t few (inl stopped) (inl more) = none-pends a s.ahead stopped.ahead t.pend
+breaks-few sc hands lawful room sent now ports p q running small at me i s a r e t few (inr (inl h)) (inl more) =
+    tells-few sc hands ports p me i a.tick s r e (site-ticks sc hands lawful room sent now ports p q running small at me i s a t (inr (inl h)))
+    (hearing-quiet sc hands lawful room sent now ports p q running (omega arith) at me i s a t h) more.0 more.1
+breaks-few sc hands lawful room sent now ports p q running small at me i s a r e t few (inr (inr (inl h))) (inl more) =
+    tells-few sc hands ports p me i a.tick s r e (site-ticks sc hands lawful room sent now ports p q running small at me i s a t (inr (inr (inl h))))
+    (deaf-quiet sc hands lawful room sent ports p q running (omega arith) at me i s a t h) more.0 more.1
+breaks-few sc hands lawful room sent now ports p q running small at me i s a r e t few (inr (inr (inr h))) (inl more) =
+    closed-few sc hands lawful room sent ports p q running small at me i s a r e t few h (inl more.0)

@@ -25,8 +25,8 @@ use Rattle.rb_order.proofs.BreakNodes.{BreaksAt, KeepsNodes}
 use Rattle.rb_order.proofs.BreakRooms.{HasLater, has-later}
 use Rattle.rb_order.proofs.BreakSites.{closed-arrives}
 use Rattle.rb_order.proofs.EventsHold.{keeps, nodes_at}
-use Rattle.rb_order.proofs.FewBreak.{MayBreak, closed-few, tells-few}
-use Rattle.rb_order.proofs.FewLast.{MayLast, tells-last-few, told-few}
+use Rattle.rb_order.proofs.FewBreak.{MayBreak, breaks-few}
+use Rattle.rb_order.proofs.FewLast.{MayLast, last-few}
 use Rattle.rb_order.proofs.FewOff.{HaveRooms, StepsOn, messages_in, rooms-change}
 use Rattle.rb_order.proofs.FewSent.{HasSpoken, spoken-kept}
 use Rattle.rb_order.proofs.FewThere.{few-where-it-stands}
@@ -69,11 +69,11 @@ sum-same k (suc n) = let rest = sum-same k n in omega (arith, rest)
 
 begins-few : (sc : Scenario) (q : ℕ) (hands : List HandIn) (b now : ℕ) (at : Side → ℕ → ℕ) (sites : Each Site) (t : ℕ) → FirstCloses sc hands now at sites b t → FewOff sc q hands b sites
 begins-few sc q hands b now at sites t h = record {
-  sends = λ _ _. 3;
+  sends = λ _ _. 2;
   enters = λ _ _. 2;
   rooms = record {
     room = λ me i s there.
-        let all = sum-same 3 (count_of (other me) sc.sizes) in
+        let all = sum-same 2 (count_of (other me) sc.sizes) in
         let few = here me i s there s.runs refl in
         omega (arith, all, few);
   };
@@ -90,7 +90,7 @@ begins-few sc q hands b now at sites t h = record {
         let none : length s.coming ≡ 0 = ap length down.coming in
         omega (arith, none)
 
-    starts : (q : ℕ) (me : Side) (i : ℕ) (s : Site) → may_at sc q hands b me i 3 2 s
+    starts : (q : ℕ) (me : Side) (i : ℕ) (s : Site) → may_at sc q hands b me i 2 2 s
     starts zero me i s = inl (omega arith, omega arith)
     starts (suc zero) me i s = inl (omega arith, omega arith)
     starts (suc (suc q)) me i s = inl (omega arith, omega arith)
@@ -199,18 +199,12 @@ changes-few sc q hands b sites me i frame k m change s r e h there room sent may
 steps-at : (sc : Scenario) → IsLawful sc → (q : ℕ) (hands : List HandIn) (b : ℕ) → BreaksAt sc hands b q → (sent : Side → ℕ → ℕ → Bool) (ports : List PortState) (sites : Each Site) → nodes_at sc q hands b sent sites
     → (me : Side) (i : ℕ) (s : Site) (a : Timed) (r e : ℕ) → TickBreaks sc hands sent ports b me i s a → a.tick < 2 ^ 31 → slice_get (of_kind me sites) i ≡ Some s → may_at sc q hands b me i r e s
     → StepsOn sc (may_at sc q hands b me i) (pass_and_tick sc ports me i a.tick s.core).message s (after_act sc ports me i (pass_and_tick sc ports me i a.tick s.core) s) r e
-steps-at sc lawful zero hands b off sent ports sites h me i s a r e t small there (inl more) =
-    tells-few sc hands lawful (has-room sc lawful) sent (h me i s there).0 ports b 0 off.running (omega arith) off.window me i s a r e t (h me i s there).1 more.0 more.1
-steps-at sc lawful zero hands b off sent ports sites h me i s a r e t small there (inr told) =
-    closed-few sc hands lawful (has-room sc lawful) sent ports b 0 off.running (omega arith) off.window me i s a r e t small told.0 told.1
-steps-at sc lawful (suc zero) hands b off sent ports sites h me i s a r e t small there (inl more) =
-    tells-few sc hands lawful (has-room sc lawful) sent (h me i s there).0 ports b 1 off.running (omega arith) off.window me i s a r e t (h me i s there).1 more.0 more.1
-steps-at sc lawful (suc zero) hands b off sent ports sites h me i s a r e t small there (inr told) =
-    closed-few sc hands lawful (has-room sc lawful) sent ports b 1 off.running (omega arith) off.window me i s a r e t small told.0 told.1
-steps-at sc lawful (suc (suc zero)) hands b off sent ports sites h me i s a r e t small there (inl more) =
-    tells-last-few sc hands lawful (has-room sc lawful) sent ports b off.running off.window me i s a r e t (h me i s there) more.0 more.1
-steps-at sc lawful (suc (suc zero)) hands b off sent ports sites h me i s a r e t small there (inr told) =
-    told-few sc hands lawful (has-room sc lawful) sent ports b off.running off.window me i s a r e t told
+steps-at sc lawful zero hands b off sent ports sites h me i s a r e t small there may =
+    breaks-few sc hands lawful (has-room sc lawful) sent (h me i s there).0 ports b 0 off.running (omega arith) off.window me i s a r e t small (h me i s there).1 may
+steps-at sc lawful (suc zero) hands b off sent ports sites h me i s a r e t small there may =
+    breaks-few sc hands lawful (has-room sc lawful) sent (h me i s there).0 ports b 1 off.running (omega arith) off.window me i s a r e t small (h me i s there).1 may
+steps-at sc lawful (suc (suc zero)) hands b off sent ports sites h me i s a r e t small there may =
+    last-few sc hands lawful (has-room sc lawful) sent ports b off.running off.window me i s a r e t (h me i s there) may
 steps-at sc lawful (suc (suc (suc q))) hands b off sent ports sites h me i s a r e t small there may = absurd (let few = off.small in omega (arith, few))
 
 none-pends : {P : Type 0} (a : Timed) (o : Option Timed) → o ≡ None → o ≡ Some a → P

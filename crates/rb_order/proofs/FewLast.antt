@@ -1,6 +1,6 @@
 -- For the law that pending events are few where the run breaks off with the last stage of the sync slot: a node that has told its row sends one message
 -- at most in the tail and one in the first window of the next frame, and enters that window once.
-use Rattle.std.proofs.Common.{◌≡◌, ℕ, zero, suc, ◌+◌, ◌-◌, ◌*◌, ◌<◌, ◌≤◌, ◌⊎◌, Bool, true, false, List, refl, ap, sym, ◌∙◌, subst, arith, inl, inr, Option, Some, None, length}
+use Rattle.std.proofs.Common.{◌≡◌, ℕ, zero, suc, ◌+◌, ◌-◌, ◌*◌, ◌<◌, ◌≤◌, ◌⊎◌, Bool, true, false, List, refl, ap, sym, ◌∙◌, subst, arith, inl, inr, Option, Some, None, length, lit<}
 use Rattle.std.proofs.lemmas.Bool.{cases_lt}
 use Rattle.rb_base.specs.Nodes.{Side}
 use Rattle.rb_base.specs.Sizes.{Sizes, sync_slot_of}
@@ -23,6 +23,7 @@ use Rattle.rb_order.proofs.FewBreak.{no-begin, once-more, slot-in-sync}
 use Rattle.rb_order.proofs.FewEntered.{BringsFew, act-brings}
 use Rattle.rb_order.proofs.FewOff.{StepsOn, messages_in}
 use Rattle.rb_order.proofs.FewSent.{CallsAlike, HasSpoken, IsSentThen, SaysAt, said-then, says-some, speaks-once, spoken-kept, spoken-quiet}
+use Rattle.rb_order.proofs.FewQuiet.{ahead-quiet, deaf-quiet}
 use Rattle.rb_order.proofs.LastEvents.{before-end, last-ticks}
 use Rattle.rb_order.proofs.LastSites.{AwaitsNext, HasToldLast, SiteLast}
 use Rattle.rb_order.proofs.LastTicks.{told-goes, told-ticks}
@@ -42,7 +43,7 @@ pub record ToldFew (sc : Scenario) (hands : List HandIn) (p : ℕ) (me : Side) (
   pub turned : s.core.state.frame ≡ told.st.frame + 1 → (1 ≤ r) ⊎ (told.x + sc.plan.h < s.core.had)
 
 abbrev pub MayLast : Scenario → List HandIn → ℕ → Side → ℕ → ℕ → ℕ → Site → Type 0
-MayLast sc hands p me i r e s = ((3 ≤ r) × (2 ≤ e)) ⊎ ToldFew sc hands p me i r e s
+MayLast sc hands p me i r e s = ((2 ≤ r) × (2 ≤ e)) ⊎ ToldFew sc hands p me i r e s
 
 one-less : (e l : ℕ) → 1 ≤ e → (e - 1) * l + l ≤ e * l
 one-less zero l le = absurd (omega (arith, le))
@@ -56,34 +57,22 @@ two-less zero l le = absurd (omega (arith, le))
 two-less (suc e) l le = let rest = once-more e l (omega (arith, le)) in omega (arith, rest)
 
 -- the tick with which it tells its row
-pub tells-last-few : (sc : Scenario) (hands : List HandIn) → IsLawful sc → HasRoom sc.plan → (sent : Side → ℕ → ℕ → Bool) (ports : List PortState) (p : ℕ) → IsRunning (moment sc hands p)
-    → (moment sc hands p).window ≡ 3 * sync_slot_of sc.sizes + 2 → (me : Side) (i : ℕ) (s : Site) (a : Timed) (r e : ℕ) → TickBreaks sc hands sent ports p me i s a → SiteLast sc hands sent p me i s → 3 ≤ r → 2 ≤ e
-    → StepsOn sc (MayLast sc hands p me i) (pass_and_tick sc ports me i a.tick s.core).message s (after_act sc ports me i (pass_and_tick sc ports me i a.tick s.core) s) r e
-tells-last-few sc hands lawful room sent ports p running at me i s a r e t h three two =
-    let x : Act = pass_and_tick sc ports me i a.tick s.core in
+tells-few : (sc : Scenario) (hands : List HandIn) (ports : List PortState) (p : ℕ) (me : Side) (i k : ℕ) (s : Site) (r e : ℕ)
+    → HasToldLast sc hands me i p (after_act sc ports me i (pass_and_tick sc ports me i k s.core) s) → (pass_and_tick sc ports me i k s.core).message ≡ None → 2 ≤ r → 2 ≤ e
+    → StepsOn sc (MayLast sc hands p me i) (pass_and_tick sc ports me i k s.core).message s (after_act sc ports me i (pass_and_tick sc ports me i k s.core) s) r e
+tells-few sc hands ports p me i k s r e tells quiet some two =
+    let x : Act = pass_and_tick sc ports me i k s.core in
     let brings : BringsFew sc me x s (after_act sc ports me i x s) = act-brings sc ports me i x s in
     let most = brings.most in
     let more = two-less e (length sc.says) two in
+    let none : messages_in x.message ≡ 0 = ap messages_in quiet in
     record {
-      sends = r - messages_in x.message;
+      sends = r;
       enters = 1;
-      may = inr (record {
-        told = last-ticks sc hands lawful room sent ports p running at me i s a t h;
-        enters = λ lt. omega arith;
-        tail = λ f. inl (left x.message);
-        turned = λ f. inl (let le = left x.message in omega (arith, le));
-      });
-      sent = fits x.message;
+      may = inr (record { told = tells; enters = λ lt. omega arith; tail = λ f. inl some; turned = λ f. inl (omega (arith, some)) });
+      sent = omega (arith, none);
       room = omega (arith, most, more);
     }
-  where
-    left : (m : Option Message) → 2 ≤ r - messages_in m
-    left None = omega (arith, three)
-    left (Some m) = omega (arith, three)
-
-    fits : (m : Option Message) → r - messages_in m + messages_in m ≤ r
-    fits None = omega arith
-    fits (Some m) = omega (arith, three)
 
 -- a tick in the tail keeps the ticks of the calls
 tail-alike : (sizes : Sizes) (plan : Plan) (me : Side) (i frame e x : ℕ) (c : Core) (word : ℕ) → HasRoom plan → e + tail_start_of sizes plan ≤ x → IsInTail sizes plan me frame e x c.state c.had → c.had < x
@@ -105,7 +94,7 @@ tail-alike sizes plan me i frame e x c word room low h lt = by (is_spent c)
         act_of y = act_on sizes plan me i c y (said_at sizes plan me i y word c.had) (state_kept sizes me i y word (said_at sizes plan me i y word c.had))
 
 -- a tick after it
-pub told-few : (sc : Scenario) (hands : List HandIn) → IsLawful sc → HasRoom sc.plan → (sent : Side → ℕ → ℕ → Bool) (ports : List PortState) (p : ℕ) → IsRunning (moment sc hands p)
+told-few : (sc : Scenario) (hands : List HandIn) → IsLawful sc → HasRoom sc.plan → (sent : Side → ℕ → ℕ → Bool) (ports : List PortState) (p : ℕ) → IsRunning (moment sc hands p)
     → (moment sc hands p).window ≡ 3 * sync_slot_of sc.sizes + 2 → (me : Side) (i : ℕ) (s : Site) (a : Timed) (r e : ℕ) → TickBreaks sc hands sent ports p me i s a → ToldFew sc hands p me i r e s
     → StepsOn sc (MayLast sc hands p me i) (pass_and_tick sc ports me i a.tick s.core).message s (after_act sc ports me i (pass_and_tick sc ports me i a.tick s.core) s) r e
 unfolding pass_and_tick told-ticks
@@ -293,3 +282,27 @@ told-few sc hands lawful room sent ports p running at me i s a r e t g = by next
     by (inr y) =
         let begun = y.begun in
         beyond (omega (arith, begun, had)) (elim (g.turned y.in_frame) [ inl one ↦ inl one | inr over ↦ inr (omega (arith, over, had)) ]) x.message refl
+
+none-pends : {P : Type 0} (a : Timed) (o : Option Timed) → o ≡ None → o ≡ Some a → P
+none-pends a None e f = cc
+none-pends a (Some b) e f = cc
+
+-- a due tick
+pub last-few : (sc : Scenario) (hands : List HandIn) → IsLawful sc → HasRoom sc.plan → (sent : Side → ℕ → ℕ → Bool) (ports : List PortState) (p : ℕ) → IsRunning (moment sc hands p)
+    → (moment sc hands p).window ≡ 3 * sync_slot_of sc.sizes + 2 → (me : Side) (i : ℕ) (s : Site) (a : Timed) (r e : ℕ) → TickBreaks sc hands sent ports p me i s a
+    → SiteLast sc hands sent p me i s → MayLast sc hands p me i r e s
+    → StepsOn sc (MayLast sc hands p me i) (pass_and_tick sc ports me i a.tick s.core).message s (after_act sc ports me i (pass_and_tick sc ports me i a.tick s.core) s) r e
+last-few sc hands lawful room sent ports p running at me i s a r e t h (inr told) = told-few sc hands lawful room sent ports p running at me i s a r e t told
+last-few sc hands lawful room sent ports p running at me i s a r e t (inl stopped) (inl more) = none-pends a s.ahead stopped.ahead t.pend
+last-few sc hands lawful room sent ports p running at me i s a r e t (inr (inl h)) (inl more) =
+    tells-few sc hands ports p me i a.tick s r e (last-ticks sc hands lawful room sent ports p running at me i s a t (inr (inl h))) (ahead-quiet sc hands lawful room sent ports p running at me i s a t h) more.0 more.1
+last-few sc hands lawful room sent ports p running at me i s a r e t (inr (inr (inl h))) (inl more) =
+    tells-few sc hands ports p me i a.tick s r e (last-ticks sc hands lawful room sent ports p running at me i s a t (inr (inr (inl h))))
+    (deaf-quiet sc hands lawful room sent ports p 2 running (lit< tt) at me i s a t h) more.0 more.1
+last-few sc hands lawful room sent ports p running at me i s a r e t (inr (inr (inr h))) (inl more) =
+    told-few sc hands lawful room sent ports p running at me i s a r e t (record {
+      told = h;
+      enters = λ lt. let two = more.1 in omega (arith, two);
+      tail = λ f. inl more.0;
+      turned = λ f. inl (let some = more.0 in omega (arith, some));
+    })

@@ -99,6 +99,7 @@ pub mod FewOff
 pub mod FewThere
 pub mod FewEntered
 pub mod FewSent
+pub mod FewQuiet
 pub mod FewBreak
 pub mod TailTicks
 pub mod TurnTicks

@@ -11,9 +11,9 @@ use Rattle.rb_rules.specs.WorldStep.{Choice, Site, World, after_act, due_of, pas
 use Rattle.rb_rules.specs.WorldStep.Pending.{Tick}
 
 -- what comes to a node of this kind: of each node of the other kind a message for the window in which the node stands and one for the
--- next, and where the run breaks off in a sync slot three more until it has ended; and besides these what is said to it in three windows
+-- next, and where the run breaks off in a sync slot two more until it has ended; and besides these what is said to it in three windows
 abbrev pub most_coming : Scenario → Side → ℕ
-most_coming sc me = 5 * count_of (other me) sc.sizes + 3 * length sc.says
+most_coming sc me = 4 * count_of (other me) sc.sizes + 3 * length sc.says
 
 -- and with it the node's tick
 abbrev pub most_pending : Scenario → Side → ℕ

@@ -69,7 +69,7 @@ pub fn every_run_ends()
     ensures { EveryRunEndsInLawful }
 {}
 
-/// In every lawful scenario room for `most_pending` events at each node, reserved at opening, is enough: for its tick, for five messages
+/// In every lawful scenario room for `most_pending` events at each node, reserved at opening, is enough: for its tick, for four messages
 /// of each node of the other kind, and for three times as many as there are entries of what is said. Whatever was chosen, no more is
 /// pending at a node (`now`), nor after a tick of its own (`own`), nor with the message that another node sends at its tick (`message`).
 pub fn pending_events_are_few()
