@@ -54,7 +54,7 @@ deaf-more sc hands p side j s z core ahead h = record {
   last = h.last;
 }
 
-closed-more : (sc : Scenario) (hands : List HandIn) (p : ℕ) (side : Side) (j : ℕ) (s z : Site) → z.core ≡ s.core → z.ahead ≡ s.ahead → z.row ≡ s.row → HasClosed sc hands side j p s → HasClosed sc hands side j p z
+pub closed-more : (sc : Scenario) (hands : List HandIn) (p : ℕ) (side : Side) (j : ℕ) (s z : Site) → z.core ≡ s.core → z.ahead ≡ s.ahead → z.row ≡ s.row → HasClosed sc hands side j p s → HasClosed sc hands side j p z
 closed-more sc hands p side j s z core ahead row h = record {
   st = h.st;
   state = h.state;

@@ -55,7 +55,7 @@ pub record BreaksOff (sc : Scenario) (N : ℕ → List HandIn → ℕ → (Side 
   pub silent : frame_in w.turn ≡ None
 
 -- and one in which it has broken off
-pub record IsOver (sc : Scenario) (w : World) : Type 0 where
+pub record IsOver (sc : Scenario) (N : ℕ → List HandIn → ℕ → (Side → ℕ → ℕ → Bool) → Each Site → Type 0) (w : World) : Type 0 where
   pub b : ℕ
   pub q : ℕ
   pub off : BreaksAt sc w.hands b q
@@ -63,6 +63,8 @@ pub record IsOver (sc : Scenario) (w : World) : Type 0 where
   pub ended : w.book.ended ≡ true
   pub silent : frame_in w.turn ≡ None
   pub small : (me : Side) (i : ℕ) (s : Site) → slice_get (of_kind me w.sites) i ≡ Some s → s.runs ≡ true → s.core.had < 2 ^ 31
+  pub sent : Side → ℕ → ℕ → Bool
+  pub nodes : N q w.hands b sent w.sites
 
 true-false : {P : Type 0} → true ≡ false → P
 true-false e = absurd (cc)
@@ -116,7 +118,7 @@ runs-small sc N hands b q sent sites keeps off h me i s there runs = elim (keeps
 -- after an event that leaves the book: either the stage isn't complete, or the run has ended
 settles-off : (sc : Scenario) (N : ℕ → List HandIn → ℕ → (Side → ℕ → ℕ → Bool) → Each Site → Type 0) (hands : List HandIn) (b q : ℕ) (sent : Side → ℕ → ℕ → Bool) (x : World) → HasRoom sc.plan → x.hands ≡ hands
     → KeepsNodes sc q (N q) → BreaksAt sc hands b q → AllSent sc hands b sent → NodesOff sc N hands b q sent x.sites → x.book ≡ (moment sc hands b).book → needs_no_event sc x.book.upcoming ≡ false
-    → BreaksOff sc N (settle sc ByAnEvent 2 x) ⊎ IsOver sc (settle sc ByAnEvent 2 x)
+    → BreaksOff sc N (settle sc ByAnEvent 2 x) ⊎ IsOver sc N (settle sc ByAnEvent 2 x)
 settles-off sc N hands b q sent x room hands_are keeps off all_sent nodes is needs = by (is_complete sc x.sites (Stage place)) refl
   where
     place : Place
@@ -134,7 +136,7 @@ settles-off sc N hands b q sent x room hands_are keeps off all_sent nodes is nee
     comes : comes_so sc ByAnEvent x.book.upcoming ≡ true
     comes = not-is (needs_no_event sc x.book.upcoming) needs
 
-    by : (t : Bool) → is_complete sc x.sites (Stage place) ≡ t → BreaksOff sc N y ⊎ IsOver sc y
+    by : (t : Bool) → is_complete sc x.sites (Stage place) ≡ t → BreaksOff sc N y ⊎ IsOver sc N y
     by false e =
         let open_still : is_complete sc x.sites x.book.upcoming ≡ false = ap (is_complete sc x.sites) it.upcoming ∙ e in
         let still : settle_next sc ByAnEvent x ≡ x = waits-still sc x (λ going. and-false (comes_so sc ByAnEvent x.book.upcoming) (is_complete sc x.sites x.book.upcoming) open_still) in
@@ -165,7 +167,7 @@ settles-off sc N hands b q sent x room hands_are keeps off all_sent nodes is nee
         let y_is : y ≡ record next { turn = record_since x next } =
         ap (λ n. settle_rest sc ByAnEvent 1 n (record_since x n)) next_is ∙ rest-still sc ByAnEvent 1 next (record_since x next) still in
         let silent : frame_in (record_since x next) ≡ None = ap (λ m. frame_in (record_since x (record x { book = book_with sc x.sites x.book m }))) it.upcoming ∙ stage-silent sc place _ x.book in
-        inr (subst (IsOver sc) (sym y_is) (record {
+        inr (subst (IsOver sc N) (sym y_is) (record {
           b = b;
           q = q;
           off = subst (λ hands. BreaksAt sc hands b q) (sym hands_are) off;
@@ -173,12 +175,14 @@ settles-off sc N hands b q sent x room hands_are keeps off all_sent nodes is nee
           ended = ended;
           silent = silent;
           small = runs-small sc N hands b q sent x.sites keeps off nodes;
+          sent = sent;
+          nodes = subst (λ hands. N q hands b sent x.sites) (sym hands_are) nodes.nodes;
         }))
 
 -- an event
 happens-off : (sc : Scenario) (N : ℕ → List HandIn → ℕ → (Side → ℕ → ℕ → Bool) → Each Site → Type 0) (b q : ℕ) (sent : Side → ℕ → ℕ → Bool) (w : World) (d : Due) → IsLawful sc → HasRoom sc.plan → KeepsNodes sc q (N q)
     → BreaksAt sc w.hands b q → AllSent sc w.hands b sent → NodesOff sc N w.hands b q sent w.sites → w.book ≡ (moment sc w.hands b).book → needs_no_event sc w.book.upcoming ≡ false
-    → (due : IsDue w d) → FirstOf sc w.hands b due.t → BreaksOff sc N (take_if_due sc w (Some d)) ⊎ IsOver sc (take_if_due sc w (Some d))
+    → (due : IsDue w d) → FirstOf sc w.hands b due.t → BreaksOff sc N (take_if_due sc w (Some d)) ⊎ IsOver sc N (take_if_due sc w (Some d))
 happens-off sc N b q sent w d lawful room keeps off all_sent nodes is needs due first =
     let x : World = happens sc w d in
     let x_is : x ≡ with_pending sc w d.side d.node due.s d.pending = happens-is sc w d due.s due.there in
@@ -188,7 +192,7 @@ happens-off sc N b q sent w d lawful room keeps off all_sent nodes is needs due 
     (subst (λ (x : World). NodesOff sc N w.hands b q sent x.sites) (sym x_is) after.0) (same ∙ is) (ap (λ (b : Book). needs_no_event sc b.upcoming) same ∙ needs)
 
 pub take-off : (sc : Scenario) (N : ℕ → List HandIn → ℕ → (Side → ℕ → ℕ → Bool) → Each Site → Type 0) (w : World) (d : Due) → IsLawful sc → HasRoom sc.plan → ((q : ℕ) → q < 3 → KeepsNodes sc q (N q))
-    → BreaksOff sc N w → IsDue w d → BreaksOff sc N (take_if_due sc w (Some d)) ⊎ IsOver sc (take_if_due sc w (Some d))
+    → BreaksOff sc N w → IsDue w d → BreaksOff sc N (take_if_due sc w (Some d)) ⊎ IsOver sc N (take_if_due sc w (Some d))
 take-off sc N w d lawful room keeps h due =
     let k : BreakStands sc N w.hands w.sites w.book = h.stands in
     let yet : WaitsYet sc w.hands k.b w.sites = waits-yet sc N w.hands k.b k.q k.sent w.sites (keeps k.q k.off.small) k.off k.nodes k.open_still in
@@ -202,7 +206,7 @@ pub begins-off : (sc : Scenario) (N : ℕ → List HandIn → ℕ → (Side → 
     → w.book ≡ (moment sc w.hands b).book → needs_no_event sc w.book.upcoming ≡ false → (due : IsDue w d) → d.pending ≡ Tick k → at d.side d.node ≡ b
     → slice_get (of_kind d.side (moment sc w.hands b).nodes) d.node ≡ Some st → is_good_at sc (moment sc w.hands b) d.side d.node ≡ true → k ≡ last_tick sc (moment sc w.hands b) d.side st
     → now ≤ due.t → due.t ≡ time_of (clock_of sc d.side d.node) k
-    → BreaksOff sc N (take_if_due sc w (Some d)) ⊎ IsOver sc (take_if_due sc w (Some d))
+    → BreaksOff sc N (take_if_due sc w (Some d)) ⊎ IsOver sc N (take_if_due sc w (Some d))
 begins-off sc N now at w b q d k st lawful room keeps off h bound is needs due tick here state good last later at_time =
     let hands : List HandIn = w.hands in
     let m : Moment = moment sc hands b in

@@ -1,16 +1,14 @@
 -- What holds of runs event by event in every lawful scenario.
-use Rattle.std.proofs.Common.{◌≡◌, ℕ, zero, suc, ◌+◌, ◌^◌, ◌<◌, Bool, true, false, List, ap, sym, ◌∙◌, arith, inl, inr, Some, slice_get}
+use Rattle.std.proofs.Common.{◌≡◌, ℕ, zero, suc, ◌^◌, ◌<◌, Bool, true, false, List, sym, ◌∙◌, arith, inl, inr, Some, slice_get}
 use Rattle.rb_base.specs.Nodes.{Side}
 use Rattle.rb_rules.specs.Book.{Each, of_kind}
 use Rattle.rb_rules.specs.Goodness.{Scenario}
 use Rattle.rb_rules.specs.Lawful.{IsLawful}
-use Rattle.rb_rules.specs.Moments.{IsRunning}
 use Rattle.rb_rules.specs.Ports.{HandIn}
-use Rattle.rb_rules.specs.Rounds.{moment}
 use Rattle.rb_rules.specs.WorldStep.{Choice, Site, World, needs_no_event, world_after}
-use Rattle.rb_order.specs.Laws.{EventsAreRoundsInLawful, EveryRunEndsInLawful, OneTurnARecordInLawful, SomethingIsDueInLawful, SyncSlotsHold}
+use Rattle.rb_order.specs.Laws.{EventsAreRoundsInLawful, EveryRunEndsInLawful, OneTurnARecordInLawful, SomethingIsDueInLawful}
 use Rattle.rb_order.proofs.BreakKeeps.{early-keeps}
-use Rattle.rb_order.proofs.BreakNodes.{BreaksAt, KeepsNodes}
+use Rattle.rb_order.proofs.BreakNodes.{KeepsNodes}
 use Rattle.rb_order.proofs.BreakOff.{left-off, runs-small}
 use Rattle.rb_order.proofs.BreakRuns.{WaitsYet, waits-yet}
 use Rattle.rb_order.proofs.BreakWorld.{NodesBreak}
@@ -33,7 +31,7 @@ nodes_at sc zero = NodesBreak sc
 nodes_at sc (suc zero) = NodesBreak sc
 nodes_at sc (suc (suc q)) = NodesLast sc
 
-keeps : (sc : Scenario) → IsLawful sc → (q : ℕ) → q < 3 → KeepsNodes sc q (nodes_at sc q)
+pub keeps : (sc : Scenario) → IsLawful sc → (q : ℕ) → q < 3 → KeepsNodes sc q (nodes_at sc q)
 keeps sc lawful zero small = early-keeps sc lawful (has-room sc lawful) 0 (omega arith)
 keeps sc lawful (suc zero) small = early-keeps sc lawful (has-room sc lawful) 1 (omega arith)
 keeps sc lawful (suc (suc zero)) small = last-keeps sc lawful (has-room sc lawful)
@@ -87,21 +85,3 @@ runs-left sc lawful w (inr (inr over)) me i s there runs = over.small me i s the
 pub ends-hold : EveryRunEndsInLawful
 ends-hold sc lawful =
     every-run-ends sc (λ choices. ticks-left sc lawful (world_after sc choices) (any sc lawful choices)) (λ choices. runs-left sc lawful (world_after sc choices) (any sc lawful choices))
-
--- Where the sync slots hold no run breaks off in one.
-
-never : {P : Type 0} (sc : Scenario) → SyncSlotsHold sc → (hands : List HandIn) (b q : ℕ) → BreaksAt sc hands b q → P
-never sc holds hands b q off =
-    let k : b + 1 ≡ suc b = omega arith in
-    let window = off.window in
-    let small = off.small in
-    let on : IsRunning (moment sc hands (b + 1)) = holds hands b off.running (omega (arith, window)) (omega (arith, window, small)) in
-    true-false (sym off.ends ∙ sym (ap (λ n. (moment sc hands n).book.ended) k) ∙ on)
-
-pub stands-hold : (sc : Scenario) → IsLawful sc → SyncSlotsHold sc → (choices : List Choice) → StandsInRounds sc (world_after sc choices)
-stands-hold sc lawful holds choices = by (any sc lawful choices)
-  where
-    by : AnyWorld sc (nodes_at sc) (world_after sc choices) → StandsInRounds sc (world_after sc choices)
-    by (inl run) = run.stands
-    by (inr (inl off)) = never sc holds (world_after sc choices).hands off.stands.b off.stands.q off.stands.off
-    by (inr (inr over)) = never sc holds (world_after sc choices).hands over.b over.q over.off

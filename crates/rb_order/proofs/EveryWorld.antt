@@ -63,7 +63,7 @@ pub record InRun (sc : Scenario) (w : World) : Type 0 where
 
 -- every world is one of three
 abbrev pub AnyWorld : (sc : Scenario) → (ℕ → List HandIn → ℕ → (Side → ℕ → ℕ → Bool) → Each Site → Type 0) → World → Type 0
-AnyWorld sc N w = InRun sc w ⊎ (BreaksOff sc N w ⊎ IsOver sc w)
+AnyWorld sc N w = InRun sc w ⊎ (BreaksOff sc N w ⊎ IsOver sc N w)
 
 -- what settles by itself keeps the world in the rounds
 go-on-keeps : (sc : Scenario) (now : ℕ) (at : Side → ℕ → ℕ) (w : World) → IsLawful sc → HasRoom sc.plan → WorldInRounds sc now at w
@@ -241,9 +241,9 @@ go-on-still sc N w h =
     subst (λ b. BreaksOff sc N (elim b as (λ _. World) [ true ↦ w | false ↦ settle sc ByItself 2 w ])) (sym going)
     (subst (BreaksOff sc N) (sym (settle-still sc ByItself 2 w still)) (record { stands = h.stands; silent = refl }))
 
-go-on-over : (sc : Scenario) (w : World) → IsOver sc w → IsOver sc (go_on sc w)
+go-on-over : (sc : Scenario) (N : ℕ → List HandIn → ℕ → (Side → ℕ → ℕ → Bool) → Each Site → Type 0) (w : World) → IsOver sc N w → IsOver sc N (go_on sc w)
 unfolding go_on
-go-on-over sc w h = subst (λ b. IsOver sc (elim b as (λ _. World) [ true ↦ w | false ↦ settle sc ByItself 2 w ])) (sym h.ended) h
+go-on-over sc N w h = subst (λ b. IsOver sc N (elim b as (λ _. World) [ true ↦ w | false ↦ settle sc ByItself 2 w ])) (sym h.ended) h
 
 -- while no frame's record is the turn nothing is handed in
 hand-none : (sc : Scenario) (w : World) (biu state : ℕ) → frame_in w.turn ≡ None → hand sc w biu state ≡ w
@@ -275,12 +275,12 @@ choice-keeps sc N choices (Take i) lawful room keeps h = by (slice_get (due_of s
     by (Some d) e = let open_still = due-going sc w i d e in of d open_still.0 open_still.1 (events-due sc choices i d e) h
 choice-keeps sc N choices GoOn lawful room keeps (inl run) = inl (go-on-run sc (world_after sc choices) lawful room run)
 choice-keeps sc N choices GoOn lawful room keeps (inr (inl off)) = inr (inl (go-on-still sc N (world_after sc choices) off))
-choice-keeps sc N choices GoOn lawful room keeps (inr (inr over)) = inr (inr (go-on-over sc (world_after sc choices) over))
+choice-keeps sc N choices GoOn lawful room keeps (inr (inr over)) = inr (inr (go-on-over sc N (world_after sc choices) over))
 choice-keeps sc N choices (Hand biu state) lawful room keeps (inl run) = inl (hand-run sc (world_after sc choices) biu state lawful room run)
 choice-keeps sc N choices (Hand biu state) lawful room keeps (inr (inl off)) =
     inr (inl (subst (BreaksOff sc N) (sym (hand-none sc (world_after sc choices) biu state off.silent)) off))
 choice-keeps sc N choices (Hand biu state) lawful room keeps (inr (inr over)) =
-    inr (inr (subst (IsOver sc) (sym (hand-none sc (world_after sc choices) biu state over.silent)) over))
+    inr (inr (subst (IsOver sc N) (sym (hand-none sc (world_after sc choices) biu state over.silent)) over))
 
 pub after-more : (sc : Scenario) (choices : List Choice) (c : Choice) → world_after sc (choices ++ c ∷ []) ≡ choose sc (world_after sc choices) c
 after-more sc choices c = more choices (first_world sc)

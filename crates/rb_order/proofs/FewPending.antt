@@ -1,123 +1,25 @@
 -- Pending events are few: what pends at a node that runs is of the window in which it stands and of the next.
-use Rattle.std.proofs.Common.{◌≡◌, ℕ, suc, ◌+◌, ◌≤◌, ◌&&◌, Bool, true, false, List, [], ◌∷◌, ◌++◌, filter, length, length-append, map, refl, ap, sym, ◌∙◌, subst, arith, Option, Some, None, option_map, option_to_list, slice_get}
-use Rattle.std.proofs.lemmas.Bool.Decides.{nat_tests}
+use Rattle.std.proofs.Common.{◌≡◌, ℕ, ◌+◌, ◌≤◌, ◌&&◌, Bool, true, false, List, [], ◌∷◌, ◌++◌, length, length-append, map, inl, inr, refl, ap, sym, ◌∙◌, subst, arith, Option, Some, None, option_map, option_to_list, slice_get}
 use Rattle.rb_base.specs.Nodes.{Side, other}
-use Rattle.rb_base.specs.Nodes.Side.{Biu, Rmu}
-use Rattle.rb_base.specs.declared.node.NodeName.{NodeName}
-use Rattle.rb_base.specs.declared.node.NodeName.TheVariants as node
-use Rattle.rb_rules.specs.declared.say.Say.{Say}
 use Rattle.rb_rules.specs.Book.{Each, of_kind}
 use Rattle.rb_rules.specs.Core.{Act}
 use Rattle.rb_rules.specs.declared.message.Message.{Message}
-use Rattle.rb_rules.specs.Clock.{time_of}
-use Rattle.rb_rules.specs.Goodness.{Scenario, clock_of}
-use Rattle.rb_rules.specs.Hearing.{Coming, Sending, Span, coming_of, coming_said, is_said, said_by, span_of}
-use Rattle.rb_rules.specs.Links.{name_of, same_node}
-use Rattle.rb_rules.specs.NodeState.{NodeState}
-use Rattle.rb_rules.specs.Ports.{HandIn}
-use Rattle.rb_rules.specs.Rounds.{Moment, moment, window_in}
-use Rattle.rb_rules.specs.Slots.{count_of}
+use Rattle.rb_rules.specs.Goodness.{Scenario}
+use Rattle.rb_rules.specs.Hearing.{Sending, coming_of}
+use Rattle.rb_rules.specs.Lawful.{IsLawful}
 use Rattle.rb_rules.specs.WorldStep.{Choice, Due, Site, Timed, World, after_act, at_node, choose, happens, pass_and_tick, sent_to, take, take_if_due, times_of, with_act, with_message, with_pending, world_after}
 use Rattle.rb_rules.specs.WorldStep.Pending.{Tick}
 use Rattle.rb_rules.specs.WorldStep.Choice.{Take}
 use Rattle.rb_rules.specs.WorldStep.Way.{ByAnEvent}
-use Rattle.rb_order.specs.PendingEvents.{PendingEventsAreFewIfSyncHolds, TakesTick, most_coming, most_pending}
-use Rattle.rb_order.proofs.EventsHold.{stands-hold}
-use Rattle.rb_order.proofs.EveryWorld.{after-more}
-use Rattle.rb_order.proofs.Invariant.{NodeStands, ahead_so_far, entry_of, heard_so_far, is_good_at, last_tick, next_stage, sending_of}
+use Rattle.rb_order.specs.PendingEvents.{PendingEventsAreFewInLawful, TakesTick, most_coming, most_pending}
+use Rattle.rb_order.proofs.FewKeeps.{few-keeps, few_at, rooms-few}
+use Rattle.rb_order.proofs.EveryWorld.{AnyWorld, after-more, any-after}
 use Rattle.rb_order.proofs.OneTake.{StandsInRounds}
-use Rattle.rb_order.proofs.PendingLists.{Hears}
-use Rattle.rb_order.proofs.SourceSums.{all-of-sources, coming_of_source, items-once, sum-plus, sum-twos}
+use Rattle.rb_order.proofs.TickRooms.{has-room}
+use Rattle.rb_order.proofs.FewThere.{few-where-it-stands, length-mapped}
 use Rattle.rb_order.proofs.WorldNodes.{settle-sites}
 use Rattle.rb_order.proofs.WorldStands.{IsDown, IsUp, kind-itself, node-itself, not-other, sent_by}
 use Rattle.rb_order.proofs.WorldTicks.{after_tick, get-after, kind-other, reached, reached-not}
-
--- What is said.
-
-and-left : (a b : Bool) → (a && b) ≡ true → a ≡ true
-and-left true b e = refl
-and-left false b e = cc
-
-same-source : (name : NodeName) (me : Side) (a b : ℕ) → same_node name (name_of me a) ≡ true → same_node name (name_of me b) ≡ true → a ≡ b
-same-source (node.Biu i) Biu a b e f = grind (arith, nat_tests)
-same-source (node.Biu i) Rmu a b e f = cc
-same-source (node.Rmu i) Biu a b e f = cc
-same-source (node.Rmu i) Rmu a b e f = grind (arith, nat_tests)
-
--- an entry is said by one node
-said-once : (me : Side) (i : ℕ) (span : Span) (s : Say) (a b : ℕ) → is_said me i a span s ≡ true → is_said me i b span s ≡ true → a ≡ b
-said-once me i span s a b e f =
-    same-source s.from (other me) a b (and-left _ _ (and-left _ _ (and-left _ _ e))) (and-left _ _ (and-left _ _ (and-left _ _ f)))
-
-length-mapped : {X Y : Type 0} (f : X → Y) (xs : List X) → length (map f xs) ≡ length xs
-length-mapped f [] = refl
-length-mapped f (x ∷ xs) = ap suc (length-mapped f xs)
-
--- how many entries source j says to the node in a window
-abbrev entries_of : Scenario → Side → ℕ → Span → ℕ → ℕ
-entries_of sc me i span j = length (filter (is_said me i j span) sc.says)
-
-said-many : (sc : Scenario) (me : Side) (i : ℕ) (span : Span) (j : ℕ) → length (said_by sc me i span j) ≡ entries_of sc me i span j
-said-many sc me i span j = length-mapped (coming_said sc.plan.version (clock_of sc me i) j span) (filter (is_said me i j span) sc.says)
-
--- What is sent.
-
-entry-once : (sc : Scenario) (m : Moment) (me : Side) (i j : ℕ) → length (entry_of sc m me i j) ≤ 1
-entry-once sc m me i j = by (sending_of sc m (other me) j)
-  where
-    by : (o : Option Sending) → length (option_to_list (option_map (coming_of sc me i j m.frame) o)) ≤ 1
-    by None = omega arith
-    by (Some x) = omega arith
-
-if-sent : (b : Bool) (xs : List Coming) → length xs ≤ 1 → length (elim b as (λ _. List Coming) [ true ↦ xs | false ↦ [] ]) ≤ 1
-if-sent true xs le = le
-if-sent false xs le = omega arith
-
-heard-few : (sc : Scenario) (m : Moment) (me : Side) (i : ℕ) (span : Span) (sent : ℕ → Bool) (j : ℕ)
-    → length (heard_so_far sc m me i span sent j) ≤ 1 + entries_of sc me i span j
-heard-few sc m me i span sent j = by (is_good_at sc m (other me) j)
-  where
-    by : (b : Bool) → length (elim b as (λ _. List Coming) [
-      | true ↦ elim (sent j) as (λ _. List Coming) [ true ↦ entry_of sc m me i j | false ↦ [] ]
-      | false ↦ said_by sc me i span j
-    ]) ≤ 1 + entries_of sc me i span j
-    by true = let one = if-sent (sent j) (entry_of sc m me i j) (entry-once sc m me i j) in omega (arith, one)
-    by false = let many = said-many sc me i span j in omega (arith, many)
-
-ahead-few : (sc : Scenario) (m : Moment) (me : Side) (i : ℕ) (sent : ℕ → Bool) (j : ℕ) → length (ahead_so_far sc m me i sent j) ≤ 1
-ahead-few sc m me i sent j = by (is_good_at sc m (other me) j)
-  where
-    by : (b : Bool) → length (elim b as (λ _. List Coming) [
-      | true ↦ elim (sent j) as (λ _. List Coming) [ true ↦ entry_of sc m me i j | false ↦ [] ]
-      | false ↦ []
-    ]) ≤ 1
-    by true = if-sent (sent j) (entry_of sc m me i j) (entry-once sc m me i j)
-    by false = omega arith
-
--- A node.
-
-few-where-it-stands : (sc : Scenario) (hands : List HandIn) (sent : Side → ℕ → ℕ → Bool) (now : ℕ) (me : Side) (i p : ℕ) (s : Site) (st : NodeState) (a : Timed)
-    → NodeStands sc hands sent now me i p s st a → length s.coming ≤ most_coming sc me
-few-where-it-stands sc hands sent now me i p s st a h =
-    let m : Moment = moment sc hands p in
-    let next : Moment = moment sc hands (next_stage sc.sizes m p) in
-    let span : Span = span_of st (window_in sc m me st) in
-    let t : ℕ = time_of (clock_of sc me i) (last_tick sc m me st) in
-    let n : ℕ = count_of (other me) sc.sizes in
-    let heard : ℕ → List Coming = heard_so_far sc m me i span (λ j. sent (other me) j p) in
-    let ahead : ℕ → List Coming = ahead_so_far sc next me i (λ j. sent (other me) j (next_stage sc.sizes m p)) in
-    let each : (j : ℕ) → coming_of_source t s.coming j ≤ 2 + entries_of sc me i span j = λ j.
-    let hears : Hears j t s.got s.coming (heard j) (ahead j) = h.receives.hears j in
-    let as_many = hears.as_many in
-    let later = ap length hears.later in
-    let few = heard-few sc m me i span (λ j. sent (other me) j p) j in
-    let one = ahead-few sc next me i (λ j. sent (other me) j (next_stage sc.sizes m p)) j in
-    omega (arith, as_many, later, few, one) in
-    let all = all-of-sources t n s.coming h.receives.known in
-    let both = sum-plus (coming_of_source t s.coming) (λ _. 2) (entries_of sc me i span) n each in
-    let twos = sum-twos n in
-    let said = items-once (λ j. is_said me i j span) n (said-once me i span) sc.says in
-    omega (arith, all, both, twos, said)
 
 times-many : (s : Site) → length (times_of s) ≤ length s.coming + 1
 times-many s = by s.ahead
@@ -194,31 +96,44 @@ own-few sc me i frame k o change sites s fits there =
 
 -- Worlds.
 
+coming-few : (sc : Scenario) (sites : Each Site) → ((me : Side) (i : ℕ) (s : Site) → slice_get (of_kind me sites) i ≡ Some s → length s.coming ≤ most_coming sc me) → HaveRoom sc sites
+coming-few sc sites h me i s there = let few = h me i s there in let all = times-many s in omega (arith, few, all)
+
+all-few : (sc : Scenario) → IsLawful sc → (choices : List Choice) → HaveRoom sc (world_after sc choices).sites
+all-few sc lawful choices = by (any-after sc (few_at sc) lawful (has-room sc lawful) (few-keeps sc lawful) choices)
+  where
+    w : World
+    w = world_after sc choices
+
+    by : AnyWorld sc (few_at sc) w → HaveRoom sc w.sites
+    by (inl run) = world-few sc w run.stands
+    by (inr (inl off)) = coming-few sc w.sites (rooms-few sc off.stands.q w.hands off.stands.b off.stands.sent w.sites off.stands.nodes.nodes)
+    by (inr (inr over)) = coming-few sc w.sites (rooms-few sc over.q w.hands over.b over.sent w.sites over.nodes)
+
 -- a tick that is due happens in the world after one more choice
-tick-few : (sc : Scenario) → ((choices : List Choice) → StandsInRounds sc (world_after sc choices)) → (choices : List Choice) (me : Side) (i k : ℕ) (s : Site) (x : Act)
+tick-few : (sc : Scenario) → IsLawful sc → (choices : List Choice) (me : Side) (i k : ℕ) (s : Site) (x : Act)
     → TakesTick sc (world_after sc choices) me i k s x
     → HaveRoom sc (with_message sc me i x.core.state.frame k x.message (at_node me i (after_act sc (world_after sc choices).ports me i x) (world_after sc choices).sites))
 unfolding take happens with_act
-tick-few sc stands choices me i k s x h =
+tick-few sc lawful choices me i k s x h =
     let w : World = world_after sc choices in
     let d : Due = record { side = me; node = i; pending = Tick k } in
     let next : List Choice = choices ++ Take h.place ∷ [] in
     let after : HaveRoom sc (choose sc w (Take h.place)).sites =
-    subst (λ (w : World). HaveRoom sc w.sites) (after-more sc choices (Take h.place)) (world-few sc (world_after sc next) (stands next)) in
+    subst (λ (w : World). HaveRoom sc w.sites) (after-more sc choices (Take h.place)) (all-few sc lawful next) in
     let taken : HaveRoom sc (take_if_due sc w (Some d)).sites = subst (λ o. HaveRoom sc (take_if_due sc w o).sites) h.is_due after in
     let happened : HaveRoom sc (happens sc w d).sites = subst (HaveRoom sc) (settle-sites sc ByAnEvent 2 (happens sc w d)) taken in
     let acted : HaveRoom sc (with_act sc w me i k (pass_and_tick sc w.ports me i k s.core)).sites =
     subst (λ o. HaveRoom sc (elim o as (λ _. World) [ None ↦ w | Some s ↦ with_pending sc w me i s (Tick k) ]).sites) h.there happened in
     subst (λ x. HaveRoom sc (with_act sc w me i k x).sites) (sym h.does) acted
 
-pub pending-few : PendingEventsAreFewIfSyncHolds
-pending-few sc lawful holds choices =
+pub pending-few : PendingEventsAreFewInLawful
+pending-few sc lawful choices =
     let w : World = world_after sc choices in
-    let in_rounds = stands-hold sc lawful holds in
     record {
-      now = world-few sc w (in_rounds choices);
+      now = all-few sc lawful choices;
       own = λ me i k s x h.
-          own-few sc me i x.core.state.frame k x.message (after_act sc w.ports me i x) w.sites s (tick-few sc in_rounds choices me i k s x h) h.there;
+          own-few sc me i x.core.state.frame k x.message (after_act sc w.ports me i x) w.sites s (tick-few sc lawful choices me i k s x h) h.there;
       message = λ me i k s x m h e j z there runs.
-          message-few sc me i x.core.state.frame k x.message m (after_act sc w.ports me i x) w.sites (tick-few sc in_rounds choices me i k s x h) e j z there runs;
+          message-few sc me i x.core.state.frame k x.message m (after_act sc w.ports me i x) w.sites (tick-few sc lawful choices me i k s x h) e j z there runs;
     }

@@ -110,7 +110,7 @@ none-pends a None e f = cc
 none-pends a (Some b) e f = cc
 
 -- a node that has told its row ends no stage with it
-before-end : (sc : Scenario) (hands : List HandIn) (sent : Side → ℕ → ℕ → Bool) → IsLawful sc → (ports : List PortState) (p : ℕ) → IsRunning (moment sc hands p) → (moment sc hands p).window ≡ 3 * sync_slot_of sc.sizes + 2
+pub before-end : (sc : Scenario) (hands : List HandIn) (sent : Side → ℕ → ℕ → Bool) → IsLawful sc → (ports : List PortState) (p : ℕ) → IsRunning (moment sc hands p) → (moment sc hands p).window ≡ 3 * sync_slot_of sc.sizes + 2
     → (me : Side) (i : ℕ) (s : Site) (a : Timed) → TickBreaks sc hands sent ports p me i s a → (h : HasToldLast sc hands me i p s) → a.tick + 1 < h.x + sc.plan.l
 before-end sc hands sent lawful ports p running at me i s a t h =
     let at_time : a.time ≡ time_of (clock_of sc me i) a.tick = (h.ahead a t.pend).at_time in

@@ -105,7 +105,7 @@ ahead-arrives sc hands sent me i p n c s moves h due =
       later = h.later;
     }
 
-told-arrives : (sc : Scenario) (hands : List HandIn) (me : Side) (i p n : ℕ) (c : Coming) (s : Site) → Moves (clock_of sc me i) → HasToldLast sc hands me i p s
+unfoldable pub told-arrives : (sc : Scenario) (hands : List HandIn) (me : Side) (i p n : ℕ) (c : Coming) (s : Site) → Moves (clock_of sc me i) → HasToldLast sc hands me i p s
     → ((a : Timed) → s.ahead ≡ Some a → c.time ≤ a.time) → HasToldLast sc hands me i p (after_arrival sc me i n c s)
 unfolding after_arrival
 told-arrives sc hands me i p n c s moves h before =
@@ -166,7 +166,7 @@ deaf-more sc hands p side j s more h = record {
   last = h.last;
 }
 
-told-more : (sc : Scenario) (hands : List HandIn) (p : ℕ) (side : Side) (j : ℕ) (s : Site) (more : List Coming) → HasToldLast sc hands side j p s → HasToldLast sc hands side j p (record s { coming = more })
+unfoldable pub told-more : (sc : Scenario) (hands : List HandIn) (p : ℕ) (side : Side) (j : ℕ) (s : Site) (more : List Coming) → HasToldLast sc hands side j p s → HasToldLast sc hands side j p (record s { coming = more })
 told-more sc hands p side j s more h = record {
   st = h.st;
   state = h.state;

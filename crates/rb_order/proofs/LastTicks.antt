@@ -114,7 +114,7 @@ told-goes sc hands ports me i p s a room h pends before =
     subst (λ k. GoesOn sc.sizes sc.plan me h.st.frame h.st.epoch h.x k (pass_and_tick sc ports me i a.tick s.core)) had
     (next-tick sc.sizes sc.plan me i h.st.frame h.st.epoch h.x c word room h.low now (omega (arith, had, before)))
 
-pub told-ticks : (sc : Scenario) (hands : List HandIn) (ports : List PortState) (me : Side) (i p : ℕ) (s : Site) (a : Timed) → HasRoom sc.plan → (h : HasToldLast sc hands me i p s) → s.ahead ≡ Some a
+unfoldable pub told-ticks : (sc : Scenario) (hands : List HandIn) (ports : List PortState) (me : Side) (i p : ℕ) (s : Site) (a : Timed) → HasRoom sc.plan → (h : HasToldLast sc hands me i p s) → s.ahead ≡ Some a
     → a.tick + 1 < h.x + sc.plan.l → HasToldLast sc hands me i p (after_act sc ports me i (pass_and_tick sc ports me i a.tick s.core) s)
 told-ticks sc hands ports me i p s a room h pends before =
     let act : Act = pass_and_tick sc ports me i a.tick s.core in

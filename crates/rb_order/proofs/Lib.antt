@@ -95,7 +95,12 @@ pub mod BreakOff
 pub mod BreachWindows
 pub mod DeafCloses
 pub mod SourceSums
-pub mod FewPending
+pub mod FewOff
+pub mod FewThere
+pub mod FewEntered
+pub mod FewSent
+pub mod FewQuiet
+pub mod FewBreak
 pub mod TailTicks
 pub mod TurnTicks
 pub mod LastSites
@@ -104,3 +109,6 @@ pub mod LastEnds
 pub mod LastEvents
 pub mod LastWorld
 pub mod LastKeeps
+pub mod FewLast
+pub mod FewKeeps
+pub mod FewPending

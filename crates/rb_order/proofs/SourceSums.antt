@@ -11,18 +11,18 @@ abbrev pub sum_to : (ℕ → ℕ) → ℕ → ℕ
 sum_to f zero = 0
 sum_to f (suc n) = sum_to f n + f n
 
-sum-le : (f g : ℕ → ℕ) (n : ℕ) → ((j : ℕ) → f j ≤ g j) → sum_to f n ≤ sum_to g n
+pub sum-le : (f g : ℕ → ℕ) (n : ℕ) → ((j : ℕ) → f j ≤ g j) → sum_to f n ≤ sum_to g n
 sum-le f g zero le = omega arith
 sum-le f g (suc n) le = let rest = sum-le f g n le in let here : f n ≤ g n = le n in omega (arith, rest, here)
 
--- one of the numbers is larger
-sum-more : (f g : ℕ → ℕ) (a n : ℕ) → a < n → ((j : ℕ) → f j ≤ g j) → f a + 1 ≤ g a → sum_to f n + 1 ≤ sum_to g n
-sum-more f g a zero below le more = absurd (omega (arith, below))
-sum-more f g a (suc n) below le more = elim (cases_lt a n) [
-  | inl lt ↦ let rest = sum-more f g a n lt le more in let here : f n ≤ g n = le n in omega (arith, rest, here)
+-- one of the numbers is larger by d
+pub sum-larger : (f g : ℕ → ℕ) (a d n : ℕ) → a < n → ((j : ℕ) → f j ≤ g j) → f a + d ≤ g a → sum_to f n + d ≤ sum_to g n
+sum-larger f g a d zero below le more = absurd (omega (arith, below))
+sum-larger f g a d (suc n) below le more = elim (cases_lt a n) [
+  | inl lt ↦ let rest = sum-larger f g a d n lt le more in let here : f n ≤ g n = le n in omega (arith, rest, here)
   | inr ge ↦
       let is : a ≡ n = omega (arith, below, ge) in
-      let here : f n + 1 ≤ g n = subst (λ k. f k + 1 ≤ g k) is more in
+      let here : f n + d ≤ g n = subst (λ k. f k + d ≤ g k) is more in
       let rest = sum-le f g n le in
       omega (arith, rest, here)
 ]
@@ -109,6 +109,6 @@ all-of-sources t n (c ∷ cs) e =
     let here = counted t c in
     let now = longer (is_now c.from t) c cs in
     let later = longer (is_later c.from t) c cs in
-    let more = sum-more (coming_of_source t cs) (coming_of_source t (c ∷ cs)) c.from n e.0
+    let more = sum-larger (coming_of_source t cs) (coming_of_source t (c ∷ cs)) c.from 1 n e.0
     (λ j. let now = longer (is_now j t) c cs in let later = longer (is_later j t) c cs in omega (arith, now, later)) (omega (arith, here, now, later)) in
     omega (arith, rest, more)

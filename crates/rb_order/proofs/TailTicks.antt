@@ -140,6 +140,7 @@ pub record GoesOn (sizes : Sizes) (plan : Plan) (me : Side) (frame e x k : ℕ) 
   pub closed : (s : Shown) → a.closed ≡ Some s → (s.place.stage == 4) ≡ true
   pub after : (IsInTail sizes plan me frame e x a.core.state a.core.had × (a.core.had ≤ x)) ⊎ HasTurned frame x a.core.state a.core.had
   pub message : listens me Sync 3 ≡ false → (m : Message) → a.message ≡ Some m → x + plan.h ≤ k
+  pub begun : x ≤ k → (m : Message) → a.message ≡ Some m → x + plan.h ≡ k
 
 differs : (a b : ℕ) → a < b → (a == b) ≡ false
 differs a b h = grind (arith, nat_tests)
@@ -176,12 +177,12 @@ turned-last sizes plan me y x k room epoch from before =
     last-is sizes plan me y 0 k room.ticks (omega arith) (first-window sizes plan me y x k epoch from before) ∙ differs k (y.epoch + last_of sizes plan me y 0) (omega (arith, last, epoch, before))
 
 turned-says : (sizes : Sizes) (plan : Plan) (me : Side) (i : ℕ) (y : NodeState) (frame x word k : ℕ) → HasRoom plan → HasTurned frame x y (k + 1) → x ≤ k → k + 1 < x + plan.l
-    → (m : Message) → said_at sizes plan me i y word k ≡ Some m → x + plan.h ≤ k
+    → (m : Message) → said_at sizes plan me i y word k ≡ Some m → x + plan.h ≡ k
 turned-says sizes plan me i y frame x word k room h from before m e =
     by (sending_at sizes plan me i y 0 word) refl
     (sym (said-is sizes plan me i y 0 word k room.ticks room.inside (turned-keeps sizes plan me frame x y (k + 1) h) (omega arith) (first-window sizes plan me y x k h.epoch from before)) ∙ e)
   where
-    at : (s : Sending) → sending_at sizes plan me i y 0 word ≡ Some s → (b : Bool) → (s.tick == k) ≡ b → (elim b as (λ _. Option Message) [ true ↦ Some s.message | false ↦ None ]) ≡ Some m → x + plan.h ≤ k
+    at : (s : Sending) → sending_at sizes plan me i y 0 word ≡ Some s → (b : Bool) → (s.tick == k) ≡ b → (elim b as (λ _. Option Message) [ true ↦ Some s.message | false ↦ None ]) ≡ Some m → x + plan.h ≡ k
     at s is true f g =
         let tick : s.tick ≡ y.epoch + 0 * plan.l + plan.h = sent-exactly sizes plan me i y 0 word s (omega arith) is in
         let same : s.tick ≡ k = same-of s.tick k f in
@@ -189,7 +190,7 @@ turned-says sizes plan me i y frame x word k room h from before m e =
         omega (arith, tick, same, epoch)
     at s is false f g = cc
 
-    by : (o : Option Sending) → sending_at sizes plan me i y 0 word ≡ o → if_at k o ≡ Some m → x + plan.h ≤ k
+    by : (o : Option Sending) → sending_at sizes plan me i y 0 word ≡ o → if_at k o ≡ Some m → x + plan.h ≡ k
     by None is g = cc
     by (Some s) is g = at s is (s.tick == k) refl g
 
@@ -240,7 +241,8 @@ turned-act sizes plan me i frame e x c y word room h before = go (is_last sizes 
             k3 = same.k3 ∙ h.k3;
             begun = h.begun;
           });
-          message = λ deaf msg f. turned-says sizes plan me i y frame x word c.had room h from before msg f;
+          message = λ deaf msg f. let at = turned-says sizes plan me i y frame x word c.had room h from before msg f in omega (arith, at);
+          begun = λ le msg f. turned-says sizes plan me i y frame x word c.had room h from before msg f;
         }
       where
         none-closed : (s : Shown) → None ≡ Some s → ⊥
@@ -248,7 +250,7 @@ turned-act sizes plan me i frame e x c y word room h before = go (is_last sizes 
 
 -- The tail.
 
-in-tail : (sizes : Sizes) (plan : Plan) (me : Side) (frame e x : ℕ) (c : NodeState) (k : ℕ) → e + tail_start_of sizes plan ≤ x → IsInTail sizes plan me frame e x c k → k < x
+pub in-tail : (sizes : Sizes) (plan : Plan) (me : Side) (frame e x : ℕ) (c : NodeState) (k : ℕ) → e + tail_start_of sizes plan ≤ x → IsInTail sizes plan me frame e x c k → k < x
     → IsTickIn sizes plan me c (stages_in sizes) k
 in-tail sizes plan me frame e x c k low h lt =
     let first : first_of sizes plan me c (stages_in sizes) ≡ tail_start_of sizes plan = tail-first sizes plan me c in
@@ -259,6 +261,7 @@ in-tail sizes plan me frame e x c k low h lt =
 
 pub tail-act : (sizes : Sizes) (plan : Plan) (me : Side) (i frame e x : ℕ) (c : Core) (word : ℕ) → HasRoom plan → e + tail_start_of sizes plan ≤ x → IsInTail sizes plan me frame e x c.state c.had → c.had < x
     → GoesOn sizes plan me frame e x c.had (act_on sizes plan me i c c.state (said_at sizes plan me i c.state word c.had) (state_kept sizes me i c.state word (said_at sizes plan me i c.state word c.had)))
+    × KeepsMiddles c.state (act_on sizes plan me i c c.state (said_at sizes plan me i c.state word c.had) (state_kept sizes me i c.state word (said_at sizes plan me i c.state word c.had))).core.state
 unfolding act_on
 tail-act sizes plan me i frame e x c word room low h lt = go (is_last sizes plan me st c.had)
   where
@@ -333,14 +336,25 @@ tail-act sizes plan me i frame e x c word room low h lt = go (is_last sizes plan
     none-closed : (s : Shown) → None ≡ Some s → ⊥
     none-closed s f = cc
 
-    go : (b : Bool) → GoesOn sizes plan me frame e x c.had (acts b)
-    go true = record {
-      closed = stage-of;
-      after = inl (still closing.state (and-so st kept closing.state kept-same (closed-same sizes plan me i kept w (of_source c.inbox) slot (ap (listens me Sync) stage ∙ deaf-tail me))), omega (arith, lt));
-      message = λ deaf msg f. none-some m msg (silent deaf) f;
-    }
-    go false = record {
-      closed = λ s f. absurd (none-closed s f);
-      after = inl (still kept kept-same, omega (arith, lt));
-      message = λ deaf msg f. none-some m msg (silent deaf) f;
-    }
+    closes-same : KeepsMiddles st closing.state
+    closes-same = and-so st kept closing.state kept-same (closed-same sizes plan me i kept w (of_source c.inbox) slot (ap (listens me Sync) stage ∙ deaf-tail me))
+
+    go : (b : Bool) → GoesOn sizes plan me frame e x c.had (acts b) × KeepsMiddles st (acts b).core.state
+    go true = (
+      record {
+        closed = stage-of;
+        after = inl (still closing.state closes-same, omega (arith, lt));
+        message = λ deaf msg f. none-some m msg (silent deaf) f;
+        begun = λ le msg f. absurd (omega (arith, le, lt));
+      },
+      closes-same,
+    )
+    go false = (
+      record {
+        closed = λ s f. absurd (none-closed s f);
+        after = inl (still kept kept-same, omega (arith, lt));
+        message = λ deaf msg f. none-some m msg (silent deaf) f;
+        begun = λ le msg f. absurd (omega (arith, le, lt));
+      },
+      kept-same,
+    )

@@ -287,7 +287,7 @@ tick-left sc ports me i a s pend had small =
 
 -- An arrival.
 
-length-without : (n : ℕ) (c : Coming) (xs : List Coming) → StandsAt n c xs → length (remove xs n) + 1 ≡ length xs
+pub length-without : (n : ℕ) (c : Coming) (xs : List Coming) → StandsAt n c xs → length (remove xs n) + 1 ≡ length xs
 length-without n c [] h = absurd h
 length-without zero c (x ∷ xs) h = omega arith
 length-without (suc n) c (x ∷ xs) h = let rest = length-without n c xs h in omega (arith, rest)

@@ -33,13 +33,13 @@ turns-at sizes plan me st x known =
     ap (λ o. elim (is_tick o x) as (λ _. NodeState) [ true ↦ elim o as (λ _. NodeState) [ None ↦ st | Some e ↦ turn sizes plan.probation me e st ] | false ↦ st ]) known
     ∙ ap (λ b. elim b as (λ _. NodeState) [ true ↦ turn sizes plan.probation me x st | false ↦ st ]) (equal-itself x)
 
-not-yet : (sizes : Sizes) (plan : Plan) (me : Side) (st : NodeState) (x k : ℕ) → new_epoch_of plan me st ≡ Some x → k < x → state_at sizes plan me st k ≡ st
+pub not-yet : (sizes : Sizes) (plan : Plan) (me : Side) (st : NodeState) (x k : ℕ) → new_epoch_of plan me st ≡ Some x → k < x → state_at sizes plan me st k ≡ st
 unfolding state_at
 not-yet sizes plan me st x k known lt =
     ap (λ o. elim (is_tick o k) as (λ _. NodeState) [ true ↦ turn_if_known sizes plan me st | false ↦ st ]) known
     ∙ ap (λ b. elim b as (λ _. NodeState) [ true ↦ turn_if_known sizes plan me st | false ↦ st ]) (above-differs x k lt)
 
-no-next : (sizes : Sizes) (plan : Plan) (me : Side) (st : NodeState) (k : ℕ) → new_epoch_of plan me st ≡ None → state_at sizes plan me st k ≡ st
+pub no-next : (sizes : Sizes) (plan : Plan) (me : Side) (st : NodeState) (k : ℕ) → new_epoch_of plan me st ≡ None → state_at sizes plan me st k ≡ st
 unfolding state_at
 no-next sizes plan me st k none = ap (λ o. elim (is_tick o k) as (λ _. NodeState) [ true ↦ turn_if_known sizes plan me st | false ↦ st ]) none
 
@@ -59,7 +59,7 @@ next-tick sizes plan me i frame e x c word room low h before = by (is_spent c)
     now : IsAfter sizes plan me frame e x c.state c.had c.had → GoesOn sizes plan me frame e x c.had (act_at sizes plan me i c word)
     now (inl t) =
         elim (cases_lt c.had x) [
-          | inl lt ↦ in_state c.state (not-yet sizes plan me c.state x c.had t.0.known lt) (tail-act sizes plan me i frame e x c word room low t.0 lt)
+          | inl lt ↦ in_state c.state (not-yet sizes plan me c.state x c.had t.0.known lt) (tail-act sizes plan me i frame e x c word room low t.0 lt).0
           | inr ge ↦
               let le : c.had ≤ x = t.1 in
               let at : x ≡ c.had = omega (arith, ge, le) in
@@ -75,7 +75,7 @@ next-tick sizes plan me i frame e x c word room low h before = by (is_spent c)
         (turned-act sizes plan me i frame e x c c.state word room (record { in_frame = t.in_frame; epoch = t.epoch; k1 = t.k1; k2 = t.k2; k3 = t.k3; begun = omega (arith, begun) }) before)
 
     still : IsAfter sizes plan me frame e x c.state c.had c.had → GoesOn sizes plan me frame e x c.had (record { core = c; epoch = None; message = None; closed = None })
-    still h = record { closed = λ s f. absurd (none-is f); after = h; message = λ deaf m f. absurd (none-is f) }
+    still h = record { closed = λ s f. absurd (none-is f); after = h; message = λ deaf m f. absurd (none-is f); begun = λ le m f. absurd (none-is f) }
       where
         none-is : {X : Type 0} {y : X} → None ≡ Some y → ⊥
         none-is f = cc

@@ -9,12 +9,11 @@ use Rattle.rb_rules.specs.Lawful.{IsLawful}
 use Rattle.rb_rules.specs.Slots.{count_of}
 use Rattle.rb_rules.specs.WorldStep.{Choice, Site, World, after_act, due_of, pass_and_tick, times_of, world_after}
 use Rattle.rb_rules.specs.WorldStep.Pending.{Tick}
-use Rattle.rb_order.specs.Laws.{SyncSlotsHold}
 
 -- what comes to a node of this kind: of each node of the other kind a message for the window in which the node stands and one for the
--- next, and besides these what is said to it in its window
+-- next, and where the run breaks off in a sync slot two more until it has ended; and besides these what is said to it in three windows
 abbrev pub most_coming : Scenario → Side → ℕ
-most_coming sc me = 2 * count_of (other me) sc.sizes + length sc.says
+most_coming sc me = 4 * count_of (other me) sc.sizes + 3 * length sc.says
 
 -- and with it the node's tick
 abbrev pub most_pending : Scenario → Side → ℕ
@@ -40,5 +39,5 @@ pub record EventsFit (sc : Scenario) (w : World) : Type 0 where
 abbrev pub PendingEventsAreFew : Scenario → Type 0
 PendingEventsAreFew sc = (choices : List Choice) → EventsFit sc (world_after sc choices)
 
-abbrev pub PendingEventsAreFewIfSyncHolds : Type 0
-PendingEventsAreFewIfSyncHolds = (sc : Scenario) → IsLawful sc → SyncSlotsHold sc → PendingEventsAreFew sc
+abbrev pub PendingEventsAreFewInLawful : Type 0
+PendingEventsAreFewInLawful = (sc : Scenario) → IsLawful sc → PendingEventsAreFew sc
