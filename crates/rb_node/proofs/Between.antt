@@ -1,0 +1,151 @@
+-- What a node keeps at hand between two busy ticks.
+use Rattle.std.proofs.Common.{◌≡◌, ℕ, ◌+◌, ◌-◌, ◌<◌, ◌≤◌, ◌^◌, ◌&&◌, ◌++◌, ◌∷◌, [], max, nat_le, nat_lt, not, Bool, true, false, refl, ap, sym, ◌∙◌, subst, arith, inl, inr, Option, Some, None, List, unwrap_or, if◌then◌else◌}
+use Rattle.std.proofs.lemmas.Bool.{cases_lt}
+use Rattle.std.proofs.lemmas.Bool.Decides.{nat_tests}
+use Rattle.rb_base.specs.Nodes.{Side, other}
+use Rattle.rb_base.specs.Sizes.{Sizes}
+use Rattle.rb_rules.specs.Core.{Core, arrive, is_spent, pass_to, wants}
+use Rattle.rb_rules.specs.Slots.{count_of}
+use Rattle.rb_rules.specs.Sense.{Arrival}
+use Rattle.rb_eligible.specs.Inboxes.{HoldsArrivals, KeptArrivals}
+use Rattle.rb_slot.specs.Engines.{Seated}
+use Rattle.rb_node.specs.Aheads.{IsNextBusy, IsRunning, IsWindowOf, LooksAhead, want_ahead, want_at}
+use Rattle.rb_node.specs.Cores.{Running, bare_core, next_of, passing_end, received_of}
+use Rattle.rb_node.specs.Wants.{want_for, want_then}
+use Rattle.rb_node.specs.declared.act.Want.TheVariants as want
+use Rattle.rb_node.specs.declared.ahead.Ahead.{Ahead}
+use Rattle.rb_node.proofs.Cores.{next-is, next-none, received-append, want-is, want-quiet, want-spent}
+
+-- up to the tick that is kept it stays what it is
+
+pub next-on : (me : Side) (v : Seated) (had m k : ℕ) → IsNextBusy me v had k → had ≤ m → m ≤ k → IsNextBusy me v m k
+next-on me v had m k n lo hi = record {
+  later = hi;
+  most = n.most;
+  quiet = λ j a b. n.quiet j (omega arith) b;
+  busy = n.busy;
+  here = λ j a b. n.here j (omega arith) b ∙ sym (n.here m lo hi);
+}
+
+pub window-on : (me : Side) (v : Seated) (had m : ℕ) (a : Ahead) → LooksAhead me v had a → had ≤ m → m ≤ a.tick → IsWindowOf me v m a.window
+window-on me v had m a l lo hi =
+    record { is = l.window.is ∙ sym (l.next.here m lo hi); of_frame = l.window.of_frame; slot = l.window.slot; first = l.window.first; fits = l.window.fits }
+
+pub runs-on : (me : Side) (v : Seated) (had m : ℕ) (inbox : KeptArrivals) (a : Ahead) → IsRunning me v had inbox a → had ≤ m → m ≤ a.tick
+    → IsRunning me v m inbox a
+runs-on me v had m inbox a r lo hi =
+    let most : a.tick ≤ 2 ^ 31 = r.ahead.next.most in
+    let frame : v.state.frame ≤ had = r.frame in
+    let epoch : v.state.epoch ≤ had = r.epoch in
+    record {
+      most = omega arith;
+      index = r.index;
+      frame = omega arith;
+      epoch = omega arith;
+      stamps = r.stamps;
+      ahead = record { next = next-on me v had m a.tick r.ahead.next lo hi; window = window-on me v had m a r.ahead lo hi; wants = r.ahead.wants };
+    }
+
+-- so it is the end of what may pass
+pub passing-is : (me : Side) (n : Running) (k : ℕ) → IsNextBusy me n.seat n.had k → passing_end me n ≡ k
+passing-is me n k next =
+    let most : k ≤ 2 ^ 31 = next.most in
+    elim (cases_lt k (2 ^ 31)) [
+      | inl below ↦ ap (λ o. unwrap_or o (2 ^ 31)) (next-is me n.seat (bare_core n) n.had k refl refl next below)
+      | inr end ↦
+          let e : 2 ^ 31 ≡ k = omega arith in
+          ap (λ o. unwrap_or o (2 ^ 31)) (next-none me n.seat (bare_core n) n.had k refl refl next end) ∙ e
+    ]
+
+-- What is wanted.
+
+lt-true : (a b : ℕ) → a < b → nat_lt a b ≡ true
+lt-true a b h = grind (arith, nat_tests)
+
+lt-false : (a b : ℕ) → b ≤ a → nat_lt a b ≡ false
+lt-false a b h = grind (arith, nat_tests)
+
+ahead-now : (me : Side) (v : Seated) (k : ℕ) → k < 2 ^ 31 → want_ahead me v k ≡ want_at me v k
+ahead-now me v k h = ap (λ b. if b then want_at me v k else want.Nothing) (lt-true k (2 ^ 31) h)
+
+ahead-end : (me : Side) (v : Seated) (k : ℕ) → 2 ^ 31 ≤ k → want_ahead me v k ≡ want.Nothing
+ahead-end me v k h = ap (λ b. if b then want_at me v k else want.Nothing) (lt-false k (2 ^ 31) h)
+
+-- at the busy tick itself
+pub wants-now : (me : Side) (v : Seated) (had : ℕ) (a : Ahead) (c : Core) → LooksAhead me v had a → had ≡ a.tick → c.state ≡ v.state → c.had ≡ had
+    → a.want ≡ want_for v.sizes (wants v.sizes v.plan me v.index c)
+wants-now me v had a c l at state had_is =
+    elim (cases_lt had (2 ^ 31)) [
+      | inl below ↦
+          l.wants ∙ ap (want_ahead me v) (sym at) ∙ ahead-now me v had below ∙ sym (want-is me v c had state had_is below)
+      | inr end ↦ l.wants ∙ ahead-end me v a.tick (omega arith) ∙ sym (want-spent me v c (omega arith))
+    ]
+
+-- before it
+pub wants-quiet : (me : Side) (v : Seated) (had : ℕ) (a : Ahead) (c : Core) → LooksAhead me v had a → had < a.tick → c.state ≡ v.state → c.had ≡ had
+    → want.Nothing ≡ want_for v.sizes (wants v.sizes v.plan me v.index c)
+wants-quiet me v had a c l before state had_is =
+    let most : a.tick ≤ 2 ^ 31 = l.next.most in
+    sym (want-is me v c had state had_is (omega arith) ∙ want-quiet me v had (l.next.quiet had (omega arith) before))
+
+max-is : (a b : ℕ) → a ≤ b → max a b ≡ b
+max-is a b h = omega arith
+
+-- once it has come
+pub wants-then : (me : Side) (n : Running) (a : Ahead) (c : Core) → LooksAhead me n.seat n.had a → c.state ≡ n.seat.state → c.had ≡ n.had
+    → a.want ≡ want_then me n c (next_of me n c)
+wants-then me n a c l state had_is =
+    let later : n.had ≤ a.tick = l.next.later in
+    elim (cases_lt a.tick (2 ^ 31)) [
+      | inl below ↦
+          l.wants ∙ ahead-now me n.seat a.tick below
+          ∙ sym (want-is me n.seat (pass_to a.tick c) a.tick state (max-is c.had a.tick (omega arith)) below)
+          ∙ ap (want_then me n c) (sym (next-is me n.seat c n.had a.tick state had_is l.next below))
+      | inr end ↦
+          l.wants ∙ ahead-end me n.seat a.tick end
+          ∙ ap (want_then me n c) (sym (next-none me n.seat c n.had a.tick state had_is l.next end))
+    ]
+
+-- Arrivals.
+
+abbrev arrived : Core → ℕ → List ℕ → Bool → Core
+arrived c from bytes b = elim b [ true ↦ record c { inbox = c.inbox ++ (from, record { stamp = c.had; bytes = bytes }) ∷ [] } | false ↦ c ]
+
+spent-is : (c : Core) → 2 ^ 31 ≤ c.had → is_spent c ≡ true
+spent-is c h = grind (arith, nat_tests)
+
+not-spent : (c : Core) → c.had < 2 ^ 31 → is_spent c ≡ false
+not-spent c h = grind (arith, nat_tests)
+
+and-not : (b : Bool) → (b && not true) ≡ false
+and-not true = refl
+and-not false = refl
+
+pub arrive-spent : (sizes : Sizes) (me : Side) (c : Core) (from : ℕ) (bytes : List ℕ) → 2 ^ 31 ≤ c.had → arrive sizes me c from bytes ≡ c
+unfolding arrive
+arrive-spent sizes me c from bytes h =
+    ap (λ b. arrived c from bytes (nat_lt from (count_of (other me) sizes) && not b)) (spent-is c h)
+    ∙ ap (arrived c from bytes) (and-not (nat_lt from (count_of (other me) sizes)))
+
+pub arrive-nobody : (sizes : Sizes) (me : Side) (c : Core) (from : ℕ) (bytes : List ℕ) → count_of (other me) sizes ≤ from
+    → arrive sizes me c from bytes ≡ c
+unfolding arrive
+arrive-nobody sizes me c from bytes h =
+    ap (λ b. arrived c from bytes (b && not (is_spent c))) (lt-false from (count_of (other me) sizes) h)
+
+pub arrive-takes : (sizes : Sizes) (me : Side) (c : Core) (from : ℕ) (bytes : List ℕ) → from < count_of (other me) sizes → c.had < 2 ^ 31
+    → arrive sizes me c from bytes ≡ record c { inbox = c.inbox ++ (from, record { stamp = c.had; bytes = bytes }) ∷ [] }
+unfolding arrive
+arrive-takes sizes me c from bytes h below =
+    ap (λ b. arrived c from bytes (b && not (is_spent c))) (lt-true from (count_of (other me) sizes) h)
+    ∙ ap (λ b. arrived c from bytes (not b)) (not-spent c below)
+
+-- what holds all that came, and this, holds the list with this at its end
+pub holds-more : (kept : KeptArrivals) (inbox : List (ℕ × Arrival)) (from at : ℕ) (bytes : List ℕ) (source stamp : ℕ)
+    → HoldsArrivals kept (received_of inbox ++ record { source = source; arrival = record { stamp = stamp; bytes = bytes } } ∷ [])
+    → source ≡ from → at ≡ stamp → HoldsArrivals kept (received_of (inbox ++ (from, record { stamp = at; bytes = bytes }) ∷ []))
+holds-more kept inbox from at bytes source stamp holds s t =
+    subst (HoldsArrivals kept)
+    (ap (λ x. received_of inbox ++ record { source = x; arrival = record { stamp = stamp; bytes = bytes } } ∷ []) s
+    ∙ ap (λ y. received_of inbox ++ record { source = from; arrival = record { stamp = y; bytes = bytes } } ∷ []) (sym t)
+    ∙ sym (received-append inbox ((from, record { stamp = at; bytes = bytes }) ∷ []))) holds

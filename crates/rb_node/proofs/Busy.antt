@@ -1,0 +1,267 @@
+-- Which tick is the next one that isn't quiet.
+use Rattle.std.proofs.Common.{◌≡◌, ℕ, zero, suc, ◌+◌, ◌-◌, ◌<◌, ◌≤◌, ◌^◌, ◌⊎◌, ◌==◌, ◌||◌, nat_lt, Bool, true, false, refl, ap, sym, ◌∙◌, subst, arith, inl, inr, Option, Some, None, is_some}
+use Rattle.std.specs.Option.{option_or}
+use Rattle.std.proofs.lemmas.Bool.{cases_lt}
+use Rattle.std.proofs.lemmas.Bool.Decides.{nat_tests}
+use Rattle.rb_base.specs.Nodes.{Side}
+use Rattle.rb_base.specs.Sizes.{Sizes}
+use Rattle.rb_rules.specs.declared.message.Message.{Message}
+use Rattle.rb_rules.specs.declared.plan.Plan.{Plan}
+use Rattle.rb_rules.specs.declared.plan.Window.{Window}
+use Rattle.rb_rules.specs.Conviction.{turn}
+use Rattle.rb_rules.specs.Core.{Core, if_at, is_busy, is_last, is_tick, said_at, state_at, window_here, busy_among, next_tick}
+use Rattle.rb_rules.specs.Hearing.{Sending, sending}
+use Rattle.rb_rules.specs.NodeState.{NodeState}
+use Rattle.rb_rules.specs.NodeSteps.{message_said}
+use Rattle.rb_rules.specs.SyncStage.{new_epoch_of, send_tick_of}
+use Rattle.rb_rules.proofs.RoundStates.{HasTicks}
+use Rattle.rb_slot.specs.Engines.{Seated}
+use Rattle.rb_node.specs.Aheads.{IsNextBusy, IsSooner, busy_at, tick_said, window_of_tick}
+use Rattle.rb_node.proofs.Saying.{sent_at, sending-is, goes-out, stays-in, nothing-out}
+use Rattle.rb_node.proofs.Windows.{goes-on}
+
+-- The state at a tick.
+
+pub no-turn : (v : Seated) (me : Side) (k : ℕ) → is_tick (new_epoch_of v.plan me v.state) k ≡ false → state_at v.sizes v.plan me v.state k ≡ v.state
+unfolding state_at
+no-turn v me k h = rw (h, state_at) refl
+
+same-number : (a b : ℕ) → (a == b) ≡ true → a ≡ b
+same-number a b h = grind (arith, nat_tests)
+
+eq-self : (k : ℕ) → (k == k) ≡ true
+eq-self k = grind (arith, nat_tests)
+
+turns-at : (v : Seated) (me : Side) (k : ℕ) (next : Option ℕ) → is_tick next k ≡ true
+    → (elim next as (λ _. NodeState) [ None ↦ v.state | Some epoch ↦ turn v.sizes v.plan.probation me epoch v.state ]).epoch ≡ k
+unfolding turn
+turns-at v me k None h = cc
+turns-at v me k (Some epoch) h = same-number epoch k h
+
+pub turned-epoch : (v : Seated) (me : Side) (k : ℕ) → is_tick (new_epoch_of v.plan me v.state) k ≡ true
+    → (state_at v.sizes v.plan me v.state k).epoch ≡ k
+unfolding state_at
+turned-epoch v me k h = rw (h, state_at) (turns-at v me k (new_epoch_of v.plan me v.state) h)
+
+-- What makes a tick busy.
+
+or-first : (a b c : Bool) → a ≡ true → (a || b || c) ≡ true
+or-first true b c h = refl
+or-first false b c h = cc
+
+or-second : (a b c : Bool) → b ≡ true → (a || b || c) ≡ true
+or-second true b c h = refl
+or-second false true c h = refl
+or-second false false c h = cc
+
+or-third : (a b c : Bool) → c ≡ true → (a || b || c) ≡ true
+or-third true b c h = refl
+or-third false true c h = refl
+or-third false false true h = refl
+or-third false false false h = cc
+
+or-none : (a b c : Bool) → a ≡ false → b ≡ false → c ≡ false → (a || b || c) ≡ false
+or-none a b c h i j = rw (h, i, j) refl
+
+-- a frame begins with it
+pub busy-turn : (me : Side) (v : Seated) (k : ℕ) → is_tick (new_epoch_of v.plan me v.state) k ≡ true → busy_at me v k ≡ true
+unfolding is_busy
+busy-turn me v k h =
+    or-first ((state_at v.sizes v.plan me v.state k).epoch == k) _ _ (ap (λ e. e == k) (turned-epoch v me k h) ∙ eq-self k)
+
+abbrev as-it-is : Side → Seated → ℕ → Bool
+as-it-is me v k = (v.state.epoch == k) || is_last v.sizes v.plan me v.state k || is_some (said_at v.sizes v.plan me v.index v.state 0 k)
+
+-- where the node does not turn, it is so by its state
+by-state : (me : Side) (v : Seated) (k : ℕ) → is_tick (new_epoch_of v.plan me v.state) k ≡ false → busy_at me v k ≡ as-it-is me v k
+unfolding is_busy
+by-state me v k h =
+    ap (λ (st : NodeState). (st.epoch == k) || is_last v.sizes v.plan me st k || is_some (said_at v.sizes v.plan me v.index st 0 k)) (no-turn v me k h)
+
+-- the tick is busy by its state, whether the node turns or not
+pub busy-if : (me : Side) (v : Seated) (k : ℕ) → as-it-is me v k ≡ true → busy_at me v k ≡ true
+busy-if me v k h = by (is_tick (new_epoch_of v.plan me v.state) k) refl
+  where
+    by : (b : Bool) → is_tick (new_epoch_of v.plan me v.state) k ≡ b → busy_at me v k ≡ true
+    by true e = busy-turn me v k e
+    by false e = by-state me v k e ∙ h
+
+-- What is said at a tick, stage by stage.
+
+abbrev said-of : Option Message → Option Message → Option Message → Option Message
+said-of a b c = option_or a (option_or b c)
+
+none-of : (a b c : Option Message) → a ≡ None → b ≡ None → c ≡ None → said-of a b c ≡ None
+none-of a b c h i j = rw (h, i, j) refl
+
+some-first : (a b c : Option Message) → is_some a ≡ true → is_some (said-of a b c) ≡ true
+some-first None b c h = cc
+some-first (Some m) b c h = refl
+
+some-second : (a b c : Option Message) → is_some b ≡ true → is_some (said-of a b c) ≡ true
+some-second (Some m) b c h = refl
+some-second None None c h = cc
+some-second None (Some m) c h = refl
+
+some-third : (a b c : Option Message) → is_some c ≡ true → is_some (said-of a b c) ≡ true
+some-third (Some m) b c h = refl
+some-third None (Some m) c h = refl
+some-third None None c h = h
+
+-- the message of a stage at tick k
+abbrev pub stage_at : Side → Seated → ℕ → ℕ → ℕ → ℕ → Option Message
+stage_at me v slot stage word k = if_at k (sending v.sizes v.plan me v.index v.state slot stage word)
+
+pub said-form : (me : Side) (v : Seated) (word k : ℕ)
+    → said_at v.sizes v.plan me v.index v.state word k
+    ≡ said-of (stage_at me v (window_of_tick me v k).slot 1 word k) (stage_at me v (window_of_tick me v k).slot 2 word k)
+    (stage_at me v (window_of_tick me v k).slot 3 word k)
+unfolding said_at
+said-form me v word k = refl
+
+-- the tick at which something is said in a stage, by what is said and when that is sent
+abbrev if-said : Option Message → Option ℕ → Option ℕ
+if-said m t = elim (is_some m) [ true ↦ t | false ↦ None ]
+
+unsaid-parts : (k : ℕ) (m : Option Message) (t : Option ℕ) → is_tick (if-said m t) k ≡ false → if_at k (sent_at m t) ≡ None
+unsaid-parts k None t h = nothing-out k t
+unsaid-parts k (Some m) t h = stays-in k (Some m) t h
+
+said-parts : (k : ℕ) (m : Option Message) (t : Option ℕ) → is_tick (if-said m t) k ≡ true → is_some (if_at k (sent_at m t)) ≡ true
+said-parts k None t h = cc
+said-parts k (Some m) t h = ap is_some (goes-out k (Some m) t h)
+
+pub unsaid : (me : Side) (v : Seated) (slot stage k : ℕ) → is_tick (tick_said me v slot stage) k ≡ false → stage_at me v slot stage 0 k ≡ None
+unsaid me v slot stage k h =
+    ap (if_at k) (sending-is v.sizes v.plan me v.index v.state slot stage 0)
+    ∙ unsaid-parts k (message_said v.sizes me v.index v.state slot stage 0) (send_tick_of v.sizes v.plan v.state slot stage) h
+
+said : (me : Side) (v : Seated) (slot stage k : ℕ) → is_tick (tick_said me v slot stage) k ≡ true → is_some (stage_at me v slot stage 0 k) ≡ true
+said me v slot stage k h =
+    ap (λ s. is_some (if_at k s)) (sending-is v.sizes v.plan me v.index v.state slot stage 0)
+    ∙ said-parts k (message_said v.sizes me v.index v.state slot stage 0) (send_tick_of v.sizes v.plan v.state slot stage) h
+
+-- The ticks that may be busy in a window.
+
+-- none of them is tick k
+pub record NoneIs (me : Side) (v : Seated) (w : Window) (k : ℕ) : Type 0 where
+  pub begun : is_tick (Some v.state.epoch) k ≡ false
+  pub closed : is_tick (Some (v.state.epoch + w.last)) k ≡ false
+  pub turned : is_tick (new_epoch_of v.plan me v.state) k ≡ false
+  pub first : is_tick (tick_said me v w.slot 1) k ≡ false
+  pub second : is_tick (tick_said me v w.slot 2) k ≡ false
+  pub third : is_tick (tick_said me v w.slot 3) k ≡ false
+
+-- one of them is
+pub data OneIs (me : Side) (v : Seated) (w : Window) (k : ℕ) : Type 0 where
+  Begun : is_tick (Some v.state.epoch) k ≡ true → OneIs me v w k
+  Closed : is_tick (Some (v.state.epoch + w.last)) k ≡ true → OneIs me v w k
+  Turned : is_tick (new_epoch_of v.plan me v.state) k ≡ true → OneIs me v w k
+  Said1 : is_tick (tick_said me v w.slot 1) k ≡ true → OneIs me v w k
+  Said2 : is_tick (tick_said me v w.slot 2) k ≡ true → OneIs me v w k
+  Said3 : is_tick (tick_said me v w.slot 3) k ≡ true → OneIs me v w k
+
+flip : (a b : ℕ) (c : Bool) → (a == b) ≡ c → (b == a) ≡ c
+flip a b true h = grind (arith, nat_tests)
+flip a b false h = grind (arith, nat_tests)
+
+last-by : (me : Side) (v : Seated) (w : Window) (k : ℕ) (b : Bool) → window_of_tick me v k ≡ w → (v.state.epoch + w.last == k) ≡ b
+    → is_last v.sizes v.plan me v.state k ≡ b
+last-by me v w k b here h = ap (λ (x : Window). k == v.state.epoch + x.last) here ∙ flip (v.state.epoch + w.last) k b h
+
+quiet-if : (me : Side) (v : Seated) (w : Window) (k : ℕ) → window_of_tick me v k ≡ w → NoneIs me v w k → busy_at me v k ≡ false
+quiet-if me v w k here n =
+    by-state me v k n.turned
+    ∙ or-none _ _ _ n.begun (last-by me v w k false here n.closed)
+    (ap is_some (said-form me v 0 k
+    ∙ ap (λ (x : Window). said-of (stage_at me v x.slot 1 0 k) (stage_at me v x.slot 2 0 k) (stage_at me v x.slot 3 0 k)) here
+    ∙ none-of _ _ _ (unsaid me v w.slot 1 k n.first) (unsaid me v w.slot 2 k n.second) (unsaid me v w.slot 3 k n.third)))
+
+said-here : (me : Side) (v : Seated) (w : Window) (k : ℕ) → window_of_tick me v k ≡ w
+    → is_some (said-of (stage_at me v w.slot 1 0 k) (stage_at me v w.slot 2 0 k) (stage_at me v w.slot 3 0 k)) ≡ true → busy_at me v k ≡ true
+said-here me v w k here h =
+    busy-if me v k (or-third (v.state.epoch == k) (is_last v.sizes v.plan me v.state k) (is_some (said_at v.sizes v.plan me v.index v.state 0 k)) (ap is_some (said-form me v 0 k
+    ∙ ap (λ (x : Window). said-of (stage_at me v x.slot 1 0 k) (stage_at me v x.slot 2 0 k) (stage_at me v x.slot 3 0 k)) here) ∙ h))
+
+busy-one : (me : Side) (v : Seated) (w : Window) (k : ℕ) → window_of_tick me v k ≡ w → OneIs me v w k → busy_at me v k ≡ true
+busy-one me v w k here (Begun h) =
+    busy-if me v k (or-first (v.state.epoch == k) (is_last v.sizes v.plan me v.state k) (is_some (said_at v.sizes v.plan me v.index v.state 0 k)) h)
+busy-one me v w k here (Closed h) =
+    busy-if me v k (or-second (v.state.epoch == k) (is_last v.sizes v.plan me v.state k) (is_some (said_at v.sizes v.plan me v.index v.state 0 k))
+    (last-by me v w k true here h))
+busy-one me v w k here (Turned h) = busy-turn me v k h
+busy-one me v w k here (Said1 h) =
+    said-here me v w k here (some-first (stage_at me v w.slot 1 0 k) (stage_at me v w.slot 2 0 k) (stage_at me v w.slot 3 0 k) (said me v w.slot 1 k h))
+busy-one me v w k here (Said2 h) =
+    said-here me v w k here (some-second (stage_at me v w.slot 1 0 k) (stage_at me v w.slot 2 0 k) (stage_at me v w.slot 3 0 k) (said me v w.slot 2 k h))
+busy-one me v w k here (Said3 h) =
+    said-here me v w k here (some-third (stage_at me v w.slot 1 0 k) (stage_at me v w.slot 2 0 k) (stage_at me v w.slot 3 0 k) (said me v w.slot 3 k h))
+
+-- The soonest of them.
+
+-- the window's last tick is not passed over
+not-over : (had last before after k : ℕ) → IsSooner had (Some last) before after → k ≤ after → had ≤ last → k ≤ last
+not-over had last before after k s le from =
+    elim (cases_lt last k) [
+      | inl lt ↦ absurd (true-false (sym (eq-self last) ∙ s.not_before last from (omega arith)))
+      | inr ge ↦ ge
+    ]
+  where
+    true-false : true ≡ false → ⊥
+    true-false e = cc
+
+-- so many steps lead from 2^31 to the tick; the last that changed something chose it
+pub record Soonest (me : Side) (v : Seated) (w : Window) (had b1 b2 b3 b4 b5 b6 : ℕ) : Type 0 where
+  pub s1 : IsSooner had (Some v.state.epoch) (2 ^ 31) b1
+  pub s2 : IsSooner had (Some (v.state.epoch + w.last)) b1 b2
+  pub s3 : IsSooner had (new_epoch_of v.plan me v.state) b2 b3
+  pub s4 : IsSooner had (tick_said me v w.slot 1) b3 b4
+  pub s5 : IsSooner had (tick_said me v w.slot 2) b4 b5
+  pub s6 : IsSooner had (tick_said me v w.slot 3) b5 b6
+
+chosen-1 : (me : Side) (v : Seated) (w : Window) (had b1 : ℕ) → IsSooner had (Some v.state.epoch) (2 ^ 31) b1 → (b1 ≡ 2 ^ 31) ⊎ OneIs me v w b1
+chosen-1 me v w had b1 s = elim s.either [ inl same ↦ inl same | inr is ↦ inr (Begun is) ]
+
+carry : (me : Side) (v : Seated) (w : Window) (a b : ℕ) → (b ≡ a) → (a ≡ 2 ^ 31) ⊎ OneIs me v w a → (b ≡ 2 ^ 31) ⊎ OneIs me v w b
+carry me v w a b e h = subst (λ x. (x ≡ 2 ^ 31) ⊎ OneIs me v w x) (sym e) h
+
+chosen : (me : Side) (v : Seated) (w : Window) (had b1 b2 b3 b4 b5 b6 : ℕ) → Soonest me v w had b1 b2 b3 b4 b5 b6 → (b6 ≡ 2 ^ 31) ⊎ OneIs me v w b6
+chosen me v w had b1 b2 b3 b4 b5 b6 s =
+    let c1 = chosen-1 me v w had b1 s.s1 in
+    let c2 : (b2 ≡ 2 ^ 31) ⊎ OneIs me v w b2 = elim s.s2.either [ inl same ↦ carry me v w b1 b2 same c1 | inr is ↦ inr (Closed is) ] in
+    let c3 : (b3 ≡ 2 ^ 31) ⊎ OneIs me v w b3 = elim s.s3.either [ inl same ↦ carry me v w b2 b3 same c2 | inr is ↦ inr (Turned is) ] in
+    let c4 : (b4 ≡ 2 ^ 31) ⊎ OneIs me v w b4 = elim s.s4.either [ inl same ↦ carry me v w b3 b4 same c3 | inr is ↦ inr (Said1 is) ] in
+    let c5 : (b5 ≡ 2 ^ 31) ⊎ OneIs me v w b5 = elim s.s5.either [ inl same ↦ carry me v w b4 b5 same c4 | inr is ↦ inr (Said2 is) ] in
+    elim s.s6.either [ inl same ↦ carry me v w b5 b6 same c5 | inr is ↦ inr (Said3 is) ]
+
+pub soonest-is : (me : Side) (v : Seated) (w : Window) (had b1 b2 b3 b4 b5 b6 : ℕ) → HasTicks v.plan → v.state.epoch ≤ had
+    → w ≡ window_of_tick me v had → Soonest me v w had b1 b2 b3 b4 b5 b6 → IsNextBusy me v had b6
+soonest-is me v w had b1 b2 b3 b4 b5 b6 ticks epoch is s =
+    let m1 : b1 ≤ 2 ^ 31 = s.s1.most in
+    let m2 : b2 ≤ b1 = s.s2.most in
+    let m3 : b3 ≤ b2 = s.s3.most in
+    let m4 : b4 ≤ b3 = s.s4.most in
+    let m5 : b5 ≤ b4 = s.s5.most in
+    let m6 : b6 ≤ b5 = s.s6.most in
+    let here : (k : ℕ) → had ≤ k → k ≤ b6 → window_of_tick me v k ≡ w = λ k lo hi.
+        goes-on v.sizes v.plan me v.state had k ticks epoch lo
+        (λ from. subst (λ (x : Window). had ≤ v.state.epoch + x.last → k ≤ v.state.epoch + x.last) is
+        (not-over had (v.state.epoch + w.last) b1 b2 k s.s2 (omega arith)) from)
+        ∙ sym is in
+    record {
+      later = s.s6.later;
+      most = omega arith;
+      quiet = λ k lo hi. quiet-if me v w k (here k lo (omega arith)) (record {
+        begun = s.s1.not_before k lo (omega arith);
+        closed = s.s2.not_before k lo (omega arith);
+        turned = s.s3.not_before k lo (omega arith);
+        first = s.s4.not_before k lo (omega arith);
+        second = s.s5.not_before k lo (omega arith);
+        third = s.s6.not_before k lo (omega arith);
+      });
+      busy = λ below. elim (chosen me v w had b1 b2 b3 b4 b5 b6 s) [
+        | inl end ↦ absurd (omega arith)
+        | inr one ↦ busy-one me v w b6 (here b6 s.s6.later (omega arith)) one
+      ];
+      here = λ k lo hi. here k lo hi ∙ is;
+    }

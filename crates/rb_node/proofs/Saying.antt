@@ -1,0 +1,168 @@
+-- What a node says at a tick, and whether it says something, whatever its word.
+use Rattle.std.proofs.Common.{◌≡◌, ℕ, ◌+◌, ◌-◌, ◌*◌, ◌<◌, ◌≤◌, ◌==◌, ◌&&◌, nat_lt, Bool, true, false, refl, ap, sym, ◌∙◌, subst, arith, Option, Some, None, is_some, option_and_then, option_map, unwrap_or, get_or, if◌then◌else◌}
+use Rattle.std.specs.Option.{option_or}
+use Rattle.std.proofs.lemmas.Bool.Decides.{nat_tests}
+use Rattle.rb_base.specs.Nodes.{Side, other}
+use Rattle.rb_base.specs.Nodes.Side.{Biu, Rmu}
+use Rattle.rb_base.specs.Sizes.{Sizes, sync_slot_of}
+use Rattle.rb_base.specs.declared.values.Heard.{Heard}
+use Rattle.rb_base.specs.declared.values.Heard.TheVariants as heard
+use Rattle.rb_rules.specs.declared.message.Message.{Message}
+use Rattle.rb_rules.specs.declared.plan.Plan.{Plan}
+use Rattle.rb_rules.specs.declared.role.Role.{Role}
+use Rattle.rb_rules.specs.declared.role.Role.TheVariants.{Schedule, Data, DiagBiu, DiagRmu, Sync}
+use Rattle.rb_rules.specs.Core.{if_at, is_tick, state_kept}
+use Rattle.rb_rules.specs.ExactStage.{own_value, is_sender, value_said, says_of, says, message_of, keep_sent}
+use Rattle.rb_rules.specs.Hearing.{Sending, sending}
+use Rattle.rb_rules.specs.NodeState.{NodeState, sender_at}
+use Rattle.rb_rules.specs.NodeSteps.{message_said}
+use Rattle.rb_rules.specs.Slots.{Sender, first_diagnosis_of, role_of, listens}
+use Rattle.rb_rules.specs.Slots.Sender.{Nobody, Node, EachTrusted}
+use Rattle.rb_rules.specs.SyncStage.{call_of, calls, send_tick_of}
+
+-- Whether something is said doesn't depend on the word.
+
+value-some : (me : Side) (i : ℕ) (st : NodeState) (slot : ℕ) (role : Role) (sender : Sender) (stage a b : ℕ)
+    → is_some (value_said me i st slot role sender stage a) ≡ is_some (value_said me i st slot role sender stage b)
+value-some me i st slot role sender stage a b = by (stage == 1) (is_sender me i role sender) (stage == 2)
+  where
+    by : (x y z : Bool)
+        → is_some (if x then (if y then Some (own_value st role a) else None) else (if z then Some (unwrap_or st.got heard.Fault) else Some (get_or st.votes slot heard.Fault)))
+        ≡ is_some (if x then (if y then Some (own_value st role b) else None) else (if z then Some (unwrap_or st.got heard.Fault) else Some (get_or st.votes slot heard.Fault)))
+    by true true z = refl
+    by true false z = refl
+    by false y true = refl
+    by false y false = refl
+
+says-some : (me : Side) (i : ℕ) (st : NodeState) (slot : ℕ) (role : Role) (sender : Sender) (stage a b : ℕ)
+    → is_some (says_of me i st slot role sender stage a) ≡ is_some (says_of me i st slot role sender stage b)
+says-some me i st slot role Nobody stage a b = refl
+says-some me i st slot role (Node j) stage a b = by (listens (other me) role stage)
+  where
+    by : (x : Bool) → is_some (if x then value_said me i st slot role (Node j) stage a else None) ≡ is_some (if x then value_said me i st slot role (Node j) stage b else None)
+    by true = value-some me i st slot role (Node j) stage a b
+    by false = refl
+says-some me i st slot role EachTrusted stage a b = refl
+
+map-some : (f : Heard → Message) (o : Option Heard) → is_some (option_map f o) ≡ is_some o
+map-some f None = refl
+map-some f (Some v) = refl
+
+pub message-some : (sizes : Sizes) (me : Side) (i : ℕ) (st : NodeState) (slot stage a b : ℕ)
+    → is_some (message_said sizes me i st slot stage a) ≡ is_some (message_said sizes me i st slot stage b)
+message-some sizes me i st slot stage a b = by (slot == sync_slot_of sizes)
+  where
+    by : (x : Bool)
+        → is_some (if x then calls sizes me st stage else option_map (message_of st slot stage) (says sizes me i st slot stage a))
+        ≡ is_some (if x then calls sizes me st stage else option_map (message_of st slot stage) (says sizes me i st slot stage b))
+    by true = refl
+    by false =
+        map-some (message_of st slot stage) (says sizes me i st slot stage a)
+        ∙ says-some me i st slot (role_of sizes slot) (sender_at sizes me st slot) stage a b
+        ∙ sym (map-some (message_of st slot stage) (says sizes me i st slot stage b))
+
+-- A message and the tick at which it is sent.
+
+abbrev pub sent_at : Option Message → Option ℕ → Option Sending
+sent_at m t = option_and_then (λ m. option_map (λ tick. record { tick = tick; message = m }) t) m
+
+pub sending-is : (sizes : Sizes) (plan : Plan) (me : Side) (i : ℕ) (st : NodeState) (slot stage word : ℕ)
+    → sending sizes plan me i st slot stage word ≡ sent_at (message_said sizes me i st slot stage word) (send_tick_of sizes plan st slot stage)
+unfolding sending
+sending-is sizes plan me i st slot stage word = refl
+
+-- it goes out at its tick, where there is one
+pub goes-out : (k : ℕ) (m : Option Message) (t : Option ℕ) → is_tick t k ≡ true → if_at k (sent_at m t) ≡ m
+goes-out k None t h = refl
+goes-out k (Some m) None h = cc
+goes-out k (Some m) (Some t) h = ap (λ b. elim b as (λ _. Option Message) [ true ↦ Some m | false ↦ None ]) h
+
+-- and at no other
+pub stays-in : (k : ℕ) (m : Option Message) (t : Option ℕ) → is_tick t k ≡ false → if_at k (sent_at m t) ≡ None
+stays-in k None t h = refl
+stays-in k (Some m) None h = refl
+stays-in k (Some m) (Some t) h = ap (λ b. elim b as (λ _. Option Message) [ true ↦ Some m | false ↦ None ]) h
+
+pub nothing-out : (k : ℕ) (t : Option ℕ) → if_at k (sent_at None t) ≡ None
+nothing-out k t = refl
+
+-- A sender keeps what it says in its own slot.
+
+role-sync : (sizes : Sizes) → role_of sizes (sync_slot_of sizes) ≡ Sync
+role-sync sizes =
+    let slot : ℕ = sync_slot_of sizes in
+    let a : nat_lt slot sizes.bius ≡ false = grind (arith, nat_tests) in
+    let b : nat_lt slot (first_diagnosis_of Biu sizes) ≡ false = grind (arith, nat_tests) in
+    let c : nat_lt slot (first_diagnosis_of Rmu sizes) ≡ false = grind (arith, nat_tests) in
+    let d : nat_lt slot (sync_slot_of sizes) ≡ false = grind (arith, nat_tests) in
+    rw (a, b, c, d) refl
+
+-- in the sync slot nothing is kept
+sync-says : (sizes : Sizes) (me : Side) (i : ℕ) (st : NodeState) (slot stage word : ℕ) → slot ≡ sync_slot_of sizes
+    → says sizes me i st slot stage word ≡ None
+sync-says sizes me i st slot stage word e =
+    let role : role_of sizes slot ≡ Sync = ap (role_of sizes) e ∙ role-sync sizes in
+    rw role refl
+
+no-keep : (sizes : Sizes) (me : Side) (i : ℕ) (st : NodeState) (slot stage word : ℕ) → says sizes me i st slot stage word ≡ None
+    → keep_sent sizes me i st slot stage word ≡ st
+no-keep sizes me i st slot stage word e =
+    ap (λ (v : Option Heard). if (stage == 1) && is_some v then record st { sent = v } else st) e ∙ by (stage == 1)
+  where
+    by : (b : Bool) → (if b && false then record st { sent = None } else st) ≡ st
+    by true = refl
+    by false = refl
+
+same-number : (a b : ℕ) → (a == b) ≡ true → a ≡ b
+same-number a b h = grind (arith, nat_tests)
+
+-- what is kept, by the message that is said
+pub kept-is : (sizes : Sizes) (me : Side) (i : ℕ) (st : NodeState) (slot stage word : ℕ)
+    → state_kept sizes me i st word (message_said sizes me i st slot stage word) ≡ keep_sent sizes me i st slot stage word
+kept-is sizes me i st slot stage word = by (slot == sync_slot_of sizes) refl
+  where
+    call : (b : Bool) → slot ≡ sync_slot_of sizes
+        → state_kept sizes me i st word (if b then Some (call_of sizes st stage) else None) ≡ keep_sent sizes me i st slot stage word
+    call true e = ap (λ s. keep_sent sizes me i st s stage word) (sym e)
+    call false e = sym (no-keep sizes me i st slot stage word (sync-says sizes me i st slot stage word e))
+
+    said : (o : Option Heard) → says sizes me i st slot stage word ≡ o
+        → state_kept sizes me i st word (option_map (message_of st slot stage) o) ≡ keep_sent sizes me i st slot stage word
+    said None e = sym (no-keep sizes me i st slot stage word e)
+    said (Some (heard.Word w)) e = refl
+    said (Some heard.Fault) e = refl
+
+    by : (x : Bool) → (slot == sync_slot_of sizes) ≡ x
+        → state_kept sizes me i st word (if x then calls sizes me st stage else option_map (message_of st slot stage) (says sizes me i st slot stage word))
+        ≡ keep_sent sizes me i st slot stage word
+    by true e = call (listens (other me) Sync stage) (same-number slot (sync_slot_of sizes) e)
+    by false e = said (says sizes me i st slot stage word) refl
+
+-- A message has the header of its place.
+
+pub record HasPlace (m : Message) (slot stage : ℕ) : Type 0 where
+  pub slot_is : m.slot ≡ slot
+  pub stage_is : m.stage ≡ stage
+
+some-same : {X : Type 0} (a b : X) → Some a ≡ Some b → a ≡ b
+some-same a b e = cc
+
+value-place : (st : NodeState) (slot stage : ℕ) (o : Option Heard) (m : Message) → option_map (message_of st slot stage) o ≡ Some m → HasPlace m slot stage
+value-place st slot stage None m e = cc
+value-place st slot stage (Some (heard.Word word)) m e =
+    subst (λ m. HasPlace m slot stage) (some-same (message_of st slot stage (heard.Word word)) m e) (record { slot_is = refl; stage_is = refl })
+value-place st slot stage (Some heard.Fault) m e =
+    subst (λ m. HasPlace m slot stage) (some-same (message_of st slot stage heard.Fault) m e) (record { slot_is = refl; stage_is = refl })
+
+pub message-place : (sizes : Sizes) (me : Side) (i : ℕ) (st : NodeState) (slot stage word : ℕ) (m : Message)
+    → message_said sizes me i st slot stage word ≡ Some m → HasPlace m slot stage
+message-place sizes me i st slot stage word m = by (slot == sync_slot_of sizes) refl
+  where
+    call : (b : Bool) → slot ≡ sync_slot_of sizes → (if b then Some (call_of sizes st stage) else None) ≡ Some m → HasPlace m slot stage
+    call true s e = subst (λ m. HasPlace m slot stage) (some-same (call_of sizes st stage) m e) (record { slot_is = sym s; stage_is = refl })
+    call false s e = cc
+
+    by : (x : Bool) → (slot == sync_slot_of sizes) ≡ x
+        → (if x then calls sizes me st stage else option_map (message_of st slot stage) (says sizes me i st slot stage word)) ≡ Some m → HasPlace m slot stage
+    by true s e = call (listens (other me) Sync stage) (same-number slot (sync_slot_of sizes) s) e
+    by false s e = value-place st slot stage (says sizes me i st slot stage word) m e

@@ -1,0 +1,77 @@
+-- What a node keeps at hand of what is ahead of it.
+use Rattle.std.specs.Prelude.{ℕ, ◌≡◌, ◌≤◌, ◌<◌, ◌^◌, ◌+◌, ◌⊎◌, nat_lt, if◌then◌else◌, Bool, true, false, is_some, Option, Some, None}
+use Rattle.rb_base.specs.Nodes.{Side}
+use Rattle.rb_base.specs.Sizes.{Sizes, sync_slot_of}
+use Rattle.rb_rules.specs.declared.message.Message.{Message}
+use Rattle.rb_rules.specs.declared.plan.Plan.{Plan}
+use Rattle.rb_rules.specs.declared.plan.Window.{Window}
+use Rattle.rb_rules.specs.Core.{is_busy, is_tick, said_at, slot_wanted, state_at, window_here}
+use Rattle.rb_rules.specs.NodeState.{NodeState}
+use Rattle.rb_rules.specs.NodeSteps.{message_said}
+use Rattle.rb_rules.specs.SyncStage.{send_tick_of}
+use Rattle.rb_eligible.specs.Inboxes.{KeptArrivals, StampsUpTo}
+use Rattle.rb_slot.specs.Closable.{IsOfFrame}
+use Rattle.rb_slot.specs.Engines.{Seated}
+use Rattle.rb_node.specs.declared.ahead.Ahead.{Ahead}
+use Rattle.rb_node.specs.declared.act.Want.{Want}
+use Rattle.rb_node.specs.declared.act.Want.TheVariants as want
+use Rattle.rb_node.specs.Wants.{want_for}
+
+-- of two ticks the sooner, where the second is there and isn't over at the tick `had`
+pub record IsSooner (had : ℕ) (candidate : Option ℕ) (before after : ℕ) : Type 0 where
+  pub later : had ≤ after
+  pub most : after ≤ before
+  pub not_before : (k : ℕ) → had ≤ k → k < after → is_tick candidate k ≡ false
+  pub either : (after ≡ before) ⊎ (is_tick candidate after ≡ true)
+
+-- the tick at which the node sends a message of the stage, if it sends one
+abbrev pub tick_said : Side → Seated → ℕ → ℕ → Option ℕ
+tick_said me v slot stage = elim (is_some (message_said v.sizes me v.index v.state slot stage 0)) [
+  | true ↦ send_tick_of v.sizes v.plan v.state slot stage
+  | false ↦ None
+]
+
+abbrev pub busy_at : Side → Seated → ℕ → Bool
+busy_at me v k = is_busy v.sizes v.plan me v.index v.state k
+
+abbrev pub window_of_tick : Side → Seated → ℕ → Window
+window_of_tick me v k = window_here v.sizes v.plan me v.state k
+
+-- what the node wants at tick k
+abbrev pub want_at : Side → Seated → ℕ → Want
+want_at me v k = want_for v.sizes (slot_wanted v.sizes (said_at v.sizes v.plan me v.index (state_at v.sizes v.plan me v.state k) 0 k))
+
+-- the same, and nothing where no tick is to come
+abbrev pub want_ahead : Side → Seated → ℕ → Want
+want_ahead me v k = if nat_lt k (2 ^ 31) then want_at me v k else want.Nothing
+
+-- from tick `had` on all ticks before this one are quiet, and lie in one window with it. It is busy, unless it is 2^31
+pub record IsNextBusy (me : Side) (v : Seated) (had tick : ℕ) : Type 0 where
+  pub later : had ≤ tick
+  pub most : tick ≤ 2 ^ 31
+  pub quiet : (k : ℕ) → had ≤ k → k < tick → busy_at me v k ≡ false
+  pub busy : tick < 2 ^ 31 → busy_at me v tick ≡ true
+  pub here : (k : ℕ) → had ≤ k → k ≤ tick → window_of_tick me v k ≡ window_of_tick me v had
+
+-- the window of tick k
+pub record IsWindowOf (me : Side) (v : Seated) (k : ℕ) (w : Window) : Type 0 where
+  pub is : w ≡ window_of_tick me v k
+  pub of_frame : IsOfFrame v.sizes v.plan w
+  pub slot : w.slot ≤ sync_slot_of v.sizes
+  pub first : w.first ≤ 400000
+  pub fits : v.state.epoch + w.last < 2 ^ 64
+
+-- what is kept is so for a node that has had so many ticks
+pub record LooksAhead (me : Side) (v : Seated) (had : ℕ) (a : Ahead) : Type 0 where
+  pub next : IsNextBusy me v had a.tick
+  pub window : IsWindowOf me v had a.window
+  pub wants : a.want ≡ want_ahead me v a.tick
+
+-- what holds of a node between two calls: it is a node of its bus, its frame and its stamps don't run ahead of its ticks
+pub record IsRunning (me : Side) (v : Seated) (had : ℕ) (inbox : KeptArrivals) (a : Ahead) : Type 0 where
+  pub most : had ≤ 2 ^ 31
+  pub index : v.index < 16
+  pub frame : v.state.frame ≤ had
+  pub epoch : v.state.epoch ≤ had
+  pub stamps : StampsUpTo (2 ^ 32) inbox
+  pub ahead : LooksAhead me v had a

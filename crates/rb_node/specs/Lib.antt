@@ -1,0 +1,6 @@
+pub mod Cores
+pub mod Wants
+pub mod Acts
+pub mod Saids
+pub mod Aheads
+pub mod Events

@@ -1,0 +1,29 @@
+-- The parts of a tick.
+use Rattle.std.specs.Prelude.{ℕ, ◌+◌, ◌==◌, true, false, Option, Some, None}
+use Rattle.std.specs.Option.{option_or}
+use Rattle.rb_base.specs.Nodes.{Side}
+use Rattle.rb_rules.specs.declared.message.Message.{Message}
+use Rattle.rb_rules.specs.Core.{if_at}
+use Rattle.rb_rules.specs.declared.plan.Window.{Window}
+use Rattle.rb_rules.specs.Hearing.{Sending, Span, sending}
+use Rattle.rb_slot.specs.Engines.{Seated}
+
+-- what the node sends in a stage
+abbrev pub sending_in : Side → Seated → ℕ → ℕ → ℕ → Option Sending
+sending_in me v slot stage word = sending v.sizes v.plan me v.index v.state slot stage word
+
+-- the message that it says at tick k in one of the stages of the slot
+abbrev pub said_in : Side → Seated → ℕ → ℕ → ℕ → Option Message
+said_in me v slot k word =
+    option_or (if_at k (sending_in me v slot 1 word)) (option_or (if_at k (sending_in me v slot 2 word)) (if_at k (sending_in me v slot 3 word)))
+
+-- the window as a node in this frame goes through it, if it begins with tick k
+abbrev pub span_if : ℕ → ℕ → Window → ℕ → Option Span
+span_if frame epoch w k = elim (epoch + w.first == k) [
+  | true ↦ Some (record {
+    place = record { frame = frame; slot = w.slot; stage = w.stage };
+    first = epoch + w.first;
+    last = epoch + w.last;
+  })
+  | false ↦ None
+]

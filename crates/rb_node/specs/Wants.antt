@@ -1,0 +1,28 @@
+-- What a node wants to be handed for a tick.
+use Rattle.std.specs.Prelude.{ℕ, nat_lt, true, false, Option, Some, None, if◌then◌else◌}
+use Rattle.rb_base.specs.Nodes.{Side}
+use Rattle.rb_base.specs.Nodes.Side.{Biu}
+use Rattle.rb_base.specs.Sizes.{Sizes}
+use Rattle.rb_rules.specs.Core.{Core, wants, pass_to}
+use Rattle.rb_rules.specs.Slots.{first_diagnosis_of}
+use Rattle.rb_node.specs.declared.act.Want.{Want}
+use Rattle.rb_node.specs.declared.act.Want.TheVariants as want
+use Rattle.rb_node.specs.Cores.{Running, next_of}
+
+-- in a schedule slot its request, in a data slot its word
+abbrev pub want_for : Sizes → Option ℕ → Want
+want_for sizes None = want.Nothing
+want_for sizes (Some slot) = if nat_lt slot sizes.bius then want.Request else want.Data slot
+
+-- the slot, if words from outside are said in it
+abbrev pub slot_of_words : Sizes → ℕ → Option ℕ
+slot_of_words sizes slot = elim (nat_lt slot (first_diagnosis_of Biu sizes)) [ true ↦ Some slot | false ↦ None ]
+
+-- for the next tick of a core that sits where the node sits
+abbrev pub want_of : Side → Running → Core → Want
+want_of me n c = want_for n.seat.sizes (wants n.seat.sizes n.seat.plan me n.seat.index c)
+
+-- for the next tick that isn't quiet, once the ticks before it have passed
+abbrev pub want_then : Side → Running → Core → Option ℕ → Want
+want_then me n c None = want.Nothing
+want_then me n c (Some k) = want_of me n (pass_to k c)

@@ -1,0 +1,207 @@
+//! When something happens at a node next.
+ghost use Rattle.std.specs.Prelude.{◌≡◌, ◌+◌, ◌<◌, ◌≤◌, ◌^◌, ℕ, Some, is_some};
+ghost use Rattle.rb_base.specs.Nodes.{side_of};
+ghost use Rattle.rb_base.specs.Sizes.{IsShape, sync_slot_of};
+ghost use Rattle.rb_rules.specs.Core.{is_tick};
+ghost use Rattle.rb_rules.specs.Hearing.{tail_at};
+ghost use Rattle.rb_rules.specs.Plan.{IsPlan, tail_start_of};
+ghost use Rattle.rb_node.specs.Aheads.{IsNextBusy, IsSooner, IsWindowOf, LooksAhead, tick_said, want_ahead, want_at, window_of_tick};
+ghost use Rattle.rb_node.specs.Wants.{slot_of_words, want_for};
+
+use crate::act::Want;
+use rb_base::{Kind, Shape};
+use rb_plan::{Feasible, Window};
+use rb_slot::Engine;
+
+// How many ticks a node can have.
+pub(crate) const MOST_TICKS: u64 = 2_147_483_648;
+
+/// What is ahead of a node.
+#[derive(Clone, Copy)]
+pub struct Ahead {
+    // Its next tick that isn't quiet, or 2^31 where there is none.
+    pub(crate) tick: u64,
+    // The window of all ticks up to that one.
+    pub(crate) window: Window,
+    // What it wants at that one.
+    pub(crate) want: Want,
+}
+
+// The sizes and the plan are within their bounds. It does nothing: a proof that needs a bound reads it at its call.
+pub(crate) fn bounds<K: Kind>(engine: &Engine<K>)
+    ensures shape { IsShape engine.now.sizes }
+    ensures plan { IsPlan engine.now.plan }
+{
+    let _plan = engine.plan().plan();
+    let _biu = engine.plan().shape().biu();
+}
+
+// The offset at which the tail begins.
+fn tail_start(plan: &Feasible) -> u64
+    ensures value { result ≡ tail_start_of plan.now.sizes plan.now.plan }
+    ensures small { result ≤ 340000 }
+{
+    let numbers = plan.plan();
+    plan.f0() + u64::from(numbers.l) + u64::from(numbers.v) + u64::from(numbers.z)
+}
+
+// The tail of the node's frame.
+fn tail<K: Kind>(engine: &Engine<K>) -> Window
+    requires { engine.now.state.epoch ≤ 2 ^ 31 }
+    ensures value { result ≡ tail_at engine.now.sizes engine.now.plan (side_of K.CODE) engine.now.state }
+    ensures first { result.first ≤ 400000 }
+    ensures fits { engine.now.state.epoch + result.last < 2 ^ 64 }
+{
+    let end = engine
+        .new_epoch()
+        .unwrap_or(0)
+        .saturating_sub(engine.epoch());
+    Window {
+        slot: engine.plan().shape().sync_slot(),
+        stage: 4,
+        first: tail_start(engine.plan()),
+        last: end.saturating_sub(1),
+    }
+}
+
+// The window of a tick of the node's frame.
+pub(crate) fn window_of<K: Kind>(engine: &Engine<K>, tick: u64) -> Window
+    requires epoch { engine.now.state.epoch ≤ tick }
+    requires tick { tick ≤ 2 ^ 31 }
+    ensures { IsWindowOf (side_of K.CODE) engine.now tick result }
+{
+    bounds(engine);
+    match engine.plan().window(tick - engine.epoch()) {
+        Some(window) => window,
+        None => tail(engine),
+    }
+}
+
+// Of two ticks the sooner, where the second is there and isn't over.
+fn sooner(before: u64, had: u64, candidate: Option<u64>) -> u64
+    requires { had ≤ before }
+    ensures { IsSooner had candidate before result }
+{
+    match candidate {
+        Some(tick) if had <= tick && tick < before => tick,
+        _ => before,
+    }
+}
+
+// The same with the tick at which the node sends a message of the stage.
+fn sooner_send<K: Kind>(
+    before: u64,
+    had: u64,
+    engine: &Engine<K>,
+    slot: u16,
+    stage: u8,
+) -> u64
+    requires had { had ≤ before }
+    requires index { engine.now.index < 16 }
+    requires slot { slot ≤ sync_slot_of engine.now.sizes }
+    requires first { 1 ≤ stage }
+    requires last { stage ≤ 3 }
+    ensures { IsSooner had (tick_said (side_of K.CODE) engine.now slot stage) before result }
+{
+    match engine.send_tick(slot, stage) {
+        Some(tick) if had <= tick && tick < before && engine.speaks_in(slot, stage) => tick,
+        _ => before,
+    }
+}
+
+// The next tick that isn't quiet, `window` being that of tick `had`; 2^31 where there is none.
+fn busy_tick<K: Kind>(engine: &Engine<K>, window: &Window, had: u64) -> u64
+    requires index { engine.now.index < 16 }
+    requires epoch { engine.now.state.epoch ≤ had }
+    requires had { had ≤ 2 ^ 31 }
+    requires window { IsWindowOf (side_of K.CODE) engine.now had window.now }
+    ensures { IsNextBusy (side_of K.CODE) engine.now had result }
+{
+    bounds(engine);
+    let begun = sooner(MOST_TICKS, had, Some(engine.epoch()));
+    let closed = sooner(begun, had, Some(engine.epoch() + window.last));
+    let turned = sooner(closed, had, engine.new_epoch());
+    let first = sooner_send(turned, had, engine, window.slot, 1);
+    let second = sooner_send(first, had, engine, window.slot, 2);
+    sooner_send(second, had, engine, window.slot, 3)
+}
+
+// Whether this is the tick.
+pub(crate) fn is_tick(tick: Option<u64>, now: u64) -> bool
+    ensures { result ≡ is_tick tick now }
+{
+    match tick {
+        Some(tick) => tick == now,
+        None => false,
+    }
+}
+
+// What is wanted for the first stage of a slot.
+fn want_in(shape: &Shape, slot: u16) -> Want
+    ensures { result ≡ want_for shape.now (slot_of_words shape.now slot) }
+{
+    let bius = u16::from(shape.biu());
+    if slot < bius {
+        Want::Request
+    } else if slot < bius + shape.slots() {
+        Want::Data { slot }
+    } else {
+        Want::Nothing
+    }
+}
+
+// Whether the node sends its message of the first stage at this tick.
+fn says_first<K: Kind>(engine: &Engine<K>, slot: u16, tick: u64) -> bool
+    requires index { engine.now.index < 16 }
+    requires slot { slot ≤ sync_slot_of engine.now.sizes }
+    ensures { result ≡ is_tick (tick_said (side_of K.CODE) engine.now slot 1) tick }
+{
+    is_tick(engine.send_tick(slot, 1), tick) && engine.speaks_in(slot, 1)
+}
+
+// What the node wants at a tick of the window.
+fn want_at<K: Kind>(engine: &Engine<K>, window: &Window, tick: u64) -> Want
+    requires index { engine.now.index < 16 }
+    requires epoch { engine.now.state.epoch ≤ tick }
+    requires window { window.now ≡ window_of_tick (side_of K.CODE) engine.now tick }
+    requires slot { window.now.slot ≤ sync_slot_of engine.now.sizes }
+    ensures { result ≡ want_at (side_of K.CODE) engine.now tick }
+{
+    bounds(engine);
+    if is_tick(engine.new_epoch(), tick) {
+        return Want::Nothing;
+    }
+    if says_first(engine, window.slot, tick) {
+        want_in(engine.plan().shape(), window.slot)
+    } else {
+        Want::Nothing
+    }
+}
+
+// The same, and nothing where no tick is to come.
+fn want_ahead<K: Kind>(engine: &Engine<K>, window: &Window, tick: u64) -> Want
+    requires index { engine.now.index < 16 }
+    requires epoch { engine.now.state.epoch ≤ tick }
+    requires window { window.now ≡ window_of_tick (side_of K.CODE) engine.now tick }
+    requires slot { window.now.slot ≤ sync_slot_of engine.now.sizes }
+    ensures { result ≡ want_ahead (side_of K.CODE) engine.now tick }
+{
+    if tick < MOST_TICKS {
+        want_at(engine, window, tick)
+    } else {
+        Want::Nothing
+    }
+}
+
+// What is ahead of a node that has had so many ticks.
+pub(crate) fn look_ahead<K: Kind>(engine: &Engine<K>, had: u64) -> Ahead
+    requires index { engine.now.index < 16 }
+    requires epoch { engine.now.state.epoch ≤ had }
+    requires had { had ≤ 2 ^ 31 }
+    ensures { LooksAhead (side_of K.CODE) engine.now had result }
+{
+    let window = window_of(engine, had);
+    let tick = busy_tick(engine, &window, had);
+    let want = want_ahead(engine, &window, tick);
+    Ahead { tick, window, want }
+}

@@ -1,0 +1,13 @@
+//! One node of a bus, fed event by event: ticks of its clock and arrivals with any bytes.
+#![tactic(auto)]
+
+pub use act::{Act, Span, Step, Want};
+pub use node::{Node, events_come_in_parts};
+pub use rb_rules::{Closed, Epoch, Message};
+
+pub mod act;
+pub mod ahead;
+pub mod node;
+mod parts;
+#[cfg(test)]
+mod tests;

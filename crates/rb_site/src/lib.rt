@@ -1,0 +1,6 @@
+//! One node of a world: its core, whether it runs, and the reference times of what came to it.
+#![tactic(auto)]
+
+pub use site::Site;
+
+pub mod site;

@@ -1,0 +1,145 @@
+//! One node of a world.
+ghost use Rattle.std.specs.Prelude.{◌≡◌, ℕ, ◌<◌, ◌≤◌, false, max, IfSome, List, option_map, slice_set};
+ghost use Rattle.rb_base.specs.Nodes.{other, side_of};
+ghost use Rattle.rb_rules.specs.Clock.{ComesBy};
+ghost use Rattle.rb_rules.specs.Core.{Core, pass_to};
+ghost use Rattle.rb_rules.specs.Goodness.{Scenario, clock_of};
+ghost use Rattle.rb_rules.specs.Ports.{PortState};
+ghost use Rattle.rb_rules.specs.Slots.{count_of};
+ghost use Rattle.rb_rules.specs.WorldStep.{Site as WorldSite, after_arrival, fresh_site, span_from, stop, wants_in, word_of};
+ghost use Rattle.rb_node.specs.Acts.{IsSendable, span_in};
+ghost use Rattle.rb_node.specs.Cores.{IsCore, IsSameNode, passing_end};
+ghost use Rattle.rb_site.specs.Sites.{Stands, number_of};
+ghost use Rattle.rb_site.specs.Tells.{IsTicked};
+
+use rb_base::Kind;
+use rb_clock::Clock;
+use rb_node::{Node, Span, Step};
+use rb_plan::Feasible;
+use std::marker::Model;
+
+/// One node of a world, for both kinds by one code: its core, whether it runs, and for each source the reference time of what
+/// came of it last. Where one message came of a source since the last close, that is the time of it.
+#[derive(Drop)]
+pub struct Site<K: Kind> {
+    node: Node<K>,
+    runs: bool,
+    times: [u64; 16],
+}
+
+impl<K: Kind> Model for Site<K> {
+    ghost use Rattle.std.specs.Prelude.{◌≡◌, length};
+    ghost use Rattle.rb_site.specs.Sites.{Kept};
+
+    ghost Value = { Kept };
+
+    ghost view = { λ s. record { node = s.node; runs = s.runs; times = s.times } };
+
+    ghost invariant = { λ s. length s.times ≡ 16 };
+}
+
+// The quiet ticks before tick k pass.
+fn pass_to<K: Kind>(node: &mut Node<K>, k: u64)
+    requires { k ≤ passing_end (side_of K.CODE) node.old }
+    ensures core { (c : Core) → IsCore node.old c → IsCore node.new (pass_to k c) }
+    ensures rest { node.new ≡ record node.old { had = max node.old.had k } }
+{
+    let had = node.had();
+    if had < k {
+        node.pass(k - had);
+    }
+}
+
+// The time of what came of a source last is kept. No other number is one of a source.
+fn keep_time(times: &mut [u64; 16], from: u8, time: u64)
+    ensures { times.new ≡ slice_set times.old from time }
+{
+    if from < 16 {
+        times[usize::from(from)] = time;
+    }
+}
+
+impl<K: Kind> Site<K> {
+    /// A node of the plan's bus, of kind K with this number among those of its kind, which runs. Nothing has come to it.
+    pub fn new(plan: &Feasible, index: u8) -> Site<K>
+        requires { index < count_of (side_of K.CODE) plan.now.sizes }
+        ensures stands { (sc : Scenario) → plan.now.sizes ≡ sc.sizes → plan.now.plan ≡ sc.plan
+            → Stands sc (side_of K.CODE) result (fresh_site sc.sizes (side_of K.CODE)) }
+        ensures number { number_of result ≡ index }
+    {
+        Site {
+            node: Node::new(plan, index),
+            runs: true,
+            times: [0; 16],
+        }
+    }
+
+    /// The node: its next tick and what it wants for it, its engine, and what it showed of the window that it closed last.
+    pub fn node(&self) -> &Node<K>
+        ensures { result.now ≡ self.now.node }
+    {
+        &self.node
+    }
+
+    /// Whether the node runs.
+    pub fn runs(&self) -> bool
+        ensures { result ≡ self.now.runs }
+    {
+        self.runs
+    }
+
+    /// For each source the reference time of what came of it last.
+    pub fn times(&self) -> &[u64; 16]
+        ensures { result.now ≡ self.now.times }
+    {
+        &self.times
+    }
+
+    /// The window that begins with the node's next tick. None exactly where none does.
+    pub fn entering(&self) -> Option<Span>
+        ensures { (sc : Scenario) (s : WorldSite) → Stands sc (side_of K.CODE) self.now s
+            → option_map span_in result ≡ span_from sc.sizes sc.plan (side_of K.CODE) s.core.state s.core.had }
+    {
+        self.node.entering()
+    }
+
+    /// The node is not good any more, and stops.
+    pub fn stop(&mut self)
+        ensures stands { (sc : Scenario) (s : WorldSite) → Stands sc (side_of K.CODE) self.old s
+            → Stands sc (side_of K.CODE) self.new (stop s) }
+        ensures rest { self.new ≡ record self.old { runs = false } }
+    {
+        self.runs = false;
+    }
+
+    /// A message or other bytes come to the node from a source at a reference time, no later than its next busy tick, by the
+    /// node's clock. The quiet ticks before its stamp pass.
+    pub fn arrive(&mut self, clock: &Clock, time: u64, from: u8, bytes: &[u8])
+        requires in_time { ComesBy (passing_end (side_of K.CODE) self.old.node) clock.now time }
+        requires source { from < count_of (other (side_of K.CODE)) self.old.node.seat.sizes }
+        ensures stands { (sc : Scenario) (place : ℕ) (s : WorldSite) → clock.now ≡ clock_of sc (side_of K.CODE) (number_of self.old)
+            → Stands sc (side_of K.CODE) self.old s
+            → Stands sc (side_of K.CODE) self.new
+            (after_arrival sc (side_of K.CODE) (number_of self.old) place (record { time = time; from = from; bytes = bytes.now }) s) }
+        ensures same { IsSameNode self.old.node self.new.node }
+    {
+        let stamp = clock.first_at(time);
+        pass_to(&mut self.node, stamp);
+        self.node.arrive(from, bytes);
+        keep_time(&mut self.times, from, time);
+    }
+
+    /// Tick k of the node's clock, at the latest its next busy one, with the word that it wants for it. The quiet ticks before
+    /// it pass. What the node then shows of a window, with the times kept in place of stamps, is the row of what came.
+    pub fn tick(&mut self, k: u64, word: u32) -> Step
+        requires { k ≤ passing_end (side_of K.CODE) self.old.node }
+        ensures ticked { (sc : Scenario) (ports : List PortState) (s : WorldSite) → Stands sc (side_of K.CODE) self.old s
+            → word ≡ word_of sc ports (number_of self.old) (wants_in sc (side_of K.CODE) (number_of self.old) (pass_to k s.core))
+            → IsTicked sc ports (side_of K.CODE) self.old self.new result k s }
+        ensures message { IfSome result.message IsSendable }
+        ensures same { IsSameNode self.old.node self.new.node }
+    {
+        pass_to(&mut self.node, k);
+        self.node.step(word)
+    }
+}
