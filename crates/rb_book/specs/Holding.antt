@@ -1,0 +1,127 @@
+-- What is kept of a run, and the world that it stands for.
+use Rattle.std.specs.Prelude.{ℕ, ◌≡◌, ◌-◌, ◌^◌, ◌<◌, ◌≤◌, ◌==◌, ◌&&◌, nat_lt, false, true, Option, Some, None, List, [], ◌∷◌, get_or, length, map, take, if◌then◌else◌}
+use Rattle.rb_base.specs.Nodes.{Side, other}
+use Rattle.rb_base.specs.Nodes.Side.{Biu, Rmu}
+use Rattle.rb_base.specs.Sizes.{Sizes, IsShape, sync_slot_of}
+use Rattle.rb_base.specs.declared.values.Place.{Place}
+use Rattle.rb_base.specs.declared.values.See.TheVariants.{Nothing}
+use Rattle.rb_rules.specs.declared.record.NodeLine.{NodeLine}
+use Rattle.rb_rules.specs.declared.record.PortLine.{PortLine}
+use Rattle.rb_rules.specs.declared.record.SlotLine.{SlotLine}
+use Rattle.rb_rules.specs.Book.{Each, Record, of_kind}
+use Rattle.rb_rules.specs.Goodness.{Scenario, good_at, is_good}
+use Rattle.rb_rules.specs.Judging.{JudgedStage}
+use Rattle.rb_rules.specs.Slots.{count_of}
+use Rattle.rb_rules.specs.WorldStep.{Site, World, book_with, record_since}
+use Rattle.rb_judge.specs.Stages.{Knows}
+use Rattle.rb_onset.specs.Faults.{faults_of}
+use Rattle.rb_book.specs.declared.group.Group.{Group}
+use Rattle.rb_book.specs.declared.ledger.Ledger.{Ledger}
+use Rattle.rb_book.specs.declared.milestone.Milestone.{Milestone}
+use Rattle.rb_book.specs.declared.milestone.Milestone.TheVariants.{Begin, Stage, End}
+use Rattle.rb_book.specs.declared.turn.Turn.{Turn}
+use Rattle.rb_book.specs.Records.{milestone_of, record_of}
+use Rattle.rb_book.specs.Telling.{begun_told, row_told, told_at}
+use Rattle.rb_book.specs.Waiting.{waiting_for}
+
+-- Judging.
+
+-- the stage, without what was seen of nodes that are good to the end of its frame: no verdict depends on that
+abbrev pub without_lasting : Scenario → ℕ → JudgedStage → JudgedStage
+without_lasting sc frame s = record s {
+  sight = λ kind i j. elim (is_good sc (other kind) j frame (sync_slot_of sc.sizes)) [ true ↦ Nothing | false ↦ s.sight kind i j ];
+}
+
+-- Milestones.
+
+-- the nodes of a kind that are good at a milestone. The end needs none
+abbrev pub good_for : Scenario → Side → Milestone → ℕ
+good_for sc kind (Begin frame) = good_at sc kind frame 0
+good_for sc kind (Stage place) = good_at sc kind place.frame place.slot
+good_for sc kind End = 0
+
+-- a stage is one of a frame of the run
+pub record IsStageOf (sc : Scenario) (place : Place) : Type 0 where
+  pub frame : place.frame < sc.frames
+  pub slot : place.slot ≤ sync_slot_of sc.sizes
+
+abbrev pub IsComing : Scenario → Milestone → Type 0
+IsComing sc (Begin frame) = frame ≤ sc.frames
+IsComing sc (Stage place) = IsStageOf sc place
+IsComing sc End = Unit {0}
+
+-- What the nodes of a kind told.
+
+pub record HoldsKind {K : Type 0} (sc : Scenario) (kind : Side) (m : Milestone) (g : Group K) (sites : Each Site) : Type 0 where
+  pub all : length g.told ≡ 16
+  pub rows : map (λ s. s.row) (of_kind kind sites) ≡ map row_told (take (count_of kind sc.sizes) g.told)
+  pub begins : map (λ s. s.begun) (of_kind kind sites) ≡ map (begun_told kind) (take (count_of kind sc.sizes) g.told)
+  -- nobody sees nodes that are not there
+  pub within : (i j : ℕ) → count_of (other kind) sc.sizes ≤ j → get_or (told_at g.told i).sees j Nothing ≡ Nothing
+  pub good : g.good ≡ good_for sc kind m
+  pub waiting : g.waiting ≡ waiting_for (count_of kind sc.sizes) g.good m g.told
+  pub lasting : (place : Place) → m ≡ Stage place → g.lasting ≡ good_at sc kind place.frame (sync_slot_of sc.sizes)
+
+-- the numbers of a scenario
+pub record Fits (sc : Scenario) (l : Ledger) : Type 0 where
+  pub sizes : l.shape ≡ sc.sizes
+  pub is_shape : IsShape sc.sizes
+  pub frames : l.frames ≡ sc.frames
+  pub few_frames : sc.frames < 2 ^ 32
+  pub eps : l.eps ≡ sc.plan.dmax - sc.plan.dmin
+  pub onsets : l.onsets ≡ faults_of sc
+
+-- this is kept of what the nodes of a world have told, and of its book, but for the records given
+pub record Holds (sc : Scenario) (l : Ledger) (w : World) : Type 0 where
+  pub fits : Fits sc l
+  pub upcoming : w.book.upcoming ≡ milestone_of l.upcoming
+  pub coming : IsComing sc l.upcoming
+  pub lines : w.book.lines ≡ l.lines.items
+  pub ended : w.book.ended ≡ l.ended
+  pub judged : w.book.ended ≡ false → (place : Place) → l.upcoming ≡ Stage place
+      → Knows l.judge (map (without_lasting sc place.frame) w.book.stages)
+  pub bius : HoldsKind sc Biu l.upcoming l.bius w.sites
+  pub rmus : HoldsKind sc Rmu l.upcoming l.rmus w.sites
+
+-- Settling.
+
+-- the world once its next milestone is settled
+abbrev pub passed : Scenario → World → World
+passed sc w = record w { book = book_with sc w.sites w.book w.book.upcoming }
+
+-- the next milestone is settled, and this is the record that it gives, if any
+pub record Passes (sc : Scenario) (w : World) (after : Ledger) (turn : Turn) : Type 0 where
+  pub holds : Holds sc after (passed sc w)
+  pub record_is : record_of turn ≡ record_since w (passed sc w)
+
+-- a milestone is the upcoming one
+pub record TurnsKind {K : Type 0} (kind : Side) (sizes : Sizes) (before after : Group K) (m : Milestone) : Type 0 where
+  pub told : after.told ≡ before.told
+  pub lasting : after.lasting ≡ before.lasting
+  pub waiting : after.waiting ≡ waiting_for (count_of kind sizes) after.good m before.told
+
+pub record TurnsTo (before after : Ledger) (m : Milestone) : Type 0 where
+  pub shape : after.shape ≡ before.shape
+  pub frames : after.frames ≡ before.frames
+  pub eps : after.eps ≡ before.eps
+  pub onsets : after.onsets ≡ before.onsets
+  pub lines : after.lines.items ≡ before.lines.items
+  pub judge : after.judge ≡ before.judge
+  pub ended : after.ended ≡ before.ended
+  pub upcoming : after.upcoming ≡ m
+  pub bius : TurnsKind Biu before.shape before.bius after.bius m
+  pub rmus : TurnsKind Rmu before.shape before.rmus after.rmus m
+  pub good_bius : (sc : Scenario) → before.onsets ≡ faults_of sc → after.bius.good ≡ good_for sc Biu m
+  pub good_rmus : (sc : Scenario) → before.onsets ≡ faults_of sc → after.rmus.good ≡ good_for sc Rmu m
+
+-- Records.
+
+-- the record of a frame that nodes with these lines begin
+abbrev pub frame_record : ℕ → List NodeLine → List PortLine → Option Record
+frame_record frame [] ports = None
+frame_record frame (n ∷ ns) ports = Some (Record.Frame frame (n ∷ ns) ports)
+
+-- the record of a slot, which comes with its stage 3
+abbrev pub slot_record : Sizes → Place → List SlotLine → Option Record
+slot_record sizes place lines =
+    if (place.stage == 3) && nat_lt place.slot (sync_slot_of sizes) then Some (Record.Slot place.frame place.slot lines) else None

@@ -1,0 +1,7 @@
+pub mod Records
+pub mod Telling
+pub mod Waiting
+pub mod Grouping
+pub mod Holding
+pub mod Settling
+pub mod Changing

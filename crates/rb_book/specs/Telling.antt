@@ -1,0 +1,84 @@
+-- What a node has told last.
+use Rattle.std.specs.Prelude.{ℕ, Bool, true, false, Option, Some, None, option_map, is_some, List, [], get_or, slice_index, replicate, if◌then◌else◌}
+use Rattle.rb_base.specs.Nodes.{Side}
+use Rattle.rb_base.specs.Nodes.Side.{Biu, Rmu}
+use Rattle.rb_base.specs.declared.values.See.{See}
+use Rattle.rb_base.specs.declared.values.See.TheVariants.{Nothing}
+use Rattle.rb_rules.specs.declared.closing.Closed.{Closed}
+use Rattle.rb_rules.specs.declared.record.PortLine.{PortLine}
+use Rattle.rb_rules.specs.declared.record.SlotLine.{SlotLine}
+use Rattle.rb_rules.specs.Book.{Begun, Row}
+use Rattle.rb_rules.specs.ExactStage.{each_node}
+use Rattle.rb_rules.specs.Hearing.{judged_see}
+use Rattle.rb_rules.specs.WorldStep.{begun_for, row_for}
+use Rattle.rb_book.specs.declared.milestone.Milestone.{Milestone}
+use Rattle.rb_book.specs.declared.milestone.Milestone.TheVariants.{Begin, Stage, End}
+use Rattle.rb_book.specs.declared.told.Begin.{Begin as LatestBegin}
+use Rattle.rb_book.specs.declared.told.Told.{Told}
+
+-- what it saw of source j in its latest stage
+abbrev pub see_of : Told → ℕ → See
+see_of t j = judged_see (slice_index t.times j) (get_or t.sees j Nothing)
+
+-- its latest row
+abbrev pub latest_row : Told → Row
+latest_row t = record { place = t.place; sees = each_node (see_of t); biu = t.biu; rmu = t.rmu; line = t.line }
+
+abbrev pub row_told : Told → Option Row
+row_told t = if t.has_closed then Some (latest_row t) else None
+
+-- RMUs have no port
+abbrev pub port_told : Side → LatestBegin → Option PortLine
+port_told Biu b = Some b.port
+port_told Rmu b = None
+
+abbrev pub begun_in : Side → LatestBegin → Begun
+begun_in kind b = record { frame = b.frame; line = b.line; port = port_told kind b }
+
+abbrev pub begun_told : Side → Told → Option Begun
+begun_told kind t = option_map (begun_in kind) t.begun
+
+-- it has told of a milestone last
+abbrev pub has_told : Milestone → Told → Bool
+has_told (Begin frame) t = is_some (begun_for frame (begun_told Biu t))
+has_told (Stage place) t = is_some (row_for place (row_told t))
+has_told End t = false
+
+-- of a node that told nothing
+abbrev pub no_told : Told
+no_told = record {
+  has_closed = false;
+  place = record { frame = 0; slot = 0; stage = 0 };
+  sees = [];
+  times = [];
+  biu = 0;
+  rmu = 0;
+  line = None;
+  begun = None;
+}
+
+-- what a node has told that told nothing
+abbrev pub fresh_told : Told
+fresh_told = record {
+  has_closed = false;
+  place = record { frame = 0; slot = 0; stage = 0 };
+  sees = replicate 16 Nothing;
+  times = replicate 16 0;
+  biu = 0;
+  rmu = 0;
+  line = None;
+  begun = None;
+}
+
+-- a node that told this has closed a stage
+abbrev pub told_closed : Closed → List ℕ → ℕ → ℕ → Option SlotLine → Told → Told
+told_closed c times biu rmu line t =
+    record t { has_closed = true; place = c.place; sees = c.sees; times = times; biu = biu; rmu = rmu; line = line }
+
+-- and has begun a frame
+abbrev pub told_begun_frame : LatestBegin → Told → Told
+told_begun_frame b t = record t { begun = Some b }
+
+-- of node i
+abbrev pub told_at : List Told → ℕ → Told
+told_at told i = get_or told i no_told

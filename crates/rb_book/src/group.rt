@@ -1,0 +1,148 @@
+//! What the nodes of one kind have told.
+ghost use Rattle.std.specs.Prelude.{◌≡◌, ◌<◌, ◌≤◌, ℕ, nat_lt, not, ◌&&◌, ◌==◌, replicate, if◌then◌else◌};
+ghost use Rattle.rb_base.specs.Nodes.{has, set_of};
+ghost use Rattle.rb_book.specs.Grouping.{IsNoted};
+ghost use Rattle.rb_book.specs.Telling.{fresh_told, has_told, told_at, told_begun_frame, told_closed};
+ghost use Rattle.rb_book.specs.Waiting.{waiting_for, was_taken, was_unlike};
+
+use crate::milestone::Milestone;
+use crate::told::{Begin, Told};
+use crate::walks::{taken_among, unlike_among, waiting_for};
+use rb_base::{Biu, NodeId, NodeSet, Rmu};
+use rb_judge::StageSets;
+use rb_rules::{Closed, SlotLine};
+
+/// What the nodes of one kind have told, and of whom more is to come.
+#[derive(Clone, Copy)]
+pub struct Group<K> {
+    /// What each node told last.
+    pub told: [Told; 16],
+    /// The nodes that are good at the upcoming milestone, and those of them that have not told of it.
+    pub good: NodeSet<K>,
+    pub waiting: NodeSet<K>,
+    /// The nodes that are good to the end of the frame.
+    pub lasting: NodeSet<K>,
+}
+
+// The set with node i exactly where `member`.
+fn with_or_without<K: Copy>(set: NodeSet<K>, i: u8, member: bool) -> NodeSet<K>
+    requires { i < 16 }
+    ensures { result ≡ set_of (λ k. if k == i then member else has set k) }
+{
+    let mut changed = NodeSet::from_bits(set.bits());
+    if member {
+        changed.insert(NodeId::of(i));
+    } else {
+        changed.remove(NodeId::of(i));
+    }
+    changed
+}
+
+fn told_of_nothing() -> [Told; 16]
+    ensures { result ≡ replicate 16 fresh_told }
+{
+    [Told::none(); 16]
+}
+
+impl<K: Copy> Group<K> {
+    /// Nodes that have told nothing. None is good or awaited yet.
+    pub(crate) fn new() -> Group<K>
+        ensures { result.told ≡ replicate 16 fresh_told }
+    {
+        Group {
+            told: told_of_nothing(),
+            good: NodeSet::empty(),
+            waiting: NodeSet::empty(),
+            lasting: NodeSet::empty(),
+        }
+    }
+
+    /// A milestone is the upcoming one, and these nodes are good there.
+    pub(crate) fn await_all(&mut self, count: u8, milestone: Milestone, good: NodeSet<K>)
+        requires { count ≤ 16 }
+        ensures told { self.new.told ≡ self.old.told }
+        ensures lasting { self.new.lasting ≡ self.old.lasting }
+        ensures good { self.new.good ≡ good }
+        ensures waiting { self.new.waiting ≡ waiting_for count good milestone self.old.told }
+    {
+        self.good = good;
+        self.waiting = waiting_for(count, good, milestone, &self.told);
+    }
+
+    // The node has told something more.
+    fn note(&mut self, node: u8, upcoming: Milestone)
+        requires { node < 16 }
+        ensures told { self.new.told ≡ self.old.told }
+        ensures good { self.new.good ≡ self.old.good }
+        ensures lasting { self.new.lasting ≡ self.old.lasting }
+        ensures waiting { self.new.waiting ≡ set_of (λ i. if i == node
+            then (has self.old.good node && not (has_told upcoming (told_at self.old.told node))) else has self.old.waiting i) }
+    {
+        let has_told = self.told[usize::from(node)].has_told(upcoming);
+        let is_awaited = self.good.has(node) && !has_told;
+        self.waiting = with_or_without(self.waiting, node, is_awaited);
+    }
+
+    /// A node closes a stage.
+    pub(crate) fn close(
+        &mut self,
+        node: u8,
+        upcoming: Milestone,
+        closed: &Closed,
+        times: &[u64; 16],
+        biu: NodeSet<Biu>,
+        rmu: NodeSet<Rmu>,
+        line: Option<SlotLine>,
+    )
+        requires { node < 16 }
+        ensures { IsNoted self.old self.new node upcoming (told_closed closed.now times.now biu rmu line (told_at self.old.told node)) }
+    {
+        self.told[usize::from(node)].close(closed, times, biu, rmu, line);
+        self.note(node, upcoming);
+    }
+
+    /// A node begins a frame.
+    pub(crate) fn begin(&mut self, node: u8, upcoming: Milestone, begun: Begin)
+        requires { node < 16 }
+        ensures { IsNoted self.old self.new node upcoming (told_begun_frame begun (told_at self.old.told node)) }
+    {
+        self.told[usize::from(node)].begin(begun);
+        self.note(node, upcoming);
+    }
+
+    /// The sets of these nodes as sources in a stage, by what the receivers told of them. What was seen of those that are good to
+    /// the end of the frame is left out.
+    pub(crate) fn stage_sets<R: Copy>(
+        &self,
+        count: u8,
+        trusted: NodeSet<K>,
+        eps: u32,
+        receivers: u8,
+        others: &Group<R>,
+    ) -> StageSets<K>
+        requires count { count ≤ 16 }
+        requires receivers { receivers ≤ 16 }
+        ensures good { result.good ≡ self.now.good }
+        ensures trusted { result.trusted ≡ trusted }
+        ensures taken { result.taken
+            ≡ set_of (λ j. nat_lt j count && (not (has self.now.lasting j) && was_taken receivers others.now.good others.now.told j)) }
+        ensures unlike { result.unlike
+            ≡ set_of (λ j. nat_lt j count && (not (has self.now.lasting j) && was_unlike eps receivers others.now.good others.now.told j)) }
+    {
+        let counted = NodeSet::first(count).difference(self.lasting);
+        if counted.is_empty() {
+            return StageSets {
+                good: self.good,
+                trusted,
+                taken: counted,
+                unlike: counted,
+            };
+        }
+        StageSets {
+            good: self.good,
+            trusted,
+            taken: taken_among(count, counted, receivers, others.good, &others.told),
+            unlike: unlike_among(eps, count, counted, receivers, others.good, &others.told),
+        }
+    }
+}

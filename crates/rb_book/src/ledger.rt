@@ -1,0 +1,410 @@
+//! The book of a run, as it is kept.
+ghost use Rattle.std.specs.Prelude.{◌≡◌, ◌+◌, ◌-◌, ◌^◌, ◌<◌, ◌≤◌, ◌==◌, ◌++◌, ℕ, false, is_none, get_or, Some, None, if◌then◌else◌};
+ghost use Rattle.rb_base.specs.Nodes.{has, other};
+ghost use Rattle.rb_base.specs.declared.values.See.TheVariants.{Nothing};
+ghost use Rattle.rb_rules.specs.Slots.{count_of};
+ghost use Rattle.rb_base.specs.Nodes.Side.{Biu as biu, Rmu as rmu};
+ghost use Rattle.rb_base.specs.declared.values.Place.{Place};
+ghost use Rattle.rb_rules.specs.Book.{after_stage, trusted_by};
+ghost use Rattle.rb_rules.specs.Goodness.{Scenario};
+ghost use Rattle.rb_rules.specs.WorldStep.{World, first_world};
+ghost use Rattle.rb_onset.specs.Faults.{faults_of};
+ghost use Rattle.rb_book.specs.Changing.{changed_at, count_for, line_from, number_in, row_shown, side_in, with_begun, with_row};
+ghost use Rattle.rb_book.specs.Holding.{Holds, Passes, TurnsTo, frame_record, good_for, slot_record};
+ghost use Rattle.rb_book.specs.Settling.{GoesPast, JudgesStage, Settles, after_begin, comes_when, is_due, is_free, rows_found};
+ghost use Rattle.rb_book.specs.declared.milestone.Milestone.TheVariants as coming;
+ghost use Rattle.rb_book.specs.Records.{milestone_of, record_of, way_of};
+ghost use Rattle.rb_book.specs.Waiting.{found_of, line_of, node_line_of, port_line_of};
+
+use crate::group::Group;
+use crate::milestone::{Milestone, Way};
+use crate::told::Begin;
+use crate::turn::{FrameRecord, SlotRecord, Turn};
+use crate::walks::{add_node_lines, first_trusted, port_lines, slot_lines};
+use arrayvec::ArrayVec;
+use rb_base::{Biu, Delivery, NodeName, NodeSet, Place, Rmu, Shape};
+use rb_judge::Judge;
+use rb_onset::Onsets;
+use rb_rules::{Closed, NodeLine, PortLine, SlotLine};
+
+/// What nodes told, and what is settled.
+#[derive(Drop)]
+pub struct Ledger {
+    pub shape: Shape,
+    pub frames: u32,
+    /// How far apart the times of one message may be.
+    pub eps: u32,
+    pub onsets: Onsets,
+    pub bius: Group<Biu>,
+    pub rmus: Group<Rmu>,
+    /// The first milestone that is not settled.
+    pub upcoming: Milestone,
+    /// What was delivered in this slot.
+    pub lines: ArrayVec<SlotLine, 16>,
+    pub judge: Judge,
+    pub ended: bool,
+}
+
+// The BIUs that are good at a milestone.
+fn good_biu_for(onsets: &Onsets, milestone: Milestone) -> NodeSet<Biu>
+    ensures { (sc : Scenario) → onsets.now ≡ faults_of sc → result ≡ good_for sc biu milestone }
+{
+    match milestone {
+        Milestone::Begin(frame) => onsets.good_biu(frame, 0),
+        Milestone::Stage(place) => onsets.good_biu(place.frame, place.slot),
+        Milestone::End => NodeSet::empty(),
+    }
+}
+
+// The RMUs that are good at a milestone.
+fn good_rmu_for(onsets: &Onsets, milestone: Milestone) -> NodeSet<Rmu>
+    ensures { (sc : Scenario) → onsets.now ≡ faults_of sc → result ≡ good_for sc rmu milestone }
+{
+    match milestone {
+        Milestone::Begin(frame) => onsets.good_rmu(frame, 0),
+        Milestone::Stage(place) => onsets.good_rmu(place.frame, place.slot),
+        Milestone::End => NodeSet::empty(),
+    }
+}
+
+// What comes after a stage.
+fn after_stage(shape: &Shape, place: Place) -> Milestone
+    ensures { place.frame + 1 < 2 ^ 32 → place.slot + 1 < 2 ^ 16 → milestone_of result ≡ after_stage shape.now place }
+{
+    if place.stage < 3 {
+        Milestone::Stage(Place {
+            stage: place.stage + 1,
+            ..place
+        })
+    } else if place.slot == shape.sync_slot() {
+        Milestone::Begin(place.frame.saturating_add(1))
+    } else {
+        Milestone::Stage(Place {
+            frame: place.frame,
+            slot: place.slot.saturating_add(1),
+            stage: 1,
+        })
+    }
+}
+
+// The trusted nodes of both kinds, as masks, as the first good node held them that told of a stage, BIUs before RMUs.
+fn trusted(shape: &Shape, place: Place, bius: &Group<Biu>, rmus: &Group<Rmu>) -> (u16, u16)
+    ensures biu { result.0 ≡ trusted_by biu (rows_found shape.now place bius.now rmus.now) }
+    ensures rmu { result.1 ≡ trusted_by rmu (rows_found shape.now place bius.now rmus.now) }
+{
+    let of_bius = first_trusted(shape.biu(), bius.good, place, &bius.told);
+    let of_rmus = first_trusted(shape.rmu(), rmus.good, place, &rmus.told);
+    of_bius.or(of_rmus).unwrap_or((0, 0))
+}
+
+// The judge is told a stage of which all good nodes have told.
+fn judge_stage(
+    judge: &mut Judge,
+    shape: &Shape,
+    eps: u32,
+    place: Place,
+    bius: &Group<Biu>,
+    rmus: &Group<Rmu>,
+)
+    ensures { JudgesStage judge.old judge.new shape.now eps place bius.now rmus.now }
+{
+    let trusted = trusted(shape, place, bius, rmus);
+    let of_bius = bius.stage_sets(
+        shape.biu(),
+        NodeSet::from_bits(trusted.0),
+        eps,
+        shape.rmu(),
+        rmus,
+    );
+    let of_rmus = rmus.stage_sets(
+        shape.rmu(),
+        NodeSet::from_bits(trusted.1),
+        eps,
+        shape.biu(),
+        bius,
+    );
+    judge.whole_stage(&of_bius, &of_rmus);
+}
+
+// What was delivered in a slot so far, after a stage. Deliveries come in stage 2.
+fn keep_lines(lines: &mut ArrayVec<SlotLine, 16>, shape: &Shape, place: Place, bius: &Group<Biu>)
+    ensures { lines.new.items ≡ (if place.stage == 2
+        then found_of (λ i t. line_of place (has bius.now.good i) t) shape.now.bius bius.now.told else lines.old.items) }
+{
+    if place.stage == 2 {
+        *lines = slot_lines(shape.biu(), bius.good, place, &bius.told);
+    }
+}
+
+// What comes after the begin of a frame of so many.
+fn after_begin(frame: u32, frames: u32) -> Milestone
+    ensures { milestone_of result ≡ after_begin frame frames }
+{
+    if frame == frames {
+        Milestone::End
+    } else {
+        Milestone::Stage(Place {
+            frame,
+            slot: 0,
+            stage: 1,
+        })
+    }
+}
+
+// Whether a milestone is settled in this way, by whether it needs no event.
+fn comes_so(way: Way, is_free: bool) -> bool
+    ensures { result ≡ comes_when is_free way }
+{
+    match way {
+        Way::ByAnEvent => !is_free,
+        Way::ByItself => is_free,
+    }
+}
+
+fn is_quiet(turn: &Turn) -> bool
+    ensures { result ≡ is_none (record_of turn.now) }
+{
+    matches!(turn, Turn::Quiet)
+}
+
+// What a node delivers, as a line.
+fn slot_line_of(receiver: u8, delivered: Option<Delivery>) -> Option<SlotLine>
+    ensures { result ≡ line_from receiver delivered }
+{
+    match delivered {
+        Some(delivery) => Some(SlotLine {
+            receiver,
+            sender: delivery.sender,
+            value: delivery.value,
+        }),
+        None => None,
+    }
+}
+
+impl Ledger {
+    pub(crate) fn new(shape: Shape, frames: u32, eps: u32, onsets: Onsets) -> Ledger
+        ensures holds { (sc : Scenario) → shape ≡ sc.sizes → frames ≡ sc.frames → eps ≡ sc.plan.dmax - sc.plan.dmin → onsets ≡ faults_of sc
+            → Holds sc result (first_world sc) }
+        ensures shape { result.shape ≡ shape }
+    {
+        let mut ledger = Ledger {
+            shape,
+            frames,
+            eps,
+            onsets,
+            bius: Group::new(),
+            rmus: Group::new(),
+            upcoming: Milestone::Begin(0),
+            lines: ArrayVec::new(),
+            judge: Judge::new(&shape),
+            ended: false,
+        };
+        let _bius = shape.biu();
+        ledger.turn_to(Milestone::Begin(0));
+        ledger
+    }
+
+    // A milestone is the upcoming one.
+    fn turn_to(&mut self, milestone: Milestone)
+        ensures { TurnsTo self.old self.new milestone }
+    {
+        let good = good_biu_for(&self.onsets, milestone);
+        self.bius.await_all(self.shape.biu(), milestone, good);
+        let good = good_rmu_for(&self.onsets, milestone);
+        self.rmus.await_all(self.shape.rmu(), milestone, good);
+        self.upcoming = milestone;
+    }
+
+    // The record of a frame. It is left out where no node began it.
+    fn frame_turn(&self, frame: u32) -> Turn
+        ensures { record_of result ≡ frame_record frame
+            (found_of (λ i t. node_line_of frame (has self.now.bius.good i) t) self.now.shape.bius self.now.bius.told
+            ++ found_of (λ i t. node_line_of frame (has self.now.rmus.good i) t) self.now.shape.rmus self.now.rmus.told)
+            (found_of (λ i t. port_line_of frame (has self.now.bius.good i) t) self.now.shape.bius self.now.bius.told) }
+    {
+        let (bius, rmus) = (self.shape.biu(), self.shape.rmu());
+        let mut nodes = ArrayVec::new();
+        add_node_lines(&mut nodes, bius, self.bius.good, frame, &self.bius.told);
+        add_node_lines(&mut nodes, rmus, self.rmus.good, frame, &self.rmus.told);
+        if nodes.is_empty() {
+            return Turn::Quiet;
+        }
+        Turn::Frame(FrameRecord {
+            frame,
+            nodes,
+            ports: port_lines(bius, self.bius.good, frame, &self.bius.told),
+        })
+    }
+
+    // The record of a slot, which comes with its stage 3.
+    fn slot_turn(&self, place: Place) -> Turn
+        ensures { record_of result ≡ slot_record self.now.shape place self.now.lines.items }
+    {
+        if place.stage == 3 && place.slot < self.shape.sync_slot() {
+            Turn::Slot(SlotRecord {
+                frame: place.frame,
+                slot: place.slot,
+                lines: self.lines.clone().unwrap(),
+            })
+        } else {
+            Turn::Quiet
+        }
+    }
+
+    // The begin of a frame is settled.
+    fn pass_begin(&mut self, frame: u32) -> Turn
+        ensures passes { (sc : Scenario) (w : World) → Holds sc self.old w → self.old.ended ≡ false → self.old.upcoming ≡ coming.Begin frame → Passes sc w self.new result }
+        ensures shape { self.new.shape ≡ self.old.shape }
+    {
+        let turn = self.frame_turn(frame);
+        let sync_slot = self.shape.sync_slot();
+        self.judge.frame();
+        self.lines = ArrayVec::new();
+        self.bius.lasting = self.onsets.good_biu(frame, sync_slot);
+        self.rmus.lasting = self.onsets.good_rmu(frame, sync_slot);
+        self.turn_to(after_begin(frame, self.frames));
+        turn
+    }
+
+    // A stage is settled, of which all good nodes have told.
+    fn pass_stage(&mut self, place: Place) -> Turn
+        ensures passes { (sc : Scenario) (w : World) → Holds sc self.old w → self.old.ended ≡ false → self.old.upcoming ≡ coming.Stage place
+            → self.old.bius.waiting ≡ 0 → self.old.rmus.waiting ≡ 0 → Passes sc w self.new result }
+        ensures shape { self.new.shape ≡ self.old.shape }
+    {
+        judge_stage(
+            &mut self.judge,
+            &self.shape,
+            self.eps,
+            place,
+            &self.bius,
+            &self.rmus,
+        );
+        match self.judge.verdict() {
+            Some(cause) => {
+                self.ended = true;
+                Turn::Breach(place, cause)
+            }
+            None => self.pass_judged(place),
+        }
+    }
+
+    // A stage is settled, and the premise holds.
+    fn pass_judged(&mut self, place: Place) -> Turn
+        ensures { GoesPast self.old self.new place result }
+    {
+        let turn = self.slot_turn(place);
+        keep_lines(&mut self.lines, &self.shape, place, &self.bius);
+        let next = after_stage(&self.shape, place);
+        self.turn_to(next);
+        turn
+    }
+
+    // The upcoming milestone is settled, of which all good nodes have told.
+    fn pass(&mut self) -> Turn
+        ensures passes { (sc : Scenario) (w : World) → Holds sc self.old w → self.old.ended ≡ false → self.old.bius.waiting ≡ 0 → self.old.rmus.waiting ≡ 0
+            → Passes sc w self.new result }
+        ensures shape { self.new.shape ≡ self.old.shape }
+    {
+        match self.upcoming {
+            Milestone::Begin(frame) => self.pass_begin(frame),
+            Milestone::Stage(place) => self.pass_stage(place),
+            Milestone::End => {
+                self.ended = true;
+                Turn::Ended
+            }
+        }
+    }
+
+    /// Whether no node is good at the upcoming milestone.
+    pub(crate) fn is_free(&self) -> bool
+        ensures { result ≡ is_free self.now }
+    {
+        self.bius.good.is_empty() && self.rmus.good.is_empty()
+    }
+
+    // Whether the upcoming milestone may be settled in this way, and all good nodes have told of it.
+    fn is_due(&self, way: Way) -> bool
+        ensures { result ≡ is_due way self.now }
+    {
+        self.bius.waiting.is_empty()
+            && self.rmus.waiting.is_empty()
+            && comes_so(way, self.is_free())
+            && !self.ended
+    }
+
+    /// A node closes a window. What it saw of a source with a stamp is noted with the reference time of that source. Of the tail
+    /// nothing is noted.
+    pub(crate) fn close(
+        &mut self,
+        node: NodeName,
+        closed: &Closed,
+        times: &[u64; 16],
+        biu: NodeSet<Biu>,
+        rmu: NodeSet<Rmu>,
+    )
+        requires node { number_in node < count_for node self.old.shape }
+        requires sources { (j : ℕ) → count_of (other (side_in node)) self.old.shape ≤ j → get_or closed.now.sees j Nothing ≡ Nothing }
+        ensures noted { (sc : Scenario) (w : World) → Holds sc self.old w
+            → Holds sc self.new (changed_at node (with_row closed.now.place.stage (row_shown (number_in node) closed.now times.now biu rmu)) w) }
+        ensures shape { self.new.shape ≡ self.old.shape }
+    {
+        if closed.place.stage == 4 {
+            return;
+        }
+        match node {
+            NodeName::Biu(i) => {
+                let _bius = self.shape.biu();
+                let line = slot_line_of(i, closed.delivered);
+                self.bius
+                    .close(i, self.upcoming, closed, times, biu, rmu, line);
+            }
+            NodeName::Rmu(i) => {
+                let _rmus = self.shape.rmu();
+                let line = slot_line_of(i, closed.delivered);
+                self.rmus
+                    .close(i, self.upcoming, closed, times, biu, rmu, line);
+            }
+        }
+    }
+
+    /// A BIU begins a frame.
+    pub(crate) fn begin_biu(&mut self, i: u8, frame: u32, line: NodeLine, port: PortLine)
+        requires { i < self.old.shape.bius }
+        ensures noted { (sc : Scenario) (w : World) → Holds sc self.old w
+            → Holds sc self.new (changed_at (NodeName.Biu i) (with_begun (record { frame = frame; line = line; port = Some port })) w) }
+        ensures shape { self.new.shape ≡ self.old.shape }
+    {
+        let _bius = self.shape.biu();
+        self.bius
+            .begin(i, self.upcoming, Begin { frame, line, port });
+    }
+
+    /// An RMU begins a frame.
+    pub(crate) fn begin_rmu(&mut self, i: u8, frame: u32, line: NodeLine)
+        requires { i < self.old.shape.rmus }
+        ensures noted { (sc : Scenario) (w : World) → Holds sc self.old w
+            → Holds sc self.new (changed_at (NodeName.Rmu i) (with_begun (record { frame = frame; line = line; port = None })) w) }
+        ensures shape { self.new.shape ≡ self.old.shape }
+    {
+        let _rmus = self.shape.rmu();
+        let port = PortLine::default();
+        self.rmus
+            .begin(i, self.upcoming, Begin { frame, line, port });
+    }
+
+    // What is due is settled, up to the first record, and at most two milestones.
+    pub(crate) fn settle(&mut self, way: Way) -> Turn
+        ensures settled { (sc : Scenario) (w : World) → Holds sc self.old w → Settles sc (way_of way) w self.new result }
+        ensures shape { self.new.shape ≡ self.old.shape }
+    {
+        if !self.is_due(way) {
+            return Turn::Quiet;
+        }
+        let turn = self.pass();
+        if is_quiet(&turn) && self.is_due(way) {
+            return self.pass();
+        }
+        turn
+    }
+}

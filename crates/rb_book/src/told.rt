@@ -1,0 +1,143 @@
+//! What a node has told last.
+ghost use Rattle.std.specs.Prelude.{◌≡◌, ◌<◌};
+ghost use Rattle.rb_rules.specs.Judging.{are_alike, is_something};
+ghost use Rattle.rb_rules.specs.Majority.{same_heard};
+ghost use Rattle.rb_rules.specs.WorldStep.{same_place};
+ghost use Rattle.rb_book.specs.Telling.{fresh_told, has_told, see_of, told_begun_frame, told_closed};
+
+use crate::milestone::Milestone;
+use rb_base::{Biu, Heard, NodeSet, Place, Rmu, See};
+use rb_rules::{Closed, NodeLine, PortLine, SlotLine};
+
+/// What a node told of a frame that it began.
+#[derive(Clone, Copy)]
+pub struct Begin {
+    pub frame: u32,
+    pub line: NodeLine,
+    /// Of a BIU. An RMU has none, and this is any.
+    pub port: PortLine,
+}
+
+/// What a node told last, of the stages and of the frames.
+#[derive(Clone, Copy)]
+pub struct Told {
+    /// Whether it has closed a stage. If so, the next are of the last one.
+    pub has_closed: bool,
+    pub place: Place,
+    /// What it saw of each source. Where that is a stamp, the reference time is beside it.
+    pub sees: [See; 16],
+    pub times: [u64; 16],
+    /// The trusted nodes of both kinds, as masks.
+    pub biu: u16,
+    pub rmu: u16,
+    pub line: Option<SlotLine>,
+    pub begun: Option<Begin>,
+}
+
+fn same_place(a: Place, b: Place) -> bool
+    ensures { result ≡ same_place a b }
+{
+    a == b
+}
+
+impl Told {
+    pub(crate) fn none() -> Told
+        ensures { result ≡ fresh_told }
+    {
+        Told {
+            has_closed: false,
+            place: Place {
+                frame: 0,
+                slot: 0,
+                stage: 0,
+            },
+            sees: [See::Nothing; 16],
+            times: [0; 16],
+            biu: 0,
+            rmu: 0,
+            line: None,
+            begun: None,
+        }
+    }
+
+    /// It closes a stage, having seen this of each source, some at these reference times, and delivers the line.
+    pub(crate) fn close(
+        &mut self,
+        closed: &Closed,
+        times: &[u64; 16],
+        biu: NodeSet<Biu>,
+        rmu: NodeSet<Rmu>,
+        line: Option<SlotLine>,
+    )
+        ensures { self.new ≡ told_closed closed.now times.now biu rmu line self.old }
+    {
+        self.has_closed = true;
+        self.place = closed.place;
+        self.sees = closed.sees;
+        self.times = *times;
+        self.biu = biu.bits();
+        self.rmu = rmu.bits();
+        self.line = line;
+    }
+
+    /// It begins a frame.
+    pub(crate) fn begin(&mut self, begun: Begin)
+        ensures { self.new ≡ told_begun_frame begun self.old }
+    {
+        self.begun = Some(begun);
+    }
+
+    /// Whether it has told of the milestone last.
+    pub(crate) fn has_told(&self, milestone: Milestone) -> bool
+        ensures { result ≡ has_told milestone self.now }
+    {
+        match milestone {
+            Milestone::Begin(frame) => match self.begun {
+                Some(begun) => begun.frame == frame,
+                None => false,
+            },
+            Milestone::Stage(place) => self.has_closed && same_place(self.place, place),
+            Milestone::End => false,
+        }
+    }
+
+    /// What it saw of a source in its latest stage, with a reference time.
+    pub(crate) fn see(&self, source: u8) -> See
+        requires { source < 16 }
+        ensures { result ≡ see_of self.now source }
+    {
+        let at = usize::from(source);
+        match self.sees[at] {
+            See::Time(_) => See::Time(self.times[at]),
+            see => see,
+        }
+    }
+}
+
+pub(crate) fn is_something(see: See) -> bool
+    ensures { result ≡ is_something see }
+{
+    !matches!(see, See::Nothing)
+}
+
+fn same_heard(v: Heard, w: Heard) -> bool
+    ensures { result ≡ same_heard v w }
+{
+    match (v, w) {
+        (Heard::Word(a), Heard::Word(b)) => a == b,
+        (Heard::Fault, Heard::Fault) => true,
+        _ => false,
+    }
+}
+
+/// Whether two sights of a source are alike.
+pub(crate) fn are_alike(eps: u32, a: See, b: See) -> bool
+    ensures { result ≡ are_alike eps a b }
+{
+    match (a, b) {
+        (See::Nothing, See::Nothing) => true,
+        (See::Value(v), See::Value(w)) => same_heard(v, w),
+        (See::Time(s), See::Time(t)) => s.abs_diff(t) <= u64::from(eps),
+        _ => false,
+    }
+}
