@@ -71,15 +71,15 @@ length-from_on time events a (suc n) e h =
     ∙ omega (arith, length-coming_at time events a, length-from_on time events (a + 1) n e (omega arith), count_between time a e (omega arith) events)
 
 -- Which.
-from_on-suc : (time : ℕ) (events : List Pending) (a n : ℕ) → from_on time events a (suc n) ≡ coming_at time events a ++ from_on time events (a + 1) n
+pub from_on-suc : (time : ℕ) (events : List Pending) (a n : ℕ) → from_on time events a (suc n) ≡ coming_at time events a ++ from_on time events (a + 1) n
 unfolding from_on
 from_on-suc time events a n = refl
 
-from_on-zero : (time : ℕ) (events : List Pending) (a : ℕ) → from_on time events a 0 ≡ []
+pub from_on-zero : (time : ℕ) (events : List Pending) (a : ℕ) → from_on time events a 0 ≡ []
 unfolding from_on
 from_on-zero time events a = refl
 
-from_on-split : (time : ℕ) (events : List Pending) (a k m : ℕ) → from_on time events a (k + m) ≡ from_on time events a k ++ from_on time events (a + k) m
+pub from_on-split : (time : ℕ) (events : List Pending) (a k m : ℕ) → from_on time events a (k + m) ≡ from_on time events a k ++ from_on time events (a + k) m
 from_on-split time events a zero m =
     let e : zero + m ≡ m = omega arith in
     let f : a ≡ a + zero = omega arith in
@@ -92,7 +92,7 @@ from_on-split time events a (suc k) m =
     ∙ sym (append_assoc (coming_at time events a) (from_on time events (a + 1) k) (from_on time events (a + suc k) m)) ∙ ap (λ l. l ++ from_on time events (a + suc k) m) (sym (from_on-suc time events a k))
 
 -- sources of which nothing comes are passed over
-from_on-skip : (time : ℕ) (events : List Pending) (a k m : ℕ) → ((j : ℕ) → a ≤ j → j < a + k → count_if (comes time j) events ≡ 0)
+pub from_on-skip : (time : ℕ) (events : List Pending) (a k m : ℕ) → ((j : ℕ) → a ≤ j → j < a + k → count_if (comes time j) events ≡ 0)
     → from_on time events a (k + m) ≡ from_on time events (a + k) m
 from_on-skip time events a zero m none =
     let e : zero + m ≡ m = omega arith in
@@ -118,7 +118,7 @@ some_source : (time : ℕ) (events : List Pending) (a n : ℕ) → 0 < length (f
 some_source time events a zero h = let e : length (from_on time events a zero) ≡ 0 = ap length (from_on-zero time events a) in absurd (omega arith)
 some_source time events a (suc n) h = omega arith
 
-arrivals_are : (time : ℕ) (events : List Pending) → arrivals_at time events ≡ from_on time events 0 256
+pub arrivals_are : (time : ℕ) (events : List Pending) → arrivals_at time events ≡ from_on time events 0 256
 unfolding arrivals_at from_on
 arrivals_are time events = refl
 

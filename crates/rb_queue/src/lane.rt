@@ -65,7 +65,8 @@ impl Lane {
     }
 
     pub(crate) fn ready(&self) -> usize
-        ensures { result ≡ length (ready_of self.now) }
+        ensures value { result ≡ length (ready_of self.now) }
+        ensures few { result ≤ self.now.room }
     {
         match self.head {
             None => 0,

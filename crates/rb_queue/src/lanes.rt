@@ -102,6 +102,7 @@ impl Lanes {
     pub fn ready(&self, node: NodeName) -> usize
         requires in_shape { HasLane self.now node }
         ensures value { result ≡ length (ready_of (lane_of self.now node)) }
+        ensures few { result ≤ (lane_of self.now node).room }
     {
         self.lane(node).ready()
     }

@@ -36,7 +36,8 @@ fn is_between(pending: &Pending, time: u64, first: u16, end: u16) -> bool
 
 // How many events come at a time from the sources that begin with the first and stand before the end.
 pub(crate) fn count(events: &[Pending], time: u64, first: u16, end: u16) -> usize
-    ensures { result ≡ count_if (is_between time first end) events.now }
+    ensures value { result ≡ count_if (is_between time first end) events.now }
+    ensures few { result ≤ length events.now }
 {
     let mut count = 0;
     for pending in events {
@@ -47,7 +48,8 @@ pub(crate) fn count(events: &[Pending], time: u64, first: u16, end: u16) -> usiz
 
 // How many events are ready at a time.
 pub(crate) fn count_ready(events: &[Pending], time: u64) -> usize
-    ensures { result ≡ length (ready_at time events.now) }
+    ensures value { result ≡ length (ready_at time events.now) }
+    ensures few { result ≤ length events.now }
 {
     let arrivals = count(events, time, 0, 256);
     if arrivals > 0 {

@@ -1,0 +1,195 @@
+-- How the least times are kept beside the lanes.
+use Rattle.std.proofs.Common.{◌≡◌, ℕ, zero, suc, ◌+◌, ◌-◌, ◌<◌, ◌≤◌, nat_lt, Bool, true, false, Option, Some, None, List, [], ◌∷◌, ◌++◌, All, length, map, slice_get, if◌then◌else◌, refl, sym, ap, ◌∙◌, subst, arith, length-append}
+use Rattle.std.specs.Prelude.{unwrap_or, slice_set}
+use Rattle.std.proofs.Math.ListN.{replicate}
+use Rattle.std.proofs.lemmas.Bool.Decides.{nat_tests}
+use Rattle.std.proofs.lemmas.List.{length-map, length-set, map-append, map-set, set-append_left, set-append_right}
+use Rattle.std.proofs.lemmas.List.Elements.{All-cons, All-nil, All-replicate, All-set, All-head, All-tail}
+use Rattle.std.proofs.lemmas.List.FromFn.{length-range_with_len}
+use Rattle.rb_base.specs.Counting.{numbers}
+use Rattle.rb_base.specs.Sizes.{IsShape, Sizes}
+use Rattle.rb_base.specs.declared.node.NodeName.{NodeName}
+use Rattle.rb_base.specs.declared.node.NodeName.TheVariants as node
+use Rattle.rb_rules.specs.Book.{Each, each_of, in_order}
+use Rattle.rb_queue.specs.declared.pending.Pending.{Pending}
+use Rattle.rb_queue.specs.Waiting.{HasLane, Held, empty_lane, head_of, lane_of, ready_of, with_lane, without_found, without_ready}
+use Rattle.rb_agenda.specs.Agenda.{AreKept, key_of, node_at, position_of}
+use Rattle.rb_agenda.proofs.Heads.{AreTimes, IsTime}
+
+-- A lane changes.
+get-set : {X : Type 0} (xs : List X) (i : ℕ) (x : X) → i < length xs → slice_get (slice_set xs i x) i ≡ Some x
+get-set [] i x h = absurd (omega arith)
+get-set (y ∷ xs) zero x h = refl
+get-set (y ∷ xs) (suc i) x h = get-set xs i x (omega arith)
+
+pub lane-with : (lanes : Each Held) (name : NodeName) (lane : Held) → HasLane lanes name → lane_of (with_lane name lane lanes) name ≡ lane
+lane-with lanes (node.Biu i) lane h = ap (λ o. unwrap_or o (empty_lane 0)) (get-set lanes.bius i lane h)
+lane-with lanes (node.Rmu i) lane h = ap (λ o. unwrap_or o (empty_lane 0)) (get-set lanes.rmus i lane h)
+
+pub has-with : (lanes : Each Held) (name other : NodeName) (lane : Held) → HasLane lanes name → HasLane (with_lane other lane lanes) name
+has-with lanes (node.Biu i) (node.Biu j) lane h = let e : length (slice_set lanes.bius j lane) ≡ length lanes.bius = length-set lanes.bius j lane in omega arith
+has-with lanes (node.Biu i) (node.Rmu j) lane h = h
+has-with lanes (node.Rmu i) (node.Biu j) lane h = h
+has-with lanes (node.Rmu i) (node.Rmu j) lane h = let e : length (slice_set lanes.rmus j lane) ≡ length lanes.rmus = length-set lanes.rmus j lane in omega arith
+
+-- the lanes in order after it
+with-in-order : (lanes : Each Held) (name : NodeName) (lane : Held) → HasLane lanes name
+    → in_order (with_lane name lane lanes) ≡ slice_set (in_order lanes) (position_of (length lanes.bius) name) lane
+with-in-order lanes (node.Biu i) lane h = sym (set-append_left lanes.bius lanes.rmus i lane h)
+with-in-order lanes (node.Rmu i) lane h =
+    let e : (length lanes.bius + i) - length lanes.bius ≡ i = omega arith in
+    sym (set-append_right lanes.bius lanes.rmus (length lanes.bius) (length lanes.bius + i) lane refl (omega arith) ∙ ap (λ i. lanes.bius ++ slice_set lanes.rmus i lane) e)
+
+-- Least times.
+
+-- the position of a node has a key
+pub has-key : (lanes : Each Held) (keys : List ℕ) (bius : ℕ) (name : NodeName) → AreKept lanes keys bius → HasLane lanes name → position_of bius name < length keys
+has-key lanes keys bius name kept h =
+    let many : length keys ≡ length (in_order lanes) = ap length kept.each ∙ length-map (in_order lanes) key_of in
+    let all : length (in_order lanes) ≡ length lanes.bius + length lanes.rmus = length-append lanes.bius lanes.rmus in
+    let split : bius ≡ length lanes.bius = kept.split in
+    go name h (omega arith) split
+  where
+    go : (name : NodeName) → HasLane lanes name → length keys ≡ length lanes.bius + length lanes.rmus → bius ≡ length lanes.bius → position_of bius name < length keys
+    go (node.Biu i) h many split = omega arith
+    go (node.Rmu i) h many split = omega arith
+
+kept-there : (lanes new : Each Held) (keys : List ℕ) (bius : ℕ) (name : NodeName) (lane : Held) (key : ℕ) → AreKept lanes keys bius → HasLane lanes name
+    → new ≡ with_lane name lane lanes → lane.room ≤ 65536 → key ≡ key_of (lane_of new name) → key ≤ 18446744073709551615
+    → AreKept new (slice_set keys (position_of bius name) key) bius
+kept-there lanes new keys bius name lane key kept h after room is small =
+    let changed : key ≡ key_of lane = is ∙ ap (λ x. key_of (lane_of x name)) after ∙ ap key_of (lane-with lanes name lane h) in
+    let order : in_order new ≡ slice_set (in_order lanes) (position_of bius name) lane =
+    ap in_order after ∙ with-in-order lanes name lane h ∙ ap (λ b. slice_set (in_order lanes) (position_of b name) lane) (sym kept.split) in
+    let as_many = many name in
+    record {
+      each = ap (slice_set keys (position_of bius name)) changed ∙ ap (λ ks. slice_set ks (position_of bius name) (key_of lane)) kept.each
+          ∙ sym (map-set key_of (in_order lanes) (position_of bius name) lane) ∙ ap (map key_of) (sym order);
+      small = All-set (λ k. k ≤ 18446744073709551615) keys (position_of bius name) key small kept.small;
+      split = kept.split ∙ sym (ap (λ x. length x.bius) after ∙ as_many.0);
+      few_bius = subst (λ n. n ≤ 16) (sym (ap (λ x. length x.bius) after ∙ as_many.0)) kept.few_bius;
+      few_rmus = subst (λ n. n ≤ 16) (sym (ap (λ x. length x.rmus) after ∙ as_many.1)) kept.few_rmus;
+      short = subst (All (λ l. l.room ≤ 65536)) (sym order) (All-set (λ l. l.room ≤ 65536) (in_order lanes) (position_of bius name) lane room kept.short);
+    }
+  where
+    many : (name : NodeName) → (length (with_lane name lane lanes).bius ≡ length lanes.bius) × (length (with_lane name lane lanes).rmus ≡ length lanes.rmus)
+    many (node.Biu i) = (length-set lanes.bius i lane, refl)
+    many (node.Rmu i) = (refl, length-set lanes.rmus i lane)
+
+-- a lane changes, and its key with it
+pub kept-with : (lanes new : Each Held) (keys : List ℕ) (bius position : ℕ) (name : NodeName) (lane : Held) (key : ℕ) → position ≡ position_of bius name → AreKept lanes keys bius → HasLane lanes name
+    → new ≡ with_lane name lane lanes → lane.room ≤ 65536 → key ≡ key_of (lane_of new name) → key ≤ 18446744073709551615
+    → AreKept new (slice_set keys position key) bius
+kept-with lanes new keys bius position name lane key place kept h after room is small =
+    subst (λ p. AreKept new (slice_set keys p key) bius) (sym place)
+    (kept-there lanes new keys bius name lane key kept h after room is small)
+
+-- the lane at a position
+pub lane-at : (lanes : Each Held) (bius position : ℕ) → bius ≡ length lanes.bius → position < length (in_order lanes)
+    → HasLane lanes (node_at bius position) × (slice_get (in_order lanes) position ≡ Some (lane_of lanes (node_at bius position)))
+lane-at lanes bius position split h = go (nat_lt position bius) refl
+  where
+    left : (xs ys : List Held) (i : ℕ) → i < length xs → slice_get (xs ++ ys) i ≡ Some (unwrap_or (slice_get xs i) (empty_lane 0))
+    left [] ys i h = absurd (omega arith)
+    left (x ∷ xs) ys zero h = refl
+    left (x ∷ xs) ys (suc i) h = left xs ys i (omega arith)
+
+    right : (xs ys : List Held) (i : ℕ) → i < length ys → slice_get (xs ++ ys) (length xs + i) ≡ Some (unwrap_or (slice_get ys i) (empty_lane 0))
+    right [] [] i h = absurd (omega arith)
+    right [] (y ∷ ys) zero h = refl
+    right [] (y ∷ ys) (suc i) h = let e : 0 + suc i ≡ suc (0 + i) = omega arith in ap (slice_get (y ∷ ys)) e ∙ right [] ys i (omega arith)
+    right (x ∷ xs) ys i h = let e : length (x ∷ xs) + i ≡ suc (length xs + i) = omega arith in ap (slice_get (x ∷ (xs ++ ys))) e ∙ right xs ys i h
+
+    go : (b : Bool) → nat_lt position bius ≡ b
+        → HasLane lanes (if b then node.Biu position else node.Rmu (position - bius)) × (slice_get (in_order lanes) position ≡ Some (lane_of lanes (if b then node.Biu position else node.Rmu (position - bius))))
+    go true e =
+        let low : position < bius = grind (arith, nat_tests) in
+        let within : position < length lanes.bius = omega arith in
+        (within, left lanes.bius lanes.rmus position within)
+    go false e =
+        let all : length (in_order lanes) ≡ length lanes.bius + length lanes.rmus = length-append lanes.bius lanes.rmus in
+        let high : bius ≤ position = grind (arith, nat_tests) in
+        let within : position - bius < length lanes.rmus = omega arith in
+        let at : position ≡ length lanes.bius + (position - bius) = omega arith in
+        (within, ap (slice_get (in_order lanes)) at ∙ right lanes.bius lanes.rmus (position - bius) within)
+
+-- what holds of all lanes holds of the lane of a node
+pub room-of : (lanes : Each Held) (keys : List ℕ) (bius : ℕ) (name : NodeName) → AreKept lanes keys bius → HasLane lanes name → (lane_of lanes name).room ≤ 65536
+room-of lanes keys bius name kept h = go name h
+  where
+    at : (xs : List Held) (i : ℕ) → All (λ l. l.room ≤ 65536) xs → i < length xs → (unwrap_or (slice_get xs i) (empty_lane 0)).room ≤ 65536
+    at [] i all h = absurd (omega arith)
+    at (x ∷ xs) zero all h = All-head (λ l. l.room ≤ 65536) x xs all
+    at (x ∷ xs) (suc i) all h = at xs i (All-tail (λ l. l.room ≤ 65536) x xs all) (omega arith)
+
+    front : (xs ys : List Held) → All (λ l. l.room ≤ 65536) (xs ++ ys) → All (λ l. l.room ≤ 65536) ys
+    front [] ys all = all
+    front (x ∷ xs) ys all = front xs ys (All-tail (λ l. l.room ≤ 65536) x (xs ++ ys) all)
+
+    back : (xs ys : List Held) (i : ℕ) → All (λ l. l.room ≤ 65536) (xs ++ ys) → i < length xs → (unwrap_or (slice_get xs i) (empty_lane 0)).room ≤ 65536
+    back [] ys i all h = absurd (omega arith)
+    back (x ∷ xs) ys zero all h = All-head (λ l. l.room ≤ 65536) x (xs ++ ys) all
+    back (x ∷ xs) ys (suc i) all h = back xs ys i (All-tail (λ l. l.room ≤ 65536) x (xs ++ ys) all) (omega arith)
+
+    go : (name : NodeName) → HasLane lanes name → (lane_of lanes name).room ≤ 65536
+    go (node.Biu i) h = back lanes.bius lanes.rmus i kept.short h
+    go (node.Rmu i) h = at lanes.rmus i (front lanes.bius lanes.rmus kept.short) h
+
+-- the keys of all lanes are times
+times-of : (ls : List Held) (keys : List ℕ) → keys ≡ map key_of ls → All (λ k. k ≤ 18446744073709551615) keys → AreTimes ls
+times-of ls keys is all = go ls (subst (All (λ k. k ≤ 18446744073709551615)) is all)
+  where
+    one : (o : Option ℕ) → unwrap_or o 18446744073709551615 ≤ 18446744073709551615 → IsTime o
+    one None h = tt
+    one (Some t) h = h
+
+    go : (ls : List Held) → All (λ k. k ≤ 18446744073709551615) (map key_of ls) → AreTimes ls
+    go [] all = tt
+    go (l ∷ ls) all =
+        (one (head_of l) (All-head (λ k. k ≤ 18446744073709551615) (key_of l) (map key_of ls) all), go ls (All-tail (λ k. k ≤ 18446744073709551615) (key_of l) (map key_of ls) all))
+
+pub kept-times : (lanes : Each Held) (keys : List ℕ) (bius : ℕ) → AreKept lanes keys bius → AreTimes (in_order lanes)
+kept-times lanes keys bius kept = times-of (in_order lanes) keys kept.each kept.small
+
+-- At first.
+map-const : {X Y : Type 0} (f : Y → ℕ) (y : Y) (k : ℕ) (xs : List X) → f y ≡ k → map f (map (λ _. y) xs) ≡ replicate (length xs) k
+map-const f y k [] e = refl
+map-const f y k (x ∷ xs) e = ap (λ a. a ∷ map f (map (λ _. y) xs)) e ∙ ap (λ l. k ∷ l) (map-const f y k xs e)
+
+pub kept-empty : (sizes : Sizes) (lanes : Each Held) (keys : List ℕ) (room bius n : ℕ) → IsShape sizes → room ≤ 65536 → bius ≡ sizes.bius → n ≡ bius + sizes.rmus
+    → keys ≡ replicate n 18446744073709551615 → lanes ≡ each_of sizes (λ side i. empty_lane room) → AreKept lanes keys bius
+kept-empty sizes lanes keys room bius n shape small split all are is =
+    let l : Held = empty_lane room in
+    let b : List Held = map (λ _. l) (numbers sizes.bius) in
+    let r : List Held = map (λ _. l) (numbers sizes.rmus) in
+    let lb : length b ≡ sizes.bius = length-map (numbers sizes.bius) (λ _. l) ∙ length-range_with_len 0 sizes.bius in
+    let lr : length r ≡ sizes.rmus = length-map (numbers sizes.rmus) (λ _. l) ∙ length-range_with_len 0 sizes.rmus in
+    let both : b ++ r ≡ map (λ _. l) (numbers sizes.bius ++ numbers sizes.rmus) = sym (map-append (λ _. l) (numbers sizes.bius) (numbers sizes.rmus)) in
+    let long : length (numbers sizes.bius ++ numbers sizes.rmus) ≡ n =
+    length-append (numbers sizes.bius) (numbers sizes.rmus) ∙ omega (arith, length-range_with_len 0 sizes.bius, length-range_with_len 0 sizes.rmus) in
+    let order : in_order lanes ≡ map (λ _. l) (numbers sizes.bius ++ numbers sizes.rmus) = ap in_order is ∙ both in
+    let most_bius : sizes.bius ≤ 16 = shape.most_bius in
+    let most_rmus : sizes.rmus ≤ 16 = shape.most_rmus in
+    let bius_are : length lanes.bius ≡ length b = ap (λ x. length x.bius) is in
+    let rmus_are : length lanes.rmus ≡ length r = ap (λ x. length x.rmus) is in
+    record {
+      each = are ∙ ap (λ n. replicate n 18446744073709551615) (sym long)
+          ∙ sym (map-const key_of l 18446744073709551615 (numbers sizes.bius ++ numbers sizes.rmus) refl) ∙ ap (map key_of) (sym order);
+      small = subst (All (λ k. k ≤ 18446744073709551615)) (sym are) (All-replicate (λ k. k ≤ 18446744073709551615) n 18446744073709551615 (omega arith));
+      split = split ∙ omega arith;
+      few_bius = omega arith;
+      few_rmus = omega arith;
+      short = subst (All (λ l. l.room ≤ 65536)) (sym order) (all-const (numbers sizes.bius ++ numbers sizes.rmus));
+    }
+  where
+    all-const : (xs : List ℕ) → All (λ l. l.room ≤ 65536) (map (λ _. empty_lane room) xs)
+    all-const [] = All-nil (λ l. l.room ≤ 65536)
+    all-const (x ∷ xs) = All-cons (λ l. l.room ≤ 65536) (empty_lane room) (map (λ _. empty_lane room) xs) small (all-const xs)
+
+-- a lane keeps its room
+pub room-without : (place : ℕ) (lane : Held) → lane.room ≤ 65536 → (without_ready place lane).room ≤ 65536
+room-without place lane h = go (slice_get (ready_of lane) place)
+  where
+    go : (o : Option (ℕ × Pending)) → (without_found o lane).room ≤ 65536
+    go None = h
+    go (Some c) = h

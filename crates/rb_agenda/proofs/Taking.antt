@@ -1,0 +1,54 @@
+-- A due event is taken.
+use Rattle.std.proofs.Common.{◌≡◌, ℕ, Option, Some, List, slice_get, refl, sym, ap, ◌∙◌, subst}
+use Rattle.std.specs.Prelude.{option_map, unwrap_or}
+use Rattle.rb_base.specs.declared.event.Event.{Event}
+use Rattle.rb_base.specs.declared.event.EventKind.{EventKind}
+use Rattle.rb_base.specs.declared.event.EventKind.TheVariants as kind
+use Rattle.rb_base.specs.declared.node.NodeName.{NodeName}
+use Rattle.rb_rules.specs.Book.{Each, in_order, of_kind}
+use Rattle.rb_rules.specs.Goodness.{Scenario}
+use Rattle.rb_rules.specs.Links.{name_of}
+use Rattle.rb_rules.specs.WorldStep.{Pending as Waits, Site, Timed, World, at_node}
+use Rattle.rb_queue.specs.declared.pending.Pending.{Pending}
+use Rattle.rb_queue.specs.Waiting.{HasLane, Held, lane_of, ready_event, with_lane, without_ready}
+use Rattle.rb_agenda.specs.Agenda.{StandsAt, TakesDue, first_time}
+use Rattle.rb_agenda.specs.Holding.{HoldsSite, HoldsSites, Shows, due_with, waits_with, without_waiting}
+use Rattle.rb_agenda.proofs.Changes.{holds-at}
+use Rattle.rb_agenda.proofs.Heads.{AreTimes}
+use Rattle.rb_agenda.proofs.Places.{holds-without}
+use Rattle.rb_agenda.proofs.Which.{is-due}
+
+-- an event shows what waits
+shows-own : (events : List Pending) (ahead : Option Timed) (place time : ℕ) (k : EventKind) → Shows (waits_with events ahead place time k) k
+shows-own events ahead place time (kind.Arrive from bytes) = (refl, refl)
+shows-own events ahead place time (kind.Tick word wanted) = tt
+
+some-same : {X : Type 0} (a b : X) → Some a ≡ Some b → a ≡ b
+some-same a b e = ap (λ o. unwrap_or o a) e
+
+pub takes-due : (sc : Scenario) (w : World) (lanes new : Each Held) (i : ℕ) (event : Event) (name : NodeName) (place : ℕ) → HoldsSites sc.sizes lanes w.sites
+    → AreTimes (in_order lanes) → StandsAt lanes (first_time lanes) i name place → ready_event place (lane_of lanes name) ≡ Some event
+    → new ≡ with_lane name (without_ready place (lane_of lanes name)) lanes → TakesDue sc w i event new
+takes-due sc w lanes new i event name place holds times at shown after =
+    let d = is-due sc w lanes i name place holds times at in
+    let l : Held = lane_of lanes name in
+    let waits : Waits = waits_with l.events d.site.ahead d.event.0 d.event.1.time d.event.1.event.kind in
+    let its : d.event.1.event ≡ event = some-same d.event.1.event event (sym (ap (option_map (λ c. c.1.event)) d.ready) ∙ shown) in
+    let lane : lane_of lanes (name_of d.side d.number) ≡ l = ap (lane_of lanes) (sym d.named) in
+    let change : Site → Site = without_waiting waits in
+    let step : (s : Site) → slice_get (of_kind d.side w.sites) d.number ≡ Some s → HoldsSite sc.sizes d.side (lane_of lanes (name_of d.side d.number)) s
+    → HoldsSite sc.sizes d.side (without_ready place l) (change s) =
+    λ s e h.
+    let same : d.site ≡ s = some-same d.site s (sym d.there ∙ e) in
+    subst (λ x. HoldsSite sc.sizes d.side (without_ready place l) (change x)) same
+    (holds-without sc.sizes d.side l d.site place d.event
+    (subst (HoldsSite sc.sizes d.side l) (sym same) (subst (λ x. HoldsSite sc.sizes d.side x s) lane h)) d.ready) in
+    record {
+      due = due_with d.side d.number l.events d.site d.event;
+      site = d.site;
+      found = d.due;
+      there = d.there;
+      shows = subst (λ e. Shows waits e.kind) its (shows-own l.events d.site.ahead d.event.0 d.event.1.time d.event.1.event.kind);
+      left = subst (λ x. HoldsSites sc.sizes x (at_node d.side d.number change w.sites)) (sym (after ∙ ap (λ n. with_lane n (without_ready place l) lanes) d.named))
+          (holds-at sc.sizes lanes w.sites d.side d.number (without_ready place l) change holds (subst (HasLane lanes) d.named at.lane) step);
+    }

@@ -1,0 +1,100 @@
+-- What is due among all lanes: the events of the least time, node by node.
+use Rattle.std.specs.Prelude.{◌≡◌, ℕ, ◌+◌, ◌-◌, ◌<◌, ◌≤◌, ◌==◌, nat_lt, min, true, false, if◌then◌else◌, unwrap_or, Some, List, [], ◌∷◌, All, flat_map, length, map, slice_get, take}
+use Rattle.rb_base.specs.declared.event.Event.{Event}
+use Rattle.rb_base.specs.declared.node.NodeName.{NodeName}
+use Rattle.rb_base.specs.declared.node.NodeName.TheVariants as node
+use Rattle.rb_base.specs.Nodes.{Side}
+use Rattle.rb_rules.specs.Book.{Each, in_order, of_kind}
+use Rattle.rb_rules.specs.Goodness.{Scenario}
+use Rattle.rb_rules.specs.Links.{name_of}
+use Rattle.rb_rules.specs.WorldStep.{Due, Site, World, at_node, due_at, least, times_of}
+use Rattle.rb_queue.specs.declared.pending.Pending.{Pending}
+use Rattle.rb_queue.specs.Waiting.{Held, HasLane, head_of, lane_of, ready_event, ready_of, with_lane, without_ready}
+use Rattle.rb_agenda.specs.Holding.{HoldsSites, Shows, due_with, without_waiting}
+
+-- the least time of a lane. Where it holds nothing it is the last time that there is
+abbrev pub key_of : Held → ℕ
+key_of lane = unwrap_or (head_of lane) 18446744073709551615
+
+-- the least time of all
+unfoldable pub least_key : List ℕ → ℕ
+least_key [] = 18446744073709551615
+least_key (k ∷ ks) = min k (least_key ks)
+
+-- what is due in a lane at this time: what is ready, if the time is the lane's least
+abbrev pub due_in : ℕ → Held → List (ℕ × Pending)
+due_in time lane = elim (key_of lane == time) [ true ↦ ready_of lane | false ↦ [] ]
+
+-- how many events are due in these lanes at this time
+unfoldable pub due_count : ℕ → List Held → ℕ
+due_count time [] = 0
+due_count time (l ∷ ls) = length (due_in time l) + due_count time ls
+
+-- the least time of all lanes
+abbrev pub first_time : Each Held → ℕ
+first_time lanes = least_key (map key_of (in_order lanes))
+
+-- how many events are due in all lanes
+abbrev pub how_many : Each Held → ℕ
+how_many lanes = due_count (first_time lanes) (in_order lanes)
+
+-- the node at a position, BIUs before RMUs
+abbrev pub node_at : ℕ → ℕ → NodeName
+node_at bius position = if nat_lt position bius then node.Biu position else node.Rmu (position - bius)
+
+-- the position of a node
+abbrev pub position_of : ℕ → NodeName → ℕ
+position_of bius (node.Biu i) = i
+position_of bius (node.Rmu i) = bius + i
+
+-- the i-th of the events that are due at this time is the one at this place among the ready events of a node
+pub record StandsAt (lanes : Each Held) (time i : ℕ) (name : NodeName) (place : ℕ) : Type 0 where
+  pub position : ℕ
+  pub within : position < length (in_order lanes)
+  pub node : name ≡ node_at (length lanes.bius) position
+  pub lane : HasLane lanes name
+  pub first : (key_of (lane_of lanes name) == time) ≡ true
+  pub ready : place < length (ready_of (lane_of lanes name))
+  pub before : i ≡ due_count time (take position (in_order lanes)) + place
+
+-- what is due in a world at the least time of its sites
+abbrev pub due_now : Scenario → World → List Due
+due_now sc w = due_at sc w (least (flat_map times_of (in_order w.sites)))
+
+-- The event at this place among the ready events of a node is the i-th that is due in a world: it is the node's, and stands in the
+-- node's lane
+pub record IsDue (sc : Scenario) (w : World) (lanes : Each Held) (i : ℕ) (name : NodeName) (place : ℕ) : Type 0 where
+  pub side : Side
+  pub number : ℕ
+  pub named : name ≡ name_of side number
+  pub site : Site
+  pub there : slice_get (of_kind side w.sites) number ≡ Some site
+  pub event : ℕ × Pending
+  pub ready : slice_get (ready_of (lane_of lanes name)) place ≡ Some event
+  pub due : slice_get (due_now sc w) i ≡ Some (due_with side number (lane_of lanes name).events site event)
+
+-- the i-th event that is due is taken out of its lane, and no other
+pub record Takes (before : Each Held) (i : ℕ) (event : Event) (after : Each Held) : Type 0 where
+  pub node : NodeName
+  pub place : ℕ
+  pub stands : StandsAt before (first_time before) i node place
+  pub taken : ready_event place (lane_of before node) ≡ Some event
+  pub left : after ≡ with_lane node (without_ready place (lane_of before node)) before
+
+-- The i-th event that is due in a world is taken: this event shows it, and the lanes hold afterwards what waits without it
+pub record TakesDue (sc : Scenario) (w : World) (i : ℕ) (event : Event) (after : Each Held) : Type 0 where
+  pub due : Due
+  pub site : Site
+  pub found : slice_get (due_now sc w) i ≡ Some due
+  pub there : slice_get (of_kind due.side w.sites) due.node ≡ Some site
+  pub shows : Shows due.pending event.kind
+  pub left : HoldsSites sc.sizes after (at_node due.side due.node (without_waiting due.pending) w.sites)
+
+-- beside the lanes their least times are kept. There are at most 16 nodes of a kind, and lanes are short
+pub record AreKept (lanes : Each Held) (keys : List ℕ) (bius : ℕ) : Type 0 where
+  pub each : keys ≡ map key_of (in_order lanes)
+  pub small : All (λ k. k ≤ 18446744073709551615) keys
+  pub split : bius ≡ length lanes.bius
+  pub few_bius : length lanes.bius ≤ 16
+  pub few_rmus : length lanes.rmus ≤ 16
+  pub short : All (λ l. l.room ≤ 65536) (in_order lanes)

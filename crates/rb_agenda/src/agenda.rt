@@ -1,0 +1,132 @@
+//! The agenda of all nodes.
+ghost use Rattle.std.specs.Prelude.{◌≡◌, ◌<◌, ◌≤◌, [], length, IfOk, Some};
+ghost use Rattle.std.proofs.Math.ListN.{replicate};
+ghost use Rattle.rb_rules.specs.Book.{each_of};
+ghost use Rattle.rb_rules.specs.Goodness.{Scenario};
+ghost use Rattle.rb_rules.specs.WorldStep.{World};
+ghost use Rattle.rb_queue.specs.Waiting.{HasLane, empty_lane, head_of, lane_of, ready_event, ready_of, spare_of, with_event, with_lane, without_events, without_ready};
+ghost use Rattle.rb_agenda.specs.Agenda.{IsDue, StandsAt, Takes, TakesDue, due_now, first_time, how_many};
+ghost use Rattle.rb_agenda.specs.Holding.{HoldsSites};
+
+use crate::scan::{due_count, key_of, least_key, locate, position_of};
+use rb_base::{Event, NodeName, OutOfMemory, Shape};
+use rb_queue::Lanes;
+use std::alloc::Global;
+use std::marker::Model;
+
+/// The pending events of the nodes of a bus, and which of them may be taken next: those of the least time, node by node.
+#[derive(Drop)]
+pub struct Agenda {
+    lanes: Lanes,
+    keys: Vec<u64>,
+    bius: usize,
+}
+
+impl Model for Agenda {
+    ghost use Rattle.rb_rules.specs.Book.{Each};
+    ghost use Rattle.rb_queue.specs.Waiting.{Held};
+    ghost use Rattle.rb_agenda.specs.Agenda.{AreKept};
+
+    ghost Value = { Each Held };
+
+    ghost view = { λ a. a.lanes };
+
+    ghost invariant = { λ a. AreKept a.lanes a.keys.items a.bius };
+}
+
+// So many least times of nodes at which nothing is pending.
+fn no_times(alloc: Global, count: usize) -> Result<Vec<u64>, OutOfMemory>
+    ensures { IfOk result (λ keys. keys.items ≡ replicate count 18446744073709551615) }
+{
+    Ok(vec![in alloc; u64::MAX; count]?)
+}
+
+impl Agenda {
+    /// No event, and at each node of the shape room for `room` events, at most 65536. All memory is taken here.
+    pub fn new(alloc: Global, shape: &Shape, room: usize) -> Result<Agenda, OutOfMemory>
+        requires { room ≤ 65536 }
+        ensures { IfOk result (λ a. a ≡ each_of shape.now (λ side i. empty_lane room)) }
+    {
+        let lanes = Lanes::new(alloc, shape, room)?;
+        let bius = usize::from(shape.biu());
+        let keys = no_times(alloc, bius + usize::from(shape.rmu()))?;
+        Ok(Agenda { lanes, keys, bius })
+    }
+
+    /// How many events more there is room for at the node.
+    pub fn spare(&self, node: NodeName) -> usize
+        requires in_shape { HasLane self.now node }
+        ensures value { result ≡ spare_of (lane_of self.now node) }
+    {
+        self.lanes.spare(node)
+    }
+
+    /// Adds an event of a node, due at this time in reference units. There is room for it.
+    pub fn push(&mut self, time: u64, event: Event)
+        requires in_shape { HasLane self.old event.node }
+        requires spare { 1 ≤ spare_of (lane_of self.old event.node) }
+        ensures after { self.new ≡ with_lane event.node
+            (with_event (record { time = time; event = event }) (lane_of self.old event.node))
+            self.old }
+    {
+        let node = event.node;
+        self.lanes.push(time, event);
+        let key = key_of(&self.lanes, node);
+        self.keys[position_of(self.bius, node)] = key;
+    }
+
+    /// The least time of all events, in reference units; 2^64 - 1 where there is none.
+    pub fn first_time(&self) -> u64
+        ensures value { result ≡ first_time self.now }
+    {
+        least_key(&self.keys)
+    }
+
+    /// How many events are due: those of the least time that may be taken.
+    pub fn due(&self) -> usize
+        ensures value { result ≡ how_many self.now }
+        ensures world { (sc : Scenario) → (w : World) → HoldsSites sc.sizes self.now w.sites → result ≡ length (due_now sc w) }
+    {
+        due_count(&self.lanes, &self.keys, self.bius, least_key(&self.keys))
+    }
+
+    /// The node at which the i-th due event waits, counted from 0, and the event's place among those that are ready there.
+    pub fn locate(&self, i: usize) -> (NodeName, usize)
+        requires below { i < how_many self.now }
+        ensures stands { StandsAt self.now (first_time self.now) i result.0 result.1 }
+        ensures world { (sc : Scenario) → (w : World) → HoldsSites sc.sizes self.now w.sites → IsDue sc w self.now i result.0 result.1 }
+    {
+        locate(&self.lanes, &self.keys, self.bius, least_key(&self.keys), i)
+    }
+
+    /// The event at this place among those that are ready at the node.
+    pub fn event_at(&self, node: NodeName, place: usize) -> &Event
+        requires in_shape { HasLane self.now node }
+        requires below { place < length (ready_of (lane_of self.now node)) }
+        ensures value { ready_event place (lane_of self.now node) ≡ Some result.now }
+    {
+        self.lanes.event_at(node, place)
+    }
+
+    /// Takes the i-th due event, counted from 0, out of its lane, and no other.
+    pub fn take(&mut self, i: usize) -> Event
+        requires below { i < how_many self.old }
+        ensures taken { Takes self.old i result self.new }
+        ensures world { (sc : Scenario) → (w : World) → HoldsSites sc.sizes self.old w.sites → TakesDue sc w i result self.new }
+    {
+        let (node, place) = locate(&self.lanes, &self.keys, self.bius, least_key(&self.keys), i);
+        let event = self.lanes.take(node, place);
+        let key = key_of(&self.lanes, node);
+        self.keys[position_of(self.bius, node)] = key;
+        event
+    }
+
+    /// Drops all events of the node, and no others.
+    pub fn drop_all(&mut self, node: NodeName)
+        requires in_shape { HasLane self.old node }
+        ensures after { self.new ≡ with_lane node (without_events (lane_of self.old node)) self.old }
+    {
+        self.lanes.drop_all(node);
+        self.keys[position_of(self.bius, node)] = u64::MAX;
+    }
+}

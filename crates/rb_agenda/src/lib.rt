@@ -1,0 +1,9 @@
+//! What is due at the nodes of a bus: the pending events of all nodes, beside the least time of each node in a flat array.
+#![tactic(auto)]
+
+pub mod agenda;
+mod scan;
+#[cfg(test)]
+mod tests;
+
+pub use agenda::Agenda;

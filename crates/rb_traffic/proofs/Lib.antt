@@ -1,0 +1,5 @@
+pub mod Lanes
+pub mod Sent
+pub mod EntryLists
+pub mod Says
+pub mod Arrivals

@@ -1,0 +1,132 @@
+-- What the entries for a node bring in a window is what is said to it.
+use Rattle.std.proofs.Common.{◌≡◌, ℕ, zero, suc, ◌+◌, ◌-◌, ◌<◌, ◌≤◌, ◌==◌, ◌&&◌, not, nat_le, Bool, true, false, cond, Option, Some, None, List, [], ◌∷◌, ◌++◌, filter, length, map, refl, sym, ap, ◌∙◌, subst, arith}
+use Rattle.std.specs.List.{flat_map, range_with_len}
+use Rattle.std.proofs.lemmas.Bool.Decides.{nat_tests}
+use Rattle.std.proofs.lemmas.List.{map-append}
+use Rattle.std.proofs.lemmas.List.Elements.{filter-append}
+use Rattle.rb_base.specs.Counting.{numbers}
+use Rattle.rb_base.specs.Nodes.{Side, other}
+use Rattle.rb_base.specs.Nodes.Side.{Biu, Rmu}
+use Rattle.rb_base.specs.declared.node.NodeName.{NodeName}
+use Rattle.rb_base.specs.declared.node.NodeName.TheVariants as node
+use Rattle.rb_rules.specs.declared.say.Say.{Say}
+use Rattle.rb_rules.specs.Clock.{Timeline, time_of}
+use Rattle.rb_rules.specs.Goodness.{Scenario, clock_of, is_good}
+use Rattle.rb_rules.specs.Hearing.{Coming, Span, bytes_of, coming_said, is_said, said_by}
+use Rattle.rb_rules.specs.Lawful.{is_node_good, kind_of}
+use Rattle.rb_rules.specs.Links.{covers, name_of, same_node, stands_for}
+use Rattle.rb_rules.specs.WorldStep.{says_in}
+use Rattle.rb_traffic.specs.Arriving.{number_of}
+use Rattle.rb_traffic.specs.Saying.{all_brought, brought, entries_to, is_between, is_said_in, senders_to}
+
+pub brought-append : (sc : Scenario) (clock : Timeline) (span : Span) (xs ys : List Say) → all_brought sc clock span (xs ++ ys) ≡ all_brought sc clock span xs ++ all_brought sc clock span ys
+brought-append sc clock span xs ys =
+    ap (map (brought sc.plan.version clock span)) (filter-append (is_said_in sc span) xs ys)
+    ∙ map-append (brought sc.plan.version clock span) (filter (is_said_in sc span) xs) (filter (is_said_in sc span) ys)
+
+-- Of one sender.
+same-is : (a b : NodeName) → same_node a b ≡ true → a ≡ b
+same-is (node.Biu i) (node.Biu j) e = let same : i ≡ j = grind (arith, nat_tests) in ap node.Biu same
+same-is (node.Biu i) (node.Rmu j) e = let never : false ≡ true = e in absurd cc
+same-is (node.Rmu i) (node.Biu j) e = let never : false ≡ true = e in absurd cc
+same-is (node.Rmu i) (node.Rmu j) e = let same : i ≡ j = grind (arith, nat_tests) in ap node.Rmu same
+
+and-left : (a b : Bool) → (a && b) ≡ true → a ≡ true
+and-left true b e = refl
+and-left false b e = e
+
+and-true : (a : Bool) → (a && true) ≡ a
+and-true true = refl
+and-true false = refl
+
+and-false : (a : Bool) → (a && false) ≡ false
+and-false true = refl
+and-false false = refl
+
+good-of : (sc : Scenario) (side : Side) (j frame slot : ℕ) → is_node_good sc (name_of side j) frame slot ≡ is_good sc side j frame slot
+good-of sc Biu j frame slot = refl
+good-of sc Rmu j frame slot = refl
+
+number-of : (side : Side) (j : ℕ) → number_of (name_of side j) ≡ j
+number-of Biu j = refl
+number-of Rmu j = refl
+
+map-cond : (f : Say → Coming) (b : Bool) (x : Say) (xs : List Say) → map f (cond b (x ∷ xs) xs) ≡ cond b (f x ∷ map f xs) (map f xs)
+map-cond f true x xs = refl
+map-cond f false x xs = refl
+
+-- the entries between the two, where it is known whether the sender is good
+one-said : (sc : Scenario) (me : Side) (i j : ℕ) (span : Span) (says : List Say) → is_good sc (other me) j span.place.frame span.place.slot ≡ false
+    → map (coming_said sc.plan.version (clock_of sc me i) j span) (filter (is_said me i j span) says)
+        ≡ all_brought sc (clock_of sc me i) span (filter (is_between (name_of (other me) j) (name_of me i)) says)
+one-said sc me i j span [] bad = refl
+one-said sc me i j span (s ∷ says) bad =
+    map-cond (coming_said sc.plan.version clock j span) (is_said me i j span s) s (filter (is_said me i j span) says)
+    ∙ ap (λ l. cond (is_said me i j span s) (coming_said sc.plan.version clock j span s ∷ l) l) (one-said sc me i j span says bad)
+    ∙ go (is_between (name_of (other me) j) (name_of me i) s) refl
+  where
+    clock : Timeline
+    clock = clock_of sc me i
+    inside : Bool
+    inside = covers s.frames s.slots s.stages span.place
+    by_end : Bool
+    by_end = nat_le (span.first + s.offset) span.last
+    rest : List Say
+    rest = filter (is_between (name_of (other me) j) (name_of me i)) says
+    go : (b : Bool) → is_between (name_of (other me) j) (name_of me i) s ≡ b
+        → cond (b && inside && by_end) (coming_said sc.plan.version clock j span s ∷ all_brought sc clock span rest) (all_brought sc clock span rest)
+            ≡ all_brought sc clock span (cond b (s ∷ rest) rest)
+    go false e = refl
+    go true e =
+        let from : s.from ≡ name_of (other me) j = same-is s.from (name_of (other me) j) (and-left (same_node s.from (name_of (other me) j)) (stands_for s.to (name_of me i)) e) in
+        let number : number_of s.from ≡ j = ap number_of from ∙ number-of (other me) j in
+        let good : is_node_good sc s.from span.place.frame span.place.slot ≡ false =
+        ap (λ n. is_node_good sc n span.place.frame span.place.slot) from ∙ good-of sc (other me) j span.place.frame span.place.slot ∙ bad in
+        let said : is_said_in sc span s ≡ (inside && by_end) = ap (λ g. inside && by_end && not g) good ∙ and-true (inside && by_end) in
+        let what : coming_said sc.plan.version clock j span s ≡ brought sc.plan.version clock span s =
+        ap (λ k. record { time = time_of clock (span.first + s.offset) - s.early; from = k; bytes = bytes_of sc.plan.version span.place s.content }) (sym number) in
+        ap (λ c. cond (inside && by_end) (c ∷ all_brought sc clock span rest) (all_brought sc clock span rest)) what
+        ∙ ap (λ b. cond b (brought sc.plan.version clock span s ∷ all_brought sc clock span rest) (all_brought sc clock span rest)) (sym said)
+        ∙ sym (map-cond (brought sc.plan.version clock span) (is_said_in sc span s) s (filter (is_said_in sc span) rest))
+
+none-said : (sc : Scenario) (me : Side) (i j : ℕ) (clock : Timeline) (span : Span) (says : List Say) → is_good sc (other me) j span.place.frame span.place.slot ≡ true
+    → all_brought sc clock span (filter (is_between (name_of (other me) j) (name_of me i)) says) ≡ []
+none-said sc me i j clock span [] good = refl
+none-said sc me i j clock span (s ∷ says) good = go (is_between (name_of (other me) j) (name_of me i) s) refl (none-said sc me i j clock span says good)
+  where
+    rest : List Say
+    rest = filter (is_between (name_of (other me) j) (name_of me i)) says
+    go : (b : Bool) → is_between (name_of (other me) j) (name_of me i) s ≡ b → all_brought sc clock span rest ≡ [] → all_brought sc clock span (cond b (s ∷ rest) rest) ≡ []
+    go false e more = more
+    go true e more =
+        let from : s.from ≡ name_of (other me) j = same-is s.from (name_of (other me) j) (and-left (same_node s.from (name_of (other me) j)) (stands_for s.to (name_of me i)) e) in
+        let its : is_node_good sc s.from span.place.frame span.place.slot ≡ true =
+        ap (λ n. is_node_good sc n span.place.frame span.place.slot) from ∙ good-of sc (other me) j span.place.frame span.place.slot ∙ good in
+        let inside : Bool = covers s.frames s.slots s.stages span.place && nat_le (span.first + s.offset) span.last in
+        let said : is_said_in sc span s ≡ false = ap (λ g. inside && not g) its ∙ and-false inside in
+        ap (λ b. map (brought sc.plan.version clock span) (cond b (s ∷ filter (is_said_in sc span) rest) (filter (is_said_in sc span) rest))) said ∙ more
+
+by-sender : (sc : Scenario) (me : Side) (i j : ℕ) (span : Span) (g : Bool) → is_good sc (other me) j span.place.frame span.place.slot ≡ g
+    → elim g as (λ _. List Coming) [ true ↦ [] | false ↦ said_by sc me i span j ]
+        ≡ all_brought sc (clock_of sc me i) span (filter (is_between (name_of (other me) j) (name_of me i)) sc.says)
+by-sender sc me i j span true e = sym (none-said sc me i j (clock_of sc me i) span sc.says e)
+by-sender sc me i j span false e = one-said sc me i j span sc.says e
+
+-- Of all senders.
+by-senders : (sc : Scenario) (me : Side) (i a n : ℕ) (span : Span)
+    → flat_map (λ j. elim (is_good sc (other me) j span.place.frame span.place.slot) as (λ _. List Coming) [ true ↦ [] | false ↦ said_by sc me i span j ]) (range_with_len a n)
+        ≡ all_brought sc (clock_of sc me i) span (flat_map (λ j. filter (is_between (name_of (other me) j) (name_of me i)) sc.says) (range_with_len a n))
+by-senders sc me i a zero span = refl
+by-senders sc me i a (suc n) span =
+    let f : ℕ → List Say = λ j. filter (is_between (name_of (other me) j) (name_of me i)) sc.says in
+    let more : List Coming = flat_map (λ j. elim (is_good sc (other me) j span.place.frame span.place.slot) as (λ _. List Coming) [ true ↦ [] | false ↦ said_by sc me i span j ]) (range_with_len (a + 1) n) in
+    ap (λ l. l ++ more) (by-sender sc me i a span (is_good sc (other me) a span.place.frame span.place.slot) refl)
+    ∙ ap (λ l. all_brought sc (clock_of sc me i) span (f a) ++ l) (by-senders sc me i (a + 1) n span)
+    ∙ sym (brought-append sc (clock_of sc me i) span (f a) (flat_map f (range_with_len (a + 1) n)))
+
+-- what is said to a node in a window
+pub says-are : (sc : Scenario) (to : NodeName) (span : Span)
+    → says_in sc (kind_of to) (number_of to) span ≡ all_brought sc (clock_of sc (kind_of to) (number_of to)) span (entries_to to (senders_to sc.sizes to) sc.says)
+unfolding says_in entries_to
+says-are sc (node.Biu i) span = by-senders sc Biu i 0 sc.sizes.rmus span
+says-are sc (node.Rmu i) span = by-senders sc Rmu i 0 sc.sizes.bius span

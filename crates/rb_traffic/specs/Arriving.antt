@@ -1,0 +1,48 @@
+-- What comes to nodes, as events of their lanes.
+use Rattle.std.specs.Prelude.{◌≡◌, ℕ, ◌+◌, ◌≤◌, Bool, true, false, List, [], ◌∷◌, ◌++◌, map, slice_get, Some}
+use Rattle.rb_base.specs.Nodes.{Side, has, other}
+use Rattle.rb_base.specs.Nodes.Side.{Biu, Rmu}
+use Rattle.rb_base.specs.declared.event.EventKind.TheVariants as kind
+use Rattle.rb_base.specs.declared.node.NodeName.{NodeName}
+use Rattle.rb_base.specs.declared.node.NodeName.TheVariants as node
+use Rattle.rb_base.specs.declared.values.Place.{Place}
+use Rattle.rb_rules.specs.Book.{Each, map_from, of_kind}
+use Rattle.rb_rules.specs.Hearing.{Coming}
+use Rattle.rb_rules.specs.Lawful.{kind_of}
+use Rattle.rb_rules.specs.Links.{DelayRules, delay_of, name_of}
+use Rattle.rb_rules.specs.WorldStep.{Site}
+use Rattle.rb_queue.specs.declared.pending.Pending.{Pending}
+use Rattle.rb_queue.specs.Waiting.{HasLane, Held, lane_of, spare_of, with_event}
+
+-- the number of a node among those of its kind
+abbrev pub number_of : NodeName → ℕ
+number_of (node.Biu i) = i
+number_of (node.Rmu i) = i
+
+-- what comes to a node, as an event of its lane
+abbrev pub arriving : NodeName → Coming → Pending
+arriving name c = record { time = c.time; event = record { node = name; quiet = 0; kind = kind.Arrive c.from (record { items = c.bytes }) } }
+
+-- Messages of good nodes.
+
+-- what a node sends at a time, as it comes to node i of the other kind
+abbrev pub coming_to : DelayRules → NodeName → ℕ → Place → List ℕ → ℕ → Coming
+coming_to delays from time place bytes i =
+    record { time = time + delay_of delays from (name_of (other (kind_of from)) i) place; from = number_of from; bytes = bytes }
+
+-- the lane of node i of a kind gets what comes to it, if the node is one of these
+abbrev pub lane_with : Side → (ℕ → Coming) → (ℕ → Bool) → ℕ → Held → Held
+lane_with side coming is_one i lane = elim (is_one i) [ true ↦ with_event (arriving (name_of side i) (coming i)) lane | false ↦ lane ]
+
+-- so with the lanes of all nodes of the kind, and no others
+abbrev pub lanes_with : Side → (ℕ → Coming) → (ℕ → Bool) → Each Held → Each Held
+lanes_with Biu coming is_one lanes = record lanes { bius = map_from 0 (lane_with Biu coming is_one) lanes.bius }
+lanes_with Rmu coming is_one lanes = record lanes { rmus = map_from 0 (lane_with Rmu coming is_one) lanes.rmus }
+
+-- the set is that of the nodes of a kind that still run
+abbrev pub AreRunning : Side → ℕ → Each Site → Type 0
+AreRunning side running sites = (i : ℕ) → (s : Site) → slice_get (of_kind side sites) i ≡ Some s → has running i ≡ s.runs
+
+-- each of the nodes has a lane, and room in it
+abbrev pub HaveRoom : Side → ℕ → Each Held → Type 0
+HaveRoom side running lanes = (i : ℕ) → has running i ≡ true → HasLane lanes (name_of side i) × (1 ≤ spare_of (lane_of lanes (name_of side i)))

@@ -1,0 +1,4 @@
+pub mod Arriving
+pub mod Departing
+pub mod Saying
+pub mod Spans

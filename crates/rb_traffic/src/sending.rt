@@ -1,0 +1,99 @@
+//! Messages on their way.
+ghost use Rattle.std.specs.Prelude.{◌≡◌, ℕ, ◌+◌, ◌<◌, ◌≤◌, ◌^◌, ◌&&◌, true, nat_lt, length};
+ghost use Rattle.rb_base.specs.Nodes.{has, other};
+ghost use Rattle.rb_rules.specs.Book.{of_kind};
+ghost use Rattle.rb_rules.specs.Clock.{time_of};
+ghost use Rattle.rb_rules.specs.Lawful.{kind_of};
+ghost use Rattle.rb_rules.specs.Links.{name_of};
+ghost use Rattle.rb_queue.specs.Waiting.{HasLane, lane_of, spare_of, with_event, with_lane};
+ghost use Rattle.rb_rules.specs.Book.{Each};
+ghost use Rattle.rb_rules.specs.Goodness.{Scenario};
+ghost use Rattle.rb_rules.specs.Spelling.{IsZeroUnlessWord};
+ghost use Rattle.rb_rules.specs.WorldStep.{Site};
+ghost use Rattle.rb_agenda.specs.Holding.{HoldsSites};
+ghost use Rattle.rb_traffic.specs.Arriving.{AreRunning, HaveRoom, arriving, coming_to, lanes_with, number_of};
+ghost use Rattle.rb_traffic.specs.Departing.{IsOfScenario, with_departure, with_sent};
+
+use crate::arriving::{arrive, number_of, receiver};
+use rb_agenda::Agenda;
+use rb_base::{NodeName, NodeSet, Place, Rmu};
+use rb_clock::Clock;
+use rb_frame::encode;
+use rb_link::Delays;
+use rb_rules::{Message, Version};
+
+/// A message that a node sends at a tick of its own, in the frame that it is in.
+#[derive(Clone, Copy, Debug, PartialEq, Eq)]
+pub struct Departure {
+    pub from: NodeName,
+    pub frame: u32,
+    pub tick: u64,
+    pub message: Message,
+}
+
+// Whether node i is in the set.
+fn is_one(running: u16, i: u8) -> bool
+    ensures { result ≡ has running i }
+{
+    NodeSet::<Rmu>::from_bits(running).has(i)
+}
+
+// What a node sends at a time comes to each of these nodes of the other kind, later by its delay.
+fn spread(
+    agenda: &mut Agenda,
+    delays: &Delays,
+    from: NodeName,
+    time: u64,
+    place: Place,
+    bytes: &[u8],
+    running: u16,
+)
+    requires room { HaveRoom (other (kind_of from)) running agenda.old }
+    requires few { length bytes.now ≤ 32 }
+    requires time { time < 2 ^ 53 }
+    ensures { agenda.new ≡ lanes_with (other (kind_of from)) (coming_to delays.now from time place bytes.now) (has running) agenda.old }
+{
+    let sender = number_of(from);
+    for i in 0..16 {
+        if is_one(running, i) {
+            let node = receiver(from, i);
+            let delay = delays.delay(from, node, place);
+            arrive(agenda, node, time + u64::from(delay), sender, bytes);
+        }
+    }
+}
+
+/// Puts a message of a good node into the lanes of the nodes of the other kind that still run, one bit of `running` for each. It
+/// comes to each at the time of the sending tick and the delay of the link, and all get the same bytes. `clock` is the sender's.
+pub fn send(
+    agenda: &mut Agenda,
+    clock: &Clock,
+    delays: &Delays,
+    version: Version,
+    departure: &Departure,
+    running: u16,
+)
+    requires tick { departure.now.tick ≤ 2 ^ 31 }
+    requires some_stage { 1 ≤ departure.now.message.stage }
+    requires most_stages { departure.now.message.stage ≤ 3 }
+    requires value { IsZeroUnlessWord departure.now.message.tag departure.now.message.value }
+    requires room { HaveRoom (other (kind_of departure.now.from)) running agenda.old }
+    ensures lanes { agenda.new ≡ with_departure clock.now delays.now version departure.now running agenda.old }
+    ensures world { (sc : Scenario) → (sites : Each Site) → IsOfScenario sc clock.now delays.now version departure.now
+        → AreRunning (other (kind_of departure.now.from)) running sites
+        → HoldsSites sc.sizes agenda.old sites → HoldsSites sc.sizes agenda.new (with_sent sc departure.now sites) }
+{
+    let Departure {
+        from,
+        frame,
+        tick,
+        message,
+    } = *departure;
+    let bytes = encode(version, &message);
+    let place = Place {
+        frame,
+        slot: message.slot,
+        stage: message.stage,
+    };
+    spread(agenda, delays, from, clock.at(tick), place, &bytes, running);
+}
