@@ -71,7 +71,7 @@ every-weaker : {X : Type 0} (P Q : X → Type 0) → ((x : X) → P x → Q x) �
 every-weaker P Q go [] a = tt
 every-weaker P Q go (x ∷ xs) a = (go x a.0, every-weaker P Q go xs a.1)
 
-least-none : (P : ℕ → Type 0) (xs : List ℕ) → least xs ≡ None → Every P xs
+pub least-none : (P : ℕ → Type 0) (xs : List ℕ) → least xs ≡ None → Every P xs
 least-none P [] e = tt
 least-none P (x ∷ xs) e = cc
 

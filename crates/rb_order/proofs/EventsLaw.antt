@@ -1,4 +1,4 @@
--- For the law that events are rounds, which is still to come: events are rounds, once the world's book is always one of the
+-- For the law that events are rounds: events are rounds, once the world's book is always one of the
 -- rounds'.
 use Rattle.std.proofs.Common.{◌≡◌, ℕ, ◌≤◌, ◌⊎◌, inl, inr, true, List, ◌++◌, sym, ◌∙◌, ap}
 use Rattle.rb_rules.specs.Book.{fresh_book}

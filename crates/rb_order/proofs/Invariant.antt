@@ -101,10 +101,11 @@ pub record InTime (sc : Scenario) (m next : Moment) : Type 0 where
       → last_tick sc m me st < 2 ^ 31
   pub heard : (me : Side) (i j : ℕ) (st : NodeState) → slice_get (of_kind me m.nodes) i ≡ Some st → is_good_at sc m me i ≡ true
       → is_good_at sc m (other me) j ≡ true → Every (ComesInWindow sc m me i st) (entry_of sc m me i j)
-  -- what is sent in the next stage comes later
-  pub later : (me : Side) (i j : ℕ) (st : NodeState) → slice_get (of_kind me m.nodes) i ≡ Some st → is_good_at sc m me i ≡ true
-      → is_good_at sc next (other me) j ≡ true → Every (λ c. time_of (clock_of sc me i) (last_tick sc m me st) < c.time) (entry_of sc next me i j)
   -- no node closes the next stage before all have closed this window
   pub order : (me you : Side) (i j : ℕ) (mine yours : NodeState) → slice_get (of_kind me m.nodes) i ≡ Some mine → is_good_at sc m me i ≡ true
       → slice_get (of_kind you next.nodes) j ≡ Some yours → is_good_at sc next you j ≡ true
       → time_of (clock_of sc me i) (last_tick sc m me mine) < time_of (clock_of sc you j) (last_tick sc next you yours)
+
+-- what source j sends in the next stage comes to a node after it has closed this window
+abbrev pub ComesLater : Scenario → Moment → Moment → Side → ℕ → ℕ → NodeState → Type 0
+ComesLater sc m next me i j st = Every (λ c. time_of (clock_of sc me i) (last_tick sc m me st) < c.time) (entry_of sc next me i j)

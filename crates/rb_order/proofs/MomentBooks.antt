@@ -155,7 +155,7 @@ frame-next sc frame begun b = by b.ended refl
         ∙ ap (λ s. if frame == sc.frames then End else Stage (record { frame = frame; slot = slot_numbered sc.sizes 0; stage = s })) (sym one)
         ∙ sym (ap (λ b. if b then (if frame == sc.frames then End else Stage (record { frame = frame; slot = slot_numbered sc.sizes 0; stage = 0 % 3 + 1 })) else Begin (frame + 1)) (lt-ltb 0 (stages_in sc.sizes) (omega arith)))
 
-stage-next : (sc : Scenario) (frame n : ℕ) → n < stages_in sc.sizes → (frame == sc.frames) ≡ false
+pub stage-next : (sc : Scenario) (frame n : ℕ) → n < stages_in sc.sizes → (frame == sc.frames) ≡ false
     → after_stage sc.sizes (record { frame = frame; slot = slot_numbered sc.sizes n; stage = n % 3 + 1 }) ≡ next_of sc frame (n + 1)
 stage-next sc frame n below not_last =
     elim (cases_lt (n % 3 + 1) 3) [
@@ -199,7 +199,7 @@ judged-next : (sc : Scenario) (place : Place) (rows : Each (Option Row)) (stages
 judged-next sc place rows stages b None h = refl
 judged-next sc place rows stages b (Some cause) h = not-both h
 
-stage-book-next : (sc : Scenario) (place : Place) (rows : Each (Option Row)) (b : Book)
+pub stage-book-next : (sc : Scenario) (place : Place) (rows : Each (Option Row)) (b : Book)
     → (with_stage sc place rows b).ended ≡ false → (with_stage sc place rows b).upcoming ≡ after_stage sc.sizes place
 unfolding with_stage
 stage-book-next sc place rows b = by b.ended refl

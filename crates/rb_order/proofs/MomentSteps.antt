@@ -66,12 +66,12 @@ good-state sc hands p me i ticks good =
 
 -- The next stage.
 
-next-inner : (sizes : Sizes) (m : Moment) (p : ℕ) → m.window + 1 < stages_in sizes → next_stage sizes m p ≡ suc p
+pub next-inner : (sizes : Sizes) (m : Moment) (p : ℕ) → m.window + 1 < stages_in sizes → next_stage sizes m p ≡ suc p
 next-inner sizes m p h =
     let e : p + 1 ≡ suc p = omega arith in
     ap (λ b. p + (if b then 1 else windows_in sizes + 1 - m.window)) (lt-ltb (m.window + 1) (stages_in sizes) h) ∙ e
 
-next-outer : (sizes : Sizes) (m : Moment) (p : ℕ) → stages_in sizes ≤ m.window + 1 → next_stage sizes m p ≡ p + (windows_in sizes + 1 - m.window)
+pub next-outer : (sizes : Sizes) (m : Moment) (p : ℕ) → stages_in sizes ≤ m.window + 1 → next_stage sizes m p ≡ p + (windows_in sizes + 1 - m.window)
 next-outer sizes m p h = ap (λ b. p + (if b then 1 else windows_in sizes + 1 - m.window)) (le-ltb (m.window + 1) (stages_in sizes) h)
 
 -- it is a stage, and what lies before it is the tail or the end of the frame

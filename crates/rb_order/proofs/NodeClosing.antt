@@ -4,6 +4,7 @@ use Rattle.std.proofs.lemmas.Bool.{cases_lt}
 use Rattle.std.proofs.lemmas.Bool.Decides.{nat_tests}
 use Rattle.rb_base.specs.Nodes.{Side, other}
 use Rattle.rb_base.specs.Sizes.{Sizes, sync_slot_of}
+use Rattle.rb_rules.specs.declared.closing.Closed.{Closed as Shown}
 use Rattle.rb_rules.specs.declared.plan.Plan.{Plan}
 use Rattle.rb_rules.specs.declared.plan.Window.{Window}
 use Rattle.rb_rules.specs.Book.{of_kind, Row}
@@ -27,7 +28,7 @@ use Rattle.rb_rules.proofs.WindowNumbers.{sync-numbered}
 use Rattle.rb_order.specs.Closing.{stages_in}
 use Rattle.rb_order.proofs.ClosingTicks.{HoldsHeard, closing_of, result-is, spoken}
 use Rattle.rb_order.proofs.CloseOrder.{IsWindowLater, window-later}
-use Rattle.rb_order.proofs.Invariant.{ComesInWindow, InTime, NodeStands, ahead_so_far, entry_of, heard_so_far, is_good_at, last_tick, next_stage, word_at}
+use Rattle.rb_order.proofs.Invariant.{ComesInWindow, ComesLater, InTime, NodeStands, ahead_so_far, entry_of, heard_so_far, is_good_at, last_tick, next_stage, word_at}
 use Rattle.rb_order.proofs.NodeActs.{ActsClose, HasRoom, HasWord, IsInWindow, acts-close}
 use Rattle.rb_order.proofs.NodeCloses.{after-close, all-here, good-span, heard-all, opens-stage, opens-tail, site_closed, span-begins, stage-lists}
 use Rattle.rb_order.proofs.NodeEvents.{begun_after}
@@ -57,6 +58,10 @@ pub record NextInTime (sc : Scenario) (hands : List HandIn) (p : ℕ) : Type 0 w
   pub tail : (moment sc hands p).window < stages_in sc.sizes
       → InTime sc (moment sc hands (suc p)) (moment sc hands (next_stage sc.sizes (moment sc hands (suc p)) (suc p)))
   pub stage : (q : ℕ) → q ≡ next_stage sc.sizes (moment sc hands p) p → InTime sc (moment sc hands q) (moment sc hands (next_stage sc.sizes (moment sc hands q) q))
+  pub later : (moment sc hands p).window + 1 ≡ stages_in sc.sizes → (me : Side) (i j : ℕ) (st : NodeState) → slice_get (of_kind me (moment sc hands (suc p)).nodes) i ≡ Some st
+      → is_good_at sc (moment sc hands (suc p)) me i ≡ true
+      → is_good_at sc (moment sc hands (next_stage sc.sizes (moment sc hands (suc p)) (suc p))) (other me) j ≡ true
+      → ComesLater sc (moment sc hands (suc p)) (moment sc hands (next_stage sc.sizes (moment sc hands (suc p)) (suc p))) me i j st
 
 -- what is known of the node in the rounds
 pub record KnownInRounds (sc : Scenario) (hands : List HandIn) (me : Side) (i p : ℕ) (st : NodeState) : Type 0 where
@@ -70,6 +75,7 @@ pub record GoesOn (sc : Scenario) (hands : List HandIn) (sent : Side → ℕ →
   pub a : Timed
   pub stands : NodeStands sc hands sent t me i q s st a
   pub silent : gone (sending_at sc.sizes sc.plan me i st (moment sc hands q).window (word_at sc (moment sc hands q) me i st)) a.tick ≡ false
+  pub had : s.core.had ≡ st.epoch + first_of sc.sizes sc.plan me st (moment sc hands q).window
 
 pub record Stops (sc : Scenario) (hands : List HandIn) (me : Side) (i q : ℕ) (s : Site) : Type 0 where
   pub not_good : is_good_at sc (moment sc hands q) me i ≡ false
@@ -85,6 +91,9 @@ pub record ClosesWindow (sc : Scenario) (hands : List HandIn) (sent : Side → �
   pub row : (after_act sc ports me i x s).row
       ≡ (elim ((window_in sc (moment sc hands p) me st).stage == 4) as (λ _. Option Row) [ true ↦ s.row | false ↦ (go_through sc (moment sc hands p) (sent_in sc (moment sc hands p)) me i st (window_in sc (moment sc hands p) me st)).row ])
   pub begun : (after_act sc ports me i x s).begun ≡ begun_after sc ports me i x.epoch s.begun
+  -- what it shows is what the rounds tell of the window
+  pub told : (c : Shown) × ((x.closed ≡ Some c)
+      × ((go_through sc (moment sc hands p) (sent_in sc (moment sc hands p)) me i st (window_in sc (moment sc hands p) me st)).row ≡ Some (row_of me i x.core.state (coming_from s.got) c)))
   pub act : ActsClose sc me i st (moment sc hands p).window (word_at sc (moment sc hands p) me i st) a.tick (pass_to a.tick s.core) x
 
 -- Lists.
@@ -123,7 +132,7 @@ ahead-tail sc m me i j sent w =
 same-slot : (sizes : Sizes) (n : ℕ) → 3 * sync_slot_of sizes ≤ n → slot_numbered sizes n ≡ slot_numbered sizes (n + 1)
 same-slot sizes n h = omega arith
 
-good-in-sync : (sc : Scenario) (hands : List HandIn) (me : Side) (i p : ℕ) → (moment sc hands p).window < stages_in sc.sizes
+pub good-in-sync : (sc : Scenario) (hands : List HandIn) (me : Side) (i p : ℕ) → (moment sc hands p).window < stages_in sc.sizes
     → 3 * sync_slot_of sc.sizes ≤ (moment sc hands p).window → is_good_at sc (moment sc hands p) me i ≡ true → is_good_at sc (moment sc hands (suc p)) me i ≡ true
 good-in-sync sc hands me i p below from good =
     let m : Moment = moment sc hands p in
@@ -244,10 +253,14 @@ opened-lists sc hands sent me i p q st t got coming heard lawful lengths frame (
     let z : ℕ = next_stage sc.sizes m2 q in
     let was : Hears j t got coming (heard j) (ahead_so_far sc (moment sc hands z) me i (λ j. sent (other me) j z) j) =
     subst (λ z. Hears j t got coming (heard j) (ahead_so_far sc (moment sc hands z) me i (λ j. sent (other me) j z) j)) q_next (hears j) in
-    let it : InTime sc m2 (moment sc hands z) =
-    subst (λ q. InTime sc (moment sc hands q) (moment sc hands (next_stage sc.sizes (moment sc hands q) q))) (sym tail.0) (times.tail (omega arith)) in
+    let its : (st : NodeState) → slice_get (of_kind me m2.nodes) i ≡ Some st → is_good_at sc m2 me i ≡ true → is_good_at sc (moment sc hands z) (other me) j ≡ true
+    → ComesLater sc m2 (moment sc hands z) me i j st =
+    subst (λ q. (st : NodeState) → slice_get (of_kind me (moment sc hands q).nodes) i ≡ Some st → is_good_at sc (moment sc hands q) me i ≡ true
+    → is_good_at sc (moment sc hands (next_stage sc.sizes (moment sc hands q) q)) (other me) j ≡ true
+    → ComesLater sc (moment sc hands q) (moment sc hands (next_stage sc.sizes (moment sc hands q) q)) me i j st) (sym tail.0)
+    (λ st there good source. times.later before me i j st there good source) in
     let late : Every (λ c. u < c.time) (ahead_so_far sc (moment sc hands z) me i (λ j. sent (other me) j z) j) =
-    ahead-every (λ c. u < c.time) sc (moment sc hands z) me i j (λ j. sent (other me) j z) (λ g. it.later me i j st there good g) in
+    ahead-every (λ c. u < c.time) sc (moment sc hands z) me i j (λ j. sent (other me) j z) (λ g. its st there good g) in
     let opened : Hears j u [] coming [] (ahead_so_far sc (moment sc hands z) me i (λ j. sent (other me) j z) j) = opens-tail j t u got coming (heard j) _ after late was in
     let lists = stage-lists sc m2 me i j st (λ j. sent (other me) j q) frame in
     let none : ahead_so_far sc m2 me i (λ j. sent (other me) j q) j ≡ [] = ahead-tail sc m2 me i j (λ j. sent (other me) j q) tail.1 in
@@ -376,10 +389,12 @@ closes-window sc hands sent now ports me i p s st a lawful room known times othe
               a = ent.a;
               stands = subst (λ z. NodeStands sc hands sent a.time me i q z np.st ent.a) (sym (site true e)) ent.stands;
               silent = ent.silent;
+              had = ap (λ (z : Site). z.core.had) (site true e) ∙ xhad ∙ first;
             });
             runs = λ g. ap (λ (z : Site). z.runs) (site true e);
             row = ap (λ (z : Site). z.row) (site true e) ∙ kept_row;
             begun = ap (λ (z : Site). z.begun) (site true e);
+            told = (outcome.closed, (acts.closed, sym told));
             act = acts;
           }
       | false ↦ λ e.
@@ -395,6 +410,7 @@ closes-window sc hands sent now ports me i p s st a lawful room known times othe
             runs = λ g. absurd (true-false (sym g ∙ e));
             row = ap (λ (z : Site). z.row) (site false e) ∙ kept_row;
             begun = ap (λ (z : Site). z.begun) (site false e);
+            told = (outcome.closed, (acts.closed, sym told));
             act = acts;
           }
     ] in

@@ -1,4 +1,4 @@
--- For the law that events are rounds, which is still to come: the ports of a world and those of the rounds: the words that they offer, and
+-- For the law that events are rounds: the ports of a world and those of the rounds: the words that they offer, and
 -- what is delivered to them.
 use Rattle.std.proofs.Common.{◌≡◌, ℕ, zero, suc, ◌+◌, ◌<◌, ◌==◌, ◌≢◌, Bool, true, false, List, [], ◌∷◌, length, map, refl, ap, ◌∙◌, arith, nat_lt, Option, Some, None, slice_get, get_or, option_map, if◌then◌else◌, option_and_then}
 use Rattle.std.proofs.lemmas.Bool.{lt-ltb}

@@ -285,7 +285,7 @@ milestone-settled sc hands g sites ticks going tell complete =
         by false e = e
 
 -- whatever is settled next, the book is one of the rounds'
-next-settled : (sc : Scenario) (way : Way) (w : World) → HasTicks sc.plan → w.book.ended ≡ false → TellRounds sc w.hands w.sites → IsOfMoment sc w.hands w.book
+pub next-settled : (sc : Scenario) (way : Way) (w : World) → HasTicks sc.plan → w.book.ended ≡ false → TellRounds sc w.hands w.sites → IsOfMoment sc w.hands w.book
     → IsOfMoment sc w.hands (settle_next sc way w).book
 unfolding SettlesNext
 next-settled sc way w ticks going tell is = by (comes_so sc way w.book.upcoming && is_complete sc w.sites w.book.upcoming) refl

@@ -43,21 +43,21 @@ use Rattle.rb_order.proofs.WorldTicks.{after_tick, get-after, length-after, reac
 
 -- The row of a window has the window's place.
 
-placed : (frame slot stage : ℕ) → Place
+abbrev pub placed : (frame slot stage : ℕ) → Place
 placed frame slot stage = record { frame = frame; slot = slot; stage = stage }
 
 close-place : (sizes : Sizes) (me : Side) (i : ℕ) (st : NodeState) (slot stage first : ℕ) (sense : ℕ → Sense) (b : Bool) → (slot == sync_slot_of sizes) ≡ b
     → (elim b as (λ _. Outcome) [ true ↦ close_sync sizes me st stage first sense | false ↦ close_exact sizes me i st slot stage sense ]).closed.place ≡ placed st.frame slot stage
-unfolding close_sync sync_outcome_of close_exact outcome_of placed
+unfolding close_sync sync_outcome_of close_exact outcome_of
 close-place sizes me i st slot stage first sense true e = ap (λ s. let p : Place = record { frame = st.frame; slot = s; stage = stage } in p) (sym (same-number slot (sync_slot_of sizes) e))
   where
     same-number : (a b : ℕ) → (a == b) ≡ true → a ≡ b
     same-number a b h = grind (arith, nat_tests)
 close-place sizes me i st slot stage first sense false e = refl
 
-row-place : (sc : Scenario) (m : Moment) (me : Side) (i : ℕ) (st : NodeState) (w : Window) (row : Row) → (go_through sc m (sent_in sc m) me i st w).row ≡ Some row
+pub row-place : (sc : Scenario) (m : Moment) (me : Side) (i : ℕ) (st : NodeState) (w : Window) (row : Row) → (go_through sc m (sent_in sc m) me i st w).row ≡ Some row
     → row.place ≡ placed st.frame w.slot w.stage
-unfolding go_through close_on row_of placed
+unfolding go_through close_on row_of
 row-place sc m me i st w row = by (is_good sc me i m.frame w.slot && nat_le w.first w.last)
   where
     by : (b : Bool) → (elim b as (λ _. Result) [
@@ -72,12 +72,11 @@ row-place sc m me i st w row = by (is_good sc me i m.frame w.slot && nat_le w.fi
         ∙ close-place sc.sizes me i k w.slot w.stage (k.epoch + w.first) sense (w.slot == sync_slot_of sc.sizes) refl
         ∙ ap (λ f. let p : Place = record { frame = f; slot = w.slot; stage = w.stage } in p) (keeping-stays sc.sizes me i st w.slot w.stage (word_for_window sc m i w)).frame
 
-tail-stage : (sizes : Sizes) (plan : Plan) (me : Side) (st : NodeState) (n : ℕ) → n ≡ stages_in sizes → (window_numbered sizes plan me st n).stage ≡ 4
+pub tail-stage : (sizes : Sizes) (plan : Plan) (me : Side) (st : NodeState) (n : ℕ) → n ≡ stages_in sizes → (window_numbered sizes plan me st n).stage ≡ 4
 tail-stage sizes plan me st n e = ap (λ n. (window_numbered sizes plan me st n).stage) e ∙ ap (λ w. w.stage) (sync-numbered sizes plan me st 3)
 
-place-is : (sc : Scenario) (m : Moment) (me : Side) (st : NodeState) → m.window < stages_in sc.sizes → st.frame ≡ m.frame
+pub place-is : (sc : Scenario) (m : Moment) (me : Side) (st : NodeState) → m.window < stages_in sc.sizes → st.frame ≡ m.frame
     → placed st.frame (window_in sc m me st).slot (window_in sc m me st).stage ≡ place_at sc.sizes m
-unfolding placed
 place-is sc m me st stage frame =
     ap (λ f. let p : Place = record { frame = f; slot = (window_in sc m me st).slot; stage = (window_in sc m me st).stage } in p) frame
     ∙ ap (λ s. let p : Place = record { frame = m.frame; slot = s; stage = (window_in sc m me st).stage } in p) (slot-is sc.sizes sc.plan me st m.window)
@@ -122,7 +121,7 @@ closed-row sc hands me i p st s row within there frame before =
 -- The begin of a frame.
 
 -- the first tick of a frame is one of its first window
-first-window : (sizes : Sizes) (plan : Plan) (me : Side) (st : NodeState) (n k : ℕ) → HasTicks plan → n ≤ stages_in sizes → IsTickIn sizes plan me st n k → st.epoch ≡ k → n ≡ 0
+pub first-window : (sizes : Sizes) (plan : Plan) (me : Side) (st : NodeState) (n k : ℕ) → HasTicks plan → n ≤ stages_in sizes → IsTickIn sizes plan me st n k → st.epoch ≡ k → n ≡ 0
 first-window sizes plan me st zero k ticks le at e = refl
 first-window sizes plan me st (suc n) k ticks le at e =
     let before : last_of sizes plan me st 0 < first_of sizes plan me st (suc n) = ends-before-later sizes plan me st 0 (suc n) ticks (omega arith) le in
@@ -178,7 +177,7 @@ begun-then sc hands ports me i p k st x old b room there frame le keeps at epoch
 
 -- All nodes.
 
-reached-tells : (sc : Scenario) (me : Side) (i frame k : ℕ) (m : Option Message) (side : Side) (j : ℕ) (s : Site)
+pub reached-tells : (sc : Scenario) (me : Side) (i frame k : ℕ) (m : Option Message) (side : Side) (j : ℕ) (s : Site)
     → ((reached sc me i frame k m side j s).row ≡ s.row) × ((reached sc me i frame k m side j s).begun ≡ s.begun)
 reached-tells sc me i frame k None side j s = (refl, refl)
 reached-tells sc me i frame k (Some m) side j s = by (same_side side (other me) && s.runs)

@@ -34,7 +34,7 @@ use Rattle.rb_order.proofs.TickWindows.{first-same, first_of}
 
 -- Good nodes.
 
-good-in : (sc : Scenario) (m : Moment) (me : Side) (i : ℕ) (st : NodeState) → slice_get (of_kind me m.nodes) i ≡ Some st → is_good_at sc m me i ≡ true → IsGoodIn sc m me i st
+pub good-in : (sc : Scenario) (m : Moment) (me : Side) (i : ℕ) (st : NodeState) → slice_get (of_kind me m.nodes) i ≡ Some st → is_good_at sc m me i ≡ true → IsGoodIn sc m me i st
 good-in sc m me i st there good = (there, ap (is_good sc me i m.frame) (slot-is sc.sizes sc.plan me st m.window) ∙ good)
 
 -- Messages.

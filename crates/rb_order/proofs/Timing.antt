@@ -17,7 +17,7 @@ use Rattle.rb_rules.specs.WorldStep.{Timed, Site}
 use Rattle.rb_rules.proofs.Drift.{times_rise_to}
 use Rattle.rb_rules.proofs.RoundStates.{HasTicks}
 use Rattle.rb_order.specs.Closing.{stages_in}
-use Rattle.rb_order.proofs.Invariant.{ComesInWindow, InTime, NodeStands, entry_of, has_sent, is_good_at, is_past, last_tick, next_stage, sending_of}
+use Rattle.rb_order.proofs.Invariant.{ComesInWindow, ComesLater, InTime, NodeStands, entry_of, has_sent, is_good_at, is_past, last_tick, next_stage, sending_of}
 use Rattle.rb_order.proofs.MomentSteps.{NextIsStage, good-back, good-state, next-is-stage}
 use Rattle.rb_order.proofs.NodeClosing.{OthersKeepUp}
 use Rattle.rb_order.proofs.ReceiverHears.{comes-after}
@@ -37,6 +37,11 @@ pub record HavePassed (sc : Scenario) (hands : List HandIn) (now : ℕ) (at : Si
 pub record AreInTime (sc : Scenario) (hands : List HandIn) (at : Side → ℕ → ℕ) : Type 0 where
   pub each : (me : Side) (i : ℕ) → is_good_at sc (moment sc hands (at me i)) me i ≡ true
       → InTime sc (moment sc hands (at me i)) (moment sc hands (next_stage sc.sizes (moment sc hands (at me i)) (at me i)))
+  -- what a node that stands in the next stage sends there comes later
+  pub later : (me : Side) (i j : ℕ) (st : NodeState) → slice_get (of_kind me (moment sc hands (at me i)).nodes) i ≡ Some st → is_good_at sc (moment sc hands (at me i)) me i ≡ true
+      → at (other me) j ≡ next_stage sc.sizes (moment sc hands (at me i)) (at me i)
+      → is_good_at sc (moment sc hands (next_stage sc.sizes (moment sc hands (at me i)) (at me i))) (other me) j ≡ true
+      → ComesLater sc (moment sc hands (at me i)) (moment sc hands (next_stage sc.sizes (moment sc hands (at me i)) (at me i))) me i j st
 
 get-within : {X : Type 0} (xs : List X) (n : ℕ) (x : X) → slice_get xs n ≡ Some x → n < length xs
 get-within [] n x e = cc
@@ -121,7 +126,8 @@ all-land sc hands now at sites me i frame k t lawful ticks later time counted go
                 let same : q ≡ next_stage sc.sizes mp p = omega arith in
                 let all : Every (λ c. time_of clock (last_tick sc mp (other me) st) < c.time) (e ∷ []) =
                 subst (Every (λ c. time_of clock (last_tick sc mp (other me) st) < c.time)) (ap (λ q. entry_of sc (moment sc hands q) (other me) j i) (sym same) ∙ entry)
-                (here.later (other me) j i st stands.state stands.good (ap (λ q. is_good_at sc (moment sc hands q) (other (other me)) i) (sym same) ∙ twice)) in
+                (times.later (other me) j i st stands.state stands.good (ap (λ y. at y i) (other-twice me) ∙ same)
+                (ap (λ q. is_good_at sc (moment sc hands q) (other (other me)) i) (sym same) ∙ twice)) in
                 inr (same, all.0)
             | inl beyond ↦
                 let y : ℕ = next_stage sc.sizes mp p in

@@ -71,7 +71,7 @@ book-more sc sites b (Begin frame) = frame-more sc frame _ b
 book-more sc sites b (Stage place) = stage-more sc place _ b
 book-more sc sites b End = end-more b
 
-book-on : (sc : Scenario) (sites : Each Site) (b : Book) (m : Milestone) → GoesOn b (book_with sc sites b m)
+pub book-on : (sc : Scenario) (sites : Each Site) (b : Book) (m : Milestone) → GoesOn b (book_with sc sites b m)
 book-on sc sites b (Begin frame) = frame-on sc frame _ b
 book-on sc sites b (Stage place) = stage-on sc place _ b
 book-on sc sites b End = end-on b
@@ -88,14 +88,14 @@ test-more : (sc : Scenario) (w : World) (b : Bool) → AtMostOneMore w.book.give
 test-more sc w true = book-more sc w.sites w.book w.book.upcoming
 test-more sc w false = inl refl
 
-next-on : (sc : Scenario) (way : Way) (w : World) → GoesOn w.book (settle_next sc way w).book
+pub next-on : (sc : Scenario) (way : Way) (w : World) → GoesOn w.book (settle_next sc way w).book
 next-on sc way w = test-on sc w (comes_so sc way w.book.upcoming && is_complete sc w.sites w.book.upcoming)
 
 next-more : (sc : Scenario) (way : Way) (w : World) → AtMostOneMore w.book.given (settle_next sc way w).book.given
 next-more sc way w = test-more sc w (comes_so sc way w.book.upcoming && is_complete sc w.sites w.book.upcoming)
 
 -- what follows a milestone that gave this
-abbrev settle_rest : Scenario → Way → ℕ → World → Option Record → World
+abbrev pub settle_rest : Scenario → Way → ℕ → World → Option Record → World
 settle_rest sc way others next r = elim r [ None ↦ settle sc way others next | Some r ↦ record next { turn = Some r } ]
 
 rest-on : (sc : Scenario) (way : Way) (n : ℕ) (w next : World) → GoesOn w.book next.book → GoesOn next.book (settle sc way n next).book
@@ -128,10 +128,10 @@ abbrev pub IsTurn : List Record → World → Type 0
 IsTurn before w =
     ((w.book.given ≡ before) × (w.turn ≡ None)) ⊎ ((r : Record) × ((w.book.given ≡ before ++ r ∷ []) × (w.turn ≡ Some r)))
 
-none-past : (xs ys : List Record) → ys ≡ xs → slice_get ys (length xs) ≡ None
+pub none-past : (xs ys : List Record) → ys ≡ xs → slice_get ys (length xs) ≡ None
 none-past xs ys e = ap (λ l. slice_get l (length xs)) e ∙ slice_get_past xs (length xs) (omega arith)
 
-last-one : (xs ys : List Record) (r : Record) → ys ≡ xs ++ r ∷ [] → slice_get ys (length xs) ≡ Some r
+pub last-one : (xs ys : List Record) (r : Record) → ys ≡ xs ++ r ∷ [] → slice_get ys (length xs) ≡ Some r
 last-one xs ys r e =
     let z : length xs + 0 ≡ length xs = omega arith in
     ap (λ l. slice_get l (length xs)) e ∙ ap (slice_get (xs ++ r ∷ [])) (sym z) ∙ get-back xs (r ∷ []) 0

@@ -64,7 +64,9 @@ pub record TickIsDue (sc : Scenario) (hands : List HandIn) (now : ℕ) (at : Sid
   pub later : now ≤ a.time
   pub word : (st : NodeState) → slice_get (of_kind me (moment sc hands (at me i)).nodes) i ≡ Some st
       → HasWord sc ports me i st (moment sc hands (at me i)).window (word_at sc (moment sc hands (at me i)) me i st)
-  pub next : NextInTime sc hands (at me i)
+  -- a node that closes its window is in time where it stands next
+  pub next : (st : NodeState) → slice_get (of_kind me (moment sc hands (at me i)).nodes) i ≡ Some st → a.tick ≡ last_tick sc (moment sc hands (at me i)) me st
+      → NextInTime sc hands (at me i)
 
 -- the node afterwards, in moment r: the world stands there, and the node has closed its window or not
 pub record AfterTick (sc : Scenario) (hands : List HandIn) (at : Side → ℕ → ℕ) (sites : Each Site) (ports : List PortState) (me : Side) (i : ℕ) (s : Site) (a : Timed) (x : Act) : Type 0 where
@@ -77,7 +79,7 @@ pub record AfterTick (sc : Scenario) (hands : List HandIn) (at : Side → ℕ �
   pub sites_stand : SitesStand sc hands a.time (moved me i r at) (with_message sc me i x.core.state.frame a.tick x.message (at_node me i (after_act sc ports me i x) sites))
   pub passed : HavePassed sc hands a.time (moved me i r at)
   pub node : ((r ≡ at me i) × StaysOpen sc hands (sent_by sc hands at sites) a.time ports me i (at me i) s st a.tick x)
-      ⊎ ((at me i < r) × ClosesWindow sc hands (sent_by sc hands at sites) ports me i (at me i) s st a x)
+      ⊎ ((at me i < r) × ((closes : ClosesWindow sc hands (sent_by sc hands at sites) ports me i (at me i) s st a x) × ((closes.q ≡ r) × (a.tick ≡ last_tick sc (moment sc hands (at me i)) me st))))
 
 pub past-gone : (o : Option Sending) (b : Timed) → past o (Some b) ≡ gone o b.tick
 past-gone None b = refl
@@ -87,7 +89,7 @@ pub past-none : (o : Option Sending) → past o None ≡ false
 past-none None = refl
 past-none (Some s) = refl
 
-state-frame : (sc : Scenario) (me : Side) (i : ℕ) (st : NodeState) (n word k : ℕ) → (state_in sc.sizes sc.plan me i st n word k).frame ≡ st.frame
+pub state-frame : (sc : Scenario) (me : Side) (i : ℕ) (st : NodeState) (n word k : ℕ) → (state_in sc.sizes sc.plan me i st n word k).frame ≡ st.frame
 state-frame sc me i st n word k = by (gone (sending_at sc.sizes sc.plan me i st n word) k)
   where
     by : (b : Bool) → (by_said b st (kept_in sc.sizes sc.plan me i st n word)).frame ≡ st.frame
@@ -203,7 +205,7 @@ tick-event sc hands now at sites ports me i s a lawful room times passed h due =
           let time : a.time ≡ time_of (clock_of sc me i) (last_tick sc m me st) = node.receives.at_time ∙ ap (time_of (clock_of sc me i)) last in
           let others : OthersKeepUp sc hands old me i p = keep-up sc hands a.time at sites me i st lawful room.ticks node.state node.good time window pt times counted ht in
           let closes : ClosesWindow sc hands old ports me i p s st a x =
-          closes-window sc hands old a.time ports me i p s st a lawful room (record { frame = known.frame; knows = known.knows; lengths = lengths }) due.next others words due.alone last node in
+          closes-window sc hands old a.time ports me i p s st a lawful room (record { frame = known.frame; knows = known.knows; lengths = lengths }) (due.next st node.state last) others words due.alone last node in
           let r : ℕ = closes.q in
           let later : p < r = elim closes.place [ inl stage ↦ omega (arith, stage, next.later) | inr tail ↦ omega (arith, tail.0) ] in
           let between : (q : ℕ) → p < q → q < r → (stages_in sc.sizes ≤ (moment sc hands q).window) × ((moment sc hands q).window ≤ windows_in sc.sizes) =
@@ -261,6 +263,6 @@ tick-event sc hands now at sites ports me i s a lawful room times passed h due =
             stands = node.stands;
             sites_stand = sites_after;
             passed = has-passed sc hands now a.time at me i r st due.later passed node.state (inr (later, omega (arith, time))) (λ q lt gt. (between q lt gt).0);
-            node = inr (later, closes);
+            node = inr (later, (closes, (refl, last)));
           }
     ]

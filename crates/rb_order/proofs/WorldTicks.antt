@@ -63,7 +63,7 @@ pub record Same (s z : Site) : Type 0 where
   pub runs : z.runs ≡ s.runs
   pub ahead : z.ahead ≡ s.ahead
 
-reached-same : (sc : Scenario) (me : Side) (i frame k : ℕ) (m : Option Message) (side : Side) (j : ℕ) (s : Site) → Same s (reached sc me i frame k m side j s)
+pub reached-same : (sc : Scenario) (me : Side) (i frame k : ℕ) (m : Option Message) (side : Side) (j : ℕ) (s : Site) → Same s (reached sc me i frame k m side j s)
 reached-same sc me i frame k None side j s = record { runs = refl; ahead = refl }
 reached-same sc me i frame k (Some m) side j s = by (same_side side (other me) && s.runs)
   where
@@ -74,12 +74,12 @@ reached-same sc me i frame k (Some m) side j s = by (same_side side (other me) &
     by true = record { runs = refl; ahead = refl }
     by false = record { runs = refl; ahead = refl }
 
-kind-other : (me : Side) → same_side me (other me) ≡ false
+pub kind-other : (me : Side) → same_side me (other me) ≡ false
 kind-other Biu = refl
 kind-other Rmu = refl
 
 -- it doesn't reach a node of its own kind, nor one that has stopped
-reached-not : (sc : Scenario) (me : Side) (i frame k : ℕ) (m : Option Message) (side : Side) (j : ℕ) (s : Site) → (same_side side (other me) && s.runs) ≡ false
+pub reached-not : (sc : Scenario) (me : Side) (i frame k : ℕ) (m : Option Message) (side : Side) (j : ℕ) (s : Site) → (same_side side (other me) && s.runs) ≡ false
     → reached sc me i frame k m side j s ≡ s
 reached-not sc me i frame k None side j s e = refl
 reached-not sc me i frame k (Some m) side j s e =

@@ -1,13 +1,18 @@
 -- What is proved of rounds and of single events so far.
-use Rattle.std.specs.Prelude.{ℕ, ◌≡◌, ◌+◌, ◌^◌, ◌<◌, ◌≤◌, true, Some, List, [], ◌∷◌, ◌++◌}
+use Rattle.std.specs.Prelude.{ℕ, ◌≡◌, ◌+◌, ◌*◌, ◌^◌, ◌<◌, ◌≤◌, ◌⊎◌, true, false, Some, None, List, [], ◌∷◌, ◌++◌, length, slice_get}
 use Rattle.rb_base.specs.Nodes.{Side}
-use Rattle.rb_base.specs.Sizes.{Sizes}
+use Rattle.rb_base.specs.Sizes.{Sizes, sync_slot_of}
 use Rattle.rb_rules.specs.declared.plan.Plan.{Plan}
+use Rattle.rb_rules.specs.Book.{Record, of_kind}
 use Rattle.rb_rules.specs.Core.{Core, next_tick, ticks}
 use Rattle.rb_rules.specs.Goodness.{Scenario}
+use Rattle.rb_rules.specs.Lawful.{IsLawful}
+use Rattle.rb_rules.specs.Moments.{IsRunning}
 use Rattle.rb_rules.specs.Ports.{HandIn}
 use Rattle.rb_rules.specs.Rounds.{moment, steps_of, records_of}
-use Rattle.rb_rules.specs.WorldStep.{World, Choice, IsPrefix, choose}
+use Rattle.rb_rules.specs.WorldStep.{Site, World, Choice, Due, EventsAreRounds, IsPrefix, choose, due_of, first_world, go_on, needs_no_event, take, world_after}
+use Rattle.rb_rules.specs.WorldStep.Choice.{Take, GoOn, Hand}
+use Rattle.rb_order.specs.Closing.{stages_in}
 
 -- the records of a scenario are those of the moment after all steps: that the run stops at its end changes nothing
 abbrev pub RecordsAreOfAllSteps : Type 0
@@ -37,3 +42,71 @@ abbrev pub QuietTicksCount : Type 0
 QuietTicksCount =
     (sizes : Sizes) (plan : Plan) (me : Side) (index n : ℕ) (c : Core) (k : ℕ) → c.had ≤ 2 ^ 31
     → next_tick sizes plan me index c ≡ Some k → c.had + n ≤ k → ticks sizes plan me index n c ≡ record c { had = c.had + n }
+
+-- a call gave no record, and then the turn is none; or it gave the next record of the rounds, and then the turn is that record
+abbrev pub IsNextTurn : Scenario → World → World → Type 0
+IsNextTurn sc before after =
+    ((after.turn ≡ None) × (after.book.given ≡ before.book.given))
+    ⊎ ((r : Record) × (after.turn ≡ Some r) × (after.book.given ≡ before.book.given ++ r ∷ [])
+    × (slice_get (records_of sc after.hands) (length before.book.given) ≡ Some r))
+
+-- whatever was chosen before, a due event that is taken, and what is given without an event, gives no record or the next of the rounds
+abbrev pub OneTurnARecord : Scenario → Type 0
+OneTurnARecord sc =
+    (choices : List Choice)
+    → ((i : ℕ) (d : Due) → slice_get (due_of sc (world_after sc choices)) i ≡ Some d → IsNextTurn sc (world_after sc choices) (take sc (world_after sc choices) i))
+    × ((world_after sc choices).book.ended ≡ false → IsNextTurn sc (world_after sc choices) (go_on sc (world_after sc choices)))
+
+-- whatever was chosen: as long as the run has not ended, and where its next record needs an event, some event is due
+abbrev pub SomethingIsDue : Scenario → Type 0
+SomethingIsDue sc =
+    (choices : List Choice) → (world_after sc choices).book.ended ≡ false → needs_no_event sc (world_after sc choices).book.upcoming ≡ false
+    → 1 ≤ length (due_of sc (world_after sc choices))
+
+-- 1 where the choice takes a due event
+abbrev pub taken_by : Scenario → World → Choice → ℕ
+taken_by sc w (Take i) = elim (slice_get (due_of sc w) i) [ None ↦ 0 | Some d ↦ 1 ]
+taken_by sc w GoOn = 0
+taken_by sc w (Hand biu state) = 0
+
+-- how many of the choices take a due event, the first being made in this world
+abbrev pub takes_from : Scenario → World → List Choice → ℕ
+takes_from sc w [] = 0
+takes_from sc w (c ∷ cs) = taken_by sc w c + takes_from sc (choose sc w c) cs
+
+abbrev pub nodes_of : Sizes → ℕ
+nodes_of sizes = sizes.bius + sizes.rmus
+
+-- what a tick may make pending at most: a message at each node, and all that is said to its node in a window
+abbrev pub most_at_once : Scenario → ℕ
+most_at_once sc = nodes_of sc.sizes + nodes_of sc.sizes * length sc.says
+
+-- no run takes more events: each node has fewer than 2^31 ticks
+abbrev pub most_takes : Scenario → ℕ
+most_takes sc = nodes_of sc.sizes * (2 ^ 31 * (most_at_once sc + 1) + most_at_once sc)
+
+-- Whatever is chosen, only so many events are taken, and no node that runs has had 2^31 ticks. As something is due until the run has ended,
+-- every run ends
+pub record EveryRunEnds (sc : Scenario) : Type 0 where
+  pub few : (choices : List Choice) → takes_from sc (first_world sc) choices ≤ most_takes sc
+  pub room : (choices : List Choice) (me : Side) (i : ℕ) (s : Site) → slice_get (of_kind me (world_after sc choices).sites) i ≡ Some s → s.runs ≡ true → s.core.had < 2 ^ 31
+
+-- whatever is handed in, the premise on faults holds in each sync slot that is reached
+abbrev pub SyncSlotsHold : Scenario → Type 0
+SyncSlotsHold sc =
+    (hands : List HandIn) (n : ℕ) → IsRunning (moment sc hands n) → 3 * sync_slot_of sc.sizes ≤ (moment sc hands n).window
+    → (moment sc hands n).window < stages_in sc.sizes → IsRunning (moment sc hands (n + 1))
+
+-- What holds in each lawful scenario whose sync slots hold.
+
+abbrev pub EventsAreRoundsIfSyncHolds : Type 0
+EventsAreRoundsIfSyncHolds = (sc : Scenario) → IsLawful sc → SyncSlotsHold sc → EventsAreRounds sc
+
+abbrev pub SomethingIsDueIfSyncHolds : Type 0
+SomethingIsDueIfSyncHolds = (sc : Scenario) → IsLawful sc → SyncSlotsHold sc → SomethingIsDue sc
+
+abbrev pub OneTurnARecordIfSyncHolds : Type 0
+OneTurnARecordIfSyncHolds = (sc : Scenario) → IsLawful sc → SyncSlotsHold sc → OneTurnARecord sc
+
+abbrev pub EveryRunEndsIfSyncHolds : Type 0
+EveryRunEndsIfSyncHolds = (sc : Scenario) → IsLawful sc → SyncSlotsHold sc → EveryRunEnds sc

@@ -1,2 +1,4 @@
+pub mod ByItself
 pub mod Closing
 pub mod Laws
+pub mod PendingEvents

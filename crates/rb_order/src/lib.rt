@@ -2,8 +2,10 @@
 //! of a function that does nothing.
 #![tactic(none)]
 
+ghost use Rattle.rb_order.specs.ByItself.{WhatNeedsNoEventIsGiven};
 ghost use Rattle.rb_order.specs.Closing.{GoodNodesCloseInOrder};
-ghost use Rattle.rb_order.specs.Laws.{EventsOnlyAdd, HandInsComeLate, QuietTicksCount, RecordsAreOfAllSteps, RoundsOnlyAdd};
+ghost use Rattle.rb_order.specs.Laws.{EventsAreRoundsIfSyncHolds, EventsOnlyAdd, EveryRunEndsIfSyncHolds, HandInsComeLate, OneTurnARecordIfSyncHolds, QuietTicksCount, RecordsAreOfAllSteps, RoundsOnlyAdd, SomethingIsDueIfSyncHolds};
+ghost use Rattle.rb_order.specs.PendingEvents.{PendingEventsAreFewIfSyncHolds};
 
 /// A run by rounds that stops at its end has all records.
 pub fn records_are_of_all_steps()
@@ -30,10 +32,46 @@ pub fn quiet_ticks_count()
     ensures { QuietTicksCount }
 {}
 
+/// A record that needs no event, as the end of the run or a stage in which no node is good, is given by the call that asks for it.
+pub fn what_needs_no_event_is_given()
+    ensures { WhatNeedsNoEventIsGiven }
+{}
+
 /// Every good node closes a stage before any good node closes the next stage. So of each stage a world need keep only what was
 /// seen in it last. The tail is no stage: some nodes may be through it, and in the next frame, while others are still in the
 /// last stage. It is enough that good nodes begin the frame at most `p` apart and, over the turn, that none begins the next frame
 /// before the ticks of all its stages have passed.
 pub fn close_order()
     ensures { GoodNodesCloseInOrder }
+{}
+
+/// Whatever is chosen among what is due, the records of a run event by event are the first of those of its rounds, and all of them
+/// once it has ended: in every lawful scenario in which, whatever is handed in, the premise on faults is not broken in a sync slot.
+pub fn events_are_rounds_if_sync_holds()
+    ensures { EventsAreRoundsIfSyncHolds }
+{}
+
+/// No run stands still: in such a scenario some event is due, whatever was chosen, as long as the run has not ended and its next
+/// record needs an event.
+pub fn something_is_due_if_sync_holds()
+    ensures { SomethingIsDueIfSyncHolds }
+{}
+
+/// In such a scenario each call gives no record, or the next of the rounds.
+pub fn one_turn_a_record_if_sync_holds()
+    ensures { OneTurnARecordIfSyncHolds }
+{}
+
+/// In such a scenario every run ends: whatever is chosen, at most so many events are taken as the nodes, the number of their ticks and
+/// what is said allow (`most_takes`), and no node that runs has had 2^31 ticks. Until then some event is due, or the next record is given
+/// without one.
+pub fn every_run_ends_if_sync_holds()
+    ensures { EveryRunEndsIfSyncHolds }
+{}
+
+/// In such a scenario room for `most_pending` events at each node, reserved at opening, is enough: for its tick, for two messages of
+/// each node of the other kind, and for as many as there are entries of what is said. Whatever was chosen, no more is pending at a node
+/// (`now`), nor after a tick of its own (`own`), nor with the message that another node sends at its tick (`message`).
+pub fn pending_events_are_few_if_sync_holds()
+    ensures { PendingEventsAreFewIfSyncHolds }
 {}

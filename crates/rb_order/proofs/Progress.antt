@@ -1,0 +1,60 @@
+-- For the law that something is due: as long as a node runs, something is pending, and so some event is due.
+use Rattle.std.proofs.Common.{◌≡◌, ℕ, ◌≤◌, ◌||◌, true, false, List, [], ◌∷◌, ◌++◌, flat_map, length, map, refl, ap, ◌∙◌, subst, arith, Option, Some, None, option_map, option_to_list, slice_get}
+use Rattle.rb_base.specs.Nodes.{Side}
+use Rattle.rb_base.specs.Nodes.Side.{Biu, Rmu}
+use Rattle.rb_rules.specs.Book.{in_order, of_kind}
+use Rattle.rb_rules.specs.Goodness.{Scenario}
+use Rattle.rb_rules.specs.Hearing.{Coming}
+use Rattle.rb_rules.specs.WorldStep.{Choice, Due, Site, Timed, World, due_of, least, needs_no_event, times_of, world_after}
+use Rattle.rb_order.specs.Laws.{SomethingIsDue}
+use Rattle.rb_order.proofs.DueEvents.{every-at, every-back, every-front, every-unflat, least-none, some-due}
+use Rattle.rb_order.proofs.OneTake.{StandsInRounds}
+use Rattle.rb_order.proofs.SameHeard.{Every}
+use Rattle.rb_order.proofs.WorldNodes.{worlds-known}
+use Rattle.rb_order.proofs.WorldStands.{IsUp, sent_by}
+
+-- a node that runs
+pub record SomeRuns (w : World) : Type 0 where
+  pub me : Side
+  pub i : ℕ
+  pub s : Site
+  pub there : slice_get (of_kind me w.sites) i ≡ Some s
+  pub runs : s.runs ≡ true
+
+-- its next tick is among all that pends
+some-time : (w : World) (me : Side) (i : ℕ) (s : Site) (a : Timed) → slice_get (of_kind me w.sites) i ≡ Some s → s.ahead ≡ Some a
+    → (t : ℕ) × (least (flat_map times_of (in_order w.sites)) ≡ Some t)
+some-time w me i s a there pend = by (least (flat_map times_of (in_order w.sites))) refl
+  where
+    own : Every (λ u. ⊥) (times_of s) → ⊥
+    own all = (subst (λ o. Every (λ (u : ℕ). ⊥) (option_to_list (option_map (λ (a : Timed). a.time) o) ++ map (λ (c : Coming). c.time) s.coming)) pend all).0
+
+    at : (me : Side) → slice_get (of_kind me w.sites) i ≡ Some s → Every (λ s. Every (λ u. ⊥) (times_of s)) (w.sites.bius ++ w.sites.rmus) → Every (λ u. ⊥) (times_of s)
+    at Biu e all = every-at (λ s. Every (λ u. ⊥) (times_of s)) w.sites.bius i s e (every-front (λ s. Every (λ u. ⊥) (times_of s)) w.sites.bius w.sites.rmus all)
+    at Rmu e all = every-at (λ s. Every (λ u. ⊥) (times_of s)) w.sites.rmus i s e (every-back (λ s. Every (λ u. ⊥) (times_of s)) w.sites.bius w.sites.rmus all)
+
+    by : (o : Option ℕ) → least (flat_map times_of (in_order w.sites)) ≡ o → (t : ℕ) × (least (flat_map times_of (in_order w.sites)) ≡ Some t)
+    by (Some t) e = (t, e)
+    by None e =
+        let none : Every (λ u. ⊥) (flat_map times_of (in_order w.sites)) = least-none (λ u. ⊥) (flat_map times_of (in_order w.sites)) e in
+        absurd (own (at me there (every-unflat (λ u. ⊥) times_of (in_order w.sites) none)))
+
+-- where a node runs in a world that stands in the rounds, some event is due
+pub due-where-runs : (sc : Scenario) (choices : List Choice) → StandsInRounds sc (world_after sc choices) → SomeRuns (world_after sc choices)
+    → (world_after sc choices).book.ended ≡ false → needs_no_event sc (world_after sc choices).book.upcoming ≡ false → 1 ≤ length (due_of sc (world_after sc choices))
+due-where-runs sc choices h node going needs =
+    let w : World = world_after sc choices in
+    let up : IsUp sc w.hands (sent_by sc w.hands h.at w.sites) h.now node.me node.i (h.at node.me node.i) node.s = h.stands.sites.up node.me node.i node.s node.there node.runs in
+    let pending = some-time w node.me node.i node.s up.a node.there up.stands.receives.pends in
+    let goes : (w.book.ended || needs_no_event sc w.book.upcoming) ≡ false = ap (λ b. b || needs_no_event sc w.book.upcoming) going ∙ needs in
+    some-item (due_of sc w) (some-due sc w pending.0 (record { known = (worlds-known sc choices).known }) goes pending.1)
+  where
+    some-item : (ds : List Due) → (ds ≡ [] → ⊥) → 1 ≤ length ds
+    some-item [] never = absurd (never refl)
+    some-item (d ∷ ds) never = omega arith
+
+-- so the law holds where in each world in which the next record needs an event some node runs
+pub something-is-due : (sc : Scenario) → ((choices : List Choice) → StandsInRounds sc (world_after sc choices))
+    → ((choices : List Choice) → (world_after sc choices).book.ended ≡ false → needs_no_event sc (world_after sc choices).book.upcoming ≡ false → SomeRuns (world_after sc choices))
+    → SomethingIsDue sc
+something-is-due sc stands runs choices going needs = due-where-runs sc choices (stands choices) (runs choices going needs) going needs

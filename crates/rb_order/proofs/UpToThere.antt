@@ -1,0 +1,206 @@
+-- For the law that events are rounds: all nodes are in time in each moment up to where the book waits.
+use Rattle.std.proofs.Common.{◌≡◌, ℕ, suc, ◌+◌, ◌*◌, ◌-◌, ◌<◌, ◌≤◌, ◌==◌, ◌⊎◌, nat_lt, Bool, true, false, List, refl, ap, sym, ◌∙◌, subst, arith, inl, inr}
+use Rattle.std.proofs.lemmas.Bool.{cases_lt, le-ltb}
+use Rattle.rb_base.specs.Sizes.{sync_slot_of}
+use Rattle.rb_rules.specs.Book.{Begun, Book, with_frame}
+use Rattle.rb_rules.specs.Goodness.{Scenario}
+use Rattle.rb_rules.specs.Lawful.{IsLawful}
+use Rattle.rb_rules.specs.Moments.{IsRunning}
+use Rattle.rb_rules.specs.Ports.{HandIn}
+use Rattle.rb_rules.specs.Rounds.{Moment, begin_frame, moment, step, windows_in}
+use Rattle.rb_rules.proofs.Books.{stepped}
+use Rattle.rb_agree.proofs.Places.{running_earlier}
+use Rattle.rb_agree.proofs.FrameBegins.{reached}
+use Rattle.rb_order.specs.Closing.{stages_in}
+use Rattle.rb_order.specs.Laws.{SyncSlotsHold}
+use Rattle.rb_order.proofs.CloseOrder.{IsWindowLater, window-later}
+use Rattle.rb_order.proofs.FrameTimes.{BegunWell, begun-well, well-on}
+use Rattle.rb_order.proofs.Invariant.{InTime, next_stage}
+use Rattle.rb_order.proofs.MomentBooks.{number-of}
+use Rattle.rb_order.proofs.MomentSteps.{NextIsStage, next-inner, next-is-stage, next-outer}
+use Rattle.rb_order.proofs.NodeClosing.{NextInTime}
+use Rattle.rb_order.proofs.Settling.{same-number}
+use Rattle.rb_order.proofs.SettlingFrames.{RunsIn, runs-in}
+use Rattle.rb_order.proofs.RunTimes.{AllLater, Running, exact-later, first-running, in-exact, in-running}
+
+-- the run goes on from the tail to the next frame
+
+turn-number : (s frame n w : ℕ) → n ≡ frame * (3 * s + 4 + 1) + w → w ≡ 3 * s + 3 → n ≡ frame * (3 * s + 4 + 1) + 3 * s + 4 - 1
+turn-number s frame n w e f = omega arith
+
+then-number : (s frame n w : ℕ) → n ≡ frame * (3 * s + 4 + 1) + w → w ≡ 3 * s + 3 → suc (suc n) ≡ suc frame * (3 * s + 4 + 1) + 3 * 0 + 1 - 1
+then-number s frame n w e f =
+    let more : suc frame * (3 * s + 4 + 1) ≡ (3 * s + 4 + 1) + frame * (3 * s + 4 + 1) = omega arith in
+    omega (arith, more)
+
+pub runs-on : (sc : Scenario) (hands : List HandIn) → IsLawful sc → (t : ℕ) → (moment sc hands t).window ≡ stages_in sc.sizes → IsRunning (moment sc hands t)
+    → IsRunning (moment sc hands (suc (suc t)))
+runs-on sc hands lawful t at running =
+    let s : ℕ = sync_slot_of sc.sizes in
+    let frame : ℕ = (moment sc hands t).frame in
+    let number = number-of sc hands t in
+    let is : t ≡ frame * (windows_in sc.sizes + 1) + 3 * s + 4 - 1 = turn-number s frame t (moment sc hands t).window number.0 at in
+    let then_is : suc (suc t) ≡ suc frame * (windows_in sc.sizes + 1) + 3 * 0 + 1 - 1 = then-number s frame t (moment sc hands t).window number.0 at in
+    let then_runs : IsRunning (moment sc hands (suc frame * (windows_in sc.sizes + 1) + 3 * 0 + 1 - 1)) =
+    reached sc hands lawful (suc frame) (ap (λ n. (moment sc hands n).book.ended) (sym is) ∙ running) in
+    ap (λ n. (moment sc hands n).book.ended) then_is ∙ then_runs
+
+-- so it goes on from the last stage of a frame that holds
+last-on : (sc : Scenario) (hands : List HandIn) → IsLawful sc → (g : ℕ) → (moment sc hands g).window + 1 ≡ stages_in sc.sizes → IsRunning (moment sc hands (suc g))
+    → IsRunning (moment sc hands (suc (suc (suc g))))
+last-on sc hands lawful g last running =
+    let w : IsWindowLater sc (moment sc hands g) (moment sc hands (suc g)) = window-later sc hands (moment sc hands g) (omega arith) in
+    let e : (moment sc hands (suc g)).window ≡ (moment sc hands g).window + 1 = w.window in
+    runs-on sc hands lawful (suc g) (omega arith) running
+
+begun-open : (sc : Scenario) (frame : ℕ) (begun : List Begun) (b : Book) → b.ended ≡ false → (with_frame sc frame begun b).ended ≡ false
+unfolding with_frame
+begun-open sc frame begun b h = rw (h, with_frame) refl
+
+turned-open : (sc : Scenario) (hands : List HandIn) (m : Moment) (over in_frame : Bool) → over ≡ false → in_frame ≡ false → IsRunning m → IsRunning (stepped sc hands m over in_frame)
+unfolding begin_frame
+turned-open sc hands m true in_frame e f h = cc
+turned-open sc hands m false true e f h = cc
+turned-open sc hands m false false e f h = begun-open sc (m.frame + 1) _ m.book h
+
+-- and from the end of a frame
+end-on : (sc : Scenario) (hands : List HandIn) (g : ℕ) → IsRunning (moment sc hands g) → windows_in sc.sizes ≤ (moment sc hands g).window → IsRunning (moment sc hands (suc g))
+unfolding step
+end-on sc hands g running at_end =
+    let m : Moment = moment sc hands g in
+    let runs : RunsIn sc m = runs-in sc hands g running in
+    turned-open sc hands m (m.frame == sc.frames) (nat_lt m.window (windows_in sc.sizes))
+    (differs (m.frame == sc.frames) (λ e. let first : m.window ≡ 0 = runs.at_first (same-number m.frame sc.frames e) in omega arith)) (le-ltb m.window (windows_in sc.sizes) at_end) running
+  where
+    differs : (b : Bool) → (b ≡ true → ⊥) → b ≡ false
+    differs true h = absurd (h refl)
+    differs false h = refl
+
+-- the next stage of a moment of the run runs, where it comes in a sync slot or after one
+holds-next : (sc : Scenario) (hands : List HandIn) → IsLawful sc → SyncSlotsHold sc → (g : ℕ) → IsRunning (moment sc hands g) → (moment sc hands g).window ≤ stages_in sc.sizes
+    → 3 * sync_slot_of sc.sizes ≤ (moment sc hands g).window → IsRunning (moment sc hands (next_stage sc.sizes (moment sc hands g) g))
+holds-next sc hands lawful holds g running within late =
+    let m : Moment = moment sc hands g in
+    elim (cases_lt m.window (stages_in sc.sizes)) [
+      | inl stage ↦
+          let e : g + 1 ≡ suc g = omega arith in
+          let on : IsRunning (moment sc hands (suc g)) = ap (λ n. (moment sc hands n).book.ended) (sym e) ∙ holds hands g running late stage in
+          elim (cases_lt (m.window + 1) (stages_in sc.sizes)) [
+            | inl inner ↦ subst (λ q. IsRunning (moment sc hands q)) (sym (next-inner sc.sizes m g inner)) on
+            | inr outer ↦
+                let is : next_stage sc.sizes m g ≡ suc (suc (suc g)) = next-outer sc.sizes m g outer ∙ omega arith in
+                subst (λ q. IsRunning (moment sc hands q)) (sym is) (last-on sc hands lawful g (omega arith) on)
+          ]
+      | inr tail ↦
+          let is : next_stage sc.sizes m g ≡ suc (suc g) = next-outer sc.sizes m g (omega arith) ∙ omega arith in
+          subst (λ q. IsRunning (moment sc hands q)) (sym is) (runs-on sc hands lawful g (omega arith) running)
+    ]
+
+-- in a moment of the run nodes are in time
+in-here : (sc : Scenario) (hands : List HandIn) → IsLawful sc → SyncSlotsHold sc → (p : ℕ) → IsRunning (moment sc hands p) → (moment sc hands p).window ≤ stages_in sc.sizes
+    → InTime sc (moment sc hands p) (moment sc hands (next_stage sc.sizes (moment sc hands p) p))
+in-here sc hands lawful holds p running within =
+    elim (cases_lt (3 * sync_slot_of sc.sizes) (moment sc hands p).window) [
+      | inr exact ↦ in-exact sc hands lawful p (begun-well sc hands lawful p running) exact
+      | inl late ↦
+          let on : Running sc hands p = in-running sc hands lawful p within (holds-next sc hands lawful holds p running within (omega arith)) in
+          on.times
+    ]
+
+-- in each moment up to n all nodes are in time, and before it what is sent in the next stage comes later
+pub record UpTo (sc : Scenario) (hands : List HandIn) (n : ℕ) : Type 0 where
+  pub times : (p : ℕ) → p ≤ n → (moment sc hands p).window ≤ stages_in sc.sizes → InTime sc (moment sc hands p) (moment sc hands (next_stage sc.sizes (moment sc hands p) p))
+  pub later : (p : ℕ) → p < n → (moment sc hands p).window ≤ stages_in sc.sizes → AllLater sc hands p
+  pub well : BegunWell sc (moment sc hands n)
+
+-- a stage after a moment does not come before its next stage
+pub next-le : (sc : Scenario) (hands : List HandIn) (p n : ℕ) → (moment sc hands p).window ≤ stages_in sc.sizes → (moment sc hands n).window < stages_in sc.sizes → p < n
+    → next_stage sc.sizes (moment sc hands p) p ≤ n
+next-le sc hands p n within stage lt =
+    elim (cases_lt n (next_stage sc.sizes (moment sc hands p) p)) [
+      | inr ge ↦ ge
+      | inl past ↦ let tail = (next-is-stage sc hands p within).between n lt past in absurd (omega (arith, tail.0, stage))
+    ]
+
+from-running : (sc : Scenario) (hands : List HandIn) → IsLawful sc → SyncSlotsHold sc → (n : ℕ) → (moment sc hands n).window < stages_in sc.sizes → IsRunning (moment sc hands n) → UpTo sc hands n
+from-running sc hands lawful holds n stage running = record {
+  times = λ p le within. in-here sc hands lawful holds p (running_earlier sc hands p n le running) within;
+  later = λ p lt within.
+      let on : Running sc hands p =
+      in-running sc hands lawful p within (running_earlier sc hands (next_stage sc.sizes (moment sc hands p) p) n (next-le sc hands p n within stage lt) running) in
+      on.later;
+  well = begun-well sc hands lawful n running;
+}
+
+pub up-to : (sc : Scenario) (hands : List HandIn) → IsLawful sc → SyncSlotsHold sc → (n : ℕ) → (moment sc hands n).window < stages_in sc.sizes
+    → (n ≡ 0) ⊎ ((g : ℕ) × (IsRunning (moment sc hands g) × (n ≡ next_stage sc.sizes (moment sc hands g) g))) → UpTo sc hands n
+up-to sc hands lawful holds n stage (inl first) = from-running sc hands lawful holds n stage (subst (λ n. IsRunning (moment sc hands n)) (sym first) (first-running sc hands))
+up-to sc hands lawful holds n stage (inr from) =
+    let g : ℕ = from.0 in
+    let m : Moment = moment sc hands g in
+    let running : IsRunning m = from.1.0 in
+    let number = number-of sc hands g in
+    elim (cases_lt m.window (3 * sync_slot_of sc.sizes)) [
+      | inl exact ↦
+          let is : n ≡ suc g = from.1.1 ∙ next-inner sc.sizes m g (omega arith) in
+          let later : IsWindowLater sc m (moment sc hands (suc g)) = window-later sc hands m (omega arith) in
+          let w : (moment sc hands (suc g)).window ≡ m.window + 1 = later.window in
+          let well : BegunWell sc m = begun-well sc hands lawful g running in
+          let well_then : BegunWell sc (moment sc hands (suc g)) = well-on sc hands lawful g (omega arith) well in
+          record {
+            times = λ p le within. elim (cases_lt g p) [
+              | inl after ↦
+                  let same : suc g ≡ p = omega (arith, is, le, after) in
+                  subst (λ p. InTime sc (moment sc hands p) (moment sc hands (next_stage sc.sizes (moment sc hands p) p))) same (in-exact sc hands lawful (suc g) well_then (omega arith))
+              | inr not_after ↦ in-here sc hands lawful holds p (running_earlier sc hands p g not_after running) within
+            ];
+            later = λ p lt within. elim (cases_lt p g) [
+              | inl before ↦
+                  let on : Running sc hands p =
+                  in-running sc hands lawful p within (running_earlier sc hands (next_stage sc.sizes (moment sc hands p) p) g (next-le sc hands p g within (omega arith) before) running) in
+                  on.later
+              | inr not_before ↦
+                  let same : g ≡ p = omega (arith, is, lt, not_before) in
+                  subst (AllLater sc hands) same (exact-later sc hands lawful g well (omega arith))
+            ];
+            well = subst (λ n. BegunWell sc (moment sc hands n)) (sym is) well_then;
+          }
+      | inr late ↦ elim (cases_lt (stages_in sc.sizes) m.window) [
+        | inr within ↦
+            from-running sc hands lawful holds n stage (subst (λ n. IsRunning (moment sc hands n)) (sym from.1.1) (holds-next sc hands lawful holds g running within late))
+        | inl at_end ↦
+            let is : n ≡ suc g = from.1.1 ∙ next-outer sc.sizes m g (omega arith) ∙ omega (arith, number.1) in
+            from-running sc hands lawful holds n stage (subst (λ n. IsRunning (moment sc hands n)) (sym is) (end-on sc hands g running (omega arith)))
+      ]
+    ]
+
+-- and so in the moments that follow one before it
+pub next-up-to : (sc : Scenario) (hands : List HandIn) (n p : ℕ) → UpTo sc hands n → (moment sc hands n).window < stages_in sc.sizes → p < n → (moment sc hands p).window ≤ stages_in sc.sizes
+    → NextInTime sc hands p
+next-up-to sc hands n p up stage lt within =
+    let m : Moment = moment sc hands p in
+    let next : NextIsStage sc hands p = next-is-stage sc hands p within in
+    record {
+      tail = λ below.
+          let later : IsWindowLater sc m (moment sc hands (suc p)) = window-later sc hands m (omega arith) in
+          let w : (moment sc hands (suc p)).window ≡ m.window + 1 = later.window in
+          up.times (suc p) (omega arith) (omega arith);
+      stage = λ q e.
+          let le : q ≤ n = elim (cases_lt n q) [
+            | inr ge ↦ ge
+            | inl past ↦ let tail = next.between n lt (omega (arith, past, e)) in absurd (omega (arith, tail.0, stage))
+          ] in
+          let w : (moment sc hands q).window < stages_in sc.sizes = subst (λ q. (moment sc hands q).window < stages_in sc.sizes) (sym e) next.window in
+          up.times q le (omega arith);
+      later = λ last.
+          let later : IsWindowLater sc m (moment sc hands (suc p)) = window-later sc hands m (omega arith) in
+          let w : (moment sc hands (suc p)).window ≡ m.window + 1 = later.window in
+          let before : suc p < n = elim (cases_lt (suc p) n) [
+            | inl less ↦ less
+            | inr ge ↦
+                let same : suc p ≡ n = omega arith in
+                let tail : (moment sc hands (suc p)).window < stages_in sc.sizes = subst (λ n. (moment sc hands n).window < stages_in sc.sizes) (sym same) stage in
+                absurd (omega (arith, tail, w, last))
+          ] in
+          up.later (suc p) before (omega arith);
+    }

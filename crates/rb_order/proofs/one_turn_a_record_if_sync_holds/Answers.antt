@@ -1,0 +1,5 @@
+use Rattle.rb_order.proofs.EventsHold.{turns-hold}
+use Rattle.rb_order.proofs.one_turn_a_record_if_sync_holds.Goals as goal
+
+pub returns : goal.returns
+returns c = turns-hold

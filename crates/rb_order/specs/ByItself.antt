@@ -1,0 +1,12 @@
+-- What is given without an event.
+use Rattle.std.specs.Prelude.{◌≡◌, true, false, Some, [], ◌∷◌, ◌++◌}
+use Rattle.rb_rules.specs.Book.{Record}
+use Rattle.rb_rules.specs.Goodness.{Scenario}
+use Rattle.rb_rules.specs.Lawful.{IsLawful}
+use Rattle.rb_rules.specs.WorldStep.{World, go_on, needs_no_event}
+
+-- where the next record needs no event, the call that asks for it gives one: so no run stands still there
+abbrev pub WhatNeedsNoEventIsGiven : Type 0
+WhatNeedsNoEventIsGiven =
+    (sc : Scenario) → IsLawful sc → (w : World) → w.book.ended ≡ false → needs_no_event sc w.book.upcoming ≡ true
+    → (r : Record) × (((go_on sc w).turn ≡ Some r) × ((go_on sc w).book.given ≡ w.book.given ++ r ∷ []))
