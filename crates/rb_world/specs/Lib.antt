@@ -1,0 +1,4 @@
+pub mod Buses
+pub mod Worlds
+pub mod Turning
+pub mod Steps

@@ -1,0 +1,34 @@
+//! What surrounds the nodes of a run.
+ghost use Rattle.std.specs.Prelude.{◌≡◌, ◌<◌, ◌==◌, ◌&&◌, not, ◌^◌};
+ghost use Rattle.rb_base.specs.Nodes.{has, other, set_of};
+ghost use Rattle.rb_rules.specs.Lawful.{kind_of};
+ghost use Rattle.rb_queue.specs.Waiting.{HasLane, lane_of, with_lane, without_events};
+ghost use Rattle.rb_traffic.specs.Arriving.{number_of};
+ghost use Rattle.rb_world.specs.Worlds.{running_of};
+
+use rb_agenda::Agenda;
+use rb_base::{Biu, NodeId, NodeName, NodeSet, Rmu};
+use rb_book::Book;
+use rb_port::Port;
+
+/// What is pending at the nodes, what they told, the ports of the BIUs, and which nodes run.
+#[derive(Drop)]
+pub struct Scene {
+    pub agenda: Agenda,
+    pub book: Book,
+    pub ports: Vec<Port>,
+    pub running_biu: NodeSet<Biu>,
+    pub running_rmu: NodeSet<Rmu>,
+}
+
+impl Scene {
+    /// The nodes of the other kind that run, one bit for each.
+    pub fn running_others(&self, node: NodeName) -> u16
+        ensures { result ≡ running_of (other (kind_of node)) self.now }
+    {
+        match node {
+            NodeName::Biu(_) => self.running_rmu.bits(),
+            NodeName::Rmu(_) => self.running_biu.bits(),
+        }
+    }
+}
