@@ -28,11 +28,12 @@ scenario_of plan frames requests words apps clocks delays onsets sayings = recor
   says = sayings.says;
 }
 
--- the scenario is lawful, and this is kept of who is good and of what is said
-pub record IsBus (sc : Scenario) (onsets : Faults) (sayings : KeptSayings) : Type 0 where
+-- the scenario is lawful, and this is kept of who is good and of what is said, which are so many entries
+pub record IsBus (count : ℕ) (sc : Scenario) (onsets : Faults) (sayings : KeptSayings) : Type 0 where
   pub lawful : IsLawful sc
   pub onsets_are : onsets ≡ faults_of sc
   pub sayings_are : sayings ≡ kept_of sc
+  pub many : count ≡ length sc.says
 
 -- At each node there is room for all that is pending there, and, when an event has been taken, for all that may then come at once: its
 -- next tick and what is said to it in a window, or a message

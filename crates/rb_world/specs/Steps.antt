@@ -1,21 +1,30 @@
 -- What happens at one node, as it is done in parts.
-use Rattle.std.specs.Prelude.{ℕ, ◌≡◌, ◌+◌, ◌<◌, ◌≤◌, true, Some, None, All, length, slice_get}
+use Rattle.std.specs.Prelude.{⊤, ℕ, ◌≡◌, ◌+◌, ◌<◌, ◌≤◌, true, Option, Some, None, IfSome, All, get_or, length, slice_get}
 use Rattle.rb_base.specs.Nodes.{Side, other}
+use Rattle.rb_base.specs.Nodes.Side.{Biu}
+use Rattle.rb_base.specs.Sizes.{Sizes}
+use Rattle.rb_base.specs.declared.values.See.TheVariants.{Nothing}
+use Rattle.rb_rules.specs.declared.closing.Closed.{Closed}
 use Rattle.rb_base.specs.declared.event.Event.{Event}
-use Rattle.rb_rules.specs.Book.{Each, of_kind}
+use Rattle.rb_base.specs.declared.node.NodeName.{NodeName}
+use Rattle.rb_rules.specs.Book.{Each, Row, of_kind}
 use Rattle.rb_rules.specs.Clock.{ComesBy, Timeline}
-use Rattle.rb_rules.specs.Core.{Act, next_tick}
+use Rattle.rb_rules.specs.Core.{Act, Core, next_tick}
 use Rattle.rb_rules.specs.Goodness.{Scenario, clock_of}
 use Rattle.rb_rules.specs.Hearing.{Coming}
 use Rattle.rb_rules.specs.Lawful.{IsLawful}
 use Rattle.rb_rules.specs.Links.{name_of}
-use Rattle.rb_rules.specs.Slots.{count_of}
-use Rattle.rb_rules.specs.WorldStep.{Due, Site, World, after_act, at_node, due_of, happens, pass_and_tick, proceed, with_act}
+use Rattle.rb_rules.specs.Slots.{count_of, first_diagnosis_of}
+use Rattle.rb_rules.specs.WorldStep.{Due, Site, World, after_act, at_node, due_of, happens, pass_and_tick, proceed, with_act, with_delivery}
 use Rattle.rb_agenda.specs.Agenda.{IsAtTime}
 use Rattle.rb_agenda.specs.Holding.{Shows, without_waiting}
-use Rattle.rb_node.specs.Cores.{passing_end}
+use Rattle.rb_node.specs.Cores.{IsCore, passing_end}
+use Rattle.rb_node.specs.declared.act.Want.{Want}
+use Rattle.rb_node.specs.declared.act.Want.TheVariants as want
+use Rattle.rb_book.specs.Changing.{changed_at, with_row}
 use Rattle.rb_queue.specs.Waiting.{lane_of, spare_of}
 use Rattle.rb_site.specs.Sites.{Kept as KeptSite, Stands as StandsFor, number_of}
+use Rattle.rb_traffic.specs.Arriving.{number_of as number_in}
 use Rattle.rb_world.specs.declared.scene.Scene.{Scene}
 use Rattle.rb_world.specs.Worlds.{AreNodes, IsNode, IsReached, Surrounds}
 
@@ -32,6 +41,15 @@ pub record IsAt (sc : Scenario) (me : Side) (i : ℕ) (site : KeptSite) (scene :
   pub surrounds : Surrounds sc scene w
   pub spare : length sc.says + 1 ≤ spare_of (lane_of scene.agenda (name_of me i))
 
+-- the site of this node in a world has this core, for which the node stands, and its next tick is not pending yet
+pub record IsCoreAt (sc : Scenario) (me : Side) (node : NodeName) (site : KeptSite) (c : Core) (w : World) : Type 0 where
+  pub number : number_of site ≡ number_in node
+  pub sizes : site.node.seat.sizes ≡ sc.sizes
+  pub plan : site.node.seat.plan ≡ sc.plan
+  pub core : IsCore site.node c
+  pub there : (s : Site) → slice_get (of_kind me w.sites) (number_in node) ≡ Some s → s.core ≡ c
+  pub none_ahead : (s : Site) → slice_get (of_kind me w.sites) (number_in node) ≡ Some s → s.ahead ≡ None
+
 -- the node has gone on, and only what is pending there and whether it runs has changed around it
 pub record Proceeds (sc : Scenario) (me : Side) (i : ℕ) (site : KeptSite) (before after : Scene) (w : World) (s : Site) : Type 0 where
   pub node : IsNode sc me i site (proceed sc me i s)
@@ -40,12 +58,34 @@ pub record Proceeds (sc : Scenario) (me : Side) (i : ℕ) (site : KeptSite) (bef
 
 -- Ticks.
 
+-- a word from outside is said in the slot, if there is one
+abbrev pub IsWordSlot : Sizes → Option ℕ → Type 0
+IsWordSlot sizes slot = IfSome slot (λ n. n < first_diagnosis_of Biu sizes)
+
+-- only a BIU wants anything
+abbrev pub CanWant : Scenario → ℕ → Want → Type 0
+CanWant sc i want.Nothing = ⊤
+CanWant sc i want.Request = i < sc.sizes.bius
+CanWant sc i (want.Data slot) = i < sc.sizes.bius
+
+-- a node of kind me saw nothing of nodes that are not there
+abbrev pub SeesOnlyNodes : Scenario → Side → Closed → Type 0
+SeesOnlyNodes sc me c = (j : ℕ) → count_of (other me) sc.sizes ≤ j → get_or c.sees j Nothing ≡ Nothing
+
+-- a node has closed this window and told this row of it, and what it delivered is at its port
+abbrev pub closed_at : Scenario → NodeName → Closed → Row → World → World
+closed_at sc node c row w = record (changed_at node (with_row c.place.stage row) w) { ports = with_delivery sc (number_in node) c.delivered w.ports }
+
+-- there is room for one event more at each node of a kind
+abbrev pub HasRoomFor : Scenario → Side → Scene → Type 0
+HasRoomFor sc me scene = (j : ℕ) → j < count_of me sc.sizes → 1 ≤ spare_of (lane_of scene.agenda (name_of me j))
+
 -- it is the node's next tick. All that came to the node came from nodes of the bus, and there is room for a message at the others
 pub record MayTick (sc : Scenario) (me : Side) (i k : ℕ) (site : KeptSite) (scene : Scene) (w : World) (s : Site) : Type 0 where
   pub at : IsAt sc me i site scene w s
   pub next : next_tick sc.sizes sc.plan me i s.core ≡ Some k
   pub senders : All (λ (c : Coming). c.from < count_of (other me) sc.sizes) s.got
-  pub message : (j : ℕ) → j < count_of (other me) sc.sizes → 1 ≤ spare_of (lane_of scene.agenda (name_of (other me) j))
+  pub message : HasRoomFor sc (other me) scene
 
 -- the tick has been taken, and this is what it gave
 pub record Ticks (sc : Scenario) (me : Side) (i k : ℕ) (site : KeptSite) (scene : Scene) (w : World) (s : Site) (x : Act) : Type 0 where
@@ -60,11 +100,11 @@ act_at sc w me i k s = pass_and_tick sc w.ports me i k s.core
 
 -- The event that is due at place i has been taken out of what is pending: this event, at this time. What is kept of the nodes stands
 -- for the world before, and what surrounds them for the world without it
-pub record MayHappen (sc : Scenario) (nodes : Each KeptSite) (scene : Scene) (time : ℕ) (event : Event) (w : World) (i : ℕ) (d : Due) : Type 0 where
+pub record MayHappen (sc : Scenario) (nodes : Each KeptSite) (scene : Scene) (time : ℕ) (name : NodeName) (event : Event) (w : World) (i : ℕ) (d : Due) : Type 0 where
   pub lawful : IsLawful sc
   pub reached : IsReached sc w
   pub found : slice_get (due_of sc w) i ≡ Some d
-  pub node : event.node ≡ name_of d.side d.node
+  pub node : name ≡ name_of d.side d.node
   pub shows : Shows d.pending event.kind
   pub time : IsAtTime time d.pending
   pub nodes : (me : Side) → AreNodes sc me (of_kind me nodes) (of_kind me w.sites)

@@ -3,13 +3,14 @@ ghost use Rattle.std.specs.Prelude.{◌≡◌, ◌+◌, ◌<◌, ◌≤◌, ◌^
 ghost use Rattle.rb_base.specs.Nodes.{other};
 ghost use Rattle.rb_base.specs.Nodes.Side.{Biu, Rmu};
 ghost use Rattle.rb_rules.specs.Book.{Each};
-ghost use Rattle.rb_rules.specs.WorldStep.{Site, at_node, says_in};
+ghost use Rattle.rb_rules.specs.WorldStep.{Site, at_node, first_world, says_in};
 ghost use Rattle.rb_order.specs.PendingEvents.{most_pending};
 ghost use Rattle.rb_node.specs.Acts.{IsSendable, span_in};
 ghost use Rattle.rb_queue.specs.Waiting.{HasLane, lane_of, spare_of, with_lane};
 ghost use Rattle.rb_agenda.specs.Holding.{HoldsSites};
 ghost use Rattle.rb_rules.specs.Goodness.{clock_of};
 ghost use Rattle.rb_rules.specs.Lawful.{IsLawful, IsNodeOf, is_node_good, kind_of};
+ghost use Rattle.rb_book.specs.Holding.{Holds};
 ghost use Rattle.rb_scenario.specs.Acceptance.{as_scenario};
 ghost use Rattle.rb_traffic.specs.Arriving.{AreRunning, HaveRoom, number_of};
 ghost use Rattle.rb_traffic.specs.Saying.{hears, kept_of, with_arrivals};
@@ -18,6 +19,7 @@ ghost use Rattle.rb_world.specs.Buses.{HaveRooms};
 
 use rb_agenda::Agenda;
 use rb_base::{NodeName, OutOfMemory, Shape};
+use rb_book::Book;
 use rb_clock::Clock;
 use rb_link::Delays;
 use rb_node::Span;
@@ -51,7 +53,7 @@ impl Model for Bus {
 
     ghost view = { λ b. scenario_of b.plan b.frames b.requests b.words b.apps b.clocks b.delays b.onsets b.sayings };
 
-    ghost invariant = { λ b. IsBus (scenario_of b.plan b.frames b.requests b.words b.apps b.clocks b.delays b.onsets b.sayings) b.onsets b.sayings };
+    ghost invariant = { λ b. IsBus b.says (scenario_of b.plan b.frames b.requests b.words b.apps b.clocks b.delays b.onsets b.sayings) b.onsets b.sayings };
 }
 
 impl Bus {
@@ -63,6 +65,7 @@ impl Bus {
         let shape = *scenario.plan.shape();
         let version = scenario.plan.plan().version;
         let onsets = Onsets::new(shape, scenario.biu_onset, scenario.rmu_onset);
+        let says = scenario.says.len();
         let sayings = Sayings::new(alloc, &shape, onsets, version, scenario.says)?;
         Ok(Bus {
             plan: scenario.plan,
@@ -74,6 +77,7 @@ impl Bus {
             delays: scenario.delays,
             onsets,
             sayings,
+            says,
         })
     }
 
@@ -82,6 +86,38 @@ impl Bus {
         ensures { result.now ≡ self.now.sizes }
     {
         self.plan.shape()
+    }
+
+    /// The plan of the bus.
+    pub fn plan(&self) -> &Feasible
+        ensures { result.now ≡ record { sizes = self.now.sizes; plan = self.now.plan } }
+    {
+        &self.plan
+    }
+
+    /// The application at BIU `i`.
+    pub fn app(&self, i: u8) -> u8
+        requires { i < self.now.sizes.bius }
+        ensures value { result ≡ get_or self.now.apps i 0 }
+        ensures known { result < 3 }
+    {
+        self.apps[usize::from(i)]
+    }
+
+    /// The state with which the port of BIU `i` begins.
+    pub fn word(&self, i: u8) -> u64
+        requires { i < self.now.sizes.bius }
+        ensures { result ≡ get_or self.now.words i 0 }
+    {
+        u64::from(self.words[usize::from(i)])
+    }
+
+    /// The book of a run of the bus at its begin.
+    pub fn book(&self) -> Book
+        ensures { Holds self.now result (first_world self.now) }
+    {
+        let plan = self.plan.plan();
+        Book::new(*self.plan.shape(), self.frames, plan.dmax - plan.dmin, self.onsets)
     }
 
     /// The clock of a node.

@@ -1,11 +1,10 @@
 //! What may be taken.
 ghost use Rattle.std.specs.Prelude.{◌≡◌, ◌<◌, ◌≤◌, Some, length};
-ghost use Rattle.rb_traffic.specs.Arriving.{number_of};
 ghost use Rattle.rb_rules.specs.WorldStep.{World as RunWorld, due_of, event_at};
 ghost use Rattle.rb_world.specs.Worlds.{Stands, due_in};
 
 use crate::bus::Bus;
-use crate::scene::Scene;
+use crate::scene::{Scene, number_of};
 use crate::ticking::word_for;
 use crate::world::World;
 use arrayvec::ArrayVec;
@@ -24,19 +23,8 @@ fn copied(bytes: &[u8]) -> ArrayVec<u8, 32>
     copy
 }
 
-// The number of a node among those of its kind.
-fn number_of(node: NodeName) -> u8
-    ensures { result ≡ number_of node }
-{
-    match node {
-        NodeName::Biu(i) => i,
-        NodeName::Rmu(i) => i,
-    }
-}
-
 // An event as it is shown, at a node.
-fn show<K: Kind>(bus: &Bus, apps: &Apps, site: &Site<K>, scene: &Scene, time: u64, pending: &Event) -> Event {
-    let node = pending.node;
+fn show<K: Kind>(bus: &Bus, apps: &Apps, site: &Site<K>, scene: &Scene, time: u64, node: NodeName, pending: &Event) -> Event {
     let had = site.node().had();
     match &pending.kind {
         EventKind::Tick { .. } => {
@@ -78,8 +66,8 @@ impl World {
         let time = self.scene.agenda.first_time();
         let pending = self.scene.agenda.event_at(node, place);
         match node {
-            NodeName::Biu(k) => show(&self.bus, apps, &self.bius[usize::from(k)], &self.scene, time, pending),
-            NodeName::Rmu(k) => show(&self.bus, apps, &self.rmus[usize::from(k)], &self.scene, time, pending),
+            NodeName::Biu(k) => show(&self.bus, apps, &self.bius[usize::from(k)], &self.scene, time, node, pending),
+            NodeName::Rmu(k) => show(&self.bus, apps, &self.rmus[usize::from(k)], &self.scene, time, node, pending),
         }
     }
 }

@@ -1,10 +1,16 @@
 //! A node goes on to its next tick.
-ghost use Rattle.std.specs.Prelude.{◌≡◌, ◌<◌, ◌==◌, ◌&&◌, not};
+ghost use Rattle.std.specs.Prelude.{◌≡◌, ◌<◌, ◌≤◌, ◌==◌, ◌&&◌, [], not};
 ghost use Rattle.rb_base.specs.Nodes.{has, set_of, side_of};
+ghost use Rattle.rb_rules.specs.Core.{Core};
+ghost use Rattle.rb_rules.specs.Lawful.{IsNodeOf, kind_of};
 ghost use Rattle.rb_rules.specs.Links.{name_of};
-ghost use Rattle.rb_rules.specs.WorldStep.{Site as WorldSite, World};
+ghost use Rattle.rb_rules.specs.WorldStep.{Site as WorldSite, World, await, stop};
+ghost use Rattle.rb_book.specs.Changing.{changed_at};
+ghost use Rattle.rb_queue.specs.Waiting.{lane_of, spare_of};
 ghost use Rattle.rb_site.specs.Sites.{number_of};
-ghost use Rattle.rb_world.specs.Steps.{IsAt, Proceeds};
+ghost use Rattle.rb_traffic.specs.Arriving.{number_of as number_in};
+ghost use Rattle.rb_world.specs.Steps.{IsAt, IsCoreAt, Proceeds};
+ghost use Rattle.rb_world.specs.Worlds.{Surrounds};
 
 use crate::bus::Bus;
 use crate::scene::Scene;
@@ -22,7 +28,14 @@ fn without<K: Copy>(set: NodeSet<K>, i: u8) -> NodeSet<K>
 }
 
 // The node's next tick that isn't quiet is pending.
-fn await_tick<K: Kind>(bus: &Bus, node: NodeName, site: &Site<K>, scene: &mut Scene) {
+fn await_tick<K: Kind>(bus: &Bus, node: NodeName, site: &Site<K>, scene: &mut Scene)
+    requires node { IsNodeOf bus.now.sizes node }
+    requires kind { kind_of node ≡ side_of K.CODE }
+    requires around { (w : World) × Surrounds bus.now scene.old w }
+    requires spare { 1 ≤ spare_of (lane_of scene.old.agenda node) }
+    ensures { (w : World) (c : Core) → IsCoreAt bus.now (side_of K.CODE) node site.now c w → Surrounds bus.now scene.old w
+        → Surrounds bus.now scene.new (changed_at node (await bus.now (side_of K.CODE) (number_in node) []) w) }
+{
     if let Some(tick) = site.node().next_tick() {
         let kind = EventKind::Tick {
             word: 0,
@@ -41,7 +54,11 @@ fn await_tick<K: Kind>(bus: &Bus, node: NodeName, site: &Site<K>, scene: &mut Sc
 }
 
 // The node stops: nothing is pending at it any more, and nothing comes to it.
-fn stop(node: NodeName, scene: &mut Scene) {
+fn stop_at(bus: &Bus, node: NodeName, scene: &mut Scene)
+    requires node { IsNodeOf bus.now.sizes node }
+    requires around { (w : World) × Surrounds bus.now scene.old w }
+    ensures { (w : World) → Surrounds bus.now scene.old w → Surrounds bus.now scene.new (changed_at node stop w) }
+{
     scene.agenda.drop_all(node);
     match node {
         NodeName::Biu(i) => scene.running_biu = without(scene.running_biu, i),
@@ -51,7 +68,12 @@ fn stop(node: NodeName, scene: &mut Scene) {
 
 /// The node goes on to its next tick. At a window's begin a node that is not good there stops, and to the others comes what they
 /// are told in it.
-pub(crate) fn proceed<K: Kind>(bus: &Bus, node: NodeName, site: &mut Site<K>, scene: &mut Scene)
+pub(crate) fn proceed<K: Kind>(
+    bus: &Bus,
+    node: NodeName,
+    site: &mut Site<K>,
+    scene: &mut Scene,
+)
     requires name { node ≡ name_of (side_of K.CODE) (number_of site.old) }
     requires at { (w : World) × (s : WorldSite) × IsAt bus.now (side_of K.CODE) (number_of site.old) site.old scene.old w s }
     ensures { (w : World) (s : WorldSite) → IsAt bus.now (side_of K.CODE) (number_of site.old) site.old scene.old w s
@@ -60,7 +82,7 @@ pub(crate) fn proceed<K: Kind>(bus: &Bus, node: NodeName, site: &mut Site<K>, sc
     if let Some(span) = site.entering() {
         if !bus.is_good(node, &span) {
             site.stop();
-            stop(node, scene);
+            stop_at(bus, node, scene);
             return;
         }
         bus.say(&mut scene.agenda, node, &span);

@@ -1,13 +1,12 @@
 //! What surrounds the nodes of a run.
-ghost use Rattle.std.specs.Prelude.{◌≡◌, ◌<◌, ◌==◌, ◌&&◌, not, ◌^◌};
-ghost use Rattle.rb_base.specs.Nodes.{has, other, set_of};
+ghost use Rattle.std.specs.Prelude.{◌≡◌};
+ghost use Rattle.rb_base.specs.Nodes.{other};
 ghost use Rattle.rb_rules.specs.Lawful.{kind_of};
-ghost use Rattle.rb_queue.specs.Waiting.{HasLane, lane_of, with_lane, without_events};
 ghost use Rattle.rb_traffic.specs.Arriving.{number_of};
 ghost use Rattle.rb_world.specs.Worlds.{running_of};
 
 use rb_agenda::Agenda;
-use rb_base::{Biu, NodeId, NodeName, NodeSet, Rmu};
+use rb_base::{Biu, NodeName, NodeSet, Rmu};
 use rb_book::Book;
 use rb_port::Port;
 
@@ -30,5 +29,15 @@ impl Scene {
             NodeName::Biu(_) => self.running_rmu.bits(),
             NodeName::Rmu(_) => self.running_biu.bits(),
         }
+    }
+}
+
+/// The number of a node among those of its kind.
+pub(crate) fn number_of(node: NodeName) -> u8
+    ensures { result ≡ number_of node }
+{
+    match node {
+        NodeName::Biu(i) => i,
+        NodeName::Rmu(i) => i,
     }
 }

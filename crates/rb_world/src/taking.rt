@@ -44,15 +44,15 @@ fn happen(
     rmus: &mut Vec<Site<Rmu>>,
     scene: &mut Scene,
     time: u64,
+    node: NodeName,
     event: &Event,
 )
     requires { (w : RunWorld) × (i : ℕ) × (d : Due)
-        × MayHappen bus.now (record { bius = bius.old.items; rmus = rmus.old.items }) scene.old time event.now w i d }
+        × MayHappen bus.now (record { bius = bius.old.items; rmus = rmus.old.items }) scene.old time node event.now w i d }
     ensures { (w : RunWorld) (i : ℕ) (d : Due)
-        → MayHappen bus.now (record { bius = bius.old.items; rmus = rmus.old.items }) scene.old time event.now w i d
+        → MayHappen bus.now (record { bius = bius.old.items; rmus = rmus.old.items }) scene.old time node event.now w i d
         → Happens bus.now (record { bius = bius.new.items; rmus = rmus.new.items }) scene.new w d }
 {
-    let node = event.node;
     match (&event.kind, node) {
         (EventKind::Tick { .. }, NodeName::Biu(i)) => {
             tick_at(bus, apps, node, i, &mut bius[usize::from(i)], scene);
@@ -78,7 +78,7 @@ impl World {
         ensures bus { self.new.bus ≡ self.old.bus }
     {
         let time = self.scene.agenda.first_time();
-        let event = self.scene.agenda.take(i);
+        let (node, event) = self.scene.agenda.take(i);
         happen(
             &self.bus,
             apps,
@@ -86,6 +86,7 @@ impl World {
             &mut self.rmus,
             &mut self.scene,
             time,
+            node,
             &event,
         );
         let turn = self.scene.book.settle(Way::ByAnEvent);

@@ -1,23 +1,37 @@
 //! A tick of a node.
-ghost use Rattle.std.specs.Prelude.{◌≡◌};
-ghost use Rattle.rb_base.specs.Nodes.{side_of};
+ghost use Rattle.std.specs.Prelude.{◌≡◌, ℕ, ◌≤◌, ◌^◌, IfSome, Option, Some, List, length};
+ghost use Rattle.rb_base.specs.Nodes.{other, side_of};
+ghost use Rattle.rb_rules.specs.Hearing.{begun_of};
+ghost use Rattle.rb_rules.specs.Lawful.{IsNodeOf, kind_of};
+ghost use Rattle.rb_rules.specs.Ports.{PortState};
+ghost use Rattle.rb_node.specs.Acts.{IsSendable};
+ghost use Rattle.rb_node.specs.Wants.{want_for};
+ghost use Rattle.rb_book.specs.Changing.{changed_at, with_begun};
+ghost use Rattle.rb_site.specs.Tells.{row_at};
+ghost use Rattle.rb_traffic.specs.Arriving.{number_of as number_in};
+ghost use Rattle.rb_world.specs.Worlds.{HoldsPorts, Surrounds};
 ghost use Rattle.rb_rules.specs.Links.{name_of};
-ghost use Rattle.rb_rules.specs.WorldStep.{Site as WorldSite, World};
+ghost use Rattle.rb_rules.specs.WorldStep.{Site as WorldSite, World, with_delivery, with_message, word_of};
 ghost use Rattle.rb_site.specs.Sites.{number_of};
-ghost use Rattle.rb_world.specs.Steps.{MayTick, Ticks, act_at};
+ghost use Rattle.rb_world.specs.Steps.{CanWant, HasRoomFor, IsWordSlot, MayTick, SeesOnlyNodes, Ticks, act_at, closed_at};
 
 use crate::bus::Bus;
 use crate::proceeding::proceed;
-use crate::scene::Scene;
-use rb_base::{Kind, NodeName};
-use rb_node::{Step, Want};
+use crate::scene::{Scene, number_of};
+use rb_base::{Delivery, Kind, NodeName};
+use rb_node::Want;
 use rb_port::{Apps, Port};
-use rb_rules::{Epoch, NodeLine, PortLine};
+use rb_rules::{Epoch, Message, NodeLine, PortLine};
 use rb_site::Site;
-use rb_traffic::{Departure, send};
+use rb_traffic::Departure;
 
 // The word that a node is handed for a tick: its request, or what its port offers.
-pub(crate) fn word_for(bus: &Bus, apps: &Apps, ports: &[Port], i: u8, want: Want) -> u32 {
+pub(crate) fn word_for(bus: &Bus, apps: &Apps, ports: &[Port], i: u8, want: Want) -> u32
+    requires { CanWant bus.now i want }
+    requires many { length ports.now ≡ bus.now.sizes.bius }
+    ensures { (states : List PortState) (slot : Option ℕ) → HoldsPorts bus.now ports.now states → IsWordSlot bus.now.sizes slot
+        → want ≡ want_for bus.now.sizes slot → result ≡ word_of bus.now states i slot }
+{
     match want {
         Want::Nothing => 0,
         Want::Request => bus.request(i),
@@ -26,7 +40,13 @@ pub(crate) fn word_for(bus: &Bus, apps: &Apps, ports: &[Port], i: u8, want: Want
 }
 
 // A node begins a frame.
-fn begin(bus: &Bus, node: NodeName, epoch: &Epoch, scene: &mut Scene) {
+fn begin(bus: &Bus, node: NodeName, epoch: &Epoch, scene: &mut Scene)
+    requires node { IsNodeOf bus.now.sizes node }
+    requires around { (w : World) × Surrounds bus.now scene.old w }
+    ensures around { (w : World) → Surrounds bus.now scene.old w
+        → Surrounds bus.now scene.new (changed_at node (with_begun (begun_of bus.now w.ports (kind_of node) (number_in node) epoch.now)) w) }
+    ensures rest { scene.new ≡ record scene.old { book = scene.new.book } }
+{
     let line = NodeLine {
         node,
         tick: epoch.tick,
@@ -48,8 +68,31 @@ fn begin(bus: &Bus, node: NodeName, epoch: &Epoch, scene: &mut Scene) {
     }
 }
 
+// What a BIU delivers goes to its port. RMUs deliver nothing.
+fn deliver(bus: &Bus, apps: &Apps, i: u8, delivery: Delivery, ports: &mut Vec<Port>)
+    ensures { (states : List PortState) → HoldsPorts bus.now ports.old.items states
+        → HoldsPorts bus.now ports.new.items (with_delivery bus.now i (Some delivery) states) }
+{
+    if usize::from(i) < ports.len() {
+        ports[usize::from(i)].deliver(apps, delivery);
+    }
+}
+
 // A node has closed a window: it tells what it saw, and what it delivers goes to its port.
-fn close<K: Kind>(apps: &Apps, node: NodeName, site: &Site<K>, scene: &mut Scene) {
+fn close<K: Kind>(
+    bus: &Bus,
+    apps: &Apps,
+    node: NodeName,
+    site: &Site<K>,
+    scene: &mut Scene,
+)
+    requires node { IsNodeOf bus.now.sizes node }
+    requires sources { SeesOnlyNodes bus.now (kind_of node) site.now.node.shown }
+    requires around { (w : World) × Surrounds bus.now scene.old w }
+    ensures around { (w : World) → Surrounds bus.now scene.old w
+        → Surrounds bus.now scene.new (closed_at bus.now node site.now.node.shown (row_at (side_of K.CODE) (number_in node) site.now.node.seat.state site.now.times site.now.node.shown) w) }
+    ensures agenda { scene.new.agenda ≡ scene.old.agenda }
+{
     let closed = site.node().shown();
     let engine = site.node().engine();
     scene.book.close(
@@ -59,23 +102,37 @@ fn close<K: Kind>(apps: &Apps, node: NodeName, site: &Site<K>, scene: &mut Scene
         engine.trusted_biu(),
         engine.trusted_rmu(),
     );
-    if let NodeName::Biu(i) = node {
-        if let Some(delivery) = closed.delivered {
-            scene.ports[usize::from(i)].deliver(apps, delivery);
-        }
+    if let Some(delivery) = closed.delivered {
+        deliver(bus, apps, number_of(node), delivery, &mut scene.ports);
     }
 }
 
 // What a node sends at a tick is on its way.
-fn depart<K: Kind>(bus: &Bus, node: NodeName, site: &Site<K>, k: u64, step: &Step, scene: &mut Scene) {
-    if let Some(message) = step.message {
+fn depart(
+    bus: &Bus,
+    node: NodeName,
+    frame: u32,
+    k: u64,
+    message: Option<Message>,
+    scene: &mut Scene,
+)
+    requires node { IsNodeOf bus.now.sizes node }
+    requires tick { k ≤ 2 ^ 31 }
+    requires message { IfSome message IsSendable }
+    requires around { (w : World) × Surrounds bus.now scene.old w }
+    requires room { HasRoomFor bus.now (other (kind_of node)) scene.old }
+    ensures { (w : World) → Surrounds bus.now scene.old w
+        → Surrounds bus.now scene.new (record w { sites = with_message bus.now (kind_of node) (number_in node) frame k message w.sites }) }
+{
+    if let Some(message) = message {
         let departure = Departure {
             from: node,
-            frame: site.node().engine().frame(),
+            frame,
             tick: k,
             message,
         };
-        bus.send(&mut scene.agenda, &departure, scene.running_others(node));
+        let running = scene.running_others(node);
+        bus.send(&mut scene.agenda, &departure, running);
     }
 }
 
@@ -101,8 +158,9 @@ pub(crate) fn tick<K: Kind>(
         begin(bus, node, epoch, scene);
     }
     if step.closed {
-        close(apps, node, site, scene);
+        close(bus, apps, node, site, scene);
     }
     proceed(bus, node, site, scene);
-    depart(bus, node, site, k, &step, scene);
+    let frame = site.node().engine().frame();
+    depart(bus, node, frame, k, step.message, scene);
 }
