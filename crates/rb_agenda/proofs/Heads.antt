@@ -26,10 +26,6 @@ sooner None b = b
 sooner (Some a) None = Some a
 sooner (Some a) (Some b) = Some (min a b)
 
-sooner-right : (a : Option ℕ) → sooner a None ≡ a
-sooner-right None = refl
-sooner-right (Some a) = refl
-
 sooner-assoc : (a b c : Option ℕ) → sooner (sooner a b) c ≡ sooner a (sooner b c)
 sooner-assoc None b c = refl
 sooner-assoc (Some a) None c = refl
@@ -108,10 +104,6 @@ first-is sizes lanes sites holds =
 abbrev pub IsTime : Option ℕ → Type 0
 IsTime None = ⊤
 IsTime (Some t) = t ≤ 18446744073709551615
-
-time_of_key : (o : Option ℕ) → unwrap_or o 18446744073709551615 ≤ 18446744073709551615 → IsTime o
-time_of_key None h = tt
-time_of_key (Some t) h = h
 
 sooner-time : (a b : Option ℕ) → IsTime a → IsTime b → IsTime (sooner a b)
 sooner-time None b ha hb = hb

@@ -42,18 +42,6 @@ with-in-order lanes (node.Rmu i) lane h =
 
 -- Least times.
 
--- the position of a node has a key
-pub has-key : (lanes : Each Held) (keys : List ℕ) (bius : ℕ) (name : NodeName) → AreKept lanes keys bius → HasLane lanes name → position_of bius name < length keys
-has-key lanes keys bius name kept h =
-    let many : length keys ≡ length (in_order lanes) = ap length kept.each ∙ length-map (in_order lanes) key_of in
-    let all : length (in_order lanes) ≡ length lanes.bius + length lanes.rmus = length-append lanes.bius lanes.rmus in
-    let split : bius ≡ length lanes.bius = kept.split in
-    go name h (omega arith) split
-  where
-    go : (name : NodeName) → HasLane lanes name → length keys ≡ length lanes.bius + length lanes.rmus → bius ≡ length lanes.bius → position_of bius name < length keys
-    go (node.Biu i) h many split = omega arith
-    go (node.Rmu i) h many split = omega arith
-
 kept-there : (lanes new : Each Held) (keys : List ℕ) (bius : ℕ) (name : NodeName) (lane : Held) (key : ℕ) → AreKept lanes keys bius → HasLane lanes name
     → new ≡ with_lane name lane lanes → lane.room ≤ 65536 → key ≡ key_of (lane_of new name) → key ≤ 18446744073709551615
     → AreKept new (slice_set keys (position_of bius name) key) bius

@@ -114,6 +114,21 @@ pub record TurnsTo (before after : Ledger) (m : Milestone) : Type 0 where
   pub good_bius : (sc : Scenario) → before.onsets ≡ faults_of sc → after.bius.good ≡ good_for sc Biu m
   pub good_rmus : (sc : Scenario) → before.onsets ≡ faults_of sc → after.rmus.good ≡ good_for sc Rmu m
 
+-- and the same nodes are good there
+pub record StaysUntil (before after : Ledger) (m : Milestone) : Type 0 where
+  pub shape : after.shape ≡ before.shape
+  pub frames : after.frames ≡ before.frames
+  pub eps : after.eps ≡ before.eps
+  pub onsets : after.onsets ≡ before.onsets
+  pub lines : after.lines.items ≡ before.lines.items
+  pub judge : after.judge ≡ before.judge
+  pub ended : after.ended ≡ before.ended
+  pub upcoming : after.upcoming ≡ m
+  pub bius : TurnsKind Biu before.shape before.bius after.bius m
+  pub rmus : TurnsKind Rmu before.shape before.rmus after.rmus m
+  pub good_bius : after.bius.good ≡ before.bius.good
+  pub good_rmus : after.rmus.good ≡ before.rmus.good
+
 -- Records.
 
 -- the record of a frame that nodes with these lines begin

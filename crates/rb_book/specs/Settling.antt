@@ -6,7 +6,7 @@ use Rattle.rb_base.specs.Sizes.{Sizes}
 use Rattle.rb_base.specs.declared.values.Place.{Place}
 use Rattle.rb_rules.specs.Book.{Each, Milestone, Row, after_stage, judged_of}
 use Rattle.rb_rules.specs.Book.Milestone.{End, Stage}
-use Rattle.rb_rules.specs.Goodness.{Scenario}
+use Rattle.rb_rules.specs.Goodness.{Scenario, good_at}
 use Rattle.rb_rules.specs.Judging.{JudgedStage}
 use Rattle.rb_rules.specs.WorldStep.{Site, Way, World, row_for, settle, told_by_good}
 use Rattle.rb_judge.specs.Stages.{KeptJudge, Knows}
@@ -64,8 +64,8 @@ pub record GoesPast (before after : Ledger) (place : Place) (turn : Turn) : Type
   pub upcoming : place.frame + 1 < 2 ^ 32 → place.slot + 1 < 2 ^ 16 → milestone_of after.upcoming ≡ after_stage before.shape place
   pub bius : TurnsKind Biu before.shape before.bius after.bius after.upcoming
   pub rmus : TurnsKind Rmu before.shape before.rmus after.rmus after.upcoming
-  pub good_bius : (sc : Scenario) → before.onsets ≡ faults_of sc → after.bius.good ≡ good_for sc Biu after.upcoming
-  pub good_rmus : (sc : Scenario) → before.onsets ≡ faults_of sc → after.rmus.good ≡ good_for sc Rmu after.upcoming
+  pub good_bius : (sc : Scenario) → before.onsets ≡ faults_of sc → before.bius.good ≡ good_at sc Biu place.frame place.slot → after.bius.good ≡ good_for sc Biu after.upcoming
+  pub good_rmus : (sc : Scenario) → before.onsets ≡ faults_of sc → before.rmus.good ≡ good_at sc Rmu place.frame place.slot → after.rmus.good ≡ good_for sc Rmu after.upcoming
 
 -- what is due in this way is settled, and this is the turn
 pub record Settles (sc : Scenario) (way : Way) (w : World) (after : Ledger) (turn : Turn) : Type 0 where

@@ -10,7 +10,7 @@ ghost use Rattle.rb_rules.specs.Goodness.{Scenario};
 ghost use Rattle.rb_rules.specs.WorldStep.{World, first_world};
 ghost use Rattle.rb_onset.specs.Faults.{faults_of};
 ghost use Rattle.rb_book.specs.Changing.{changed_at, count_for, line_from, number_in, row_shown, side_in, with_begun, with_row};
-ghost use Rattle.rb_book.specs.Holding.{Holds, Passes, TurnsTo, frame_record, good_for, slot_record};
+ghost use Rattle.rb_book.specs.Holding.{Holds, Passes, StaysUntil, TurnsTo, frame_record, good_for, slot_record};
 ghost use Rattle.rb_book.specs.Settling.{GoesPast, JudgesStage, Settles, after_begin, comes_when, is_due, is_free, rows_found};
 ghost use Rattle.rb_book.specs.declared.milestone.Milestone.TheVariants as coming;
 ghost use Rattle.rb_book.specs.Records.{milestone_of, record_of, way_of};
@@ -69,7 +69,8 @@ fn good_rmu_for(onsets: &Onsets, milestone: Milestone) -> NodeSet<Rmu>
 
 // What comes after a stage.
 fn after_stage(shape: &Shape, place: Place) -> Milestone
-    ensures { place.frame + 1 < 2 ^ 32 → place.slot + 1 < 2 ^ 16 → milestone_of result ≡ after_stage shape.now place }
+    ensures next { place.frame + 1 < 2 ^ 32 → place.slot + 1 < 2 ^ 16 → milestone_of result ≡ after_stage shape.now place }
+    ensures within { place.stage < 3 → result ≡ coming.Stage (record place { stage = place.stage + 1 }) }
 {
     if place.stage < 3 {
         Milestone::Stage(Place {
@@ -215,6 +216,17 @@ impl Ledger {
         self.upcoming = milestone;
     }
 
+    // A milestone is the upcoming one, and the same nodes are good there as at the one before.
+    fn stay_until(&mut self, milestone: Milestone)
+        ensures { StaysUntil self.old self.new milestone }
+    {
+        let good = self.bius.good;
+        self.bius.await_all(self.shape.biu(), milestone, good);
+        let good = self.rmus.good;
+        self.rmus.await_all(self.shape.rmu(), milestone, good);
+        self.upcoming = milestone;
+    }
+
     // The record of a frame. It is left out where no node began it.
     fn frame_turn(&self, frame: u32) -> Turn
         ensures { record_of result ≡ frame_record frame
@@ -296,7 +308,11 @@ impl Ledger {
         let turn = self.slot_turn(place);
         keep_lines(&mut self.lines, &self.shape, place, &self.bius);
         let next = after_stage(&self.shape, place);
-        self.turn_to(next);
+        if place.stage < 3 {
+            self.stay_until(next);
+        } else {
+            self.turn_to(next);
+        }
         turn
     }
 

@@ -5,6 +5,8 @@ pub mod book;
 mod group;
 mod ledger;
 pub mod milestone;
+#[cfg(test)]
+mod tests;
 mod told;
 pub mod turn;
 mod walks;

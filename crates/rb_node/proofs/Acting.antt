@@ -1,31 +1,36 @@
 -- Single parts of a tick.
-use Rattle.std.proofs.Common.{◌≡◌, ℕ, ◌+◌, ◌<◌, ◌≤◌, ◌^◌, ◌==◌, ◌&&◌, not, nat_lt, Bool, true, false, refl, ap, sym, ◌∙◌, subst, arith, Option, Some, None, IsSome, IfSome, List, option_map, if◌then◌else◌}
+use Rattle.std.proofs.Common.{◌≡◌, ℕ, zero, suc, ◌<◌, ◌≤◌, ◌^◌, ◌==◌, ◌&&◌, not, nat_lt, Bool, true, false, refl, ap, sym, ◌∙◌, subst, arith, Option, Some, None, IsSome, IfSome, is_some, List, option_map, if◌then◌else◌}
+use Rattle.std.specs.Option.{option_or}
 use Rattle.std.proofs.lemmas.Bool.Decides.{nat_tests}
 use Rattle.rb_base.specs.Nodes.{Side, has, other, set_of}
 use Rattle.rb_base.specs.Nodes.Side.{Biu, Rmu}
-use Rattle.rb_base.specs.Sizes.{Sizes, sync_slot_of}
+use Rattle.rb_base.specs.Sizes.{IsShape, Sizes, sync_slot_of}
 use Rattle.rb_base.specs.declared.values.Heard.{Heard}
 use Rattle.rb_base.specs.declared.values.Heard.TheVariants as heard
 use Rattle.rb_base.proofs.Sets.{has-set_of, same_set_of}
 use Rattle.rb_rules.specs.declared.message.Message.{Message}
-use Rattle.rb_rules.specs.declared.plan.Plan.{Plan}
 use Rattle.rb_rules.specs.declared.plan.Window.{Window}
 use Rattle.rb_rules.specs.declared.record.Epoch.{Epoch}
 use Rattle.rb_rules.specs.declared.role.Role.TheVariants.{Sync}
 use Rattle.rb_rules.specs.Core.{epoch_at, if_at, is_tick, state_kept}
 use Rattle.rb_rules.specs.ExactStage.{keep_sent, message_of, says}
-use Rattle.rb_rules.specs.Hearing.{epoch_of, sending}
-use Rattle.rb_rules.specs.NodeState.{NodeState, trusted_of}
+use Rattle.rb_rules.specs.Hearing.{epoch_of}
+use Rattle.rb_rules.specs.NodeState.{NodeState}
 use Rattle.rb_rules.specs.NodeSteps.{convicted_of, message_said}
 use Rattle.rb_rules.specs.Sense.{sense_of}
 use Rattle.rb_rules.specs.NodeSteps.{expect_of}
 use Rattle.rb_rules.specs.Slots.{count_of, listens}
-use Rattle.rb_rules.specs.SyncStage.{call_of, calls, send_tick_of}
+use Rattle.rb_rules.specs.SyncStage.{call_of, send_tick_of}
 use Rattle.rb_rules.proofs.RoundStates.{Stays, close-stays}
 use Rattle.rb_eligible.specs.Inboxes.{Received, arrivals_of}
 use Rattle.rb_slot.specs.Engines.{IsSameFrame, Seated, is_active, kept_by, outcome_on, said_by}
 use Rattle.rb_node.specs.Acts.{IsSendable}
-use Rattle.rb_node.proofs.Saying.{goes-out, kept-is, sending-is, stays-in}
+use Rattle.rb_node.specs.Aheads.{SaysIn, tick_said}
+use Rattle.rb_node.specs.Aheads.SaysIn.{Silent, First, Second, Third}
+use Rattle.rb_node.specs.Saids.{said_in}
+use Rattle.rb_node.proofs.Busy.{said, stage_at, unsaid}
+use Rattle.rb_node.proofs.Cores.{stage-some}
+use Rattle.rb_node.proofs.Saying.{goes-out, kept-is, sending-is}
 
 -- What is said.
 
@@ -36,18 +41,73 @@ pub says-active : (me : Side) (v : Seated) (slot stage word : ℕ) → v.index <
     → said_by me v slot stage word ≡ message_said v.sizes me v.index v.state slot stage word
 says-active me v slot stage word h = ap (λ b. if b then message_said v.sizes me v.index v.state slot stage word else None) (active v h)
 
-pub says-now : (me : Side) (v : Seated) (slot stage word k : ℕ) → v.index < 16 → is_tick (send_tick_of v.sizes v.plan v.state slot stage) k ≡ true
-    → said_by me v slot stage word ≡ if_at k (sending v.sizes v.plan me v.index v.state slot stage word)
-says-now me v slot stage word k index h =
-    says-active me v slot stage word index
-    ∙ sym (ap (if_at k) (sending-is v.sizes v.plan me v.index v.state slot stage word)
-    ∙ goes-out k (message_said v.sizes me v.index v.state slot stage word) (send_tick_of v.sizes v.plan v.state slot stage) h)
+or-first : (a b : Option Message) → is_some a ≡ true → option_or a b ≡ a
+or-first None b h = cc
+or-first (Some m) b h = refl
 
-pub says-other : (me : Side) (v : Seated) (slot stage word k : ℕ) → is_tick (send_tick_of v.sizes v.plan v.state slot stage) k ≡ false
-    → None ≡ if_at k (sending v.sizes v.plan me v.index v.state slot stage word)
-says-other me v slot stage word k h =
-    sym (ap (if_at k) (sending-is v.sizes v.plan me v.index v.state slot stage word)
-    ∙ stays-in k (message_said v.sizes me v.index v.state slot stage word) (send_tick_of v.sizes v.plan v.state slot stage) h)
+or-later : (a b : Option Message) → a ≡ None → option_or a b ≡ b
+or-later a b h = ap (λ x. option_or x b) h
+
+none-from : (o : Option Message) → is_some o ≡ false → o ≡ None
+none-from None h = refl
+none-from (Some m) h = cc
+
+-- at another tick than its own the message of a stage is not said, whatever the word
+not-due : (me : Side) (v : Seated) (slot stage word k : ℕ) → is_tick (tick_said me v slot stage) k ≡ false → stage_at me v slot stage word k ≡ None
+not-due me v slot stage word k h = none-from _ (stage-some me v slot stage word 0 k ∙ ap is_some (unsaid me v slot stage k h))
+
+-- at its own tick it is
+due-parts : (k : ℕ) (m : Option Message) (t : Option ℕ) → is_tick (elim (is_some m) as (λ _. Option ℕ) [ true ↦ t | false ↦ None ]) k ≡ true
+    → is_tick t k ≡ true
+due-parts k None t h = cc
+due-parts k (Some m) t h = h
+
+due : (me : Side) (v : Seated) (slot stage word k : ℕ) → is_tick (tick_said me v slot stage) k ≡ true
+    → stage_at me v slot stage word k ≡ message_said v.sizes me v.index v.state slot stage word
+due me v slot stage word k h =
+    ap (if_at k) (sending-is v.sizes v.plan me v.index v.state slot stage word)
+    ∙ goes-out k (message_said v.sizes me v.index v.state slot stage word) (send_tick_of v.sizes v.plan v.state slot stage)
+    (due-parts k (message_said v.sizes me v.index v.state slot stage 0) (send_tick_of v.sizes v.plan v.state slot stage) h)
+
+some-due : (me : Side) (v : Seated) (slot stage word k : ℕ) → is_tick (tick_said me v slot stage) k ≡ true
+    → is_some (stage_at me v slot stage word k) ≡ true
+some-due me v slot stage word k h = stage-some me v slot stage word 0 k ∙ said me v slot stage k h
+
+-- the message of the stage that is due is the one that is said
+pub says-stage : (me : Side) (v : Seated) (slot stage word k : ℕ) → SaysIn me v slot k stage → (stage ≡ 0 → ⊥)
+    → message_said v.sizes me v.index v.state slot stage word ≡ said_in me v slot k word
+says-stage me v slot stage word k (Silent z a b c) some = absurd (some z)
+says-stage me v slot stage word k (First z a) some =
+    ap (λ s. message_said v.sizes me v.index v.state slot s word) z
+    ∙ sym (or-first (stage_at me v slot 1 word k) (option_or (stage_at me v slot 2 word k) (stage_at me v slot 3 word k)) (some-due me v slot 1 word k a)
+    ∙ due me v slot 1 word k a)
+says-stage me v slot stage word k (Second z a b) some =
+    ap (λ s. message_said v.sizes me v.index v.state slot s word) z
+    ∙ sym (or-later (stage_at me v slot 1 word k) (option_or (stage_at me v slot 2 word k) (stage_at me v slot 3 word k)) (not-due me v slot 1 word k a)
+    ∙ or-first (stage_at me v slot 2 word k) (stage_at me v slot 3 word k) (some-due me v slot 2 word k b) ∙ due me v slot 2 word k b)
+says-stage me v slot stage word k (Third z a b c) some =
+    ap (λ s. message_said v.sizes me v.index v.state slot s word) z
+    ∙ sym (or-later (stage_at me v slot 1 word k) (option_or (stage_at me v slot 2 word k) (stage_at me v slot 3 word k)) (not-due me v slot 1 word k a)
+    ∙ or-later (stage_at me v slot 2 word k) (stage_at me v slot 3 word k) (not-due me v slot 2 word k b) ∙ due me v slot 3 word k c)
+
+zero-not : (stage n : ℕ) (o : Option Message) → stage ≡ n → (0 == n) ≡ false → stage ≡ 0 → None ≡ o
+zero-not stage n o e h none = let same : (0 == n) ≡ true = grind (arith, nat_tests) in cc
+
+-- and where none is due, none
+pub says-none : (me : Side) (v : Seated) (slot stage word k : ℕ) → SaysIn me v slot k stage → stage ≡ 0 → None ≡ said_in me v slot k word
+says-none me v slot stage word k (Silent z a b c) none =
+    sym (or-later (stage_at me v slot 1 word k) (option_or (stage_at me v slot 2 word k) (stage_at me v slot 3 word k)) (not-due me v slot 1 word k a)
+    ∙ or-later (stage_at me v slot 2 word k) (stage_at me v slot 3 word k) (not-due me v slot 2 word k b) ∙ not-due me v slot 3 word k c)
+says-none me v slot stage word k (First z a) none = zero-not stage 1 (said_in me v slot k word) z refl none
+says-none me v slot stage word k (Second z a b) none = zero-not stage 2 (said_in me v slot k word) z refl none
+says-none me v slot stage word k (Third z a b c) none = zero-not stage 3 (said_in me v slot k word) z refl none
+
+-- a stage that is due is one of the three
+pub stage-most : (me : Side) (v : Seated) (slot stage k : ℕ) → SaysIn me v slot k stage → stage ≤ 3
+stage-most me v slot stage k (Silent z a b c) = omega arith
+stage-most me v slot stage k (First z a) = omega arith
+stage-most me v slot stage k (Second z a b) = omega arith
+stage-most me v slot stage k (Third z a b c) = omega arith
 
 pub keeps-now : (me : Side) (v : Seated) (slot stage word : ℕ) (m : Option Message) → v.index < 16 → m ≡ said_by me v slot stage word
     → kept_by me v slot stage word ≡ state_kept v.sizes me v.index v.state word m
@@ -121,3 +181,12 @@ closes-same me v v3 w received is =
     close-stays v.sizes me v.index v.state w.slot w.stage w.first
     (λ j. sense_of (expect_of v.sizes v.plan.version v.state w.slot w.stage) (arrivals_of j received)) in
     subst (IsSameFrame v) (sym is) (record { sizes = refl; plan = refl; index = refl; frame = stays.frame; epoch = stays.epoch })
+
+pub some-stage : (stage : ℕ) → (stage ≡ 0 → ⊥) → 1 ≤ stage
+some-stage zero h = absurd (h refl)
+some-stage (suc stage) h = omega arith
+
+-- there are at most sixteen nodes of a kind
+pub few-nodes : (me : Side) (sizes : Sizes) → IsShape sizes → count_of me sizes ≤ 16
+few-nodes Biu sizes shape = shape.most_bius
+few-nodes Rmu sizes shape = shape.most_rmus

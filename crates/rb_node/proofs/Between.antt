@@ -1,5 +1,5 @@
 -- What a node keeps at hand between two busy ticks.
-use Rattle.std.proofs.Common.{◌≡◌, ℕ, ◌+◌, ◌-◌, ◌<◌, ◌≤◌, ◌^◌, ◌&&◌, ◌++◌, ◌∷◌, [], max, nat_le, nat_lt, not, Bool, true, false, refl, ap, sym, ◌∙◌, subst, arith, inl, inr, Option, Some, None, List, unwrap_or, if◌then◌else◌}
+use Rattle.std.proofs.Common.{◌≡◌, ℕ, ◌<◌, ◌≤◌, ◌^◌, ◌&&◌, ◌++◌, ◌∷◌, [], max, nat_lt, not, Bool, true, false, refl, ap, sym, ◌∙◌, subst, arith, inl, inr, List, unwrap_or, if◌then◌else◌}
 use Rattle.std.proofs.lemmas.Bool.{cases_lt}
 use Rattle.std.proofs.lemmas.Bool.Decides.{nat_tests}
 use Rattle.rb_base.specs.Nodes.{Side, other}
@@ -27,14 +27,14 @@ next-on me v had m k n lo hi = record {
   here = λ j a b. n.here j (omega arith) b ∙ sym (n.here m lo hi);
 }
 
-pub window-on : (me : Side) (v : Seated) (had m : ℕ) (a : Ahead) → LooksAhead me v had a → had ≤ m → m ≤ a.tick → IsWindowOf me v m a.window
+pub window-on : (me : Side) (v : Seated) (had m : ℕ) (a : Ahead) → LooksAhead me v had a → had ≤ m → m ≤ a.busy.tick → IsWindowOf me v m a.window
 window-on me v had m a l lo hi =
     record { is = l.window.is ∙ sym (l.next.here m lo hi); of_frame = l.window.of_frame; slot = l.window.slot; first = l.window.first; fits = l.window.fits }
 
-pub runs-on : (me : Side) (v : Seated) (had m : ℕ) (inbox : KeptArrivals) (a : Ahead) → IsRunning me v had inbox a → had ≤ m → m ≤ a.tick
+pub runs-on : (me : Side) (v : Seated) (had m : ℕ) (inbox : KeptArrivals) (a : Ahead) → IsRunning me v had inbox a → had ≤ m → m ≤ a.busy.tick
     → IsRunning me v m inbox a
 runs-on me v had m inbox a r lo hi =
-    let most : a.tick ≤ 2 ^ 31 = r.ahead.next.most in
+    let most : a.busy.tick ≤ 2 ^ 31 = r.ahead.next.most in
     let frame : v.state.frame ≤ had = r.frame in
     let epoch : v.state.epoch ≤ had = r.epoch in
     record {
@@ -43,7 +43,7 @@ runs-on me v had m inbox a r lo hi =
       frame = omega arith;
       epoch = omega arith;
       stamps = r.stamps;
-      ahead = record { next = next-on me v had m a.tick r.ahead.next lo hi; window = window-on me v had m a r.ahead lo hi; wants = r.ahead.wants };
+      ahead = record { next = next-on me v had m a.busy.tick r.ahead.next lo hi; window = window-on me v had m a r.ahead lo hi; stage = r.ahead.stage; wants = r.ahead.wants };
     }
 
 -- so it is the end of what may pass
@@ -72,20 +72,20 @@ ahead-end : (me : Side) (v : Seated) (k : ℕ) → 2 ^ 31 ≤ k → want_ahead m
 ahead-end me v k h = ap (λ b. if b then want_at me v k else want.Nothing) (lt-false k (2 ^ 31) h)
 
 -- at the busy tick itself
-pub wants-now : (me : Side) (v : Seated) (had : ℕ) (a : Ahead) (c : Core) → LooksAhead me v had a → had ≡ a.tick → c.state ≡ v.state → c.had ≡ had
+pub wants-now : (me : Side) (v : Seated) (had : ℕ) (a : Ahead) (c : Core) → LooksAhead me v had a → had ≡ a.busy.tick → c.state ≡ v.state → c.had ≡ had
     → a.want ≡ want_for v.sizes (wants v.sizes v.plan me v.index c)
 wants-now me v had a c l at state had_is =
     elim (cases_lt had (2 ^ 31)) [
       | inl below ↦
           l.wants ∙ ap (want_ahead me v) (sym at) ∙ ahead-now me v had below ∙ sym (want-is me v c had state had_is below)
-      | inr end ↦ l.wants ∙ ahead-end me v a.tick (omega arith) ∙ sym (want-spent me v c (omega arith))
+      | inr end ↦ l.wants ∙ ahead-end me v a.busy.tick (omega arith) ∙ sym (want-spent me v c (omega arith))
     ]
 
 -- before it
-pub wants-quiet : (me : Side) (v : Seated) (had : ℕ) (a : Ahead) (c : Core) → LooksAhead me v had a → had < a.tick → c.state ≡ v.state → c.had ≡ had
+pub wants-quiet : (me : Side) (v : Seated) (had : ℕ) (a : Ahead) (c : Core) → LooksAhead me v had a → had < a.busy.tick → c.state ≡ v.state → c.had ≡ had
     → want.Nothing ≡ want_for v.sizes (wants v.sizes v.plan me v.index c)
 wants-quiet me v had a c l before state had_is =
-    let most : a.tick ≤ 2 ^ 31 = l.next.most in
+    let most : a.busy.tick ≤ 2 ^ 31 = l.next.most in
     sym (want-is me v c had state had_is (omega arith) ∙ want-quiet me v had (l.next.quiet had (omega arith) before))
 
 max-is : (a b : ℕ) → a ≤ b → max a b ≡ b
@@ -95,15 +95,15 @@ max-is a b h = omega arith
 pub wants-then : (me : Side) (n : Running) (a : Ahead) (c : Core) → LooksAhead me n.seat n.had a → c.state ≡ n.seat.state → c.had ≡ n.had
     → a.want ≡ want_then me n c (next_of me n c)
 wants-then me n a c l state had_is =
-    let later : n.had ≤ a.tick = l.next.later in
-    elim (cases_lt a.tick (2 ^ 31)) [
+    let later : n.had ≤ a.busy.tick = l.next.later in
+    elim (cases_lt a.busy.tick (2 ^ 31)) [
       | inl below ↦
-          l.wants ∙ ahead-now me n.seat a.tick below
-          ∙ sym (want-is me n.seat (pass_to a.tick c) a.tick state (max-is c.had a.tick (omega arith)) below)
-          ∙ ap (want_then me n c) (sym (next-is me n.seat c n.had a.tick state had_is l.next below))
+          l.wants ∙ ahead-now me n.seat a.busy.tick below
+          ∙ sym (want-is me n.seat (pass_to a.busy.tick c) a.busy.tick state (max-is c.had a.busy.tick (omega arith)) below)
+          ∙ ap (want_then me n c) (sym (next-is me n.seat c n.had a.busy.tick state had_is l.next below))
       | inr end ↦
-          l.wants ∙ ahead-end me n.seat a.tick end
-          ∙ ap (want_then me n c) (sym (next-none me n.seat c n.had a.tick state had_is l.next end))
+          l.wants ∙ ahead-end me n.seat a.busy.tick end
+          ∙ ap (want_then me n c) (sym (next-none me n.seat c n.had a.busy.tick state had_is l.next end))
     ]
 
 -- Arrivals.

@@ -1,22 +1,22 @@
 -- Which tick is the next one that isn't quiet.
-use Rattle.std.proofs.Common.{◌≡◌, ℕ, zero, suc, ◌+◌, ◌-◌, ◌<◌, ◌≤◌, ◌^◌, ◌⊎◌, ◌==◌, ◌||◌, nat_lt, Bool, true, false, refl, ap, sym, ◌∙◌, subst, arith, inl, inr, Option, Some, None, is_some}
+use Rattle.std.proofs.Common.{◌≡◌, ℕ, ◌+◌, ◌≤◌, ◌^◌, ◌⊎◌, ◌==◌, ◌||◌, Bool, true, false, refl, ap, sym, ◌∙◌, subst, arith, inl, inr, Option, Some, None, is_some}
 use Rattle.std.specs.Option.{option_or}
 use Rattle.std.proofs.lemmas.Bool.{cases_lt}
 use Rattle.std.proofs.lemmas.Bool.Decides.{nat_tests}
 use Rattle.rb_base.specs.Nodes.{Side}
-use Rattle.rb_base.specs.Sizes.{Sizes}
 use Rattle.rb_rules.specs.declared.message.Message.{Message}
-use Rattle.rb_rules.specs.declared.plan.Plan.{Plan}
 use Rattle.rb_rules.specs.declared.plan.Window.{Window}
 use Rattle.rb_rules.specs.Conviction.{turn}
-use Rattle.rb_rules.specs.Core.{Core, if_at, is_busy, is_last, is_tick, said_at, state_at, window_here, busy_among, next_tick}
-use Rattle.rb_rules.specs.Hearing.{Sending, sending}
+use Rattle.rb_rules.specs.Core.{if_at, is_busy, is_last, is_tick, said_at, state_at}
+use Rattle.rb_rules.specs.Hearing.{sending}
 use Rattle.rb_rules.specs.NodeState.{NodeState}
 use Rattle.rb_rules.specs.NodeSteps.{message_said}
 use Rattle.rb_rules.specs.SyncStage.{new_epoch_of, send_tick_of}
 use Rattle.rb_rules.proofs.RoundStates.{HasTicks}
 use Rattle.rb_slot.specs.Engines.{Seated}
-use Rattle.rb_node.specs.Aheads.{IsNextBusy, IsSooner, busy_at, tick_said, window_of_tick}
+use Rattle.rb_node.specs.Aheads.{IsChosen, IsNextBusy, IsSooner, SaysIn, busy_at, tick_said, window_of_tick}
+use Rattle.rb_node.specs.Aheads.SaysIn.{Silent, First, Second, Third}
+use Rattle.rb_node.specs.declared.ahead.Busy.{Busy}
 use Rattle.rb_node.proofs.Saying.{sent_at, sending-is, goes-out, stays-in, nothing-out}
 use Rattle.rb_node.proofs.Windows.{goes-on}
 
@@ -136,7 +136,7 @@ unsaid me v slot stage k h =
     ap (if_at k) (sending-is v.sizes v.plan me v.index v.state slot stage 0)
     ∙ unsaid-parts k (message_said v.sizes me v.index v.state slot stage 0) (send_tick_of v.sizes v.plan v.state slot stage) h
 
-said : (me : Side) (v : Seated) (slot stage k : ℕ) → is_tick (tick_said me v slot stage) k ≡ true → is_some (stage_at me v slot stage 0 k) ≡ true
+pub said : (me : Side) (v : Seated) (slot stage k : ℕ) → is_tick (tick_said me v slot stage) k ≡ true → is_some (stage_at me v slot stage 0 k) ≡ true
 said me v slot stage k h =
     ap (λ s. is_some (if_at k s)) (sending-is v.sizes v.plan me v.index v.state slot stage 0)
     ∙ said-parts k (message_said v.sizes me v.index v.state slot stage 0) (send_tick_of v.sizes v.plan v.state slot stage) h
@@ -215,9 +215,9 @@ pub record Soonest (me : Side) (v : Seated) (w : Window) (had b1 b2 b3 b4 b5 b6 
   pub s1 : IsSooner had (Some v.state.epoch) (2 ^ 31) b1
   pub s2 : IsSooner had (Some (v.state.epoch + w.last)) b1 b2
   pub s3 : IsSooner had (new_epoch_of v.plan me v.state) b2 b3
-  pub s4 : IsSooner had (tick_said me v w.slot 1) b3 b4
+  pub s4 : IsSooner had (tick_said me v w.slot 3) b3 b4
   pub s5 : IsSooner had (tick_said me v w.slot 2) b4 b5
-  pub s6 : IsSooner had (tick_said me v w.slot 3) b5 b6
+  pub s6 : IsSooner had (tick_said me v w.slot 1) b5 b6
 
 chosen-1 : (me : Side) (v : Seated) (w : Window) (had b1 : ℕ) → IsSooner had (Some v.state.epoch) (2 ^ 31) b1 → (b1 ≡ 2 ^ 31) ⊎ OneIs me v w b1
 chosen-1 me v w had b1 s = elim s.either [ inl same ↦ inl same | inr is ↦ inr (Begun is) ]
@@ -230,9 +230,9 @@ chosen me v w had b1 b2 b3 b4 b5 b6 s =
     let c1 = chosen-1 me v w had b1 s.s1 in
     let c2 : (b2 ≡ 2 ^ 31) ⊎ OneIs me v w b2 = elim s.s2.either [ inl same ↦ carry me v w b1 b2 same c1 | inr is ↦ inr (Closed is) ] in
     let c3 : (b3 ≡ 2 ^ 31) ⊎ OneIs me v w b3 = elim s.s3.either [ inl same ↦ carry me v w b2 b3 same c2 | inr is ↦ inr (Turned is) ] in
-    let c4 : (b4 ≡ 2 ^ 31) ⊎ OneIs me v w b4 = elim s.s4.either [ inl same ↦ carry me v w b3 b4 same c3 | inr is ↦ inr (Said1 is) ] in
+    let c4 : (b4 ≡ 2 ^ 31) ⊎ OneIs me v w b4 = elim s.s4.either [ inl same ↦ carry me v w b3 b4 same c3 | inr is ↦ inr (Said3 is) ] in
     let c5 : (b5 ≡ 2 ^ 31) ⊎ OneIs me v w b5 = elim s.s5.either [ inl same ↦ carry me v w b4 b5 same c4 | inr is ↦ inr (Said2 is) ] in
-    elim s.s6.either [ inl same ↦ carry me v w b5 b6 same c5 | inr is ↦ inr (Said3 is) ]
+    elim s.s6.either [ inl same ↦ carry me v w b5 b6 same c5 | inr is ↦ inr (Said1 is) ]
 
 pub soonest-is : (me : Side) (v : Seated) (w : Window) (had b1 b2 b3 b4 b5 b6 : ℕ) → HasTicks v.plan → v.state.epoch ≤ had
     → w ≡ window_of_tick me v had → Soonest me v w had b1 b2 b3 b4 b5 b6 → IsNextBusy me v had b6
@@ -244,10 +244,10 @@ soonest-is me v w had b1 b2 b3 b4 b5 b6 ticks epoch is s =
     let m5 : b5 ≤ b4 = s.s5.most in
     let m6 : b6 ≤ b5 = s.s6.most in
     let here : (k : ℕ) → had ≤ k → k ≤ b6 → window_of_tick me v k ≡ w = λ k lo hi.
-        goes-on v.sizes v.plan me v.state had k ticks epoch lo
-        (λ from. subst (λ (x : Window). had ≤ v.state.epoch + x.last → k ≤ v.state.epoch + x.last) is
-        (not-over had (v.state.epoch + w.last) b1 b2 k s.s2 (omega arith)) from)
-        ∙ sym is in
+    goes-on v.sizes v.plan me v.state had k ticks epoch lo
+    (λ from. subst (λ (x : Window). had ≤ v.state.epoch + x.last → k ≤ v.state.epoch + x.last) is
+    (not-over had (v.state.epoch + w.last) b1 b2 k s.s2 (omega arith)) from)
+    ∙ sym is in
     record {
       later = s.s6.later;
       most = omega arith;
@@ -255,9 +255,9 @@ soonest-is me v w had b1 b2 b3 b4 b5 b6 ticks epoch is s =
         begun = s.s1.not_before k lo (omega arith);
         closed = s.s2.not_before k lo (omega arith);
         turned = s.s3.not_before k lo (omega arith);
-        first = s.s4.not_before k lo (omega arith);
+        first = s.s6.not_before k lo (omega arith);
         second = s.s5.not_before k lo (omega arith);
-        third = s.s6.not_before k lo (omega arith);
+        third = s.s4.not_before k lo (omega arith);
       });
       busy = λ below. elim (chosen me v w had b1 b2 b3 b4 b5 b6 s) [
         | inl end ↦ absurd (omega arith)
@@ -265,3 +265,64 @@ soonest-is me v w had b1 b2 b3 b4 b5 b6 ticks epoch is s =
       ];
       here = λ k lo hi. here k lo hi ∙ is;
     }
+
+-- Which message is said at the tick that is chosen.
+
+-- a choice is a step to a sooner tick
+pub chosen-sooner : (had stage : ℕ) (candidate : Option ℕ) (before after : Busy) → IsChosen had candidate stage before after
+    → IsSooner had candidate before.tick after.tick
+chosen-sooner had stage candidate before after c = record {
+  later = c.later;
+  most = c.most;
+  not_before = c.not_before;
+  either = elim c.either [ inl is ↦ inr is.0 | inr other ↦ inl (ap (λ (b : Busy). b.tick) other.1) ];
+}
+
+-- a tick that isn't the candidate's leaves the choice as it was
+pub unchosen : (had stage : ℕ) (candidate : Option ℕ) (before : Busy) → had ≤ before.tick
+    → ((k : ℕ) → had ≤ k → k ≤ before.tick → is_tick candidate k ≡ false) → IsChosen had candidate stage before before
+unchosen had stage candidate before le other = record {
+  later = le;
+  most = omega arith;
+  not_before = λ k lo hi. other k lo (omega arith);
+  either = inr (other before.tick le (omega arith), refl);
+}
+
+is-at : (candidate : Option ℕ) (a b : ℕ) (c : Bool) → a ≡ b → is_tick candidate a ≡ c → is_tick candidate b ≡ c
+is-at candidate a b c e h = subst (λ k. is_tick candidate k ≡ c) e h
+
+-- so the message is that of the lowest stage that is due
+pub says-in : (me : Side) (v : Seated) (slot had tick : ℕ) (third second first : Busy)
+    → IsChosen had (tick_said me v slot 3) 3 (record { tick = tick; stage = 0 }) third → IsChosen had (tick_said me v slot 2) 2 third second
+    → IsChosen had (tick_said me v slot 1) 1 second first → SaysIn me v slot first.tick first.stage
+says-in me v slot had tick third second first c3 c2 c1 =
+    elim c1.either [
+      | inl one ↦ First one.1 one.0
+      | inr not1 ↦
+          let same1 : first ≡ second = not1.1 in
+          subst (λ (b : Busy). is_tick (tick_said me v slot 1) b.tick ≡ false → SaysIn me v slot b.tick b.stage) (sym same1)
+          (λ none1. elim c2.either [
+            | inl two ↦ Second two.1 none1 two.0
+            | inr not2 ↦
+                let same2 : second ≡ third = not2.1 in
+                subst (λ (b : Busy). is_tick (tick_said me v slot 1) b.tick ≡ false → is_tick (tick_said me v slot 2) b.tick ≡ false → SaysIn me v slot b.tick b.stage)
+                (sym same2)
+                (λ n1 n2. elim c3.either [
+                  | inl three ↦ Third three.1 n1 n2 three.0
+                  | inr not3 ↦ Silent (ap (λ (b : Busy). b.stage) not3.1) n1 n2 not3.0
+                ]) none1 not2.0
+          ]) not1.0
+    ]
+
+-- the candidate of a stage, by what is said and when that is sent
+pub said-tick : (k : ℕ) (m : Option Message) (t : Option ℕ) → is_tick t k ≡ false → is_tick (if-said m t) k ≡ false
+said-tick k None t h = refl
+said-tick k (Some m) t h = h
+
+pub said-none : (k : ℕ) (m : Option Message) (t : Option ℕ) → is_some m ≡ false → is_tick (if-said m t) k ≡ false
+said-none k None t h = refl
+said-none k (Some m) t h = cc
+
+pub said-some : (k : ℕ) (m : Option Message) (t : Option ℕ) → is_some m ≡ true → is_tick (if-said m t) k ≡ is_tick t k
+said-some k None t h = cc
+said-some k (Some m) t h = refl

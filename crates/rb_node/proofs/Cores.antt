@@ -1,5 +1,5 @@
 -- What the core does that a node stands for: its next tick, its quiet ticks, and what it wants.
-use Rattle.std.proofs.Common.{◌≡◌, ℕ, zero, suc, ◌+◌, ◌-◌, ◌<◌, ◌≤◌, ◌^◌, ◌==◌, ◌||◌, ◌&&◌, max, nat_le, nat_lt, Bool, true, false, refl, ap, sym, ◌∙◌, subst, arith, inl, inr, Option, Some, None, is_some, List, [], ◌∷◌, ◌++◌, map, filter, cond, if◌then◌else◌, unwrap_or}
+use Rattle.std.proofs.Common.{◌≡◌, ℕ, zero, suc, ◌+◌, ◌-◌, ◌<◌, ◌≤◌, ◌^◌, ◌==◌, ◌||◌, Bool, true, false, refl, ap, sym, ◌∙◌, subst, arith, inl, inr, Option, Some, None, is_some, List, [], ◌∷◌, ◌++◌, map, filter, cond}
 use Rattle.std.specs.Option.{option_or}
 use Rattle.std.proofs.lemmas.Bool.{cases_lt}
 use Rattle.std.proofs.lemmas.Bool.Decides.{nat_tests}
@@ -7,17 +7,15 @@ use Rattle.rb_base.specs.Nodes.{Side}
 use Rattle.rb_base.specs.Sizes.{Sizes}
 use Rattle.rb_rules.specs.declared.message.Message.{Message}
 use Rattle.rb_rules.specs.declared.plan.Plan.{Plan}
-use Rattle.rb_rules.specs.Core.{Core, Act, act_at, act_on, arrive, busy_among, is_busy, is_last, is_spent, if_at, next_tick, of_source, pass_to, said_at, slot_wanted, state_at, state_kept, tick, ticks, wants}
-use Rattle.rb_rules.specs.Hearing.{sending}
+use Rattle.rb_rules.specs.Core.{Core, Act, act_at, act_on, busy_among, is_busy, is_last, is_spent, if_at, next_tick, of_source, said_at, slot_wanted, state_at, state_kept, tick, ticks, wants}
 use Rattle.rb_rules.specs.NodeState.{NodeState}
 use Rattle.rb_rules.specs.NodeSteps.{message_said}
 use Rattle.rb_rules.specs.Sense.{Arrival}
 use Rattle.rb_rules.specs.SyncStage.{send_tick_of}
 use Rattle.rb_rules.proofs.QuietTicks.{IsQuiet, nothing, quiet-from, quiet-tick, quiet-ticks}
-use Rattle.rb_eligible.specs.Inboxes.{Received, HoldsArrivals, KeptArrivals, arrivals_of}
+use Rattle.rb_eligible.specs.Inboxes.{Received, HoldsArrivals, arrivals_of}
 use Rattle.rb_slot.specs.Engines.{Seated}
-use Rattle.rb_node.specs.Aheads.{IsNextBusy, busy_at, want_ahead, want_at}
-use Rattle.rb_node.specs.declared.act.Want.{Want}
+use Rattle.rb_node.specs.Aheads.{IsNextBusy, busy_at, want_at}
 use Rattle.rb_node.specs.declared.act.Want.TheVariants as want
 use Rattle.rb_node.specs.Cores.{IsCore, Running, received_of}
 use Rattle.rb_node.specs.Wants.{want_for}
@@ -108,7 +106,7 @@ parts-some k (Some m) (Some n) (Some t) h = by (t == k)
     by true = refl
     by false = refl
 
-stage-some : (me : Side) (v : Seated) (slot stage a b k : ℕ) → is_some (stage_at me v slot stage a k) ≡ is_some (stage_at me v slot stage b k)
+pub stage-some : (me : Side) (v : Seated) (slot stage a b k : ℕ) → is_some (stage_at me v slot stage a k) ≡ is_some (stage_at me v slot stage b k)
 stage-some me v slot stage a b k =
     ap (λ s. is_some (if_at k s)) (sending-is v.sizes v.plan me v.index v.state slot stage a)
     ∙ parts-some k (message_said v.sizes me v.index v.state slot stage a) (message_said v.sizes me v.index v.state slot stage b)
@@ -234,8 +232,11 @@ received-again (x ∷ xs) = ap (λ rest. x ∷ rest) (received-again xs)
 
 -- a node stands for some core
 pub stands : (n : Running) (received : List Received) → HoldsArrivals n.inbox received → (c : Core) × IsCore n c
-stands n received holds = (record { state = n.seat.state; had = n.had; inbox = kept_of received }, record {
-  state = refl;
-  had = refl;
-  inbox = subst (HoldsArrivals n.inbox) (sym (received-again received)) holds;
-})
+stands n received holds = (
+  record { state = n.seat.state; had = n.had; inbox = kept_of received },
+  record {
+    state = refl;
+    had = refl;
+    inbox = subst (HoldsArrivals n.inbox) (sym (received-again received)) holds;
+  },
+)

@@ -1,11 +1,10 @@
 -- The parts of a tick make the core's act.
-use Rattle.std.proofs.Common.{◌≡◌, ℕ, ◌+◌, ◌-◌, ◌<◌, ◌≤◌, ◌^◌, ◌==◌, Bool, true, false, refl, ap, sym, ◌∙◌, subst, arith, Option, Some, None, List, [], if◌then◌else◌}
+use Rattle.std.proofs.Common.{◌≡◌, ℕ, ◌+◌, ◌<◌, ◌≤◌, ◌^◌, ◌==◌, Bool, true, false, refl, ap, sym, ◌∙◌, subst, arith, Option, Some, None, List, [], if◌then◌else◌}
 use Rattle.std.proofs.Math.Path.{fun_ext}
 use Rattle.rb_base.specs.Nodes.{Side}
 use Rattle.rb_base.specs.Sizes.{Sizes}
 use Rattle.rb_rules.specs.declared.closing.Closed.{Closed}
 use Rattle.rb_rules.specs.declared.message.Message.{Message}
-use Rattle.rb_rules.specs.declared.plan.Plan.{Plan}
 use Rattle.rb_rules.specs.declared.plan.Window.{Window}
 use Rattle.rb_rules.specs.declared.record.Epoch.{Epoch}
 use Rattle.rb_rules.specs.Conviction.{turn}
@@ -17,7 +16,7 @@ use Rattle.rb_rules.specs.Sense.{Arrival}
 use Rattle.rb_rules.specs.SyncStage.{new_epoch_of}
 use Rattle.rb_rules.proofs.QuietTicks.{nothing}
 use Rattle.rb_rules.proofs.RoundStates.{Stays, stays-refl, keeping-stays}
-use Rattle.rb_eligible.specs.Inboxes.{Received, HoldsArrivals, KeptArrivals, arrivals_of}
+use Rattle.rb_eligible.specs.Inboxes.{Received, HoldsArrivals, KeptArrivals}
 use Rattle.rb_slot.specs.Engines.{IsSameFrame, Seated, outcome_on}
 use Rattle.rb_node.specs.Acts.{IsAct}
 use Rattle.rb_node.specs.Aheads.{busy_at, window_of_tick}

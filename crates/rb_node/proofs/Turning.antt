@@ -1,5 +1,5 @@
 -- The begin of a frame, and what is wanted in its slots.
-use Rattle.std.proofs.Common.{◌≡◌, ℕ, ◌+◌, ◌-◌, ◌*◌, ◌<◌, ◌≤◌, ◌==◌, ◌&&◌, nat_lt, Bool, true, false, refl, ap, sym, ◌∙◌, subst, arith, Option, Some, None, is_some, unwrap_or, if◌then◌else◌}
+use Rattle.std.proofs.Common.{◌≡◌, ℕ, ◌+◌, ◌-◌, ◌*◌, ◌≤◌, ◌==◌, ◌&&◌, nat_lt, Bool, true, false, refl, ap, sym, ◌∙◌, subst, arith, Option, Some, None, is_some, unwrap_or, if◌then◌else◌}
 use Rattle.std.specs.Option.{option_or}
 use Rattle.std.proofs.lemmas.Bool.Decides.{nat_tests}
 use Rattle.rb_base.specs.Nodes.{Side}
@@ -8,9 +8,8 @@ use Rattle.rb_base.specs.Sizes.{IsShape, Sizes, sync_slot_of}
 use Rattle.rb_rules.specs.declared.message.Message.{Message}
 use Rattle.rb_rules.specs.declared.plan.Plan.{Plan}
 use Rattle.rb_rules.specs.declared.plan.Window.{Window}
-use Rattle.rb_rules.specs.Conviction.{turn}
 use Rattle.rb_rules.specs.Core.{if_at, is_tick, said_at, slot_wanted, state_at, window_here}
-use Rattle.rb_rules.specs.Hearing.{Span, sending, span_of, tail_at}
+use Rattle.rb_rules.specs.Hearing.{Span, span_of, tail_at}
 use Rattle.rb_rules.specs.NodeState.{NodeState}
 use Rattle.rb_rules.specs.NodeSteps.{message_said, turn_if_known}
 use Rattle.rb_rules.specs.Plan.{IsPlan}
@@ -20,11 +19,12 @@ use Rattle.rb_rules.specs.Windows.{send_offset_of, window_at}
 use Rattle.rb_rules.specs.WorldStep.{span_from}
 use Rattle.rb_rules.proofs.RoundStates.{HasTicks}
 use Rattle.rb_slot.specs.Engines.{Seated}
-use Rattle.rb_node.specs.Aheads.{tick_said, want_at, window_of_tick}
+use Rattle.rb_node.specs.Aheads.{SaysIn, tick_said, want_at, window_of_tick}
+use Rattle.rb_node.specs.Aheads.SaysIn.{Silent, First, Second, Third}
 use Rattle.rb_node.specs.Saids.{span_if}
 use Rattle.rb_node.specs.Wants.{slot_of_words, want_for}
 use Rattle.rb_node.specs.declared.act.Want.TheVariants as want
-use Rattle.rb_node.proofs.Busy.{no-turn, said-form, stage_at, turned-epoch, unsaid}
+use Rattle.rb_node.proofs.Busy.{no-turn, said-form, said-tick, stage_at, turned-epoch, unsaid}
 use Rattle.rb_node.proofs.Saying.{HasPlace, goes-out, message-place, sending-is, sent_at, stays-in}
 use Rattle.rb_node.proofs.Steps.{turned-frame}
 use Rattle.rb_node.proofs.Windows.{first-is, has-ticks}
@@ -77,6 +77,14 @@ silent me v k shape plan e =
     said-form me v 0 k
     ∙ ap (λ s. option_or (stage_at me v s 1 0 k) (option_or (stage_at me v s 2 0 k) (stage_at me v s 3 0 k))) (first-slot me v k shape (has-ticks v.plan plan) e)
     ∙ three-none _ _ _ (silent-stage me v 1 k shape plan e) (silent-stage me v 2 k shape plan e) (silent-stage me v 3 k shape plan e)
+
+-- so it says no message
+pub silent-says : (me : Side) (v : Seated) (slot k : ℕ) → IsShape v.sizes → IsPlan v.plan → v.state.epoch ≡ k → slot ≡ (window_of_tick me v k).slot
+    → SaysIn me v slot k 0
+silent-says me v slot k shape plan e is =
+    let none : (stage : ℕ) → is_tick (tick_said me v 0 stage) k ≡ false =
+    λ stage. said-tick k (message_said v.sizes me v.index v.state 0 stage 0) (send_tick_of v.sizes v.plan v.state 0 stage) (not-yet v stage k shape plan e) in
+    subst (λ s. SaysIn me v s k 0) (sym (is ∙ first-slot me v k shape (has-ticks v.plan plan) e)) (Silent refl (none 1) (none 2) (none 3))
 
 -- What is wanted.
 
@@ -177,3 +185,20 @@ span-turned v me k w h is =
     let none : k - st.epoch ≡ 0 = omega arith in
     spans v.sizes v.plan me st k (v.state.frame + 1) k w (turned-frame v me k h) e
     (ap (λ o. unwrap_or o (tail_at v.sizes v.plan me st)) (ap (window_at v.sizes v.plan) none ∙ is))
+
+-- What is wanted, by the stage of the message.
+
+one-not : (stage n : ℕ) (b : Bool) → stage ≡ n → (1 == n) ≡ false → stage ≡ 1 → b ≡ true
+one-not stage n b e h one = let same : (1 == n) ≡ true = grind (arith, nat_tests) in cc
+
+pub first-is-due : (me : Side) (v : Seated) (slot k stage : ℕ) → SaysIn me v slot k stage → stage ≡ 1 → is_tick (tick_said me v slot 1) k ≡ true
+first-is-due me v slot k stage (Silent z a b c) one = one-not stage 0 (is_tick (tick_said me v slot 1) k) z refl one
+first-is-due me v slot k stage (First z a) one = a
+first-is-due me v slot k stage (Second z a b) one = one-not stage 2 (is_tick (tick_said me v slot 1) k) z refl one
+first-is-due me v slot k stage (Third z a b c) one = one-not stage 3 (is_tick (tick_said me v slot 1) k) z refl one
+
+pub first-is-not : (me : Side) (v : Seated) (slot k stage : ℕ) → SaysIn me v slot k stage → (stage ≡ 1 → ⊥) → is_tick (tick_said me v slot 1) k ≡ false
+first-is-not me v slot k stage (Silent z a b c) other = a
+first-is-not me v slot k stage (First z a) other = absurd (other z)
+first-is-not me v slot k stage (Second z a b) other = a
+first-is-not me v slot k stage (Third z a b c) other = a

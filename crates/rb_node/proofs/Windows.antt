@@ -4,7 +4,7 @@ use Rattle.std.proofs.lemmas.Bool.{cases_lt}
 use Rattle.std.proofs.lemmas.Nat.{mul-le}
 use Rattle.std.proofs.Math.Nat.{add-mul, div-mul-le_self, lt-div-mul-add, mul-le-mul_right}
 use Rattle.rb_base.specs.Nodes.{Side}
-use Rattle.rb_base.specs.Sizes.{IsShape, Sizes, sync_slot_of}
+use Rattle.rb_base.specs.Sizes.{Sizes, sync_slot_of}
 use Rattle.rb_rules.specs.declared.plan.Plan.{Plan}
 use Rattle.rb_rules.specs.declared.plan.Window.{Window}
 use Rattle.rb_rules.specs.Core.{window_here}
@@ -35,13 +35,15 @@ below-sync sizes plan offset ticks below =
     let low : n * plan.l ≤ offset = div-mul-le_self offset plan.l in
     let high : offset < n * plan.l + plan.l = lt-div-mul-add ticks.l in
     let times : (n + 1) * plan.l ≤ 3 * sync_slot_of sizes * plan.l = mul-le-mul_right plan.l (omega arith) in
-    let next : (n + 1) * plan.l ≡ n * plan.l + 1 * plan.l = add-mul n 1 plan.l in
-    (exact_window plan n, record {
-      found = found_below sizes plan offset n ticks.l number low high;
-      before_tail = omega (arith, low, high, times, next);
-      inside = omega (arith, low, high);
-      same = λ p from to. found_below sizes plan p n ticks.l number (omega (arith, low)) (omega (arith, high, low));
-    })
+    let next : (n + 1) * plan.l ≡ n * plan.l + 1 * plan.l = add-mul n 1 plan.l in (
+      exact_window plan n,
+      record {
+        found = found_below sizes plan offset n ticks.l number low high;
+        before_tail = omega (arith, low, high, times, next);
+        inside = omega (arith, low, high);
+        same = λ p from to. found_below sizes plan p n ticks.l number (omega (arith, low)) (omega (arith, high, low));
+      },
+    )
 
 in-sync : (sizes : Sizes) (plan : Plan) (offset : ℕ) → HasTicks plan → f0_of sizes plan ≤ offset → offset < tail_start_of sizes plan
     → HasWindow sizes plan offset
@@ -50,25 +52,34 @@ in-sync sizes plan offset ticks from to =
     let v : 1 ≤ plan.v = ticks.v in
     let z : 1 ≤ plan.z = ticks.z in
     elim (cases_lt offset (f0_of sizes plan + plan.l)) [
-      | inl first ↦ (_, record {
-        found = found_stage_1 sizes plan offset l from first;
-        before_tail = omega arith;
-        inside = omega arith;
-        same = λ p lo hi. found_stage_1 sizes plan p l (omega arith) (omega arith);
-      })
+      | inl first ↦ (
+        _,
+        record {
+          found = found_stage_1 sizes plan offset l from first;
+          before_tail = omega arith;
+          inside = omega arith;
+          same = λ p lo hi. found_stage_1 sizes plan p l (omega arith) (omega arith);
+        },
+      )
       | inr later ↦ elim (cases_lt offset (f0_of sizes plan + plan.l + plan.v)) [
-        | inl second ↦ (_, record {
-          found = found_stage_2 sizes plan offset l later second;
-          before_tail = omega arith;
-          inside = omega arith;
-          same = λ p lo hi. found_stage_2 sizes plan p l (omega arith) (omega arith);
-        })
-        | inr last ↦ (_, record {
-          found = found_stage_3 sizes plan offset l v last to;
-          before_tail = omega arith;
-          inside = omega arith;
-          same = λ p lo hi. found_stage_3 sizes plan p l v (omega arith) (omega arith);
-        })
+        | inl second ↦ (
+          _,
+          record {
+            found = found_stage_2 sizes plan offset l later second;
+            before_tail = omega arith;
+            inside = omega arith;
+            same = λ p lo hi. found_stage_2 sizes plan p l (omega arith) (omega arith);
+          },
+        )
+        | inr last ↦ (
+          _,
+          record {
+            found = found_stage_3 sizes plan offset l v last to;
+            before_tail = omega arith;
+            inside = omega arith;
+            same = λ p lo hi. found_stage_3 sizes plan p l v (omega arith) (omega arith);
+          },
+        )
       ]
     ]
 

@@ -1,10 +1,8 @@
 -- What a node gives at a tick.
-use Rattle.std.specs.Prelude.{ℕ, ◌≡◌, ◌≤◌, Bool, true, false, Option, Some, None, option_and_then, option_map, List, if◌then◌else◌}
-use Rattle.rb_base.specs.declared.values.Delivery.{Delivery}
+use Rattle.std.specs.Prelude.{◌≡◌, ◌≤◌, Some, None, option_and_then, option_map, if◌then◌else◌}
 use Rattle.rb_rules.specs.declared.closing.Closed.{Closed}
 use Rattle.rb_rules.specs.declared.message.Message.{Message}
 use Rattle.rb_rules.specs.declared.message.Version.{Version}
-use Rattle.rb_rules.specs.declared.record.Epoch.{Epoch}
 use Rattle.rb_rules.specs.Core.{Act}
 use Rattle.rb_rules.specs.Hearing.{Span}
 use Rattle.rb_rules.specs.Spelling.{IsZeroUnlessWord, spelling_of}

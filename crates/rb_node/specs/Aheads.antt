@@ -1,18 +1,16 @@
 -- What a node keeps at hand of what is ahead of it.
-use Rattle.std.specs.Prelude.{ℕ, ◌≡◌, ◌≤◌, ◌<◌, ◌^◌, ◌+◌, ◌⊎◌, nat_lt, if◌then◌else◌, Bool, true, false, is_some, Option, Some, None}
+use Rattle.std.specs.Prelude.{ℕ, ◌≡◌, ◌≤◌, ◌<◌, ◌^◌, ◌+◌, ◌⊎◌, nat_lt, if◌then◌else◌, Bool, true, false, is_some, Option, None}
 use Rattle.rb_base.specs.Nodes.{Side}
-use Rattle.rb_base.specs.Sizes.{Sizes, sync_slot_of}
-use Rattle.rb_rules.specs.declared.message.Message.{Message}
-use Rattle.rb_rules.specs.declared.plan.Plan.{Plan}
+use Rattle.rb_base.specs.Sizes.{sync_slot_of}
 use Rattle.rb_rules.specs.declared.plan.Window.{Window}
 use Rattle.rb_rules.specs.Core.{is_busy, is_tick, said_at, slot_wanted, state_at, window_here}
-use Rattle.rb_rules.specs.NodeState.{NodeState}
 use Rattle.rb_rules.specs.NodeSteps.{message_said}
 use Rattle.rb_rules.specs.SyncStage.{send_tick_of}
 use Rattle.rb_eligible.specs.Inboxes.{KeptArrivals, StampsUpTo}
 use Rattle.rb_slot.specs.Closable.{IsOfFrame}
 use Rattle.rb_slot.specs.Engines.{Seated}
 use Rattle.rb_node.specs.declared.ahead.Ahead.{Ahead}
+use Rattle.rb_node.specs.declared.ahead.Busy.{Busy}
 use Rattle.rb_node.specs.declared.act.Want.{Want}
 use Rattle.rb_node.specs.declared.act.Want.TheVariants as want
 use Rattle.rb_node.specs.Wants.{want_for}
@@ -24,12 +22,28 @@ pub record IsSooner (had : ℕ) (candidate : Option ℕ) (before after : ℕ) : 
   pub not_before : (k : ℕ) → had ≤ k → k < after → is_tick candidate k ≡ false
   pub either : (after ≡ before) ⊎ (is_tick candidate after ≡ true)
 
+-- the same, where the candidate is the tick of a message of a stage; at one tick the lower stage comes first
+pub record IsChosen (had : ℕ) (candidate : Option ℕ) (stage : ℕ) (before after : Busy) : Type 0 where
+  pub later : had ≤ after.tick
+  pub most : after.tick ≤ before.tick
+  pub not_before : (k : ℕ) → had ≤ k → k < after.tick → is_tick candidate k ≡ false
+  pub either : ((is_tick candidate after.tick ≡ true) × (after.stage ≡ stage)) ⊎ ((is_tick candidate after.tick ≡ false) × (after ≡ before))
+
 -- the tick at which the node sends a message of the stage, if it sends one
 abbrev pub tick_said : Side → Seated → ℕ → ℕ → Option ℕ
 tick_said me v slot stage = elim (is_some (message_said v.sizes me v.index v.state slot stage 0)) [
   | true ↦ send_tick_of v.sizes v.plan v.state slot stage
   | false ↦ None
 ]
+
+-- at tick k the node says its message of this stage of the slot, the first that is due then; of stage 0, none
+pub data SaysIn (me : Side) (v : Seated) (slot k stage : ℕ) : Type 0 where
+  Silent : stage ≡ 0 → is_tick (tick_said me v slot 1) k ≡ false → is_tick (tick_said me v slot 2) k ≡ false
+      → is_tick (tick_said me v slot 3) k ≡ false → SaysIn me v slot k stage
+  First : stage ≡ 1 → is_tick (tick_said me v slot 1) k ≡ true → SaysIn me v slot k stage
+  Second : stage ≡ 2 → is_tick (tick_said me v slot 1) k ≡ false → is_tick (tick_said me v slot 2) k ≡ true → SaysIn me v slot k stage
+  Third : stage ≡ 3 → is_tick (tick_said me v slot 1) k ≡ false → is_tick (tick_said me v slot 2) k ≡ false
+      → is_tick (tick_said me v slot 3) k ≡ true → SaysIn me v slot k stage
 
 abbrev pub busy_at : Side → Seated → ℕ → Bool
 busy_at me v k = is_busy v.sizes v.plan me v.index v.state k
@@ -63,9 +77,10 @@ pub record IsWindowOf (me : Side) (v : Seated) (k : ℕ) (w : Window) : Type 0 w
 
 -- what is kept is so for a node that has had so many ticks
 pub record LooksAhead (me : Side) (v : Seated) (had : ℕ) (a : Ahead) : Type 0 where
-  pub next : IsNextBusy me v had a.tick
+  pub next : IsNextBusy me v had a.busy.tick
   pub window : IsWindowOf me v had a.window
-  pub wants : a.want ≡ want_ahead me v a.tick
+  pub stage : SaysIn me v a.window.slot a.busy.tick a.busy.stage
+  pub wants : a.want ≡ want_ahead me v a.busy.tick
 
 -- what holds of a node between two calls: it is a node of its bus, its frame and its stamps don't run ahead of its ticks
 pub record IsRunning (me : Side) (v : Seated) (had : ℕ) (inbox : KeptArrivals) (a : Ahead) : Type 0 where

@@ -7,7 +7,7 @@ use Rattle.rb_rules.specs.Core.{Core, wants, pass_to}
 use Rattle.rb_rules.specs.Slots.{first_diagnosis_of}
 use Rattle.rb_node.specs.declared.act.Want.{Want}
 use Rattle.rb_node.specs.declared.act.Want.TheVariants as want
-use Rattle.rb_node.specs.Cores.{Running, next_of}
+use Rattle.rb_node.specs.Cores.{Running}
 
 -- in a schedule slot its request, in a data slot its word
 abbrev pub want_for : Sizes → Option ℕ → Want

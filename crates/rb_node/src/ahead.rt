@@ -5,7 +5,7 @@ ghost use Rattle.rb_base.specs.Sizes.{IsShape, sync_slot_of};
 ghost use Rattle.rb_rules.specs.Core.{is_tick};
 ghost use Rattle.rb_rules.specs.Hearing.{tail_at};
 ghost use Rattle.rb_rules.specs.Plan.{IsPlan, tail_start_of};
-ghost use Rattle.rb_node.specs.Aheads.{IsNextBusy, IsSooner, IsWindowOf, LooksAhead, tick_said, want_ahead, want_at, window_of_tick};
+ghost use Rattle.rb_node.specs.Aheads.{IsChosen, IsNextBusy, IsSooner, IsWindowOf, LooksAhead, SaysIn, tick_said, want_ahead, want_at, window_of_tick};
 ghost use Rattle.rb_node.specs.Wants.{slot_of_words, want_for};
 
 use crate::act::Want;
@@ -16,11 +16,25 @@ use rb_slot::Engine;
 // How many ticks a node can have.
 pub(crate) const MOST_TICKS: u64 = 2_147_483_648;
 
+/// A tick that isn't quiet, and the stage of the message that the node says then; 0 where it says none.
+#[derive(Clone, Copy)]
+pub struct Busy {
+    pub(crate) tick: u64,
+    pub(crate) stage: u8,
+}
+
+/// The window of a tick, and the stage of the message that the node says then; 0 where it says none.
+#[derive(Clone, Copy)]
+pub struct Here {
+    pub(crate) window: Window,
+    pub(crate) stage: u8,
+}
+
 /// What is ahead of a node.
 #[derive(Clone, Copy)]
 pub struct Ahead {
     // Its next tick that isn't quiet, or 2^31 where there is none.
-    pub(crate) tick: u64,
+    pub(crate) busy: Busy,
     // The window of all ticks up to that one.
     pub(crate) window: Window,
     // What it wants at that one.
@@ -65,6 +79,7 @@ fn tail<K: Kind>(engine: &Engine<K>) -> Window
 }
 
 // The window of a tick of the node's frame.
+#[inline(always)]
 pub(crate) fn window_of<K: Kind>(engine: &Engine<K>, tick: u64) -> Window
     requires epoch { engine.now.state.epoch ≤ tick }
     requires tick { tick ≤ 2 ^ 31 }
@@ -88,42 +103,47 @@ fn sooner(before: u64, had: u64, candidate: Option<u64>) -> u64
     }
 }
 
-// The same with the tick at which the node sends a message of the stage.
-fn sooner_send<K: Kind>(
-    before: u64,
-    had: u64,
-    engine: &Engine<K>,
-    slot: u16,
-    stage: u8,
-) -> u64
-    requires had { had ≤ before }
+// The same with the tick at which the node sends a message of the stage, which comes before later stages at the same tick.
+#[inline(always)]
+fn sooner_send<K: Kind>(before: Busy, had: u64, engine: &Engine<K>, slot: u16, stage: u8) -> Busy
+    requires had { had ≤ before.tick }
     requires index { engine.now.index < 16 }
     requires slot { slot ≤ sync_slot_of engine.now.sizes }
     requires first { 1 ≤ stage }
     requires last { stage ≤ 3 }
-    ensures { IsSooner had (tick_said (side_of K.CODE) engine.now slot stage) before result }
+    ensures { IsChosen had (tick_said (side_of K.CODE) engine.now slot stage) stage before result }
 {
-    match engine.send_tick(slot, stage) {
-        Some(tick) if had <= tick && tick < before && engine.speaks_in(slot, stage) => tick,
-        _ => before,
+    let Some(tick) = engine.send_tick(slot, stage) else {
+        return before;
+    };
+    if tick < had {
+        return before;
     }
+    if tick > before.tick {
+        return before;
+    }
+    if !engine.speaks_in(slot, stage) {
+        return before;
+    }
+    Busy { tick, stage }
 }
 
 // The next tick that isn't quiet, `window` being that of tick `had`; 2^31 where there is none.
-fn busy_tick<K: Kind>(engine: &Engine<K>, window: &Window, had: u64) -> u64
+fn busy_tick<K: Kind>(engine: &Engine<K>, window: &Window, had: u64) -> Busy
     requires index { engine.now.index < 16 }
     requires epoch { engine.now.state.epoch ≤ had }
     requires had { had ≤ 2 ^ 31 }
     requires window { IsWindowOf (side_of K.CODE) engine.now had window.now }
-    ensures { IsNextBusy (side_of K.CODE) engine.now had result }
+    ensures next { IsNextBusy (side_of K.CODE) engine.now had result.tick }
+    ensures stage { SaysIn (side_of K.CODE) engine.now window.now.slot result.tick result.stage }
 {
     bounds(engine);
     let begun = sooner(MOST_TICKS, had, Some(engine.epoch()));
     let closed = sooner(begun, had, Some(engine.epoch() + window.last));
-    let turned = sooner(closed, had, engine.new_epoch());
-    let first = sooner_send(turned, had, engine, window.slot, 1);
-    let second = sooner_send(first, had, engine, window.slot, 2);
-    sooner_send(second, had, engine, window.slot, 3)
+    let tick = sooner(closed, had, engine.new_epoch());
+    let third = sooner_send(Busy { tick, stage: 0 }, had, engine, window.slot, 3);
+    let second = sooner_send(third, had, engine, window.slot, 2);
+    sooner_send(second, had, engine, window.slot, 1)
 }
 
 // Whether this is the tick.
@@ -150,28 +170,17 @@ fn want_in(shape: &Shape, slot: u16) -> Want
     }
 }
 
-// Whether the node sends its message of the first stage at this tick.
-fn says_first<K: Kind>(engine: &Engine<K>, slot: u16, tick: u64) -> bool
-    requires index { engine.now.index < 16 }
-    requires slot { slot ≤ sync_slot_of engine.now.sizes }
-    ensures { result ≡ is_tick (tick_said (side_of K.CODE) engine.now slot 1) tick }
-{
-    is_tick(engine.send_tick(slot, 1), tick) && engine.speaks_in(slot, 1)
-}
-
-// What the node wants at a tick of the window.
-fn want_at<K: Kind>(engine: &Engine<K>, window: &Window, tick: u64) -> Want
-    requires index { engine.now.index < 16 }
-    requires epoch { engine.now.state.epoch ≤ tick }
-    requires window { window.now ≡ window_of_tick (side_of K.CODE) engine.now tick }
-    requires slot { window.now.slot ≤ sync_slot_of engine.now.sizes }
-    ensures { result ≡ want_at (side_of K.CODE) engine.now tick }
+// What the node wants at a tick of the window, at which it says its message of a stage.
+fn want_at<K: Kind>(engine: &Engine<K>, window: &Window, busy: Busy) -> Want
+    requires window { window.now ≡ window_of_tick (side_of K.CODE) engine.now busy.tick }
+    requires stage { SaysIn (side_of K.CODE) engine.now window.now.slot busy.tick busy.stage }
+    ensures { result ≡ want_at (side_of K.CODE) engine.now busy.tick }
 {
     bounds(engine);
-    if is_tick(engine.new_epoch(), tick) {
+    if is_tick(engine.new_epoch(), busy.tick) {
         return Want::Nothing;
     }
-    if says_first(engine, window.slot, tick) {
+    if busy.stage == 1 {
         want_in(engine.plan().shape(), window.slot)
     } else {
         Want::Nothing
@@ -179,21 +188,20 @@ fn want_at<K: Kind>(engine: &Engine<K>, window: &Window, tick: u64) -> Want
 }
 
 // The same, and nothing where no tick is to come.
-fn want_ahead<K: Kind>(engine: &Engine<K>, window: &Window, tick: u64) -> Want
-    requires index { engine.now.index < 16 }
-    requires epoch { engine.now.state.epoch ≤ tick }
-    requires window { window.now ≡ window_of_tick (side_of K.CODE) engine.now tick }
-    requires slot { window.now.slot ≤ sync_slot_of engine.now.sizes }
-    ensures { result ≡ want_ahead (side_of K.CODE) engine.now tick }
+fn want_ahead<K: Kind>(engine: &Engine<K>, window: &Window, busy: Busy) -> Want
+    requires window { window.now ≡ window_of_tick (side_of K.CODE) engine.now busy.tick }
+    requires stage { SaysIn (side_of K.CODE) engine.now window.now.slot busy.tick busy.stage }
+    ensures { result ≡ want_ahead (side_of K.CODE) engine.now busy.tick }
 {
-    if tick < MOST_TICKS {
-        want_at(engine, window, tick)
+    if busy.tick < MOST_TICKS {
+        want_at(engine, window, busy)
     } else {
         Want::Nothing
     }
 }
 
 // What is ahead of a node that has had so many ticks.
+#[inline(always)]
 pub(crate) fn look_ahead<K: Kind>(engine: &Engine<K>, had: u64) -> Ahead
     requires index { engine.now.index < 16 }
     requires epoch { engine.now.state.epoch ≤ had }
@@ -201,7 +209,7 @@ pub(crate) fn look_ahead<K: Kind>(engine: &Engine<K>, had: u64) -> Ahead
     ensures { LooksAhead (side_of K.CODE) engine.now had result }
 {
     let window = window_of(engine, had);
-    let tick = busy_tick(engine, &window, had);
-    let want = want_ahead(engine, &window, tick);
-    Ahead { tick, window, want }
+    let busy = busy_tick(engine, &window, had);
+    let want = want_ahead(engine, &window, busy);
+    Ahead { busy, window, want }
 }

@@ -13,10 +13,10 @@ ghost use Rattle.rb_node.specs.Events.{EventsComeInParts};
 ghost use Rattle.rb_node.specs.Wants.{want_of, want_then};
 
 use crate::act::{Act, Span, Step, Want};
-use crate::ahead::{Ahead, MOST_TICKS, is_tick, look_ahead};
+use crate::ahead::{Ahead, MOST_TICKS, bounds, is_tick, look_ahead};
 use crate::parts::{
-    bytes_of, close_at, delivered_in, epoch_at, first_window, if_closed, nothing, others, say_at, span_at,
-    turn_at,
+    bytes_of, close_at, delivered_in, epoch_at, first_window, if_closed, nothing, others, say_at,
+    span_at, turn_at,
 };
 use rb_base::{Kind, NodeId};
 use rb_eligible::Inbox;
@@ -62,6 +62,7 @@ impl<K: Kind> Node<K> {
         ensures shown { result.shown ≡ nothing_shown }
     {
         let engine = Engine::new(plan, index);
+        bounds(&engine);
         let ahead = look_ahead(&engine, 0);
         Node {
             engine,
@@ -112,8 +113,8 @@ impl<K: Kind> Node<K> {
         ensures later { IfSome result (λ k. self.now.had ≤ k) }
         ensures below { IfSome result (λ k. k < 2 ^ 31) }
     {
-        if self.ahead.tick < MOST_TICKS {
-            Some(self.ahead.tick)
+        if self.ahead.busy.tick < MOST_TICKS {
+            Some(self.ahead.busy.tick)
         } else {
             None
         }
@@ -123,7 +124,7 @@ impl<K: Kind> Node<K> {
     pub fn wants(&self) -> Want
         ensures { (c : Core) → IsCore self.now c → result ≡ want_of (side_of K.CODE) self.now c }
     {
-        if self.had == self.ahead.tick {
+        if self.had == self.ahead.busy.tick {
             self.ahead.want
         } else {
             Want::Nothing
@@ -198,17 +199,22 @@ impl<K: Kind> Node<K> {
             return nothing();
         }
         self.had = now + 1;
-        if now < self.ahead.tick {
+        if now < self.ahead.busy.tick {
             return nothing();
         }
-        let window = turn_at(&mut self.engine, &self.ahead.window, now);
+        let here = turn_at(
+            &mut self.engine,
+            &self.ahead.window,
+            self.ahead.busy.stage,
+            now,
+        );
         let epoch = epoch_at(&self.engine, now);
-        let message = say_at(&mut self.engine, window.slot, now, word);
+        let message = say_at(&mut self.engine, &here, now, word);
         let closed = close_at(
             &mut self.engine,
             &mut self.inbox,
             &mut self.shown,
-            &window,
+            &here.window,
             now,
         );
         self.ahead = look_ahead(&self.engine, self.had);
@@ -255,5 +261,4 @@ impl<K: Kind> Node<K> {
 /// the core after all of them, and their acts.
 pub fn events_come_in_parts()
     ensures { EventsComeInParts }
-{
-}
+{}

@@ -3,8 +3,7 @@ ghost use Rattle.std.specs.Prelude.{◌≡◌, ◌+◌, ◌==◌, ◌<◌, ◌�
 ghost use Rattle.rb_base.specs.Nodes.{other, side_of};
 ghost use Rattle.rb_base.specs.Sizes.{sync_slot_of};
 ghost use Rattle.rb_eligible.specs.Inboxes.{Received, HoldsArrivals, StampsUpTo};
-ghost use Rattle.rb_rules.specs.Core.{epoch_at, if_at, state_at, state_kept};
-ghost use Rattle.rb_rules.specs.Hearing.{sending};
+ghost use Rattle.rb_rules.specs.Core.{epoch_at, state_at, state_kept};
 ghost use Rattle.rb_rules.specs.declared.closing.Closed.{Closed};
 ghost use Rattle.rb_rules.specs.Slots.{count_of};
 ghost use Rattle.rb_rules.specs.Spelling.{spelling_of};
@@ -12,11 +11,11 @@ ghost use Rattle.rb_slot.specs.Closable.{IsOfFrame};
 ghost use Rattle.rb_slot.specs.Engines.{IsSameFrame, outcome_on};
 ghost use Rattle.rb_rules.specs.Windows.{window_at};
 ghost use Rattle.rb_node.specs.Acts.{IsSendable, span_in};
-ghost use Rattle.rb_node.specs.Aheads.{IsWindowOf};
+ghost use Rattle.rb_node.specs.Aheads.{IsWindowOf, SaysIn};
 ghost use Rattle.rb_node.specs.Saids.{said_in, span_if};
 
 use crate::act::{Span, Step};
-use crate::ahead::{is_tick, window_of};
+use crate::ahead::{Here, bounds, is_tick, window_of};
 use arrayvec::ArrayVec;
 use rb_base::{Delivery, Kind, NodeSet, Place, Shape};
 use rb_eligible::Inbox;
@@ -25,22 +24,32 @@ use rb_plan::{Feasible, Window};
 use rb_rules::{Closed, Epoch, Message, Version};
 use rb_slot::Engine;
 
-// The node turns, if this is the tick of its next epoch. It gives the tick's window, which was that of the state before.
-pub(crate) fn turn_at<K: Kind>(engine: &mut Engine<K>, window: &Window, now: u64) -> Window
+// The node turns, if this is the tick of its next epoch. It gives the tick's window and the stage of what is said in it, which
+// were these in the state before.
+pub(crate) fn turn_at<K: Kind>(engine: &mut Engine<K>, window: &Window, stage: u8, now: u64) -> Here
     requires now { now < 2 ^ 31 }
     requires frame { engine.old.state.frame < 2 ^ 31 }
     requires epoch { engine.old.state.epoch ≤ now }
     requires window { IsWindowOf (side_of K.CODE) engine.old now window.now }
+    requires stage { SaysIn (side_of K.CODE) engine.old window.now.slot now stage }
     ensures state { engine.new ≡ record engine.old {
       state = state_at engine.old.sizes engine.old.plan (side_of K.CODE) engine.old.state now;
     } }
-    ensures window { IsWindowOf (side_of K.CODE) engine.new now result }
+    ensures window { IsWindowOf (side_of K.CODE) engine.new now result.window }
+    ensures stage { SaysIn (side_of K.CODE) engine.new result.window.slot now result.stage }
 {
     if is_tick(engine.new_epoch(), now) {
         engine.turn();
-        window_of(engine, now)
+        bounds(engine);
+        Here {
+            window: window_of(engine, now),
+            stage: 0,
+        }
     } else {
-        *window
+        Here {
+            window: *window,
+            stage,
+        }
     }
 }
 
@@ -64,56 +73,27 @@ pub(crate) fn epoch_at<K: Kind>(engine: &Engine<K>, now: u64) -> Option<Epoch>
     })
 }
 
-// The node says its message of a stage, if this is its tick.
-fn say_in<K: Kind>(
-    engine: &mut Engine<K>,
-    slot: u16,
-    stage: u8,
-    now: u64,
-    word: u32,
-) -> Option<Message>
-    requires index { engine.old.index < 16 }
-    requires slot { slot ≤ sync_slot_of engine.old.sizes }
-    requires first { 1 ≤ stage }
-    requires last { stage ≤ 3 }
-    ensures message { result
-        ≡ if_at now (sending engine.old.sizes engine.old.plan (side_of K.CODE) engine.old.index engine.old.state slot stage word) }
-    ensures keeps { engine.new ≡ record engine.old {
-      state = state_kept engine.old.sizes (side_of K.CODE) engine.old.index engine.old.state word result;
-    } }
-    ensures sendable { IfSome result IsSendable }
-{
-    if is_tick(engine.send_tick(slot, stage), now) {
-        engine.outgoing(slot, stage, word)
-    } else {
-        None
-    }
-}
-
 // The node says its message of the slot, if this is the tick of one.
 pub(crate) fn say_at<K: Kind>(
     engine: &mut Engine<K>,
-    slot: u16,
+    here: &Here,
     now: u64,
     word: u32,
 ) -> Option<Message>
     requires index { engine.old.index < 16 }
-    requires slot { slot ≤ sync_slot_of engine.old.sizes }
-    ensures message { result ≡ said_in (side_of K.CODE) engine.old slot now word }
+    requires slot { here.now.window.slot ≤ sync_slot_of engine.old.sizes }
+    requires stage { SaysIn (side_of K.CODE) engine.old here.now.window.slot now here.now.stage }
+    ensures message { result ≡ said_in (side_of K.CODE) engine.old here.now.window.slot now word }
     ensures keeps { engine.new ≡ record engine.old {
       state = state_kept engine.old.sizes (side_of K.CODE) engine.old.index engine.old.state word result;
     } }
     ensures sendable { IfSome result IsSendable }
 {
-    let first = say_in(engine, slot, 1, now, word);
-    if first.is_some() {
-        return first;
+    if here.stage == 0 {
+        None
+    } else {
+        engine.outgoing(here.window.slot, here.stage, word)
     }
-    let second = say_in(engine, slot, 2, now, word);
-    if second.is_some() {
-        return second;
-    }
-    say_in(engine, slot, 3, now, word)
 }
 
 // The node closes the window, if this is its last tick.

@@ -1,11 +1,10 @@
 -- What a tick leaves of what came, and of which sources it shows times.
-use Rattle.std.proofs.Common.{◌≡◌, ℕ, zero, suc, ◌+◌, ◌<◌, ◌≤◌, ◌==◌, ◌&&◌, Bool, true, false, Option, Some, None, List, [], ◌∷◌, map, get_or, refl, sym, ◌∙◌, ap, subst, arith, if◌then◌else◌}
+use Rattle.std.proofs.Common.{◌≡◌, ℕ, zero, suc, ◌+◌, ◌<◌, ◌≤◌, ◌==◌, ◌&&◌, Bool, true, false, Option, Some, None, List, [], ◌∷◌, map, get_or, refl, sym, ◌∙◌, subst, arith, if◌then◌else◌}
 use Rattle.std.proofs.lemmas.List.FromFn.{get_or-map-range_with_len}
 use Rattle.rb_base.specs.Nodes.{Side}
 use Rattle.rb_base.specs.Sizes.{Sizes, sync_slot_of}
 use Rattle.rb_base.specs.declared.values.Heard.{Heard}
-use Rattle.rb_base.specs.declared.values.See.{See}
-use Rattle.rb_base.specs.declared.values.See.TheVariants.{Nothing, Value, Time}
+use Rattle.rb_base.specs.declared.values.See.TheVariants.{Nothing, Time}
 use Rattle.rb_rules.specs.declared.closing.Closed.{Closed}
 use Rattle.rb_rules.specs.declared.closing.Closing.{Closing}
 use Rattle.rb_rules.specs.declared.closing.SyncClosing.{SyncClosing}
@@ -15,15 +14,14 @@ use Rattle.rb_rules.specs.declared.plan.Window.{Window}
 use Rattle.rb_rules.specs.declared.role.Role.{Role}
 use Rattle.rb_rules.specs.declared.sense.Expect.{Expect}
 use Rattle.rb_rules.specs.declared.sense.Sense.{Sense}
-use Rattle.rb_rules.specs.declared.sense.Sense.TheVariants.{Silent, One, Bad}
 use Rattle.rb_rules.specs.Core.{Act, Core, act_at, act_on, epoch_at, is_last, is_spent, of_source, tick, window_here}
 use Rattle.rb_rules.specs.ExactStage.{Outcome, close_exact, each_node, outcome_of, see_value}
 use Rattle.rb_rules.specs.Hearing.{close_window}
-use Rattle.rb_rules.specs.NodeState.{NodeState, sender_at}
+use Rattle.rb_rules.specs.NodeState.{NodeState}
 use Rattle.rb_rules.specs.NodeSteps.{close, expect_of}
 use Rattle.rb_rules.specs.Sense.{Arrival, sense_of, stamp_in}
 use Rattle.rb_rules.specs.Slots.{Sender}
-use Rattle.rb_rules.specs.Standing.{Standing, is_eligible, taken_of}
+use Rattle.rb_rules.specs.Standing.{is_eligible, taken_of}
 use Rattle.rb_rules.specs.SyncStage.{close_sync, expects_call, see_time, sync_closing_of, sync_outcome_of}
 
 -- a time is shown of a source
@@ -118,17 +116,18 @@ on-leaves sizes plan me index c st message kept = by (is_last sizes plan me st c
   where
     closing : Outcome
     closing = close_window sizes plan me index kept (window_here sizes plan me st c.had) (of_source c.inbox)
+
     by : (b : Bool) → Leaves c (elim b as (λ _. Act) [
-        | true ↦ record { core = record { state = closing.state; had = c.had + 1; inbox = [] }; epoch = epoch_at sizes me st c.had; message = message; closed = Some closing.closed }
-        | false ↦ record { core = record { state = kept; had = c.had + 1; inbox = c.inbox }; epoch = epoch_at sizes me st c.had; message = message; closed = None }
-      ])
+      | true ↦ record { core = record { state = closing.state; had = c.had + 1; inbox = [] }; epoch = epoch_at sizes me st c.had; message = message; closed = Some closing.closed }
+      | false ↦ record { core = record { state = kept; had = c.had + 1; inbox = c.inbox }; epoch = epoch_at sizes me st c.had; message = message; closed = None }
+    ])
     by true = record {
       later = omega arith;
       kept = λ e. absurd (cc);
       cleared = λ shown e. refl;
       sole = λ shown e j stamp h t.
-        window-sole sizes plan me index kept (window_here sizes plan me st c.had) (of_source c.inbox) j stamp h
-        (subst (λ (x : Closed). ShowsTime x j stamp) (sym (same-some closing.closed shown e)) t);
+          window-sole sizes plan me index kept (window_here sizes plan me st c.had) (of_source c.inbox) j stamp h
+          (subst (λ (x : Closed). ShowsTime x j stamp) (sym (same-some closing.closed shown e)) t);
     }
     by false = record { later = omega arith; kept = λ e. refl; cleared = λ shown e. absurd (cc); sole = λ shown e j stamp h t. absurd (cc) }
 

@@ -1,30 +1,34 @@
 -- What is kept stands for the site after each step.
-use Rattle.std.proofs.Common.{◌≡◌, ℕ, ◌+◌, ◌-◌, ◌<◌, ◌≤◌, ◌^◌, ◌==◌, max, unwrap_or, Bool, true, false, Option, Some, None, List, [], ◌∷◌, ◌++◌, map, length, refl, sym, ◌∙◌, ap, subst, arith, inl, inr, if◌then◌else◌}
+use Rattle.std.proofs.Common.{◌≡◌, ℕ, ◌-◌, ◌<◌, ◌≤◌, ◌^◌, ◌==◌, max, unwrap_or, Bool, true, false, not, Option, Some, None, IfSome, List, [], ◌∷◌, ◌++◌, map, length, refl, sym, ◌∙◌, ap, subst, arith, inl, inr, if◌then◌else◌}
 use Rattle.std.specs.Prelude.{option_map, slice_set}
 use Rattle.std.proofs.lemmas.Bool.{cases_lt}
+use Rattle.std.proofs.lemmas.Bool.Decides.{nat_tests}
 use Rattle.rb_base.specs.Nodes.{Side, other}
 use Rattle.rb_base.specs.Sizes.{Sizes}
 use Rattle.rb_base.specs.declared.values.See.{See}
 use Rattle.rb_rules.specs.declared.closing.Closed.{Closed}
+use Rattle.rb_rules.specs.declared.message.Message.{Message}
 use Rattle.rb_rules.specs.declared.plan.Plan.{Plan}
 use Rattle.rb_rules.specs.declared.record.Epoch.{Epoch}
+use Rattle.rb_rules.specs.Book.{Row}
 use Rattle.rb_rules.specs.Clock.{stamp_of}
-use Rattle.rb_rules.specs.Core.{Act, Core, arrive, busy_among, first_core, of_source, pass_to, tick}
+use Rattle.rb_rules.specs.Core.{Act, Core, act_at, act_on, arrive, busy_among, epoch_at, is_last, next_tick, of_source, pass_to, state_at, tick}
 use Rattle.rb_rules.specs.Goodness.{Scenario, clock_of}
-use Rattle.rb_rules.specs.Hearing.{Coming, row_of}
+use Rattle.rb_rules.specs.Hearing.{Coming, Span, epoch_of, row_of}
 use Rattle.rb_rules.specs.NodeState.{NodeState, trusted_of}
 use Rattle.rb_rules.specs.Ports.{PortState}
 use Rattle.rb_rules.specs.Sense.{Arrival}
 use Rattle.rb_rules.specs.Slots.{count_of}
-use Rattle.rb_rules.specs.WorldStep.{Site, after_arrival, await, coming_from, fresh_site, pass_and_tick, stop, wants_in, with_close, with_epoch, word_of}
+use Rattle.rb_rules.specs.WorldStep.{Site, after_arrival, await, coming_from, enter, pass_and_tick, proceed, says_in, span_from, stop, wants_in, with_close, with_epoch, word_of}
 use Rattle.rb_rules.proofs.QuietTicks.{next-is}
+use Rattle.rb_slot.specs.Engines.{Seated}
 use Rattle.rb_node.specs.Acts.{IsAct}
 use Rattle.rb_node.specs.Cores.{IsCore, IsSameNode, Running, bare_core, next_of, passing_end, tick_of}
 use Rattle.rb_node.specs.declared.act.Step.{Step}
 use Rattle.rb_node.proofs.Between.{arrive-spent, arrive-takes}
-use Rattle.rb_node.proofs.Cores.{tick-spent}
-use Rattle.rb_site.specs.Sites.{ComeTogether, HoldsTimes, Kept, Stands, number_of}
-use Rattle.rb_site.specs.Tells.{IsTicked, row_at}
+use Rattle.rb_node.proofs.Cores.{tick-now, tick-spent}
+use Rattle.rb_site.specs.Sites.{ComeTogether, HoldsTimes, Kept, Stands, goes_on, number_of}
+use Rattle.rb_site.specs.Tells.{IsTicked, begun_after, row_after, row_at}
 use Rattle.rb_site.proofs.Closing.{Leaves, ShowsTime, tick-leaves}
 use Rattle.rb_site.proofs.Coming.{sees-same, times-more, together-more}
 
@@ -132,9 +136,46 @@ row-same me i st times inbox got shown together holds sole =
     })
     (sees-same times inbox got shown together holds sole)
 
-is-closed : (b : Bool) (shown : Closed) (o : Option Closed) → (if b then Some shown else None) ≡ o → b ≡ true → o ≡ Some shown
-is-closed true shown o e h = sym e
-is-closed false shown o e h = cc
+is-closed : (b : Bool) (shown found : Closed) → (if b then Some shown else None) ≡ Some found → shown ≡ found
+is-closed true shown found e = cc
+is-closed false shown found e = absurd (cc)
+
+-- what it tells of a stage
+
+row-picked : (b : Bool) (before : Option Row) (told kept : Row) → told ≡ kept
+    → (elim b as (λ _. Option Row) [ true ↦ before | false ↦ Some told ]) ≡ (if not b then Some kept else before)
+row-picked true before told kept e = refl
+row-picked false before told kept e = ap (λ (r : Row). Some r) e
+
+close-row : (me : Side) (i : ℕ) (st : NodeState) (s : Site) (k : Kept) (closed : Bool) (o : Option Closed) → number_of k ≡ i → st ≡ k.node.seat.state
+    → (if closed then Some k.node.shown else None) ≡ o
+    → ((shown : Closed) → o ≡ Some shown → row_of me i st (coming_from s.got) shown ≡ row_at me i st k.times shown)
+    → (with_close me i st o s).row ≡ row_after me k closed s.row
+close-row me i st s k closed o number state e rows =
+    subst (λ (x : Option Closed). (with_close me i st x s).row ≡ row_after me k closed s.row) e (by closed e)
+  where
+    same : row_at me i st k.times k.node.shown ≡ row_at me (number_of k) k.node.seat.state k.times k.node.shown
+    same = ap (λ j. row_at me j st k.times k.node.shown) (sym number) ∙ ap (λ z. row_at me (number_of k) z k.times k.node.shown) state
+
+    by : (b : Bool) → (if b then Some k.node.shown else None) ≡ o
+        → (with_close me i st (if b then Some k.node.shown else None) s).row ≡ row_after me k b s.row
+    by true f = row-picked (k.node.shown.place.stage == 4) s.row _ _ (rows k.node.shown (sym f) ∙ same)
+    by false f = refl
+
+epoch-row : (sc : Scenario) (ports : List PortState) (me : Side) (i : ℕ) (o : Option Epoch) (s : Site) → (with_epoch sc ports me i o s).row ≡ s.row
+epoch-row sc ports me i None s = refl
+epoch-row sc ports me i (Some e) s = refl
+
+-- what it tells of a frame
+
+close-begun : (me : Side) (i : ℕ) (st : NodeState) (o : Option Closed) (s : Site) → (with_close me i st o s).begun ≡ s.begun
+close-begun me i st None s = refl
+close-begun me i st (Some shown) s = refl
+
+epoch-begun : (sc : Scenario) (ports : List PortState) (me : Side) (i : ℕ) (o : Option Epoch) (s : Site)
+    → (with_epoch sc ports me i o s).begun ≡ begun_after sc ports me i o s.begun
+epoch-begun sc ports me i None s = refl
+epoch-begun sc ports me i (Some e) s = refl
 
 pub ticks : (sc : Scenario) (ports : List PortState) (me : Side) (k : Kept) (passed node : Running) (step : Step) (t word : ℕ) (s : Site)
     → Stands sc me k s → IsSameNode k.node passed → IsSameNode passed node
@@ -143,6 +184,7 @@ pub ticks : (sc : Scenario) (ports : List PortState) (me : Side) (k : Kept) (pas
     → IsTicked sc ports me k (record { node = node; runs = k.runs; times = k.times }) step t s
 ticks sc ports me k passed node step t word s is same then_same word_is core act =
     let i : ℕ = number_of k in
+    let after : Kept = record { node = node; runs = k.runs; times = k.times } in
     let x : Act = pass_and_tick sc ports me i t s.core in
     let e : tick_of me passed (pass_to t s.core) word ≡ x =
     is-ticked sc ports me passed t word i s.core (same.sizes ∙ is.sizes) (same.plan ∙ is.plan) same.index word_is in
@@ -151,30 +193,99 @@ ticks sc ports me k passed node step t word s is same then_same word_is core act
     let leaves : Leaves (pass_to t s.core) x = ticked-leaves sc ports me i t s.core in
     let both : IsSameNode k.node node = record { sizes = then_same.sizes ∙ same.sizes; plan = then_same.plan ∙ same.plan; index = then_same.index ∙ same.index } in
     let passes : s.core.had ≤ max s.core.had t = omega arith in
+    let left : Site = record s { core = x.core } in
+    let closed : Site = with_close me i x.core.state x.closed left in
     record {
-      stands = epoch-stands sc ports me i (record { node = node; runs = k.runs; times = k.times }) x.epoch (with_close me i x.core.state x.closed (record s { core = x.core }))
-        (closed-stands sc ports me i k node x s (pass_to t s.core) is both core_is leaves passes refl);
+      stands = epoch-stands sc ports me i after x.epoch closed (closed-stands sc ports me i k node x s (pass_to t s.core) is both core_is leaves passes refl);
+      core = core_is;
       act = act_is;
-      row = λ h.
-        let shown : x.closed ≡ Some node.shown = is-closed step.closed node.shown x.closed act_is.closed h in
-        let below : max s.core.had t < 2 ^ 31 = ticked-running sc ports me i t s.core node.shown shown in
-        row-same me i node.seat.state k.times s.core.inbox s.got node.shown (is.together (omega (arith, below, passes))) is.times
-        (leaves.sole node.shown shown);
+      row = epoch-row sc ports me i x.epoch closed
+          ∙ close-row me i x.core.state left after step.closed x.closed both.index core_is.state act_is.closed
+          (λ shown found.
+          let below : max s.core.had t < 2 ^ 31 = ticked-running sc ports me i t s.core shown found in
+          row-same me i x.core.state k.times s.core.inbox s.got shown (is.together (omega (arith, below, passes))) is.times (leaves.sole shown found));
+      begun = epoch-begun sc ports me i x.epoch closed
+          ∙ ap (begun_after sc ports me i x.epoch) (close-begun me i x.core.state x.closed left)
+          ∙ ap (λ o. begun_after sc ports me i o s.begun) (sym act_is.epoch);
     }
 
--- At first, and for the world.
+-- The frame of a step begins at a tick that the node has had.
 
-pub fresh : (sc : Scenario) (me : Side) (node : Running) (times : List ℕ) → node.seat.sizes ≡ sc.sizes → node.seat.plan ≡ sc.plan
-    → IsCore node (first_core sc.sizes me) → Stands sc me (record { node = node; runs = true; times = times }) (fresh_site sc.sizes me)
-fresh sc me node times sizes plan core =
-    record { sizes = sizes; plan = plan; core = core; runs = refl; together = λ below. refl; times = λ j h c sole. absurd (cc) }
+epoch-tick : (sizes : Sizes) (me : Side) (st : NodeState) (m : ℕ) (e : Epoch) → epoch_at sizes me st m ≡ Some e → e.tick ≡ m
+epoch-tick sizes me st m e found = by (st.epoch == m) refl found
+  where
+    by : (b : Bool) → (st.epoch == m) ≡ b → (elim b as (λ _. Option Epoch) [ true ↦ Some (epoch_of sizes me st) | false ↦ None ]) ≡ Some e → e.tick ≡ m
+    by true h f =
+        let at : st.epoch ≡ m = grind (arith, nat_tests) in
+        let is : epoch_of sizes me st ≡ e = cc in
+        sym (ap (λ (e : Epoch). e.tick) is) ∙ at
+    by false h f = absurd (cc)
 
-pub stopped : (sc : Scenario) (me : Side) (k : Kept) (s : Site) → Stands sc me k s → Stands sc me (record k { runs = false }) (stop s)
-stopped sc me k s is = record { sizes = is.sizes; plan = is.plan; core = is.core; runs = refl; together = is.together; times = is.times }
+on-epoch : (sizes : Sizes) (plan : Plan) (me : Side) (index : ℕ) (c : Core) (st : NodeState) (message : Option Message) (kept : NodeState)
+    → (act_on sizes plan me index c st message kept).epoch ≡ epoch_at sizes me st c.had
+unfolding act_on
+on-epoch sizes plan me index c st message kept = by (is_last sizes plan me st c.had) _ _ refl refl
+  where
+    by : (b : Bool) (x y : Act) → x.epoch ≡ epoch_at sizes me st c.had → y.epoch ≡ epoch_at sizes me st c.had
+        → (elim b as (λ _. Act) [ true ↦ x | false ↦ y ]).epoch ≡ epoch_at sizes me st c.had
+    by true x y h k = h
+    by false x y h k = k
 
--- what is pending is not kept here
+at-epoch : (sizes : Sizes) (plan : Plan) (me : Side) (index : ℕ) (c : Core) (word : ℕ)
+    → (act_at sizes plan me index c word).epoch ≡ epoch_at sizes me (state_at sizes plan me c.state c.had) c.had
+unfolding act_at
+at-epoch sizes plan me index c word = on-epoch sizes plan me index c _ _ _
+
+pub begins-in-time : (me : Side) (n : Running) (shown : Closed) (step : Step) (c : Core) (word : ℕ) → IsAct shown step (tick_of me n c word)
+    → IfSome step.epoch (λ e. e.tick < 2 ^ 31)
+begins-in-time me n shown step c word act = by step.epoch act.epoch
+  where
+    by : (o : Option Epoch) → o ≡ (tick_of me n c word).epoch → IfSome o (λ e. e.tick < 2 ^ 31)
+    by None e = tt
+    by (Some epoch) e =
+        elim (cases_lt c.had (2 ^ 31)) [
+          | inl lt ↦
+              let tick_is : epoch.tick ≡ c.had =
+              epoch-tick n.seat.sizes me (state_at n.seat.sizes n.seat.plan me c.state c.had) c.had epoch
+              (sym (at-epoch n.seat.sizes n.seat.plan me n.seat.index c word)
+              ∙ sym (ap (λ (x : Act). x.epoch) (tick-now n.seat.sizes n.seat.plan me n.seat.index c word lt)) ∙ sym e) in
+              omega arith
+          | inr ge ↦
+              let none : (tick_of me n c word).epoch ≡ None = ap (λ (x : Act). x.epoch) (tick-spent n.seat.sizes n.seat.plan me n.seat.index c word ge) in
+              absurd (cc)
+        ]
+
+-- The node goes on, or stops.
+
 pub awaits : (sc : Scenario) (me : Side) (i : ℕ) (more : List Coming) (k : Kept) (s : Site) → Stands sc me k s → Stands sc me k (await sc me i more s)
 awaits sc me i more k s is = record { sizes = is.sizes; plan = is.plan; core = is.core; runs = is.runs; together = is.together; times = is.times }
+
+pub stops : (sc : Scenario) (me : Side) (k : Kept) (s : Site) → Stands sc me k s → Stands sc me (record k { runs = false }) (stop s)
+stops sc me k s is = record { sizes = is.sizes; plan = is.plan; core = is.core; runs = refl; together = is.together; times = is.times }
+
+enters : (sc : Scenario) (me : Side) (i : ℕ) (k : Kept) (s : Site) (o : Option Span) → Stands sc me k s → goes_on sc me i o ≡ true
+    → Stands sc me k (enter sc me i o s)
+enters sc me i k s None is good = awaits sc me i [] k s is
+enters sc me i k s (Some span) is good =
+    subst (λ b. Stands sc me k (elim b as (λ _. Site) [ true ↦ await sc me i (says_in sc me i span) s | false ↦ stop s ])) (sym good)
+    (awaits sc me i (says_in sc me i span) k s is)
+
+leaves-off : (sc : Scenario) (me : Side) (i : ℕ) (k : Kept) (s : Site) (o : Option Span) → Stands sc me k s → goes_on sc me i o ≡ false
+    → Stands sc me (record k { runs = false }) (enter sc me i o s)
+leaves-off sc me i k s None is bad = absurd (cc)
+leaves-off sc me i k s (Some span) is bad =
+    subst (λ b. Stands sc me (record k { runs = false }) (elim b as (λ _. Site) [ true ↦ await sc me i (says_in sc me i span) s | false ↦ stop s ])) (sym bad)
+    (stops sc me k s is)
+
+pub proceeds : (sc : Scenario) (me : Side) (i : ℕ) (k : Kept) (s : Site) → Stands sc me k s
+    → goes_on sc me i (span_from sc.sizes sc.plan me s.core.state s.core.had) ≡ true → Stands sc me k (proceed sc me i s)
+unfolding proceed
+proceeds sc me i k s is good = enters sc me i k s (span_from sc.sizes sc.plan me s.core.state s.core.had) is good
+
+pub proceeds-not : (sc : Scenario) (me : Side) (i : ℕ) (k : Kept) (s : Site) → Stands sc me k s
+    → goes_on sc me i (span_from sc.sizes sc.plan me s.core.state s.core.had) ≡ false → Stands sc me (record k { runs = false }) (proceed sc me i s)
+unfolding proceed
+proceeds-not sc me i k s is bad = leaves-off sc me i k s (span_from sc.sizes sc.plan me s.core.state s.core.had) is bad
 
 -- How far ticks may pass.
 
@@ -190,6 +301,18 @@ passing-most me n = by (next_of me n (bare_core n)) refl
               absurd (cc)
           | inr le ↦ le
         ]
+
     by : (o : Option ℕ) → next_of me n (bare_core n) ≡ o → unwrap_or o (2 ^ 31) ≤ 2 ^ 31
     by None e = omega arith
     by (Some k) e = let below : k < 2 ^ 31 = (next-is n.seat.sizes n.seat.plan me n.seat.index (bare_core n) k (early k e) e).below in omega arith
+
+-- up to the next busy tick of a site that is stood for
+pub passing-next : (sc : Scenario) (me : Side) (k : Kept) (s : Site) → Stands sc me k s
+    → passing_end me k.node ≡ unwrap_or (next_tick sc.sizes sc.plan me (number_of k) s.core) (2 ^ 31)
+passing-next sc me k s is =
+    let v : Seated = k.node.seat in
+    ap (λ o. unwrap_or o (2 ^ 31))
+    (ap (λ st. busy_among v.sizes v.plan me v.index st (2 ^ 31 - k.node.had) k.node.had) (sym is.core.state)
+    ∙ ap (λ had. busy_among v.sizes v.plan me v.index s.core.state (2 ^ 31 - had) had) (sym is.core.had)
+    ∙ ap (λ sizes. next_tick sizes v.plan me v.index s.core) is.sizes
+    ∙ ap (λ plan. next_tick sc.sizes plan me v.index s.core) is.plan)

@@ -1,9 +1,9 @@
 -- Which site of a world is stood for.
-use Rattle.std.specs.Prelude.{ℕ, ◌≡◌, ◌<◌, ◌^◌, Bool, List, [], ◌∷◌, map, slice_index}
+use Rattle.std.specs.Prelude.{ℕ, ◌≡◌, ◌<◌, ◌^◌, Bool, true, Option, Some, None, List, [], ◌∷◌, map, slice_index}
 use Rattle.rb_base.specs.Nodes.{Side}
 use Rattle.rb_rules.specs.Core.{Act}
-use Rattle.rb_rules.specs.Goodness.{Scenario}
-use Rattle.rb_rules.specs.Hearing.{Coming}
+use Rattle.rb_rules.specs.Goodness.{Scenario, is_good}
+use Rattle.rb_rules.specs.Hearing.{Coming, Span}
 use Rattle.rb_rules.specs.Ports.{PortState}
 use Rattle.rb_rules.specs.Sense.{Arrival}
 use Rattle.rb_rules.specs.WorldStep.{Site, coming_from, with_close, with_epoch}
@@ -36,6 +36,11 @@ pub record Stands (sc : Scenario) (me : Side) (k : Kept) (s : Site) : Type 0 whe
   pub together : s.core.had < 2 ^ 31 → ComeTogether s.core.inbox s.got
   pub times : HoldsTimes k.times s.got
 
--- the site after a tick that gave this, before it goes on to the next
-abbrev pub acted : Scenario → List PortState → Side → ℕ → Act → Site → Site
-acted sc ports me i x s = with_epoch sc ports me i x.epoch (with_close me i x.core.state x.closed (record s { core = x.core }))
+-- the site after a tick that gave this, before the node goes on to the next
+abbrev pub after_tick : Scenario → List PortState → Side → ℕ → Act → Site → Site
+after_tick sc ports me i x s = with_epoch sc ports me i x.epoch (with_close me i x.core.state x.closed (record s { core = x.core }))
+
+-- the node is good in the window that it enters, if it enters one
+abbrev pub goes_on : Scenario → Side → ℕ → Option Span → Bool
+goes_on sc me i None = true
+goes_on sc me i (Some span) = is_good sc me i span.place.frame span.place.slot

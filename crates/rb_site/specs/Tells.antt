@@ -1,20 +1,21 @@
 -- What a node tells of itself, by what is kept.
-use Rattle.std.specs.Prelude.{ℕ, ◌≡◌, true, List, option_map, get_or, slice_index}
+use Rattle.std.specs.Prelude.{ℕ, ◌≡◌, ◌==◌, ◌&&◌, not, Bool, Option, Some, None, List, option_map, get_or, slice_index, if◌then◌else◌}
 use Rattle.rb_base.specs.Nodes.{Side}
 use Rattle.rb_base.specs.declared.values.See.{See}
 use Rattle.rb_base.specs.declared.values.See.TheVariants.{Nothing}
 use Rattle.rb_rules.specs.declared.closing.Closed.{Closed}
-use Rattle.rb_rules.specs.Book.{Row}
-use Rattle.rb_rules.specs.Core.{pass_to}
+use Rattle.rb_rules.specs.declared.record.Epoch.{Epoch}
+use Rattle.rb_rules.specs.Book.{Begun, Row}
 use Rattle.rb_rules.specs.ExactStage.{each_node}
 use Rattle.rb_rules.specs.Goodness.{Scenario}
-use Rattle.rb_rules.specs.Hearing.{judged_see, row_of}
+use Rattle.rb_rules.specs.Hearing.{begun_of, judged_see}
 use Rattle.rb_rules.specs.NodeState.{NodeState, trusted_of}
 use Rattle.rb_rules.specs.Ports.{PortState}
-use Rattle.rb_rules.specs.WorldStep.{Site, coming_from, pass_and_tick}
+use Rattle.rb_rules.specs.WorldStep.{Site, pass_and_tick}
 use Rattle.rb_node.specs.Acts.{IsAct}
+use Rattle.rb_node.specs.Cores.{IsCore}
 use Rattle.rb_node.specs.declared.act.Step.{Step}
-use Rattle.rb_site.specs.Sites.{Kept, Stands, acted, number_of}
+use Rattle.rb_site.specs.Sites.{Kept, Stands, after_tick, number_of}
 
 -- what was seen of each source, with the time kept in place of a stamp
 abbrev pub sees_at : List ℕ → Closed → List See
@@ -30,11 +31,24 @@ row_at me i st times c = record {
   line = option_map (λ d. record { receiver = i; sender = d.sender; value = d.value }) c.delivered;
 }
 
--- tick k, before which the quiet ticks pass, gives what it gives at the site: what is kept afterwards stands for the site after it,
--- the step is what the tick gave, and the times kept make the row of what was got before it
+-- what it has told of the last stage once a tick has closed a window, or has not. Of the tail, stage 4, it tells nothing
+abbrev pub row_after : Side → Kept → Bool → Option Row → Option Row
+row_after me k closed before =
+    if closed && not (k.node.shown.place.stage == 4)
+    then Some (row_at me (number_of k) k.node.seat.state k.times k.node.shown)
+    else before
+
+-- what it has told of the last frame once this one began, if any did
+abbrev pub begun_after : Scenario → List PortState → Side → ℕ → Option Epoch → Option Begun → Option Begun
+begun_after sc ports me i None before = before
+begun_after sc ports me i (Some e) before = Some (begun_of sc ports me i e)
+
+-- tick k, before which the quiet ticks pass, is that of the site: what is kept afterwards stands for the site after it, the step is
+-- what the tick gave, and what the site then has told is told by what is kept
 pub record IsTicked (sc : Scenario) (ports : List PortState) (me : Side) (before after : Kept) (step : Step) (k : ℕ) (s : Site) : Type 0 where
-  pub stands : Stands sc me after (acted sc ports me (number_of before) (pass_and_tick sc ports me (number_of before) k s.core) s)
+  pub stands : Stands sc me after (after_tick sc ports me (number_of before) (pass_and_tick sc ports me (number_of before) k s.core) s)
+  pub core : IsCore after.node (pass_and_tick sc ports me (number_of before) k s.core).core
   pub act : IsAct after.node.shown step (pass_and_tick sc ports me (number_of before) k s.core)
-  pub row : step.closed ≡ true
-      → row_of me (number_of before) after.node.seat.state (coming_from s.got) after.node.shown
-      ≡ row_at me (number_of before) after.node.seat.state after.times after.node.shown
+  pub row : (after_tick sc ports me (number_of before) (pass_and_tick sc ports me (number_of before) k s.core) s).row ≡ row_after me after step.closed s.row
+  pub begun : (after_tick sc ports me (number_of before) (pass_and_tick sc ports me (number_of before) k s.core) s).begun
+      ≡ begun_after sc ports me (number_of before) step.epoch s.begun

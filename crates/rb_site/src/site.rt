@@ -1,21 +1,25 @@
 //! One node of a world.
-ghost use Rattle.std.specs.Prelude.{◌≡◌, ℕ, ◌<◌, ◌≤◌, false, max, IfSome, List, option_map, slice_set};
-ghost use Rattle.rb_base.specs.Nodes.{other, side_of};
+ghost use Rattle.std.specs.Prelude.{◌≡◌, ℕ, ◌-◌, ◌^◌, ◌<◌, ◌≤◌, ◌&&◌, false, max, IfSome, List, Some, option_map, slice_set, unwrap_or};
+ghost use Rattle.rb_base.specs.Nodes.{Side, other, side_of};
 ghost use Rattle.rb_rules.specs.Clock.{ComesBy};
-ghost use Rattle.rb_rules.specs.Core.{Core, pass_to};
+ghost use Rattle.rb_rules.specs.Core.{Core, next_tick, pass_to};
+ghost use Rattle.rb_rules.specs.Hearing.{begun_of};
+ghost use Rattle.rb_rules.specs.Links.{name_of};
 ghost use Rattle.rb_rules.specs.Goodness.{Scenario, clock_of};
 ghost use Rattle.rb_rules.specs.Ports.{PortState};
 ghost use Rattle.rb_rules.specs.Slots.{count_of};
-ghost use Rattle.rb_rules.specs.WorldStep.{Site as WorldSite, after_arrival, fresh_site, span_from, stop, wants_in, word_of};
+ghost use Rattle.rb_rules.specs.WorldStep.{Site as WorldSite, after_arrival, fresh_site, proceed, span_from, stop, wants_in, word_of};
 ghost use Rattle.rb_node.specs.Acts.{IsSendable, span_in};
 ghost use Rattle.rb_node.specs.Cores.{IsCore, IsSameNode, passing_end};
-ghost use Rattle.rb_site.specs.Sites.{Stands, number_of};
+ghost use Rattle.rb_node.specs.Wants.{want_for};
+ghost use Rattle.rb_site.specs.Sites.{Kept, Stands, goes_on, number_of};
 ghost use Rattle.rb_site.specs.Tells.{IsTicked};
 
-use rb_base::Kind;
+use rb_base::{Kind, NodeName};
 use rb_clock::Clock;
-use rb_node::{Node, Span, Step};
+use rb_node::{Epoch, Node, Span, Step, Want};
 use rb_plan::Feasible;
+use rb_rules::NodeLine;
 use std::marker::Model;
 
 /// One node of a world, for both kinds by one code: its core, whether it runs, and for each source the reference time of what
@@ -43,6 +47,7 @@ fn pass_to<K: Kind>(node: &mut Node<K>, k: u64)
     requires { k ≤ passing_end (side_of K.CODE) node.old }
     ensures core { (c : Core) → IsCore node.old c → IsCore node.new (pass_to k c) }
     ensures rest { node.new ≡ record node.old { had = max node.old.had k } }
+    ensures stands { (c : Core) × IsCore node.new c }
 {
     let had = node.had();
     if had < k {
@@ -56,6 +61,17 @@ fn keep_time(times: &mut [u64; 16], from: u8, time: u64)
 {
     if from < 16 {
         times[usize::from(from)] = time;
+    }
+}
+
+// The node of a kind, by the kind's code, with this number.
+fn name_of(code: u8, number: u8) -> NodeName
+    ensures { result ≡ name_of (side_of code) number }
+{
+    if code == 0 {
+        NodeName::Biu(number)
+    } else {
+        NodeName::Rmu(number)
     }
 }
 
@@ -95,6 +111,54 @@ impl<K: Kind> Site<K> {
         &self.times
     }
 
+    /// The node by its kind and number.
+    pub fn name(&self) -> NodeName
+        ensures { result ≡ name_of (side_of K.CODE) (number_of self.now) }
+    {
+        name_of(K::CODE, self.node.engine().index())
+    }
+
+    /// The number of the node's next busy tick. None exactly where that would not be below 2^31.
+    pub fn next_tick(&self) -> Option<u64>
+        ensures next { (sc : Scenario) (s : WorldSite) → Stands sc (side_of K.CODE) self.now s
+            → result ≡ next_tick sc.sizes sc.plan (side_of K.CODE) (number_of self.now) s.core }
+        ensures passing { passing_end (side_of K.CODE) self.now.node ≡ unwrap_or result (2 ^ 31) }
+        ensures below { IfSome result (λ k. k < 2 ^ 31) }
+    {
+        self.node.next_tick()
+    }
+
+    /// What the node wants for its next busy tick.
+    pub fn wants_then(&self) -> Want
+        ensures { (sc : Scenario) (s : WorldSite) (k : ℕ) → Stands sc (side_of K.CODE) self.now s
+            → next_tick sc.sizes sc.plan (side_of K.CODE) (number_of self.now) s.core ≡ Some k
+            → result ≡ want_for sc.sizes (wants_in sc (side_of K.CODE) (number_of self.now) (pass_to k s.core)) }
+    {
+        self.node.wants_then()
+    }
+
+    /// How many quiet ticks pass before tick k, or before what comes with that stamp.
+    pub fn quiet_before(&self, k: u64) -> u64
+        ensures { (sc : Scenario) (s : WorldSite) → Stands sc (side_of K.CODE) self.now s → result ≡ k - s.core.had }
+    {
+        k.saturating_sub(self.node.had())
+    }
+
+    /// What the node tells of a frame that it begins, by its clock.
+    pub fn line(&self, clock: &Clock, epoch: Epoch) -> NodeLine
+        requires { epoch.tick < 2 ^ 31 }
+        ensures { (sc : Scenario) (ports : List PortState) → clock.now ≡ clock_of sc (side_of K.CODE) (number_of self.now)
+            → result ≡ (begun_of sc ports (side_of K.CODE) (number_of self.now) epoch).line }
+    {
+        NodeLine {
+            node: self.name(),
+            tick: epoch.tick,
+            time: clock.at(epoch.tick),
+            biu: epoch.biu,
+            rmu: epoch.rmu,
+        }
+    }
+
     /// The window that begins with the node's next tick. None exactly where none does.
     pub fn entering(&self) -> Option<Span>
         ensures { (sc : Scenario) (s : WorldSite) → Stands sc (side_of K.CODE) self.now s
@@ -110,6 +174,18 @@ impl<K: Kind> Site<K> {
         ensures rest { self.new ≡ record self.old { runs = false } }
     {
         self.runs = false;
+    }
+
+    /// The node goes on to its next tick, or stops if it is not good in the window that begins with it.
+    pub fn proceed(&mut self, is_good: bool)
+        ensures stands { (sc : Scenario) (s : WorldSite) → Stands sc (side_of K.CODE) self.old s
+            → goes_on sc (side_of K.CODE) (number_of self.old) (span_from sc.sizes sc.plan (side_of K.CODE) s.core.state s.core.had) ≡ is_good
+            → Stands sc (side_of K.CODE) self.new (proceed sc (side_of K.CODE) (number_of self.old) s) }
+        ensures rest { self.new ≡ record self.old { runs = self.old.runs && is_good } }
+    {
+        if !is_good {
+            self.stop();
+        }
     }
 
     /// A message or other bytes come to the node from a source at a reference time, no later than its next busy tick, by the
@@ -130,16 +206,24 @@ impl<K: Kind> Site<K> {
     }
 
     /// Tick k of the node's clock, at the latest its next busy one, with the word that it wants for it. The quiet ticks before
-    /// it pass. What the node then shows of a window, with the times kept in place of stamps, is the row of what came.
+    /// it pass. What the node then shows of a stage, with `times` in place of stamps, is what it tells of it.
     pub fn tick(&mut self, k: u64, word: u32) -> Step
         requires { k ≤ passing_end (side_of K.CODE) self.old.node }
         ensures ticked { (sc : Scenario) (ports : List PortState) (s : WorldSite) → Stands sc (side_of K.CODE) self.old s
             → word ≡ word_of sc ports (number_of self.old) (wants_in sc (side_of K.CODE) (number_of self.old) (pass_to k s.core))
             → IsTicked sc ports (side_of K.CODE) self.old self.new result k s }
         ensures message { IfSome result.message IsSendable }
+        ensures epoch { IfSome result.epoch (λ e. e.tick < 2 ^ 31) }
         ensures same { IsSameNode self.old.node self.new.node }
     {
         pass_to(&mut self.node, k);
         self.node.step(word)
     }
 }
+
+/// Ticks may pass at a node up to the next busy tick of each site that it stands for, and where that has none up to the last of
+/// all. So what is due no later than that tick may come to the node.
+pub fn ticks_pass_to_the_next()
+    ensures { (sc : Scenario) (me : Side) (k : Kept) (s : WorldSite) → Stands sc me k s
+        → passing_end me k.node ≡ unwrap_or (next_tick sc.sizes sc.plan me (number_of k) s.core) (2 ^ 31) }
+{}

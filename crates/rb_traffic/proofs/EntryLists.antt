@@ -1,11 +1,10 @@
 -- The entries for a node, as their numbers are put together.
-use Rattle.std.proofs.Common.{◌≡◌, ℕ, zero, suc, ◌+◌, ◌-◌, ◌<◌, ◌≤◌, ◌&&◌, Bool, true, false, cond, Option, Some, None, List, [], ◌∷◌, ◌++◌, filter, length, map, take, get_or, slice_get, refl, sym, ap, ◌∙◌, subst, arith, append_assoc, length-append, inl, inr}
+use Rattle.std.proofs.Common.{◌≡◌, ℕ, zero, suc, ◌+◌, ◌<◌, Bool, true, false, cond, Some, List, [], ◌∷◌, ◌++◌, filter, length, take, get_or, slice_get, refl, sym, ap, ◌∙◌, subst, arith, append_assoc, length-append, inl, inr}
 use Rattle.std.specs.Prelude.{unwrap_or}
-use Rattle.std.specs.List.{cons_option, filter_map, flat_map, range_with_len}
+use Rattle.std.specs.List.{cons_option, flat_map, range_with_len}
 use Rattle.std.proofs.lemmas.List.{append-nil, take_more}
 use Rattle.std.proofs.lemmas.List.Elements.{filter-append, filter_map-append}
 use Rattle.std.proofs.lemmas.Option.{get_or_from_slice_get, slice_get_within}
-use Rattle.rb_base.specs.Counting.{numbers}
 use Rattle.std.proofs.lemmas.Bool.{cases_lt}
 use Rattle.rb_base.specs.Nodes.{Side, other}
 use Rattle.rb_base.specs.declared.node.NodeName.{NodeName}
@@ -119,7 +118,7 @@ kind-more says side n senders lists new to list so_far is its after =
       many = omega arith;
       each = λ i h. elim (cases_lt i n) [
         | inl less ↦ subst (AreFor says (name_of side i) senders)
-          (sym (ap (λ l. unwrap_or (slice_get l i) []) after ∙ ap (λ o. unwrap_or o []) (get-front lists list i (omega arith)))) (so_far.each i less)
+            (sym (ap (λ l. unwrap_or (slice_get l i) []) after ∙ ap (λ o. unwrap_or o []) (get-front lists list i (omega arith)))) (so_far.each i less)
         | inr more ↦
             let e : n ≡ i = omega arith in
             subst (AreFor says (name_of side i) senders) (sym (ap (λ l. unwrap_or (slice_get l i) []) after ∙ get-last lists list i (omega arith)))

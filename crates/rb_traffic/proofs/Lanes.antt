@@ -1,12 +1,11 @@
 -- Lanes that get one arrival each.
-use Rattle.std.proofs.Common.{◌≡◌, ◌≢◌, ℕ, zero, suc, ◌+◌, ◌^◌, ◌<◌, ◌≤◌, ◌==◌, ◌&&◌, nat_lt, Bool, true, false, Option, Some, None, List, [], ◌∷◌, ◌++◌, length, slice_get, refl, sym, ap, ◌∙◌, subst, arith, inl, inr}
+use Rattle.std.proofs.Common.{◌≡◌, ◌≢◌, ℕ, zero, suc, ◌+◌, ◌^◌, ◌<◌, ◌≤◌, ◌&&◌, nat_lt, Bool, true, false, Some, List, [], ◌∷◌, length, slice_get, refl, sym, ap, ◌∙◌, subst, arith, inl, inr}
 use Rattle.std.specs.Prelude.{unwrap_or, slice_set}
 use Rattle.std.proofs.lemmas.Bool.{cases_lt, cases_order}
-use Rattle.std.proofs.lemmas.Bool.Decides.{nat_tests}
 use Rattle.rb_base.specs.Nodes.{Side, has}
 use Rattle.rb_base.specs.Nodes.Side.{Biu, Rmu}
 use Rattle.rb_base.proofs.Sets.{has_above, lt_false, lt_true}
-use Rattle.rb_rules.specs.Book.{Each, map_from, of_kind}
+use Rattle.rb_rules.specs.Book.{Each, map_from}
 use Rattle.rb_rules.specs.Hearing.{Coming}
 use Rattle.rb_rules.specs.Links.{name_of}
 use Rattle.rb_queue.specs.Waiting.{HasLane, Held, empty_lane, lane_of, spare_of, with_event, with_lane}
@@ -124,6 +123,7 @@ below-same side coming running k lanes out = with-same side coming (those_below 
   where
     here : (m : ℕ) → m ≡ k → those_below running k m ≡ those_below running (k + 1) m
     here m e = ap (λ b. b && nat_lt m k) (ap (has running) e ∙ out) ∙ sym (ap (λ b. b && nat_lt m (k + 1)) (ap (has running) e ∙ out))
+
     same : (m : ℕ) → those_below running k m ≡ those_below running (k + 1) m
     same m = elim (cases_order m k) [
       | inl e ↦ here m e
@@ -136,6 +136,7 @@ below-all side coming running lanes fits = with-same side coming (those_below ru
     low : (b : Bool) → (b && true) ≡ b
     low true = refl
     low false = refl
+
     same : (m : ℕ) → those_below running 16 m ≡ has running m
     same m = elim (cases_lt m 16) [
       | inl less ↦ ap (λ b. has running m && b) (lt_true m 16 less) ∙ low (has running m)

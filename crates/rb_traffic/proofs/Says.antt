@@ -1,10 +1,9 @@
 -- What the entries for a node bring in a window is what is said to it.
-use Rattle.std.proofs.Common.{◌≡◌, ℕ, zero, suc, ◌+◌, ◌-◌, ◌<◌, ◌≤◌, ◌==◌, ◌&&◌, not, nat_le, Bool, true, false, cond, Option, Some, None, List, [], ◌∷◌, ◌++◌, filter, length, map, refl, sym, ap, ◌∙◌, subst, arith}
+use Rattle.std.proofs.Common.{◌≡◌, ℕ, zero, suc, ◌+◌, ◌-◌, ◌&&◌, not, nat_le, Bool, true, false, cond, List, [], ◌∷◌, ◌++◌, filter, map, refl, sym, ap, ◌∙◌, arith}
 use Rattle.std.specs.List.{flat_map, range_with_len}
 use Rattle.std.proofs.lemmas.Bool.Decides.{nat_tests}
 use Rattle.std.proofs.lemmas.List.{map-append}
 use Rattle.std.proofs.lemmas.List.Elements.{filter-append}
-use Rattle.rb_base.specs.Counting.{numbers}
 use Rattle.rb_base.specs.Nodes.{Side, other}
 use Rattle.rb_base.specs.Nodes.Side.{Biu, Rmu}
 use Rattle.rb_base.specs.declared.node.NodeName.{NodeName}
@@ -58,7 +57,7 @@ map-cond f false x xs = refl
 -- the entries between the two, where it is known whether the sender is good
 one-said : (sc : Scenario) (me : Side) (i j : ℕ) (span : Span) (says : List Say) → is_good sc (other me) j span.place.frame span.place.slot ≡ false
     → map (coming_said sc.plan.version (clock_of sc me i) j span) (filter (is_said me i j span) says)
-        ≡ all_brought sc (clock_of sc me i) span (filter (is_between (name_of (other me) j) (name_of me i)) says)
+    ≡ all_brought sc (clock_of sc me i) span (filter (is_between (name_of (other me) j) (name_of me i)) says)
 one-said sc me i j span [] bad = refl
 one-said sc me i j span (s ∷ says) bad =
     map-cond (coming_said sc.plan.version clock j span) (is_said me i j span s) s (filter (is_said me i j span) says)
@@ -67,15 +66,19 @@ one-said sc me i j span (s ∷ says) bad =
   where
     clock : Timeline
     clock = clock_of sc me i
+
     inside : Bool
     inside = covers s.frames s.slots s.stages span.place
+
     by_end : Bool
     by_end = nat_le (span.first + s.offset) span.last
+
     rest : List Say
     rest = filter (is_between (name_of (other me) j) (name_of me i)) says
+
     go : (b : Bool) → is_between (name_of (other me) j) (name_of me i) s ≡ b
         → cond (b && inside && by_end) (coming_said sc.plan.version clock j span s ∷ all_brought sc clock span rest) (all_brought sc clock span rest)
-            ≡ all_brought sc clock span (cond b (s ∷ rest) rest)
+        ≡ all_brought sc clock span (cond b (s ∷ rest) rest)
     go false e = refl
     go true e =
         let from : s.from ≡ name_of (other me) j = same-is s.from (name_of (other me) j) (and-left (same_node s.from (name_of (other me) j)) (stands_for s.to (name_of me i)) e) in
@@ -96,6 +99,7 @@ none-said sc me i j clock span (s ∷ says) good = go (is_between (name_of (othe
   where
     rest : List Say
     rest = filter (is_between (name_of (other me) j) (name_of me i)) says
+
     go : (b : Bool) → is_between (name_of (other me) j) (name_of me i) s ≡ b → all_brought sc clock span rest ≡ [] → all_brought sc clock span (cond b (s ∷ rest) rest) ≡ []
     go false e more = more
     go true e more =
@@ -108,14 +112,14 @@ none-said sc me i j clock span (s ∷ says) good = go (is_between (name_of (othe
 
 by-sender : (sc : Scenario) (me : Side) (i j : ℕ) (span : Span) (g : Bool) → is_good sc (other me) j span.place.frame span.place.slot ≡ g
     → elim g as (λ _. List Coming) [ true ↦ [] | false ↦ said_by sc me i span j ]
-        ≡ all_brought sc (clock_of sc me i) span (filter (is_between (name_of (other me) j) (name_of me i)) sc.says)
+    ≡ all_brought sc (clock_of sc me i) span (filter (is_between (name_of (other me) j) (name_of me i)) sc.says)
 by-sender sc me i j span true e = sym (none-said sc me i j (clock_of sc me i) span sc.says e)
 by-sender sc me i j span false e = one-said sc me i j span sc.says e
 
 -- Of all senders.
 by-senders : (sc : Scenario) (me : Side) (i a n : ℕ) (span : Span)
     → flat_map (λ j. elim (is_good sc (other me) j span.place.frame span.place.slot) as (λ _. List Coming) [ true ↦ [] | false ↦ said_by sc me i span j ]) (range_with_len a n)
-        ≡ all_brought sc (clock_of sc me i) span (flat_map (λ j. filter (is_between (name_of (other me) j) (name_of me i)) sc.says) (range_with_len a n))
+    ≡ all_brought sc (clock_of sc me i) span (flat_map (λ j. filter (is_between (name_of (other me) j) (name_of me i)) sc.says) (range_with_len a n))
 by-senders sc me i a zero span = refl
 by-senders sc me i a (suc n) span =
     let f : ℕ → List Say = λ j. filter (is_between (name_of (other me) j) (name_of me i)) sc.says in

@@ -1,14 +1,13 @@
 -- A message on its way in the lanes is on its way in the world.
-use Rattle.std.proofs.Common.{◌≡◌, ℕ, zero, suc, ◌+◌, ◌<◌, ◌≤◌, ◌&&◌, Bool, true, false, Option, Some, None, List, [], ◌∷◌, ◌++◌, slice_get, refl, sym, ap, ◌∙◌, subst, arith}
+use Rattle.std.proofs.Common.{◌≡◌, ℕ, suc, ◌+◌, ◌<◌, Bool, true, false, Some, List, [], ◌∷◌, ◌++◌, slice_get, refl, sym, ap, ◌∙◌, subst, arith}
 use Rattle.rb_base.specs.Nodes.{Side, has, other}
 use Rattle.rb_base.specs.Nodes.Side.{Biu, Rmu}
 use Rattle.rb_base.specs.Sizes.{Sizes}
 use Rattle.rb_base.specs.declared.node.NodeName.{NodeName}
 use Rattle.rb_base.specs.declared.node.NodeName.TheVariants as node
-use Rattle.rb_base.specs.declared.values.Place.{Place}
 use Rattle.rb_rules.specs.declared.message.Message.{Message}
 use Rattle.rb_rules.specs.declared.message.Version.{Version}
-use Rattle.rb_rules.specs.Book.{Each, map_from, of_kind}
+use Rattle.rb_rules.specs.Book.{Each, map_from}
 use Rattle.rb_rules.specs.Clock.{Timeline, time_of}
 use Rattle.rb_rules.specs.Goodness.{Scenario, clock_of}
 use Rattle.rb_rules.specs.Hearing.{Coming, Sending, coming_of}
@@ -22,7 +21,7 @@ use Rattle.rb_agenda.specs.Holding.{HoldsAll, HoldsSite, HoldsSites}
 use Rattle.rb_agenda.proofs.Changes.{holds-arrival}
 use Rattle.rb_traffic.specs.declared.sending.Departure.{Departure}
 use Rattle.rb_traffic.specs.Arriving.{AreRunning, arriving, coming_to, lane_with, lanes_with, number_of}
-use Rattle.rb_traffic.specs.Departing.{IsOfScenario, place_of, with_departure, with_sent}
+use Rattle.rb_traffic.specs.Departing.{IsOfScenario, with_departure, with_sent}
 
 -- the sites of a kind, each of which gets what comes to it if it runs
 abbrev gets : (ℕ → Coming) → ℕ → Site → Site
@@ -46,9 +45,10 @@ all-get : (sizes : Sizes) (side : Side) (coming : ℕ → Coming) (running : ℕ
 all-get sizes side coming running [] [] i holds runs small = tt
 all-get sizes side coming running [] (s ∷ ss) i holds runs small = absurd holds
 all-get sizes side coming running (l ∷ ls) [] i holds runs small = absurd holds
-all-get sizes side coming running (l ∷ ls) (s ∷ ss) i holds runs small =
-    (one-gets sizes side coming i l s (has running i) (let e : i ≡ i + 0 = omega arith in ap (has running) e ∙ runs 0 s refl) (small i) holds.0,
-    all-get sizes side coming running ls ss (i + 1) holds.1 (λ n x at. let e : i + 1 + n ≡ i + suc n = omega arith in ap (has running) e ∙ runs (suc n) x at) small)
+all-get sizes side coming running (l ∷ ls) (s ∷ ss) i holds runs small = (
+  one-gets sizes side coming i l s (has running i) (let e : i ≡ i + 0 = omega arith in ap (has running) e ∙ runs 0 s refl) (small i) holds.0,
+  all-get sizes side coming running ls ss (i + 1) holds.1 (λ n x at. let e : i + 1 + n ≡ i + suc n = omega arith in ap (has running) e ∙ runs (suc n) x at) small,
+)
 
 -- the other kind gets nothing
 no-biu-gets : (sc : Scenario) (j frame : ℕ) (m : Sending) (ss : List Site) (i : ℕ) → map_from i (sent_to sc Biu j frame m Biu) ss ≡ ss
@@ -67,10 +67,10 @@ from-zero running ss runs n s at = let e : 0 + n ≡ n = omega arith in ap (has 
 sent-from : (sc : Scenario) (from : NodeName) (frame tick running : ℕ) (m : Message) (lanes : Each Held) (sites : Each Site) → number_of from < count_of (kind_of from) sc.sizes
     → AreRunning (other (kind_of from)) running sites → HoldsSites sc.sizes lanes sites
     → HoldsSites sc.sizes
-        (lanes_with (other (kind_of from))
-        (coming_to sc.delays from (time_of (clock_of sc (kind_of from) (number_of from)) tick) (record { frame = frame; slot = m.slot; stage = m.stage }) (spelling_of sc.plan.version m))
-        (has running) lanes)
-        (with_message sc (kind_of from) (number_of from) frame tick (Some m) sites)
+    (lanes_with (other (kind_of from))
+    (coming_to sc.delays from (time_of (clock_of sc (kind_of from) (number_of from)) tick) (record { frame = frame; slot = m.slot; stage = m.stage }) (spelling_of sc.plan.version m))
+    (has running) lanes)
+    (with_message sc (kind_of from) (number_of from) frame tick (Some m) sites)
 sent-from sc (node.Biu j) frame tick running m lanes sites small runs holds = record {
   shape = holds.shape;
   bius = subst (HoldsAll sc.sizes Biu lanes.bius) (sym (no-biu-gets sc j frame (record { tick = tick; message = m }) sites.bius 0)) holds.bius;

@@ -87,7 +87,11 @@ fn add_between(
     ensures many { IfOk result (λ _. length places.new.items ≡ length places.old.items + length (filter (is_between from to) says.now)) }
 {
     for number in 0..says.len() {
-        add_if(places, is_between(says.get(number), from, to), number as u16)?;
+        add_if(
+            places,
+            is_between(says.get(number), from, to),
+            number as u16,
+        )?;
     }
     Ok(())
 }

@@ -5,6 +5,8 @@ mod arriving;
 mod entries;
 pub mod saying;
 pub mod sending;
+#[cfg(test)]
+mod tests;
 
 pub use saying::{Sayings, Span};
 pub use sending::{Departure, send};

@@ -1,6 +1,7 @@
 //! What nodes that are not good say.
-ghost use Rattle.std.specs.Prelude.{◌≡◌, ℕ, ◌+◌, ◌<◌, ◌≤◌, ◌^◌, ◌∷◌, [], IfOk, IsTrue, length, min, take};
+ghost use Rattle.std.specs.Prelude.{◌≡◌, ℕ, ◌+◌, ◌-◌, ◌<◌, ◌≤◌, ◌^◌, ◌∷◌, [], IfOk, IsTrue, length, min, take};
 ghost use Rattle.rb_rules.specs.Book.{Each};
+ghost use Rattle.rb_rules.specs.Clock.{time_of};
 ghost use Rattle.rb_rules.specs.Goodness.{Scenario, clock_of};
 ghost use Rattle.rb_rules.specs.Hearing.{bytes_of, message_at};
 ghost use Rattle.rb_rules.specs.Lawful.{IsNodeOf, kind_of};
@@ -114,6 +115,15 @@ fn is_said_in(onsets: &Onsets, span: &Span, say: &Say) -> bool
         && !onsets.is_good(say.from, span.place.frame, span.place.slot)
 }
 
+// When an entry comes to a node with this clock: at a tick of the window, or early before it.
+fn time_said(clock: &Clock, span: &Span, say: &Say) -> u64
+    requires { span.now.first + say.now.offset ≤ 2 ^ 31 }
+    ensures { result ≡ time_of clock.now (span.now.first + say.now.offset) - say.now.early }
+{
+    let at = clock.at(span.first + u64::from(say.offset));
+    at.saturating_sub(u64::from(say.early))
+}
+
 // What an entry brings to a node in a window comes to it.
 fn say_one(
     agenda: &mut Agenda,
@@ -135,8 +145,7 @@ fn say_one(
     ensures spare { spare_of (lane_of agenda.old to) ≤ spare_of (lane_of agenda.new to) + 1 }
 {
     if is_said_in(onsets, span, say) {
-        let at = clock.at(span.first + u64::from(say.offset));
-        let time = at.saturating_sub(u64::from(say.early));
+        let time = time_said(clock, span, say);
         let from = number_of(say.from);
         bring(agenda, to, time, from, version, span.place, &say.content);
     }
@@ -164,15 +173,7 @@ fn say_all(
     for number in places {
         let number = usize::from(*number);
         if number < says.len() {
-            say_one(
-                agenda,
-                says.get(number),
-                onsets,
-                version,
-                clock,
-                to,
-                span,
-            );
+            say_one(agenda, says.get(number), onsets, version, clock, to, span);
         }
     }
 }

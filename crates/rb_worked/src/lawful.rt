@@ -6,7 +6,9 @@ ghost use Rattle.rb_rules.specs.declared.link.Pattern.TheVariants.{AllRmu};
 ghost use Rattle.rb_rules.specs.Lawful.{IsLawful};
 ghost use Rattle.rb_worked.specs.Buses.{r, raw};
 ghost use Rattle.rb_worked.specs.Lawful.{call, lies_at_the_edge, saying};
-ghost use Rattle.rb_worked.specs.Ordinary.{ordinary_use, smallest_bus};
+ghost use Rattle.rb_worked.specs.Lies.{two_sided};
+ghost use Rattle.rb_worked.specs.Ordinary.{greatest_drift, ordinary_use, smallest_bus};
+ghost use Rattle.rb_worked.specs.Resynchronisation.{apart_in_time};
 
 /// Four BIUs and three RMUs, all good.
 pub fn ordinary_use_is_lawful()
@@ -16,6 +18,21 @@ pub fn ordinary_use_is_lawful()
 /// One BIU, one RMU and one data slot.
 pub fn smallest_bus_is_lawful()
     ensures { IsLawful smallest_bus }
+{}
+
+/// Clocks that drift as far as the plan allows.
+pub fn greatest_drift_is_lawful()
+    ensures { IsLawful greatest_drift }
+{}
+
+/// Lies of both kinds, which break the fault premise in a data slot.
+pub fn two_sided_is_lawful()
+    ensures { IsLawful two_sided }
+{}
+
+/// Lies that break it in the sync slot.
+pub fn apart_in_time_is_lawful()
+    ensures { IsLawful apart_in_time }
 {}
 
 /// An RMU calls as early and as late as may be, and fills the tail's last offset with as many bytes as a message may have.

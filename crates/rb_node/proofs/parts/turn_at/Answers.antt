@@ -1,11 +1,13 @@
-use Rattle.std.proofs.Common.{◌≡◌, ◌≤◌, true, false, sym, ◌∙◌, ap, arith}
+use Rattle.std.proofs.Common.{◌≡◌, true, false, sym, ◌∙◌, ap}
 use Rattle.rb_base.specs.Nodes.{side_of}
-use Rattle.rb_rules.specs.Core.{is_tick, state_at}
+use Rattle.rb_rules.specs.declared.plan.Window.{Window}
+use Rattle.rb_rules.specs.Core.{is_tick}
 use Rattle.rb_rules.specs.NodeState.{NodeState}
 use Rattle.rb_rules.specs.SyncStage.{new_epoch_of}
-use Rattle.rb_node.proofs.Busy.{no-turn}
+use Rattle.rb_slot.specs.Engines.{Seated}
+use Rattle.rb_node.proofs.Busy.{no-turn, turned-epoch}
 use Rattle.rb_node.proofs.Steps.{Turned, turns}
-use Rattle.rb_node.proofs.Turning.{turns-is}
+use Rattle.rb_node.proofs.Turning.{silent-says, turns-is}
 use Rattle.rb_node.proofs.parts.turn_at.Goals as goal
 
 pub window_of-requires-clause-epoch : goal.window_of-requires-clause-epoch
@@ -30,3 +32,12 @@ returns-else-is_tick-clause-state g c =
     let me = side_of g.K.Kind.CODE in
     let later : is_tick (new_epoch_of v.plan me v.state) c.args.now ≡ false = rw c.new_epoch.ensures at (sym c.is_tick.ensures ∙ c.if-is_tick.false) in
     ap (λ (st : NodeState). record v { state = st }) (sym (no-turn v me c.args.now later))
+
+pub returns-then-is_tick-clause-stage : goal.returns-then-is_tick-clause-stage
+returns-then-is_tick-clause-stage g c =
+    let v = c.args.engine.now in
+    let me = side_of g.K.Kind.CODE in
+    let now : is_tick (new_epoch_of v.plan me v.state) c.args.now ≡ true = rw c.new_epoch.ensures at (sym c.is_tick.ensures ∙ c.if-is_tick.true) in
+    let epoch : c.turn.new.self.state.epoch ≡ c.args.now =
+    ap (λ (x : Seated). x.state.epoch) c.turn.ensures ∙ ap (λ (st : NodeState). st.epoch) (sym (turns-is v me c.args.now now)) ∙ turned-epoch v me c.args.now now in
+    silent-says me c.turn.new.self _ c.args.now c.bounds.ensures.shape c.bounds.ensures.plan epoch (ap (λ (w : Window). w.slot) c.window_of.ensures.is)

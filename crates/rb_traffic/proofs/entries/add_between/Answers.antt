@@ -1,4 +1,4 @@
-use Rattle.std.proofs.Common.{◌≡◌, ◌+◌, ◌++◌, arith, ap, filter, length, ◌∙◌}
+use Rattle.std.proofs.Common.{◌+◌, ◌++◌, arith, ap, filter, length, ◌∙◌}
 use Rattle.rb_traffic.specs.Saying.{entries_at, is_between}
 use Rattle.rb_traffic.proofs.EntryLists.{one-entry, one-number, take-all}
 use Rattle.rb_traffic.proofs.entries.add_between.Goals as goal

@@ -1,4 +1,4 @@
-use Rattle.std.proofs.Common.{◌≡◌, ◌<◌, ◌≤◌, ◌+◌, arith, length, subst, sym, ap, take, ◌∙◌}
+use Rattle.std.proofs.Common.{◌<◌, ◌≤◌, ◌+◌, arith, length, subst, sym, ap, ◌∙◌}
 use Rattle.rb_queue.specs.Waiting.{HasLane, lane_of, spare_of, with_lane}
 use Rattle.rb_traffic.specs.Saying.{all_brought, entries_at, with_arrivals}
 use Rattle.rb_traffic.specs.Spans.{span_of}

@@ -1,9 +1,9 @@
-use Rattle.std.proofs.Common.{◌≡◌, ◌+◌, ◌-◌, ◌∷◌, [], cond, false, true, ap, subst, sym, ◌∙◌}
+use Rattle.std.proofs.Common.{◌+◌, ◌-◌, false, true, ap, sym, ◌∙◌}
 use Rattle.rb_queue.specs.Waiting.{lane_of, with_event, with_lane}
 use Rattle.rb_rules.specs.Clock.{time_of}
 use Rattle.rb_rules.specs.Hearing.{bytes_of}
 use Rattle.rb_traffic.specs.Arriving.{arriving}
-use Rattle.rb_traffic.specs.Saying.{brought, is_said_in, with_arrivals}
+use Rattle.rb_traffic.specs.Saying.{brought, with_arrivals}
 use Rattle.rb_traffic.specs.Spans.{span_of}
 use Rattle.rb_traffic.proofs.Arrivals.{one-brought, one-place, with-nothing}
 use Rattle.rb_traffic.proofs.saying.say_one.Goals as goal
@@ -24,13 +24,10 @@ returns-then-is_said_in-clause-lanes c =
     let clock = c.args.clock.now in
     let span = span_of c.args.span.now in
     let say = c.args.say.now in
-    let at : c.at-at.result ≡ time_of clock (span.first + say.offset) = c.at-at.ensures.time ∙ ap (λ o. time_of clock (span.first + o)) c.from.ensures in
-    let time : c.saturating_sub-time.result ≡ time_of clock (span.first + say.offset) - say.early =
-    c.saturating_sub-time.ensures ∙ ap (λ t. t - c.from-then-is_said_in.result) at ∙ ap (λ e. time_of clock (span.first + say.offset) - e) c.from-then-is_said_in.ensures in
     λ sc faults version.
     let said = sym (c.is_said_in.ensures.value sc faults) ∙ c.if-is_said_in.true in
     c.bring.ensures
-    ∙ ap (λ t. with_lane to (with_event (arriving to (record { time = t; from = c.number_of-from.result; bytes = bytes_of c.args.version span.place say.content })) (lane_of lanes to)) lanes) time
+    ∙ ap (λ t. with_lane to (with_event (arriving to (record { time = t; from = c.number_of-from.result; bytes = bytes_of c.args.version span.place say.content })) (lane_of lanes to)) lanes) c.time_said-time.ensures
     ∙ ap (λ j. with_lane to (with_event (arriving to (record { time = time_of clock (span.first + say.offset) - say.early; from = j; bytes = bytes_of c.args.version span.place say.content })) (lane_of lanes to)) lanes)
     c.number_of-from.ensures
     ∙ ap (λ v. with_lane to (with_event (arriving to (brought v clock span say)) (lane_of lanes to)) lanes) version

@@ -1,10 +1,10 @@
-use Rattle.std.proofs.Common.{◌≡◌, ◌≤◌, ◌+◌, ℕ, sym, ap, subst, refl, ◌∙◌, arith, true, false}
+use Rattle.std.proofs.Common.{◌≡◌, ◌≤◌, ◌+◌, ℕ, sym, ap, subst, ◌∙◌, arith, true}
 use Rattle.rb_base.specs.Nodes.{has, other}
 use Rattle.rb_rules.specs.Hearing.{Coming}
 use Rattle.rb_rules.specs.Lawful.{kind_of}
 use Rattle.rb_rules.specs.Links.{delay_of, name_of}
 use Rattle.rb_queue.specs.Waiting.{HasLane, lane_of, spare_of, with_event, with_lane}
-use Rattle.rb_traffic.specs.Arriving.{arriving, coming_to, lanes_with, number_of}
+use Rattle.rb_traffic.specs.Arriving.{arriving, coming_to, lanes_with}
 use Rattle.rb_traffic.proofs.Lanes.{below-all, below-more, below-none, below-same, room-yet, those_below}
 use Rattle.rb_traffic.proofs.sending.spread.Goals as goal
 use Rattle.rb_traffic.proofs.sending.spread.Goals.{then-is_one, else-is_one}

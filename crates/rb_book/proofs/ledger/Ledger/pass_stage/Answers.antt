@@ -77,9 +77,9 @@ returns-in-None-clause-passes c = λ sc w h ended next none_bius none_rmus.
       ended = sym (past.ended ∙ ended);
       judged = λ e p is. subst (λ k. Knows k (map (without_lasting sc p.frame) all)) (sym past.judge)
           (subst (λ f. Knows c.judge_stage.new.judge (map (without_lasting sc f) all)) (sym (coming.1 p is)) known);
-      bius = turns-holds sc Biu _ _ c.args.self.now.bius _ c.args.self.now.shape w.sites h.fits.sizes bius past.bius (past.good_bius sc h.fits.onsets)
+      bius = turns-holds sc Biu _ _ c.args.self.now.bius _ c.args.self.now.shape w.sites h.fits.sizes bius past.bius (past.good_bius sc h.fits.onsets bius.good)
           (λ p is. past.bius.lasting ∙ bius.lasting place refl ∙ ap (λ f. good_at sc Biu f (sync_slot_of sc.sizes)) (sym (coming.1 p is)));
-      rmus = turns-holds sc Rmu _ _ c.args.self.now.rmus _ c.args.self.now.shape w.sites h.fits.sizes rmus past.rmus (past.good_rmus sc h.fits.onsets)
+      rmus = turns-holds sc Rmu _ _ c.args.self.now.rmus _ c.args.self.now.shape w.sites h.fits.sizes rmus past.rmus (past.good_rmus sc h.fits.onsets rmus.good)
           (λ p is. past.rmus.lasting ∙ rmus.lasting place refl ∙ ap (λ f. good_at sc Rmu f (sync_slot_of sc.sizes)) (sym (coming.1 p is)));
     }) refl (past.record_is
     ∙ ap (λ (s : Sizes). slot_record s place c.args.self.now.lines.items) h.fits.sizes ∙ ap (slot_record sc.sizes place) (sym h.lines)

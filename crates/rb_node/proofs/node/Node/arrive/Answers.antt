@@ -1,7 +1,6 @@
-use Rattle.std.proofs.Common.{◌≡◌, ◌<◌, ◌≤◌, ◌^◌, ◌++◌, ◌∷◌, [], sym, ◌∙◌, ap, subst, arith}
+use Rattle.std.proofs.Common.{◌≡◌, ◌<◌, ◌≤◌, ◌^◌, sym, subst, arith}
 use Rattle.rb_base.specs.Nodes.{other, side_of}
 use Rattle.rb_rules.specs.Slots.{count_of}
-use Rattle.rb_eligible.specs.Inboxes.{HoldsArrivals}
 use Rattle.rb_node.specs.Cores.{IsCore, Running, received_of}
 use Rattle.rb_node.proofs.Between.{arrive-nobody, arrive-spent, arrive-takes, holds-more}
 use Rattle.rb_node.proofs.node.Node.arrive.Goals as goal
@@ -31,5 +30,5 @@ returns-in-Some-clause-core g c =
       state = is.state;
       had = is.had;
       inbox = holds-more c.take.new.self d.inbox c.args.from d.had c.args.bytes.now c.in-Some.source c.self.inside.had
-      (c.take.ensures.shows (received_of d.inbox) is.inbox) c.in-Some.ensures.value had;
+          (c.take.ensures.shows (received_of d.inbox) is.inbox) c.in-Some.ensures.value had;
     }))

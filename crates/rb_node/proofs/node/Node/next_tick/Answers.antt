@@ -20,7 +20,7 @@ returns-else-self-lt-MOST_TICKS-clause-core g c =
 pub returns-else-self-lt-MOST_TICKS-clause-passing : goal.returns-else-self-lt-MOST_TICKS-clause-passing
 returns-else-self-lt-MOST_TICKS-clause-passing g c =
     let n : Running = record { seat = c.self.inside.engine; had = c.self.inside.had; inbox = c.self.inside.inbox; shown = c.self.inside.shown } in
-    let most : c.self.inside.ahead.tick ≤ 2 ^ 31 = c.self.invariant.ahead.next.most in
-    let end : 2 ^ 31 ≤ c.self.inside.ahead.tick = c.if-self-lt-MOST_TICKS.false in
-    let same : c.self.inside.ahead.tick ≡ 2 ^ 31 = omega arith in
+    let most : c.self.inside.ahead.busy.tick ≤ 2 ^ 31 = c.self.invariant.ahead.next.most in
+    let end : 2 ^ 31 ≤ c.self.inside.ahead.busy.tick = c.if-self-lt-MOST_TICKS.false in
+    let same : c.self.inside.ahead.busy.tick ≡ 2 ^ 31 = omega arith in
     rw (← c.self.view_is) (passing-is _ n _ c.self.invariant.ahead.next ∙ same)

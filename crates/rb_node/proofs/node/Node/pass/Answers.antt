@@ -1,11 +1,11 @@
-use Rattle.std.proofs.Common.{◌≡◌, ◌+◌, ◌≤◌, ◌^◌, sym, ap, subst, arith}
+use Rattle.std.proofs.Common.{◌+◌, ◌≤◌, ◌^◌, sym, ap, subst, arith}
 use Rattle.rb_node.specs.Cores.{IsCore, Running}
 use Rattle.rb_node.proofs.Between.{passing-is, runs-on}
 use Rattle.rb_node.proofs.Cores.{passes}
 use Rattle.rb_node.proofs.node.Node.pass.Goals as goal
 
 -- they pass up to the tick that is kept at most
-up-to : (g : _) (c : goal.After-self g) → c.self.inside.had + c.args.ticks ≤ c.self.inside.ahead.tick
+up-to : (g : _) (c : goal.After-self g) → c.self.inside.had + c.args.ticks ≤ c.self.inside.ahead.busy.tick
 up-to g c =
     let n : Running = record { seat = c.self.inside.engine; had = c.self.inside.had; inbox = c.self.inside.inbox; shown = c.self.inside.shown } in
     let asked = rw (← c.self.view_is) at c.requires in
@@ -13,11 +13,11 @@ up-to g c =
 
 pub overflow_add-self : goal.overflow_add-self
 overflow_add-self g c =
-    let most : c.self.inside.ahead.tick ≤ 2 ^ 31 = c.self.invariant.ahead.next.most in
+    let most : c.self.inside.ahead.busy.tick ≤ 2 ^ 31 = c.self.invariant.ahead.next.most in
     let to = up-to g c in
     omega arith
 
-up-to-1 : (g : _) (c : goal.After-self-1 g) → c.self.inside.had + c.args.ticks ≤ c.self.inside.ahead.tick
+up-to-1 : (g : _) (c : goal.After-self-1 g) → c.self.inside.had + c.args.ticks ≤ c.self.inside.ahead.busy.tick
 up-to-1 g c =
     let n : Running = record { seat = c.self.inside.engine; had = c.self.inside.had; inbox = c.self.inside.inbox; shown = c.self.inside.shown } in
     let asked = rw (← c.self.view_is) at c.requires in

@@ -7,5 +7,5 @@ returns-then-self g c = rw (← c.self.view_is) (λ d is. wants-now _ _ _ _ d c.
 
 pub returns-else-self : goal.returns-else-self
 returns-else-self g c =
-    let later : c.self.inside.had ≤ c.self.inside.ahead.tick = c.self.invariant.ahead.next.later in
+    let later : c.self.inside.had ≤ c.self.inside.ahead.busy.tick = c.self.invariant.ahead.next.later in
     rw (← c.self.view_is) (λ d is. wants-quiet _ _ _ _ d c.self.invariant.ahead (omega arith) is.state is.had)

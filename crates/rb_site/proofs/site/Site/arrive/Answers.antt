@@ -1,7 +1,7 @@
-use Rattle.std.proofs.Common.{◌≡◌, ℕ, ◌<◌, ◌≤◌, ◌^◌, sym, ◌∙◌, ap, subst, arith}
+use Rattle.std.proofs.Common.{ℕ, ◌<◌, ◌≤◌, ◌^◌, ◌∙◌, ap, subst, arith}
 use Rattle.rb_base.specs.Nodes.{Side, other, side_of}
 use Rattle.rb_base.specs.Sizes.{Sizes}
-use Rattle.rb_rules.specs.Clock.{ComesBy, Timeline, stamp_of}
+use Rattle.rb_rules.specs.Clock.{Timeline, stamp_of}
 use Rattle.rb_rules.specs.Core.{arrive, pass_to}
 use Rattle.rb_rules.specs.Hearing.{Coming}
 use Rattle.rb_rules.specs.Slots.{count_of}

@@ -1,12 +1,7 @@
-use Rattle.std.proofs.Common.{◌≡◌, List, sym, ap, ◌∙◌}
-use Rattle.rb_rules.specs.declared.say.Say.{Say}
-use Rattle.rb_rules.specs.Book.{Each}
-use Rattle.rb_rules.specs.Clock.{Timeline}
-use Rattle.rb_rules.specs.Goodness.{Scenario, clock_of}
-use Rattle.rb_rules.specs.Hearing.{Coming}
+use Rattle.std.proofs.Common.{◌≡◌, sym, ap, ◌∙◌}
 use Rattle.rb_rules.specs.Lawful.{kind_of}
 use Rattle.rb_rules.specs.WorldStep.{says_in}
-use Rattle.rb_queue.specs.Waiting.{Held, lane_of, with_lane}
+use Rattle.rb_queue.specs.Waiting.{lane_of, with_lane}
 use Rattle.rb_traffic.specs.Arriving.{number_of}
 use Rattle.rb_traffic.specs.Saying.{Kept, all_brought, entries_at, entries_to, kept_of, senders_to, with_arrivals}
 use Rattle.rb_traffic.specs.Spans.{span_of}

@@ -1,0 +1,6 @@
+mod Lists
+mod GeneratedIsLawful
+mod Delays
+mod Places
+mod Read
+mod Accepted

@@ -1,0 +1,11 @@
+pub mod Reading
+pub mod Cursors
+pub mod QuietTicks
+pub mod Opening
+pub mod FieldsRead
+pub mod HeaderRead
+pub mod EntriesRead
+pub mod RoundTrip
+pub mod FieldsSpelled
+pub mod EntriesSpelled
+pub mod HeaderSpelled

@@ -1,0 +1,46 @@
+-- Reading and writing together.
+use Rattle.std.specs.Prelude.{ℕ, ◌+◌, ◌^◌, ◌≡◌, ◌≤◌, ◌<◌, ◌↔◌, true, false, List, [], ◌∷◌, ◌++◌, All, length, Ok}
+use Rattle.std.specs.List.{flat_map}
+use Rattle.rb_base.specs.Sizes.{IsShape}
+use Rattle.rb_base.specs.declared.event.Event.{Event}
+use Rattle.rb_base.specs.declared.event.EventKind.{EventKind}
+use Rattle.rb_base.specs.declared.event.EventKind.TheVariants.{Tick, Arrive}
+use Rattle.rb_base.specs.declared.node.NodeName.{NodeName}
+use Rattle.rb_rules.specs.Lawful.{IsNodeOf, IsVersion}
+use Rattle.rb_rules.specs.Spelling.{AreBytes}
+use Rattle.rb_rules.specs.Plan.{IsFeasible, IsPlan}
+use Rattle.rb_plan.specs.Timetable.{Timetable}
+use Rattle.rb_log.specs.Header.{header_of}
+use Rattle.rb_log.specs.LogText.{Log, log_in, senders_of}
+use Rattle.rb_log.specs.Spelling.{SpellsLog}
+use Rattle.rb_log.specs.Writing.{given, ticks_given, written}
+
+-- what can happen at a node: a word has four bytes, and is 0 where none was wanted; what arrives is of a node of the bus and has
+-- 1 to 32 bytes
+abbrev pub MayHappen : ℕ → EventKind → Type 0
+MayHappen senders (Tick word true) = word < 2 ^ 32
+MayHappen senders (Tick word false) = word ≡ 0
+MayHappen senders (Arrive from bytes) = (from < senders) × (1 ≤ length bytes.items) × (length bytes.items ≤ 32)
+
+abbrev pub ticks_in : List Event → ℕ
+ticks_in [] = 0
+ticks_in (e ∷ events) = ticks_given e + ticks_in events
+
+-- the numbers are those of a bus, the node is on it, and so many events can happen there
+pub record IsTellable (t : Timetable) (node : NodeName) (events : List Event) : Type 0 where
+  pub shape : IsShape t.sizes
+  pub plan : IsPlan t.plan
+  pub feasible : IsFeasible t.sizes t.plan
+  pub version : IsVersion t.plan.version
+  pub node_of : IsNodeOf t.sizes node
+  pub happen : All (λ e. MayHappen (senders_of t node) e.kind) events
+  pub ticks : ticks_in events ≤ 2147483648
+
+-- a header and what the writer gives for the events is a log, which says these numbers, this node and these events
+abbrev pub WrittenIsRead : Type 0
+WrittenIsRead = (t : Timetable) (node : NodeName) (events : List Event) → IsTellable t node events
+    → log_in (header_of t node ++ written 0 events) ≡ Ok (record { timetable = t; node = node; events = flat_map given events })
+
+-- what is read of bytes is a log exactly where they spell it
+abbrev pub ReadIsSpelled : Type 0
+ReadIsSpelled = (bytes : List ℕ) (log : Log) → AreBytes bytes → (log_in bytes ≡ Ok log) ↔ SpellsLog bytes log

@@ -1,0 +1,154 @@
+use super::*;
+use arrayvec::ArrayVec;
+use rb_base::{Event, EventKind, NodeName};
+use rb_rules::Version;
+
+// What the one RMU of the smallest bus was given in a frame of ordinary use: 243 ticks and eight arrivals.
+const LOG: [u8; 208] = [
+    82, 66, 76, 49, 1, 1, 0, 1, 0, 0, 39, 16, 0, 0, 0, 1, 0, 0, 19, 136, 0, 0, 58, 152, 0, 0, 0,
+    15, 0, 0, 0, 6, 0, 0, 0, 18, 0, 0, 0, 20, 0, 0, 0, 1, 0, 0, 235, 40, 1, 0, 2, 0, 0, 0, 7, 3, 0,
+    11, 1, 0, 0, 0, 0, 1, 0, 0, 0, 1, 1, 2, 0, 0, 0, 30, 3, 0, 11, 1, 0, 0, 0, 0, 3, 0, 0, 0, 1, 3,
+    2, 0, 0, 0, 15, 3, 0, 11, 1, 0, 0, 0, 1, 1, 0, 0, 0, 7, 6, 2, 0, 0, 0, 45, 3, 0, 11, 1, 0, 0,
+    0, 2, 1, 0, 0, 0, 0, 2, 2, 0, 0, 0, 30, 3, 0, 11, 1, 0, 0, 0, 2, 3, 0, 0, 0, 0, 0, 2, 0, 0, 0,
+    30, 3, 0, 11, 1, 0, 0, 0, 3, 2, 0, 0, 0, 0, 0, 2, 0, 0, 0, 30, 3, 0, 11, 3, 0, 0, 0, 4, 1, 0,
+    0, 0, 0, 6, 2, 0, 0, 0, 35, 3, 0, 11, 3, 0, 0, 0, 4, 3, 0, 0, 0, 0, 4, 2, 0, 0, 0, 21, 4,
+];
+
+// How many ticks and how many arrivals are left of a log with at most 1000 events.
+fn ticks_and_arrivals(log: &mut LogReader<'_>) -> (u32, u32) {
+    let (mut ticks, mut arrivals) = (0u32, 0u32);
+    for _ in 0..1000 {
+        match log.next() {
+            Some(LogEvent::Tick(_)) => ticks = ticks.wrapping_add(1),
+            Some(LogEvent::Arrive { .. }) => arrivals = arrivals.wrapping_add(1),
+            None => break,
+        }
+    }
+    (ticks, arrivals)
+}
+
+#[test]
+fn ordinary_log_is_read(rt: HostRuntime) {
+    let Ok(mut log) = LogReader::open(&LOG) else {
+        panic!(rt; "refused");
+    };
+    assert_eq!(rt; log.node(), NodeName::Rmu(0));
+    assert!(rt; header(log.plan(), log.node()).as_slice() == &LOG[..50]);
+    assert_eq!(rt; log.skip(100), 7);
+    assert_eq!(rt; log.skip(100), 0);
+    let Some(LogEvent::Arrive { from, bytes }) = log.next() else {
+        panic!(rt; "no arrival");
+    };
+    assert_eq!(rt; from, 0);
+    assert!(rt; bytes == &LOG[58..69]);
+    assert_eq!(rt; log.skip(10), 10);
+    assert_eq!(rt; ticks_and_arrivals(&mut log), (226, 7));
+}
+
+fn refusal_of(bytes: &[u8]) -> Option<LogRefusal> {
+    match LogReader::open(bytes) {
+        Ok(_) => None,
+        Err(refusal) => Some(refusal),
+    }
+}
+
+fn spoilt(place: usize, byte: u8) -> Option<LogRefusal> {
+    let mut bytes = LOG;
+    if place < 208 {
+        bytes[place] = byte;
+    }
+    refusal_of(&bytes)
+}
+
+#[test]
+fn first_fault_is_found(rt: HostRuntime) {
+    let rows = [
+        (0, 0x53, Some(LogRefusal::BadMagic)),
+        (4, 17, Some(LogRefusal::BadField(4))),
+        (13, 1, Some(LogRefusal::BadField(12))),
+        (31, 5, Some(LogRefusal::BadField(8))),
+        (49, 0xff, Some(LogRefusal::BadField(49))),
+        (50, 0xfd, Some(LogRefusal::BadField(50))),
+        (56, 0xff, Some(LogRefusal::BadField(56))),
+        (57, 0xf4, Some(LogRefusal::BadField(57))),
+        (58, 0xfe, None),
+    ];
+    for (place, byte, refusal) in rows {
+        assert_eq!(rt; spoilt(place, byte), refusal);
+    }
+    for n in 0..208 {
+        assert_eq!(rt;
+            refusal_of(&LOG[..n]),
+            Some(LogRefusal::Truncated(n as u64))
+        );
+    }
+    let mut longer = [4; 209];
+    longer[..208].copy_from_slice(&LOG);
+    assert_eq!(rt; refusal_of(&longer), Some(LogRefusal::AfterEnd(208)));
+}
+
+// A log of form 2 without a record.
+fn second_form(version: u8) -> [u8; 55] {
+    let mut bytes = [4; 55];
+    bytes[..50].copy_from_slice(&LOG[..50]);
+    bytes[3] = b'2';
+    bytes[50] = version;
+    bytes[51] = 5;
+    bytes[52] = 0;
+    bytes[53] = 3;
+    bytes
+}
+
+#[test]
+fn second_form_is_read(rt: HostRuntime) {
+    let bytes = second_form(2);
+    let Ok(mut log) = LogReader::open(&bytes) else {
+        panic!(rt; "refused");
+    };
+    assert_eq!(rt; log.plan().plan().version, Version::Two { bus: 5 });
+    assert_eq!(rt; log.plan().plan().probation, 3);
+    assert!(rt; header(log.plan(), log.node()).as_slice() == &bytes[..54]);
+    assert_eq!(rt; ticks_and_arrivals(&mut log), (0, 0));
+    assert_eq!(rt; refusal_of(&second_form(1)), Some(LogRefusal::BadField(51)));
+}
+
+fn are(bytes: ArrayVec<u8, 64>, expected: &[u8]) -> bool {
+    bytes.as_slice() == expected
+}
+
+#[test]
+fn ticks_gather(rt: HostRuntime) {
+    let node = NodeName::Rmu(0);
+    let mut writer = LogWriter::new();
+    let mut message = ArrayVec::new();
+    message.push(9);
+    let idle = Event {
+        node,
+        quiet: 6,
+        kind: EventKind::Tick {
+            word: 0,
+            wanted: false,
+        },
+    };
+    let arrival = Event {
+        node,
+        quiet: 1,
+        kind: EventKind::Arrive {
+            from: 2,
+            bytes: message,
+        },
+    };
+    let wanted = Event {
+        node,
+        quiet: 0,
+        kind: EventKind::Tick {
+            word: 258,
+            wanted: true,
+        },
+    };
+    assert!(rt; are(writer.event(&idle), &[]));
+    assert!(rt; are(writer.event(&arrival), &[2, 0, 0, 0, 8, 3, 2, 1, 9]));
+    assert!(rt; are(writer.event(&wanted), &[1, 0, 0, 1, 2]));
+    assert!(rt; are(writer.event(&idle), &[]));
+    assert!(rt; are(writer.end(), &[2, 0, 0, 0, 7, 4]));
+}
