@@ -2,3 +2,5 @@ pub mod Buses
 pub mod Worlds
 pub mod Turning
 pub mod Steps
+pub mod Nexts
+pub mod Driving

@@ -9,6 +9,7 @@ use crate::bus::Bus;
 use crate::last::Last;
 use crate::proceeding::proceed;
 use crate::scene::Scene;
+use crate::ties::Seeding;
 use crate::world::World;
 use rb_agenda::Agenda;
 use rb_base::{Kind, NodeName, NodeSet, OutOfMemory};
@@ -49,6 +50,7 @@ fn open_scene(alloc: Global, bus: &Bus) -> Result<Scene, OutOfMemory> {
         ports: open_ports(alloc, bus)?,
         running_biu: NodeSet::first(shape.biu()),
         running_rmu: NodeSet::first(shape.rmu()),
+        seeding: Seeding::new(0),
     })
 }
 
