@@ -104,7 +104,7 @@ of-coming t j k (p ∷ events) = pick (comes t j p) refl (of-coming t j (k + 1) 
   where
     pick : (b : Bool) → comes t j p ≡ b → AreOf t (filter (λ c. comes t j c.1) (enumerate_from (k + 1) events))
         → AreOf t (cond b ((k, p) ∷ filter (λ c. comes t j c.1) (enumerate_from (k + 1) events)) (filter (λ c. comes t j c.1) (enumerate_from (k + 1) events)))
-    pick true is more = of-cons t (k, p) (filter (λ c. comes t j c.1) (enumerate_from (k + 1) events)) (grind (nat_tests, is)) more
+    pick true is more = of-cons t (k, p) (filter (λ c. comes t j c.1) (enumerate_from (k + 1) events)) (grind (arith, nat_tests, is)) more
     pick false is more = more
 
 of-from : (t : ℕ) (events : List Pending) (a n : ℕ) → AreOf t (from_on t events a n)

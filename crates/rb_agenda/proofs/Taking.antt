@@ -1,5 +1,5 @@
 -- A due event is taken.
-use Rattle.std.proofs.Common.{◌≡◌, ℕ, ◌==◌, true, Option, Some, List, slice_get, refl, sym, ap, ◌∙◌, subst}
+use Rattle.std.proofs.Common.{◌≡◌, ℕ, ◌==◌, true, Option, Some, List, slice_get, refl, sym, ap, ◌∙◌, subst, arith}
 use Rattle.std.proofs.lemmas.Bool.Decides.{nat_tests}
 use Rattle.std.specs.Prelude.{option_map, unwrap_or}
 use Rattle.rb_base.specs.declared.event.Event.{Event}
@@ -37,7 +37,7 @@ ready-first : (lanes : Each Held) (l : Held) (place : ℕ) (c : ℕ × Pending) 
 ready-first lanes l place c e first =
     let head : head_of l ≡ Some c.1.time = ready-time l place c e in
     let key : key_of l ≡ c.1.time = ap (λ o. unwrap_or o 18446744073709551615) head in
-    sym key ∙ grind (nat_tests, first)
+    (let time : key_of l ≡ first_time lanes = grind (arith, nat_tests, first) in sym key ∙ time)
 
 pub takes-due : (sc : Scenario) (w : World) (lanes new : Each Held) (i : ℕ) (event : Event) (name : NodeName) (place : ℕ) → HoldsSites sc.sizes lanes w.sites
     → AreTimes (in_order lanes) → StandsAt lanes (first_time lanes) i name place → ready_event place (lane_of lanes name) ≡ Some event

@@ -1,7 +1,8 @@
 -- Nodes of a bus by their names, and how much may be pending at them.
-use Rattle.std.specs.Prelude.{ℕ, ◌≡◌, ◌+◌, ◌≤◌, Some, List, length, slice_get}
+use Rattle.std.specs.Prelude.{ℕ, ◌≡◌, ◌+◌, ◌≤◌, All, List, length}
 use Rattle.rb_base.specs.Nodes.{Side}
-use Rattle.rb_rules.specs.Book.{Each, of_kind}
+use Rattle.rb_base.specs.Nodes.Side.{Biu, Rmu}
+use Rattle.rb_rules.specs.Book.{Each}
 use Rattle.rb_rules.specs.Goodness.{Scenario}
 use Rattle.rb_rules.specs.Clock.{Timeline}
 use Rattle.rb_rules.specs.Lawful.{IsLawful}
@@ -35,7 +36,12 @@ pub record IsBus (count : ℕ) (sc : Scenario) (onsets : Faults) (sayings : Kept
   pub sayings_are : sayings ≡ kept_of sc
   pub many : count ≡ length sc.says
 
--- At each node there is room for all that is pending there, and, when an event has been taken, for all that may then come at once: its
--- next tick and what is said to it in a window, or a message
+-- At a node of kind me there is room for all that is pending there, and, when an event has been taken, for all that may then come at
+-- once: its next tick and what is said to it in a window, or a message
+abbrev pub HasRoom : Scenario → Side → Held → Type 0
+HasRoom sc me lane = most_pending sc me + length sc.says + 1 ≤ lane.room
+
+-- so at each node
 pub record HaveRooms (sc : Scenario) (lanes : Each Held) : Type 0 where
-  pub enough : (me : Side) (i : ℕ) (lane : Held) → slice_get (of_kind me lanes) i ≡ Some lane → most_pending sc me + length sc.says + 1 ≤ lane.room
+  pub bius : All (HasRoom sc Biu) lanes.bius
+  pub rmus : All (HasRoom sc Rmu) lanes.rmus

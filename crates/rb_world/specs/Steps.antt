@@ -12,7 +12,7 @@ use Rattle.rb_rules.specs.Clock.{ComesBy, Timeline}
 use Rattle.rb_rules.specs.Core.{Act, Core, next_tick}
 use Rattle.rb_rules.specs.Goodness.{Scenario, clock_of}
 use Rattle.rb_rules.specs.Hearing.{Coming}
-use Rattle.rb_rules.specs.Lawful.{IsLawful}
+use Rattle.rb_rules.specs.Lawful.{IsLawful, kind_of}
 use Rattle.rb_rules.specs.Links.{name_of}
 use Rattle.rb_rules.specs.Slots.{count_of, first_diagnosis_of}
 use Rattle.rb_rules.specs.WorldStep.{Due, Site, World, after_act, at_node, due_of, happens, pass_and_tick, proceed, with_act, with_delivery}
@@ -21,12 +21,16 @@ use Rattle.rb_agenda.specs.Holding.{Shows, without_waiting}
 use Rattle.rb_node.specs.Cores.{IsCore, passing_end}
 use Rattle.rb_node.specs.declared.act.Want.{Want}
 use Rattle.rb_node.specs.declared.act.Want.TheVariants as want
-use Rattle.rb_book.specs.Changing.{changed_at, with_row}
+use Rattle.rb_book.specs.Changing.{with_row}
 use Rattle.rb_queue.specs.Waiting.{lane_of, spare_of}
 use Rattle.rb_site.specs.Sites.{Kept as KeptSite, Stands as StandsFor, number_of}
 use Rattle.rb_traffic.specs.Arriving.{number_of as number_in}
 use Rattle.rb_world.specs.declared.scene.Scene.{Scene}
 use Rattle.rb_world.specs.Worlds.{AreNodes, IsNode, IsReached, Surrounds}
+
+-- the world in which the site of node i of kind me has changed
+abbrev pub moved : Side → ℕ → (Site → Site) → World → World
+moved me i change w = record w { sites = at_node me i change w.sites }
 
 -- In a world in which no tick is pending at node i of kind me, its site is this. What is kept of it and around it stands for that, and
 -- there is room for its next tick and for what is said to it in a window
@@ -53,7 +57,7 @@ pub record IsCoreAt (sc : Scenario) (me : Side) (node : NodeName) (site : KeptSi
 -- the node has gone on, and only what is pending there and whether it runs has changed around it
 pub record Proceeds (sc : Scenario) (me : Side) (i : ℕ) (site : KeptSite) (before after : Scene) (w : World) (s : Site) : Type 0 where
   pub node : IsNode sc me i site (proceed sc me i s)
-  pub surrounds : Surrounds sc after (record w { sites = at_node me i (proceed sc me i) w.sites })
+  pub surrounds : Surrounds sc after (moved me i (proceed sc me i) w)
   pub others : of_kind (other me) after.agenda ≡ of_kind (other me) before.agenda
 
 -- Ticks.
@@ -74,7 +78,7 @@ SeesOnlyNodes sc me c = (j : ℕ) → count_of (other me) sc.sizes ≤ j → get
 
 -- a node has closed this window and told this row of it, and what it delivered is at its port
 abbrev pub closed_at : Scenario → NodeName → Closed → Row → World → World
-closed_at sc node c row w = record (changed_at node (with_row c.place.stage row) w) { ports = with_delivery sc (number_in node) c.delivered w.ports }
+closed_at sc node c row w = record (moved (kind_of node) (number_in node) (with_row c.place.stage row) w) { ports = with_delivery sc (number_in node) c.delivered w.ports }
 
 -- there is room for one event more at each node of a kind
 abbrev pub HasRoomFor : Scenario → Side → Scene → Type 0
@@ -108,7 +112,7 @@ pub record MayHappen (sc : Scenario) (nodes : Each KeptSite) (scene : Scene) (ti
   pub shows : Shows d.pending event.kind
   pub time : IsAtTime time d.pending
   pub nodes : (me : Side) → AreNodes sc me (of_kind me nodes) (of_kind me w.sites)
-  pub surrounds : Surrounds sc scene (record w { sites = at_node d.side d.node (without_waiting d.pending) w.sites })
+  pub surrounds : Surrounds sc scene (moved d.side d.node (without_waiting d.pending) w)
 
 -- it has happened
 pub record Happens (sc : Scenario) (nodes : Each KeptSite) (scene : Scene) (w : World) (d : Due) : Type 0 where

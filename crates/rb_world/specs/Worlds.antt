@@ -64,6 +64,7 @@ running_of Rmu scene = scene.running_rmu
 
 -- this is kept of what surrounds the nodes: what is pending, with room for more, what they told, the ports, and who runs
 pub record Surrounds (sc : Scenario) (scene : Scene) (w : World) : Type 0 where
+  pub counts : (me : Side) → length (of_kind me w.sites) ≡ count_of me sc.sizes
   pub lanes : HoldsSites sc.sizes scene.agenda w.sites
   pub rooms : HaveRooms sc scene.agenda
   pub book : Holds sc scene.book w

@@ -5,11 +5,10 @@ ghost use Rattle.rb_rules.specs.Core.{Core};
 ghost use Rattle.rb_rules.specs.Lawful.{IsNodeOf, kind_of};
 ghost use Rattle.rb_rules.specs.Links.{name_of};
 ghost use Rattle.rb_rules.specs.WorldStep.{Site as WorldSite, World, await, stop};
-ghost use Rattle.rb_book.specs.Changing.{changed_at};
 ghost use Rattle.rb_queue.specs.Waiting.{lane_of, spare_of};
 ghost use Rattle.rb_site.specs.Sites.{number_of};
 ghost use Rattle.rb_traffic.specs.Arriving.{number_of as number_in};
-ghost use Rattle.rb_world.specs.Steps.{IsAt, IsCoreAt, Proceeds};
+ghost use Rattle.rb_world.specs.Steps.{IsAt, IsCoreAt, Proceeds, moved};
 ghost use Rattle.rb_world.specs.Worlds.{Surrounds};
 
 use crate::bus::Bus;
@@ -34,7 +33,7 @@ fn await_tick<K: Kind>(bus: &Bus, node: NodeName, site: &Site<K>, scene: &mut Sc
     requires around { (w : World) × Surrounds bus.now scene.old w }
     requires spare { 1 ≤ spare_of (lane_of scene.old.agenda node) }
     ensures { (w : World) (c : Core) → IsCoreAt bus.now (side_of K.CODE) node site.now c w → Surrounds bus.now scene.old w
-        → Surrounds bus.now scene.new (changed_at node (await bus.now (side_of K.CODE) (number_in node) []) w) }
+        → Surrounds bus.now scene.new (moved (kind_of node) (number_in node) (await bus.now (side_of K.CODE) (number_in node) []) w) }
 {
     if let Some(tick) = site.node().next_tick() {
         let kind = EventKind::Tick {
@@ -57,7 +56,7 @@ fn await_tick<K: Kind>(bus: &Bus, node: NodeName, site: &Site<K>, scene: &mut Sc
 fn stop_at(bus: &Bus, node: NodeName, scene: &mut Scene)
     requires node { IsNodeOf bus.now.sizes node }
     requires around { (w : World) × Surrounds bus.now scene.old w }
-    ensures { (w : World) → Surrounds bus.now scene.old w → Surrounds bus.now scene.new (changed_at node stop w) }
+    ensures { (w : World) → Surrounds bus.now scene.old w → Surrounds bus.now scene.new (moved (kind_of node) (number_in node) stop w) }
 {
     scene.agenda.drop_all(node);
     match node {

@@ -6,14 +6,14 @@ ghost use Rattle.rb_rules.specs.Lawful.{IsNodeOf, kind_of};
 ghost use Rattle.rb_rules.specs.Ports.{PortState};
 ghost use Rattle.rb_node.specs.Acts.{IsSendable};
 ghost use Rattle.rb_node.specs.Wants.{want_for};
-ghost use Rattle.rb_book.specs.Changing.{changed_at, with_begun};
+ghost use Rattle.rb_book.specs.Changing.{with_begun};
 ghost use Rattle.rb_site.specs.Tells.{row_at};
 ghost use Rattle.rb_traffic.specs.Arriving.{number_of as number_in};
 ghost use Rattle.rb_world.specs.Worlds.{HoldsPorts, Surrounds};
 ghost use Rattle.rb_rules.specs.Links.{name_of};
 ghost use Rattle.rb_rules.specs.WorldStep.{Site as WorldSite, World, with_delivery, with_message, word_of};
 ghost use Rattle.rb_site.specs.Sites.{number_of};
-ghost use Rattle.rb_world.specs.Steps.{CanWant, HasRoomFor, IsWordSlot, MayTick, SeesOnlyNodes, Ticks, act_at, closed_at};
+ghost use Rattle.rb_world.specs.Steps.{CanWant, HasRoomFor, IsWordSlot, MayTick, SeesOnlyNodes, Ticks, act_at, closed_at, moved};
 
 use crate::bus::Bus;
 use crate::proceeding::proceed;
@@ -27,7 +27,7 @@ use rb_traffic::Departure;
 
 // The word that a node is handed for a tick: its request, or what its port offers.
 pub(crate) fn word_for(bus: &Bus, apps: &Apps, ports: &[Port], i: u8, want: Want) -> u32
-    requires { CanWant bus.now i want }
+    requires want { CanWant bus.now i want }
     requires many { length ports.now ≡ bus.now.sizes.bius }
     ensures { (states : List PortState) (slot : Option ℕ) → HoldsPorts bus.now ports.now states → IsWordSlot bus.now.sizes slot
         → want ≡ want_for bus.now.sizes slot → result ≡ word_of bus.now states i slot }
@@ -44,7 +44,7 @@ fn begin(bus: &Bus, node: NodeName, epoch: &Epoch, scene: &mut Scene)
     requires node { IsNodeOf bus.now.sizes node }
     requires around { (w : World) × Surrounds bus.now scene.old w }
     ensures around { (w : World) → Surrounds bus.now scene.old w
-        → Surrounds bus.now scene.new (changed_at node (with_begun (begun_of bus.now w.ports (kind_of node) (number_in node) epoch.now)) w) }
+        → Surrounds bus.now scene.new (moved (kind_of node) (number_in node) (with_begun (begun_of bus.now w.ports (kind_of node) (number_in node) epoch.now)) w) }
     ensures rest { scene.new ≡ record scene.old { book = scene.new.book } }
 {
     let line = NodeLine {
