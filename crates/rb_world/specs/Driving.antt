@@ -1,5 +1,5 @@
 -- What drives give, and what they tell.
-use Rattle.std.specs.Prelude.{⊤, ℕ, ◌≡◌, Bool, List, [], ◌∷◌, ◌++◌, map, Option, Some, None, if◌then◌else◌}
+use Rattle.std.specs.Prelude.{⊤, ℕ, ◌≡◌, ◌<◌, Bool, true, List, [], ◌∷◌, ◌++◌, length, map, Option, Some, None, if◌then◌else◌}
 use Rattle.rb_base.specs.declared.values.Heard.{Heard}
 use Rattle.rb_base.specs.declared.values.Heard.TheVariants.{Fault}
 use Rattle.rb_rules.specs.declared.record.NodeLine.{NodeLine}
@@ -74,3 +74,4 @@ pub record Keeps (before after : KeptTurns) (turn : Turn) : Type 0 where
   pub tells : Tells (told_of before) (told_of after) turn
   pub room : after.room ≡ before.room
   pub mask : after.mask ≡ before.mask
+  pub telling : before.telling ≡ true → length before.turns < before.room → after.telling ≡ true

@@ -139,9 +139,7 @@ impl Drive for MemDrive {
 
     ghost told = { told_of };
 
-    fn next(&mut self, world: &mut World, apps: &Apps) -> Turn
-        ensures room { self.new.room ≡ self.old.room }
-    {
+    fn next(&mut self, world: &mut World, apps: &Apps) -> Turn {
         let turn = world.next(apps, Ties::First);
         let turn = if self.mask { masked(turn) } else { turn };
         self.keep(&turn);

@@ -5,7 +5,7 @@ ghost use Rattle.rb_rules.specs.Goodness.{is_good};
 ghost use Rattle.rb_rules.specs.Ports.{PortState, with_state};
 ghost use Rattle.rb_rules.specs.WorldStep.{World as RunWorld, hand};
 ghost use Rattle.rb_port.specs.Keeping.{HoldsPort};
-ghost use Rattle.rb_world.specs.Worlds.{ArePorts, Stands};
+ghost use Rattle.rb_world.specs.Worlds.{Stands};
 
 use crate::bus::Bus;
 use crate::last::Last;
