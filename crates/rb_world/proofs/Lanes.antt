@@ -93,11 +93,12 @@ rooms-spread sc lanes Rmu coming p rooms = record { bius = rooms.bius; rmus = ro
 
 events-are : (events : List Pending) → length events ≡ length (arrivals_in events) + length (ticks_in events)
 events-are [] = refl
-events-are (p ∷ events) = by p.event.kind
+events-are (p ∷ events) = by p.event.kind (events-are events)
   where
-    by : (k : EventKind) → suc (length events) ≡ length (cons_option (coming_with p.time k) (arrivals_in events)) + length (cons_option (tick_with p.time k) (ticks_in events))
-    by (kind.Arrive from bytes) = ap suc (events-are events)
-    by (kind.Tick word wanted) = omega (arith, events-are events)
+    by : (k : EventKind) → length events ≡ length (arrivals_in events) + length (ticks_in events)
+        → suc (length events) ≡ length (cons_option (coming_with p.time k) (arrivals_in events)) + length (cons_option (tick_with p.time k) (ticks_in events))
+    by (kind.Arrive from bytes) rest = ap suc rest
+    by (kind.Tick word wanted) rest = omega (arith, rest)
 
 pub events-count : (sizes : Sizes) (me : Side) (lane : Held) (s : Site) → HoldsSite sizes me lane s → length lane.events ≡ length (times_of s)
 events-count sizes me lane s h =

@@ -4,3 +4,8 @@ pub mod Around
 pub mod Turns
 pub mod Words
 pub mod Lanes
+pub mod Going
+pub mod Onward
+pub mod Entries
+pub mod Told
+pub mod Idle

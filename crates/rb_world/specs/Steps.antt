@@ -80,6 +80,11 @@ SeesOnlyNodes sc me c = (j : ℕ) → count_of (other me) sc.sizes ≤ j → get
 abbrev pub closed_at : Scenario → NodeName → Closed → Row → World → World
 closed_at sc node c row w = record (moved (kind_of node) (number_in node) (with_row c.place.stage row) w) { ports = with_delivery sc (number_in node) c.delivered w.ports }
 
+-- if it has closed one
+abbrev pub closed_if : Scenario → NodeName → Option Closed → Row → World → World
+closed_if sc node None row w = w
+closed_if sc node (Some c) row w = closed_at sc node c row w
+
 -- there is room for one event more at each node of a kind
 abbrev pub HasRoomFor : Scenario → Side → Scene → Type 0
 HasRoomFor sc me scene = (j : ℕ) → j < count_of me sc.sizes → 1 ≤ spare_of (lane_of scene.agenda (name_of me j))
@@ -104,19 +109,19 @@ act_at sc w me i k s = pass_and_tick sc w.ports me i k s.core
 
 -- The event that is due at place i has been taken out of what is pending: this event, at this time. What is kept of the nodes stands
 -- for the world before, and what surrounds them for the world without it
-pub record MayHappen (sc : Scenario) (nodes : Each KeptSite) (scene : Scene) (time : ℕ) (name : NodeName) (event : Event) (w : World) (i : ℕ) (d : Due) : Type 0 where
+pub record MayHappen (sc : Scenario) (kept : Each KeptSite) (scene : Scene) (time : ℕ) (name : NodeName) (event : Event) (w : World) (i : ℕ) (d : Due) : Type 0 where
   pub lawful : IsLawful sc
   pub reached : IsReached sc w
   pub found : slice_get (due_of sc w) i ≡ Some d
   pub node : name ≡ name_of d.side d.node
   pub shows : Shows d.pending event.kind
-  pub time : IsAtTime time d.pending
-  pub nodes : (me : Side) → AreNodes sc me (of_kind me nodes) (of_kind me w.sites)
+  pub time_is : IsAtTime time d.pending
+  pub nodes : (me : Side) → AreNodes sc me (of_kind me kept) (of_kind me w.sites)
   pub surrounds : Surrounds sc scene (moved d.side d.node (without_waiting d.pending) w)
 
 -- it has happened
-pub record Happens (sc : Scenario) (nodes : Each KeptSite) (scene : Scene) (w : World) (d : Due) : Type 0 where
-  pub nodes : (me : Side) → AreNodes sc me (of_kind me nodes) (of_kind me (happens sc w d).sites)
+pub record Happens (sc : Scenario) (kept : Each KeptSite) (scene : Scene) (w : World) (d : Due) : Type 0 where
+  pub nodes : (me : Side) → AreNodes sc me (of_kind me kept) (of_kind me (happens sc w d).sites)
   pub surrounds : Surrounds sc scene (happens sc w d)
 
 -- An arrival at node i of kind me is the one that has been taken out of what is pending there, at the least time of all

@@ -140,7 +140,7 @@ impl Bus {
 
     /// How many data slots BIU `i` asks for.
     pub fn request(&self, i: u8) -> u32
-        requires { i < 16 }
+        requires { i < self.now.sizes.bius }
         ensures { result ≡ get_or self.now.requests i 0 }
     {
         u32::from(self.requests[usize::from(i)])

@@ -1,0 +1,106 @@
+-- What a node tells, and what it delivers.
+use Rattle.std.proofs.Common.{◌≡◌, ℕ, zero, suc, ◌<◌, ◌≤◌, ◌==◌, Bool, true, false, Some, None, Option, List, [], ◌∷◌, length, slice_get, get_or, refl, sym, ap, ◌∙◌, subst, arith}
+use Rattle.std.specs.Prelude.{slice_set, unwrap_or}
+use Rattle.std.proofs.lemmas.Bool.Decides.{nat_tests}
+use Rattle.std.proofs.lemmas.List.{length-set}
+use Rattle.rb_base.specs.Nodes.{Side}
+use Rattle.rb_base.specs.Nodes.Side.{Biu, Rmu}
+use Rattle.rb_base.specs.declared.values.Delivery.{Delivery}
+use Rattle.rb_rules.specs.declared.record.Epoch.{Epoch}
+use Rattle.rb_rules.specs.declared.record.PortLine.{PortLine}
+use Rattle.rb_rules.specs.Book.{Begun}
+use Rattle.rb_rules.specs.Clock.{time_of}
+use Rattle.rb_rules.specs.Goodness.{Scenario, clock_of}
+use Rattle.rb_rules.specs.Hearing.{begun_of, port_at, port_line}
+use Rattle.rb_rules.specs.Links.{name_of}
+use Rattle.rb_rules.specs.Ports.{PortState, delivered_to, fresh_port}
+use Rattle.rb_rules.specs.WorldStep.{World, with_delivery, with_epoch}
+use Rattle.rb_book.specs.Changing.{with_begun}
+use Rattle.rb_book.specs.Holding.{Holds}
+use Rattle.rb_book.specs.declared.ledger.Ledger.{Ledger}
+use Rattle.rb_port.specs.Keeping.{HoldsPort, KeptPort}
+use Rattle.rb_world.specs.declared.scene.Scene.{Scene}
+use Rattle.rb_world.specs.Steps.{moved}
+use Rattle.rb_world.specs.Worlds.{HoldsPorts, Surrounds}
+use Rattle.rb_world.proofs.Around.{Tells, told-more}
+
+-- The begin of a frame.
+
+pub begun-tells : (b : Begun) → Tells (with_begun b)
+begun-tells b = record { coming = λ s. refl; ahead = λ s. refl; runs = λ s. refl }
+
+pub begins : (sc : Scenario) (scene : Scene) (book : Ledger) (w : World) (me : Side) (i : ℕ) (e : Epoch) (b : Begun) → Surrounds sc scene w
+    → b ≡ begun_of sc w.ports me i e → Holds sc book (moved me i (with_begun b) w)
+    → Surrounds sc (record scene { book = book }) (moved me i (with_epoch sc w.ports me i (Some e)) w)
+begins sc scene book w me i e b is same holds =
+    subst (λ b. Surrounds sc (record scene { book = book }) (moved me i (with_begun b) w)) same (told-more sc scene book w me i (with_begun b) (begun-tells b) is holds)
+
+abbrev pub begun_with : Side → ℕ → Epoch → ℕ → Option PortLine → Begun
+begun_with me i e time port = record {
+  frame = e.frame;
+  line = record { node = name_of me i; tick = e.tick; time = time; biu = e.biu; rmu = e.rmu };
+  port = port;
+}
+
+pub begun-is : (sc : Scenario) (ports : List PortState) (me : Side) (i : ℕ) (e : Epoch) (time : ℕ) (port : Option PortLine) → time ≡ time_of (clock_of sc me i) e.tick
+    → port ≡ port_line me i (port_at sc ports i) → begun_with me i e time port ≡ begun_of sc ports me i e
+begun-is sc ports me i e time port time_is port_is = ap (λ t. begun_with me i e t port) time_is ∙ ap (begun_with me i e (time_of (clock_of sc me i) e.tick)) port_is
+
+-- Ports.
+
+pub get-is : {X : Type 0} (xs : List X) (i : ℕ) (d : X) → i < length xs → slice_get xs i ≡ Some (get_or xs i d)
+get-is [] i d h = absurd (omega arith)
+get-is (x ∷ xs) zero d h = refl
+get-is (x ∷ xs) (suc i) d h = get-is xs i d (omega arith)
+
+set-here : {X : Type 0} (xs : List X) (i : ℕ) (y z : X) → slice_get (slice_set xs i y) i ≡ Some z → y ≡ z
+set-here [] i y z e = cc
+set-here (x ∷ xs) zero y z e = ap (λ o. unwrap_or o y) e
+set-here (x ∷ xs) (suc i) y z e = set-here xs i y z e
+
+set-there : {X : Type 0} (xs : List X) (i n : ℕ) (y : X) → (n == i) ≡ false → slice_get (slice_set xs i y) n ≡ slice_get xs n
+set-there [] i n y h = refl
+set-there (x ∷ xs) zero zero y h = absurd (cc)
+set-there (x ∷ xs) zero (suc n) y h = refl
+set-there (x ∷ xs) (suc i) zero y h = refl
+set-there (x ∷ xs) (suc i) (suc n) y h = set-there xs i n y (let apart : (n == i) ≡ false = grind (arith, nat_tests, h) in apart)
+
+-- a delivery goes to its port
+pub delivers : (sc : Scenario) (kept : List KeptPort) (states : List PortState) (i : ℕ) (k : KeptPort) (d : Delivery) → i < length kept
+    → ((old : KeptPort) (port : PortState) → slice_get kept i ≡ Some old → HoldsPort old port → HoldsPort k (delivered_to port d.value)) → HoldsPorts sc kept states
+    → HoldsPorts sc (slice_set kept i k) (with_delivery sc i (Some d) states)
+delivers sc kept states i k d inside step is =
+    let port : PortState = port_at sc states i in
+    let all : length states ≡ sc.sizes.bius = is.all in
+    let many : length kept ≡ sc.sizes.bius = is.many in
+    let known : slice_get states i ≡ Some port = get-is states i (fresh_port (get_or sc.apps i 0) (get_or sc.words i 0)) (omega arith) in
+    let old : KeptPort = get_or kept i k in
+    let own : HoldsPort k (delivered_to port d.value) = step old port (get-is kept i k inside) (is.each i old port (get-is kept i k inside) known) in
+    record {
+      many = length-set kept i k ∙ is.many;
+      all = length-set states i (delivered_to port d.value) ∙ is.all;
+      each = λ n a p ea ep. by n a p ea ep (n == i) refl own;
+    }
+  where
+    by : (n : ℕ) (a : KeptPort) (p : PortState) → slice_get (slice_set kept i k) n ≡ Some a → slice_get (slice_set states i (delivered_to (port_at sc states i) d.value)) n ≡ Some p
+        → (b : Bool) → (n == i) ≡ b → HoldsPort k (delivered_to (port_at sc states i) d.value) → HoldsPort a p
+    by n a p ea ep true h own =
+        let same : n ≡ i = grind (arith, nat_tests, h) in
+        subst (λ a. HoldsPort a p) (set-here kept i k a (subst (λ m. slice_get (slice_set kept i k) m ≡ Some a) same ea))
+        (subst (HoldsPort k) (set-here states i (delivered_to (port_at sc states i) d.value) p
+        (subst (λ m. slice_get (slice_set states i (delivered_to (port_at sc states i) d.value)) m ≡ Some p) same ep)) own)
+    by n a p ea ep false h own =
+        is.each n a p (sym (set-there kept i n k h) ∙ ea) (sym (set-there states i n (delivered_to (port_at sc states i) d.value) h) ∙ ep)
+
+set-past : {X : Type 0} (xs : List X) (i : ℕ) (y : X) → length xs ≤ i → slice_set xs i y ≡ xs
+set-past [] i y h = refl
+set-past (x ∷ xs) zero y h = absurd (omega arith)
+set-past (x ∷ xs) (suc i) y h = ap (λ l. x ∷ l) (set-past xs i y (omega arith))
+
+-- where there is no port, nothing changes
+pub delivers-none : (sc : Scenario) (kept : List KeptPort) (states : List PortState) (i : ℕ) (d : Delivery) → length kept ≤ i → HoldsPorts sc kept states
+    → HoldsPorts sc kept (with_delivery sc i (Some d) states)
+delivers-none sc kept states i d past is =
+    let all : length states ≡ sc.sizes.bius = is.all in
+    let many : length kept ≡ sc.sizes.bius = is.many in
+    subst (HoldsPorts sc kept) (sym (set-past states i (delivered_to (port_at sc states i) d.value) (omega arith))) is
