@@ -9,3 +9,6 @@ pub mod Onward
 pub mod Entries
 pub mod Told
 pub mod Idle
+pub mod Masks
+pub mod LastTurn
+pub mod Steps
