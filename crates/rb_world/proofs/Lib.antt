@@ -11,4 +11,5 @@ pub mod Told
 pub mod Idle
 pub mod Masks
 pub mod LastTurn
+pub mod GoingOn
 pub mod Steps
