@@ -13,3 +13,4 @@ pub mod Masks
 pub mod LastTurn
 pub mod GoingOn
 pub mod Steps
+pub mod NextRecord

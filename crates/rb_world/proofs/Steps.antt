@@ -106,7 +106,7 @@ steps-count sc ties (suc n) s lawful reached quiet =
 
 few-takes : (sc : Scenario) → IsLawful sc → most_takes sc < 2 ^ 63
 few-takes sc lawful =
-    let nodes : nodes_of sc.sizes ≤ 32 = let b = lawful.sizes.biu_most in let r = lawful.sizes.rmu_most in omega (arith, b, r) in
+    let nodes : nodes_of sc.sizes ≤ 32 = let b = lawful.sizes.most_bius in let r = lawful.sizes.most_rmus in omega (arith, b, r) in
     let says = lawful.few_says in
     let up : nodes_of sc.sizes * length sc.says ≤ 32 * 1024 = mul-le (nodes_of sc.sizes) (length sc.says) 32 1024 nodes says in
     let once : most_at_once sc ≤ 32800 = omega (arith, nodes, up) in

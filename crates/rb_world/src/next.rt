@@ -58,7 +58,7 @@ impl World {
         ensures world { (w : RunWorld) → Stands self.old w → RunsOn ties draws.old.state draws.new.state self.old self.new result w }
         ensures bus { self.new.bus ≡ self.old.bus }
     {
-        for _steps in 0..u64::MAX {
+        for passed in 0..u64::MAX {
             let turn = self.step(apps, ties, draws);
             let Turn::Quiet = turn else {
                 return turn;
