@@ -14,3 +14,4 @@ pub mod LastTurn
 pub mod GoingOn
 pub mod Steps
 pub mod NextRecord
+pub mod Handed
