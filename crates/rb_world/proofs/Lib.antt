@@ -9,3 +9,5 @@ pub mod Onward
 pub mod Entries
 pub mod Told
 pub mod Idle
+pub mod Seeing
+pub mod Entering

@@ -1,6 +1,6 @@
 -- Which world of the definitions is stood for.
 use Rattle.std.specs.Prelude.{ℕ, ◌≡◌, ◌<◌, ◌||◌, true, false, Option, Some, None, option_map, List, [], length, slice_get}
-use Rattle.rb_base.specs.Nodes.{Side}
+use Rattle.rb_base.specs.Nodes.{Side, has}
 use Rattle.rb_base.specs.Nodes.Side.{Biu, Rmu}
 use Rattle.rb_rules.specs.Book.{Each, Record, of_kind}
 use Rattle.rb_rules.specs.Clock.{time_of}
@@ -70,6 +70,7 @@ pub record Surrounds (sc : Scenario) (scene : Scene) (w : World) : Type 0 where
   pub book : Holds sc scene.book w
   pub ports : HoldsPorts sc scene.ports.items w.ports
   pub running : (me : Side) → AreRunning me (running_of me scene) w.sites
+  pub within : (me : Side) (i : ℕ) → has (running_of me scene) i ≡ true → i < count_of me sc.sizes
 
 -- The world.
 
