@@ -110,15 +110,15 @@ stop-around sc before after w me i there stops is =
       within = inside me stops.own stops.others;
     }
   where
+    second : (a b : Bool) → (a && b) ≡ true → b ≡ true
+    second true b h = h
+    second false b h = cc
+
     less : (me : Side) (r n : ℕ) → ((n : ℕ) → has r n ≡ true → n < count_of me sc.sizes) → has (without r i) n ≡ true → n < count_of me sc.sizes
     less me r n all h = elim (cases_lt n 16) [
       | inl lt ↦ all n (second (not (n == i)) (has r n) (sym (has-set_of n (λ k. not (k == i) && has r k) lt) ∙ h))
       | inr ge ↦ absurd (let never : false ≡ true = sym (has_above (without r i) n (set_of-lt (λ k. not (k == i) && has r k)) ge) ∙ h in cc)
     ]
-
-    second : (a b : Bool) → (a && b) ≡ true → b ≡ true
-    second true b h = h
-    second false b h = cc
 
     inside : (me : Side) → running_of me after ≡ without (running_of me before) i → running_of (other me) after ≡ running_of (other me) before
         → (side : Side) (n : ℕ) → has (running_of side after) n ≡ true → n < count_of side sc.sizes

@@ -11,3 +11,5 @@ pub mod Told
 pub mod Idle
 pub mod Seeing
 pub mod Entering
+pub mod Alike
+pub mod Acting

@@ -127,11 +127,11 @@ tick-sees sizes plan me i c word j shown none = by (is_spent c)
 apart : (a j n : ℕ) → a < n → n ≤ j → (a == j) ≡ false
 apart a j n h k = grind (arith, nat_tests, h, k)
 
-cons-first : (a b : ℕ) (as bs : List ℕ) → a ∷ as ≡ b ∷ bs → a ≡ b
-cons-first a b as bs e = cc
+cons-first : (a b : ℕ) (xs ys : List ℕ) → a ∷ xs ≡ b ∷ ys → a ≡ b
+cons-first a b xs ys e = cc
 
-cons-rest : (a b : ℕ) (as bs : List ℕ) → a ∷ as ≡ b ∷ bs → as ≡ bs
-cons-rest a b as bs e = cc
+cons-rest : (a b : ℕ) (xs ys : List ℕ) → a ∷ xs ≡ b ∷ ys → xs ≡ ys
+cons-rest a b xs ys e = cc
 
 pub none-came : (inbox : List (ℕ × Arrival)) (got : List Coming) (n j : ℕ) → ComeTogether inbox got → All (λ (c : Coming). c.from < n) got → n ≤ j → of_source inbox j ≡ []
 none-came [] got n j together all h = refl

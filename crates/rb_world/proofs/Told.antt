@@ -1,5 +1,5 @@
 -- What a node tells, and what it delivers.
-use Rattle.std.proofs.Common.{◌≡◌, ℕ, zero, suc, ◌<◌, ◌≤◌, ◌==◌, Bool, true, false, Some, None, Option, List, [], ◌∷◌, length, slice_get, get_or, refl, sym, ap, ◌∙◌, subst, arith}
+use Rattle.std.proofs.Common.{◌≡◌, ℕ, zero, suc, ◌<◌, ◌≤◌, ◌==◌, Bool, true, false, Some, None, Option, List, [], ◌∷◌, length, slice_get, get_or, refl, sym, ap, ◌∙◌, subst, arith, if◌then◌else◌}
 use Rattle.std.specs.Prelude.{slice_set, unwrap_or}
 use Rattle.std.proofs.lemmas.Bool.Decides.{nat_tests}
 use Rattle.std.proofs.lemmas.List.{length-set}
@@ -17,15 +17,17 @@ use Rattle.rb_rules.specs.Goodness.{Scenario, clock_of}
 use Rattle.rb_rules.specs.Hearing.{begun_of, port_at, port_line}
 use Rattle.rb_rules.specs.Lawful.{kind_of}
 use Rattle.rb_rules.specs.Links.{name_of}
+use Rattle.rb_rules.specs.NodeState.{NodeState, trusted_of}
+use Rattle.rb_site.specs.Tells.{row_at}
 use Rattle.rb_rules.specs.Ports.{PortState, delivered_to, fresh_port, losses_of}
 use Rattle.rb_rules.specs.WorldStep.{Site, World, with_delivery, with_epoch}
-use Rattle.rb_book.specs.Changing.{changed_at, number_in, side_in, with_begun, with_row}
+use Rattle.rb_book.specs.Changing.{changed_at, number_in, row_shown, side_in, with_begun, with_row}
 use Rattle.rb_book.specs.Holding.{Holds}
 use Rattle.rb_book.specs.declared.ledger.Ledger.{Ledger}
 use Rattle.rb_port.specs.Keeping.{HoldsPort, KeptPort}
 use Rattle.rb_traffic.specs.Arriving.{number_of}
 use Rattle.rb_world.specs.declared.scene.Scene.{Scene}
-use Rattle.rb_world.specs.Steps.{closed_at, moved}
+use Rattle.rb_world.specs.Steps.{closed_at, closed_if, moved}
 use Rattle.rb_world.specs.Worlds.{HoldsPorts, Surrounds}
 use Rattle.rb_world.proofs.Around.{Tells, ports-more, told-more}
 use Rattle.rb_world.proofs.Sites.{at-id}
@@ -125,6 +127,32 @@ number-is (node.Rmu i) = refl
 pub changed-is : (name : NodeName) (change : Site → Site) (w : World) → changed_at name change w ≡ moved (kind_of name) (number_of name) change w
 changed-is (node.Biu i) change w = refl
 changed-is (node.Rmu i) change w = refl
+
+trusted-swap : (me side : Side) (st : NodeState) → trusted_of me side st ≡ trusted_of side me st
+trusted-swap Biu Biu st = refl
+trusted-swap Biu Rmu st = refl
+trusted-swap Rmu Biu st = refl
+trusted-swap Rmu Rmu st = refl
+
+-- what a node tells by what is kept of it
+pub close-is : (sc : Scenario) (scene after : Scene) (w : World) (name : NodeName) (me : Side) (closed : Bool) (c d : Closed) (times ts : List ℕ) (biu rmu : ℕ) (st : NodeState)
+    → closed ≡ true → d ≡ c → ts ≡ times → biu ≡ trusted_of me Biu st → rmu ≡ trusted_of me Rmu st → after.agenda ≡ scene.agenda
+    → after.running_biu ≡ scene.running_biu → after.running_rmu ≡ scene.running_rmu
+    → Holds sc after.book (changed_at name (with_row d.place.stage (row_shown (number_in name) d ts biu rmu)) w)
+    → HoldsPorts sc after.ports.items (with_delivery sc (number_of name) d.delivered w.ports) → Surrounds sc scene w
+    → Surrounds sc after (closed_if sc name (if closed then Some c else None) (row_at me (number_of name) st times c) w)
+close-is sc scene after w name me closed c d times ts biu rmu st is_closed shown times_are biu_is rmu_is agenda runs_biu runs_rmu book ports is =
+    let book_moved : Holds sc after.book (moved (kind_of name) (number_of name) (with_row d.place.stage (row_shown (number_in name) d ts biu rmu)) w) =
+    subst (Holds sc after.book) (changed-is name (with_row d.place.stage (row_shown (number_in name) d ts biu rmu)) w) book in
+    let row_is : row_shown (number_in name) d ts biu rmu ≡ row_at me (number_of name) st times d =
+    ap (λ n. row_shown n d ts biu rmu) (number-is name) ∙ ap (λ l. row_shown (number_of name) d l biu rmu) times_are
+    ∙ ap (λ b. row_shown (number_of name) d times b rmu) (biu_is ∙ trusted-swap me Biu st)
+    ∙ ap (λ r. row_shown (number_of name) d times (trusted_of Biu me st) r) (rmu_is ∙ trusted-swap me Rmu st) in
+    let done : Surrounds sc after (closed_at sc name d (row_at me (number_of name) st times d) w) =
+    closes-then sc scene after w name d (row_at me (number_of name) st times d) agenda runs_biu runs_rmu
+    (subst (λ r. Holds sc after.book (moved (kind_of name) (number_of name) (with_row d.place.stage r) w)) row_is book_moved) ports is in
+    subst (λ b. Surrounds sc after (closed_if sc name (if b then Some c else None) (row_at me (number_of name) st times c) w)) (sym is_closed)
+    (subst (λ (d : Closed). Surrounds sc after (closed_at sc name d (row_at me (number_of name) st times d) w)) shown done)
 
 -- Ports.
 

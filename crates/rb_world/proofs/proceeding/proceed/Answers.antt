@@ -23,7 +23,7 @@ returns-then-not-is_good g c =
     let me = side_of g.K.Kind.CODE in
     let enters = sym (c.entering.ensures sc s may.at.stands) ∙ ap (option_map span_in) c.in-Some.is in
     after-stop sc me (number_of c.args.site.now) c.args.node c.args.site.now c.stop.new.self c.args.scene.now c.stop_at.new.scene w s (span_in c.in-Some.span) c.requires.name may.at enters
-    (sym c.is_good.ensures ∙ ?) c.stop.ensures.rest (c.stop_at.ensures.around w may.at.surrounds) c.stop_at.ensures.others
+    (sym c.is_good.ensures ∙ c.if-not-is_good.true) c.stop.ensures.rest (c.stop_at.ensures.around w may.at.surrounds) c.stop_at.ensures.others
 
 pub say-requires-clause-lane : goal.say-requires-clause-lane
 say-requires-clause-lane g c =
