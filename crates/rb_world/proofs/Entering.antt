@@ -1,5 +1,6 @@
 -- A node enters a window, or not.
-use Rattle.std.proofs.Common.{◌≡◌, ℕ, ◌+◌, ◌<◌, ◌≤◌, Bool, true, false, Some, None, Option, List, [], ◌∷◌, ◌++◌, length, slice_get, refl, sym, ap, ◌∙◌, subst, arith}
+use Rattle.std.proofs.Common.{◌≡◌, ℕ, ◌+◌, ◌<◌, ◌≤◌, Bool, true, false, Some, None, Option, List, [], ◌∷◌, ◌++◌, length, map, slice_get, refl, sym, ap, ◌∙◌, subst, arith, length-append}
+use Rattle.std.proofs.lemmas.List.{length-map}
 use Rattle.std.specs.Prelude.{option_map, unwrap_or}
 use Rattle.rb_base.specs.Nodes.{Side, other}
 use Rattle.rb_base.specs.Nodes.Side.{Biu, Rmu}
@@ -11,17 +12,19 @@ use Rattle.rb_rules.specs.Hearing.{Coming, Span}
 use Rattle.rb_rules.specs.Lawful.{is_node_good, kind_of}
 use Rattle.rb_rules.specs.Links.{name_of}
 use Rattle.rb_rules.specs.WorldStep.{Site, World, at_node, await, says_in, span_from, stop}
-use Rattle.rb_queue.specs.Waiting.{HasLane, Held, lane_of, with_lane}
+use Rattle.rb_queue.specs.Waiting.{HasLane, Held, lane_of, spare_of, with_lane}
+use Rattle.rb_agenda.proofs.Keeping.{lane-with}
 use Rattle.rb_agenda.specs.Holding.{HoldsSites}
 use Rattle.rb_order.proofs.WorldStands.{get-at, is_node, node-itself}
 use Rattle.rb_site.specs.Sites.{Kept as KeptSite}
-use Rattle.rb_traffic.specs.Arriving.{number_of}
+use Rattle.rb_traffic.specs.Arriving.{arriving, number_of}
 use Rattle.rb_traffic.specs.Saying.{hears, with_arrivals}
 use Rattle.rb_world.specs.declared.scene.Scene.{Scene}
 use Rattle.rb_world.specs.Buses.{HaveRooms}
 use Rattle.rb_world.specs.Steps.{IsAt, IsCoreAt, OthersStay, Proceeds, moved}
 use Rattle.rb_world.specs.Worlds.{Surrounds}
 use Rattle.rb_world.proofs.Around.{Pends, pends-more}
+use Rattle.rb_world.proofs.Entries.{says-few}
 use Rattle.rb_world.proofs.Going.{name-is, says-then}
 use Rattle.rb_world.proofs.Lanes.{kind-named, number-named, rooms-with}
 use Rattle.rb_world.proofs.Onward.{goes-in, goes-on, goes-out, others-stay, proceeds-on, proceeds-out}
@@ -102,6 +105,20 @@ pub await-named : (sc : Scenario) (me : Side) (i : ℕ) (w : World)
     → moved (kind_of (name_of me i)) (number_of (name_of me i)) (await sc me (number_of (name_of me i)) []) w ≡ moved me i (await sc me i []) w
 await-named sc Biu i w = refl
 await-named sc Rmu i w = refl
+
+-- there is room for the next tick then
+pub spare-said : (sc : Scenario) (lanes after : Each Held) (name : NodeName) (span : Span) → HasLane lanes name
+    → after ≡ with_lane name (with_arrivals name (says_in sc (kind_of name) (number_of name) span) (lane_of lanes name)) lanes
+    → length sc.says + 1 ≤ spare_of (lane_of lanes name) → 1 ≤ spare_of (lane_of after name)
+spare-said sc lanes after name span there is spare =
+    let more : List Coming = says_in sc (kind_of name) (number_of name) span in
+    let lane : Held = lane_of lanes name in
+    let now : lane_of after name ≡ with_arrivals name more lane = ap (λ ls. lane_of ls name) is ∙ lane-with lanes name (with_arrivals name more lane) there in
+    let many : length (lane.events ++ map (arriving name) more) ≡ length lane.events + length (map (arriving name) more) = length-append lane.events (map (arriving name) more) in
+    let each : length (map (arriving name) more) ≡ length more = length-map more (arriving name) in
+    let few : length more ≤ length sc.says = says-few sc (kind_of name) (number_of name) span in
+    let left : 1 ≤ spare_of (with_arrivals name more lane) = omega (arith, many, each, few, spare) in
+    subst (λ l. 1 ≤ spare_of l) (sym now) left
 
 -- The node has gone on.
 
