@@ -13,3 +13,4 @@ pub mod Seeing
 pub mod Entering
 pub mod Alike
 pub mod Acting
+pub mod Whole

@@ -212,3 +212,8 @@ delivers-none sc kept states i d past is =
     let all : length states ≡ sc.sizes.bius = is.all in
     let many : length kept ≡ sc.sizes.bius = is.many in
     subst (HoldsPorts sc kept) (sym (set-past states i (delivered_to (port_at sc states i) d.value) (omega arith))) is
+
+pub got-is : {X : Type 0} (xs : List X) (i : ℕ) (x d : X) → slice_get xs i ≡ Some x → get_or xs i d ≡ x
+got-is [] i x d e = cc
+got-is (y ∷ xs) zero x d e = ap (λ o. unwrap_or o d) e
+got-is (y ∷ xs) (suc i) x d e = got-is xs i x d e

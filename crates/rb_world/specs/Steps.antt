@@ -112,6 +112,8 @@ HasRoomFor sc me scene = (j : ℕ) → j < count_of me sc.sizes → 1 ≤ spare_
 pub record MayTick (sc : Scenario) (me : Side) (i k : ℕ) (site : KeptSite) (scene : Scene) (w : World) (s : Site) : Type 0 where
   pub at : IsAt sc me i site scene w s
   pub next : next_tick sc.sizes sc.plan me i s.core ≡ Some k
+  pub later : s.core.had ≤ k
+  pub below : k < 2 ^ 31
   pub senders : All (λ (c : Coming). c.from < count_of (other me) sc.sizes) s.got
   pub message : HasRoomFor sc (other me) scene
   pub spans : SpansFit sc me (pass_and_tick sc w.ports me i k s.core).core
