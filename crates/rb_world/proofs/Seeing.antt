@@ -1,5 +1,5 @@
 -- A node sees nothing of nodes that are not there.
-use Rattle.std.proofs.Common.{◌≡◌, ℕ, suc, ◌+◌, ◌<◌, ◌≤◌, ◌==◌, ◌&&◌, Bool, true, false, Some, None, Option, All, List, [], ◌∷◌, cond, filter, length, map, get_or, refl, sym, ap, ◌∙◌, subst, arith, inl, inr, if◌then◌else◌}
+use Rattle.std.proofs.Common.{◌≡◌, ℕ, zero, suc, ◌+◌, ◌<◌, ◌≤◌, ◌==◌, ◌&&◌, Bool, true, false, Some, None, Option, All, List, [], ◌∷◌, cond, filter, length, map, get_or, refl, sym, ap, ◌∙◌, subst, arith, inl, inr, if◌then◌else◌}
 use Rattle.std.specs.Prelude.{unwrap_or}
 use Rattle.std.proofs.lemmas.Bool.{cases_lt}
 use Rattle.std.proofs.lemmas.Bool.Decides.{nat_tests}
@@ -33,7 +33,7 @@ use Rattle.rb_site.specs.Sites.{ComeTogether}
 
 past-end : {X : Type 0} (xs : List X) (j : ℕ) (d : X) → length xs ≤ j → get_or xs j d ≡ d
 past-end [] j d h = refl
-past-end (x ∷ xs) 0 d h = absurd (omega arith)
+past-end (x ∷ xs) zero d h = absurd (omega arith)
 past-end (x ∷ xs) (suc j) d h = past-end xs j d (omega arith)
 
 map-twice : {X Y Z : Type 0} (f : X → Y) (g : Y → Z) (xs : List X) → map g (map f xs) ≡ map (λ x. g (f x)) xs
