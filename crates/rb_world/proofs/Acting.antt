@@ -142,3 +142,7 @@ unfolding with_act after_act
 act-is sc w me i k x =
     ap (λ (sites : Each Site). record w { sites = with_message sc me i x.core.state.frame k x.message sites; ports = with_delivery sc i (option_and_then (λ (c : Closed). c.delivered) x.closed) w.ports })
     (at-twice me i (proceed sc me i) (acted sc w.ports me i x) w.sites)
+
+pub next-is : (sc : Scenario) (me : Side) (i k : ℕ) (site : KeptSite) (c : Core) → site.node.seat.sizes ≡ sc.sizes → site.node.seat.plan ≡ sc.plan → number_of site ≡ i
+    → next_tick sc.sizes sc.plan me i c ≡ Some k → next_of me site.node c ≡ Some k
+next-is sc me i k site c sizes plan number next = next-kept sc me i site c sizes plan number ∙ next

@@ -97,10 +97,10 @@ epoch-on sizes plan me i c st m kept = by (is_last sizes plan me st c.had)
     by true = refl
     by false = refl
 
-some-same : {X : Type 0} (a b : X) → Some a ≡ Some b → a ≡ b
+pub some-same : {X : Type 0} (a b : X) → Some a ≡ Some b → a ≡ b
 some-same a b e = ap (λ o. unwrap_or o a) e
 
-none-some : {X : Type 0} (x : X) → None ≡ Some x → ⊥
+pub none-some : {X : Type 0} (x : X) → None ≡ Some x → ⊥
 none-some x e = cc
 
 at-had : (sizes : Sizes) (me : Side) (st : NodeState) (k : ℕ) → IfSome (epoch_at sizes me st k) (λ e. e.tick ≤ k)
