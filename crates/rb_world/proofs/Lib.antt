@@ -14,3 +14,4 @@ pub mod Entering
 pub mod Alike
 pub mod Acting
 pub mod Whole
+pub mod Happening

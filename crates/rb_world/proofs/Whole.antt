@@ -1,7 +1,8 @@
 -- A tick as a whole.
-use Rattle.std.proofs.Common.{◌≡◌, ℕ, ◌+◌, ◌<◌, ◌≤◌, ◌^◌, ◌==◌, Bool, true, false, Some, None, Option, List, [], get_or, slice_get, refl, sym, ap, ◌∙◌, subst, arith, if◌then◌else◌}
+use Rattle.std.proofs.Common.{◌≡◌, ℕ, ◌+◌, ◌<◌, ◌≤◌, ◌^◌, ◌==◌, Bool, true, false, Some, None, Option, All, List, [], get_or, slice_get, refl, sym, ap, ◌∙◌, subst, arith, if◌then◌else◌}
 use Rattle.std.specs.Prelude.{IfSome, length, unwrap_or}
 use Rattle.std.proofs.lemmas.Bool.Decides.{nat_tests}
+use Rattle.std.proofs.lemmas.List.Elements.{All-nil}
 use Rattle.rb_base.specs.Nodes.{Side, other}
 use Rattle.rb_base.specs.Nodes.Side.{Biu, Rmu}
 use Rattle.rb_base.specs.Sizes.{Sizes}
@@ -14,7 +15,7 @@ use Rattle.rb_rules.specs.Book.{Each, Row, of_kind}
 use Rattle.rb_rules.specs.Core.{Act, Core, act_at, act_on, epoch_at, is_last, is_spent, of_source, pass_to, tick, window_here}
 use Rattle.rb_rules.specs.ExactStage.{Outcome}
 use Rattle.rb_rules.specs.Goodness.{Scenario, is_good}
-use Rattle.rb_rules.specs.Hearing.{Span, close_window, row_of}
+use Rattle.rb_rules.specs.Hearing.{Coming, Span, close_window, row_of}
 use Rattle.rb_rules.specs.Lawful.{kind_of}
 use Rattle.rb_rules.specs.Links.{name_of}
 use Rattle.rb_rules.specs.NodeState.{NodeState}
@@ -63,6 +64,18 @@ acted-ahead sc ports me i x s = acted-keeps (λ s. s.ahead) sc ports me i x s (�
 
 acted-runs : (sc : Scenario) (ports : List PortState) (me : Side) (i : ℕ) (x : Act) (s : Site) → (acted sc ports me i x s).runs ≡ s.runs
 acted-runs sc ports me i x s = acted-keeps (λ s. s.runs) sc ports me i x s (λ z e. refl) (λ z c. refl)
+
+acted-got : (sc : Scenario) (ports : List PortState) (me : Side) (i : ℕ) (x : Act) (s : Site) (P : Coming → Type 0) → All P s.got → All P (acted sc ports me i x s).got
+acted-got sc ports me i x s P all = begun x.epoch (closed x.closed)
+  where
+    closed : (o : Option Closed) → All P (with_close me i x.core.state o (record s { core = x.core })).got
+    closed None = all
+    closed (Some c) = All-nil P
+
+    begun : (o : Option Epoch) → All P (with_close me i x.core.state x.closed (record s { core = x.core })).got
+        → All P (with_epoch sc ports me i o (with_close me i x.core.state x.closed (record s { core = x.core }))).got
+    begun None h = h
+    begun (Some e) h = h
 
 entered-core : (sc : Scenario) (me : Side) (i : ℕ) (o : Option Span) (s : Site) → (enter sc me i o s).core ≡ s.core
 entered-core sc me i None s = refl
@@ -150,7 +163,7 @@ sees-nodes sc me i k site scene w s step shown may act is j past =
     let later : s.core.had ≤ k = may.later in
     let below : k < 2 ^ 31 = may.below in
     sees-passed sc w.ports me i k j s.core shown
-    (none-came s.core.inbox s.got (count_of (other me) sc.sizes) j (may.at.stands.together (omega (arith, later, below))) may.senders past)
+    (none-came s.core.inbox s.got (count_of (other me) sc.sizes) j (may.at.stands.together (omega (arith, later, below))) may.at.senders past)
     (closed-is step.closed shown (pass_and_tick sc w.ports me i k s.core).closed act.closed is)
 
 -- The parts.
@@ -193,6 +206,7 @@ may-then sc me k site after before scene w s step same may ticked agenda told =
         stands = ticked.stands;
         none_ahead = acted-ahead sc w.ports me i x s ∙ may.at.none_ahead;
         runs = acted-runs sc w.ports me i x s ∙ may.at.runs;
+        senders = acted-got sc w.ports me i x s (λ c. c.from < count_of (other me) sc.sizes) may.at.senders;
         surrounds = told;
         spare = subst (λ ls. length sc.says + 1 ≤ spare_of (lane_of ls (name_of me i))) (sym agenda) may.at.spare;
       };

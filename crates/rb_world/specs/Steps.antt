@@ -42,6 +42,7 @@ pub record IsAt (sc : Scenario) (me : Side) (i : ℕ) (site : KeptSite) (scene :
   pub stands : StandsFor sc me site s
   pub none_ahead : s.ahead ≡ None
   pub runs : s.runs ≡ true
+  pub senders : All (λ (c : Coming). c.from < count_of (other me) sc.sizes) s.got
   pub surrounds : Surrounds sc scene w
   pub spare : length sc.says + 1 ≤ spare_of (lane_of scene.agenda (name_of me i))
 
@@ -108,13 +109,12 @@ closed_if sc node (Some c) row w = closed_at sc node c row w
 abbrev pub HasRoomFor : Scenario → Side → Scene → Type 0
 HasRoomFor sc me scene = (j : ℕ) → j < count_of me sc.sizes → 1 ≤ spare_of (lane_of scene.agenda (name_of me j))
 
--- it is the node's next tick. All that came to the node came from nodes of the bus, and there is room for a message at the others
+-- it is the node's next tick, and there is room for a message at the others
 pub record MayTick (sc : Scenario) (me : Side) (i k : ℕ) (site : KeptSite) (scene : Scene) (w : World) (s : Site) : Type 0 where
   pub at : IsAt sc me i site scene w s
   pub next : next_tick sc.sizes sc.plan me i s.core ≡ Some k
   pub later : s.core.had ≤ k
   pub below : k < 2 ^ 31
-  pub senders : All (λ (c : Coming). c.from < count_of (other me) sc.sizes) s.got
   pub message : HasRoomFor sc (other me) scene
   pub spans : SpansFit sc me (pass_and_tick sc w.ports me i k s.core).core
 
