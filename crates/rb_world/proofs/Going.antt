@@ -1,6 +1,7 @@
 -- A node goes on to its next tick, or stops.
-use Rattle.std.proofs.Common.{◌≡◌, ℕ, zero, suc, ◌+◌, ◌<◌, ◌≤◌, ◌==◌, ◌&&◌, not, Bool, true, false, Some, None, Option, List, [], ◌∷◌, ◌++◌, length, slice_get, refl, sym, ap, ◌∙◌, subst, arith}
+use Rattle.std.proofs.Common.{◌≡◌, ℕ, zero, suc, ◌+◌, ◌<◌, ◌≤◌, ◌==◌, ◌&&◌, not, Bool, true, false, Some, None, Option, List, [], ◌∷◌, ◌++◌, length, slice_get, refl, sym, ap, ◌∙◌, subst, arith, inl, inr}
 use Rattle.std.specs.Prelude.{option_map, slice_set, unwrap_or}
+use Rattle.std.proofs.lemmas.Bool.{cases_lt}
 use Rattle.std.proofs.lemmas.Bool.Decides.{nat_tests}
 use Rattle.std.proofs.lemmas.List.{append-nil}
 use Rattle.rb_base.specs.Nodes.{Side, has, other, set_of}
@@ -9,7 +10,7 @@ use Rattle.rb_base.specs.Sizes.{IsShape}
 use Rattle.rb_base.specs.declared.event.Event.{Event}
 use Rattle.rb_base.specs.declared.node.NodeName.{NodeName}
 use Rattle.rb_base.specs.declared.node.NodeName.TheVariants as node
-use Rattle.rb_base.proofs.Sets.{has-set_of}
+use Rattle.rb_base.proofs.Sets.{has-set_of, has_above, set_of-lt}
 use Rattle.rb_rules.specs.Book.{Each, of_kind}
 use Rattle.rb_rules.specs.Clock.{time_of}
 use Rattle.rb_rules.specs.Core.{Core, next_tick}
@@ -106,8 +107,26 @@ stop-around sc before after w me i there stops is =
       book = subst (λ l. Holds sc l (moved me i stop w)) (sym stops.book) (book-kept sc before.book w me i stop (λ s. refl) (λ s. refl) is.book);
       ports = subst (λ (ps : List KeptPort). HoldsPorts sc ps w.ports) (sym stops.ports) is.ports;
       running = runs me stops.own stops.others few;
+      within = inside me stops.own stops.others;
     }
   where
+    second : (a b : Bool) → (a && b) ≡ true → b ≡ true
+    second true b h = h
+    second false b h = cc
+
+    less : (me : Side) (r n : ℕ) → ((n : ℕ) → has r n ≡ true → n < count_of me sc.sizes) → has (without r i) n ≡ true → n < count_of me sc.sizes
+    less me r n all h = elim (cases_lt n 16) [
+      | inl lt ↦ all n (second (not (n == i)) (has r n) (sym (has-set_of n (λ k. not (k == i) && has r k) lt) ∙ h))
+      | inr ge ↦ absurd (let never : false ≡ true = sym (has_above (without r i) n (set_of-lt (λ k. not (k == i) && has r k)) ge) ∙ h in cc)
+    ]
+
+    inside : (me : Side) → running_of me after ≡ without (running_of me before) i → running_of (other me) after ≡ running_of (other me) before
+        → (side : Side) (n : ℕ) → has (running_of side after) n ≡ true → n < count_of side sc.sizes
+    inside Biu e o Biu n h = less Biu before.running_biu n (is.within Biu) (subst (λ r. has r n ≡ true) e h)
+    inside Biu e o Rmu n h = is.within Rmu n (subst (λ r. has r n ≡ true) o h)
+    inside Rmu e o Biu n h = is.within Biu n (subst (λ r. has r n ≡ true) o h)
+    inside Rmu e o Rmu n h = less Rmu before.running_rmu n (is.within Rmu) (subst (λ r. has r n ≡ true) e h)
+
     own : (me side : Side) → running_of me after ≡ without (running_of me before) i → length (of_kind me w.sites) ≤ 16 → side ≡ me
         → AreRunning side (running_of side after) (at_node me i stop w.sites)
     own me side e few same =
@@ -149,8 +168,13 @@ lane-around sc before after w me i new change there lanes pends step is = record
   book = subst (λ l. Holds sc l (moved me i change w)) (sym lanes.book) (book-kept sc before.book w me i change pends.row pends.begun is.book);
   ports = subst (λ (ps : List KeptPort). HoldsPorts sc ps w.ports) (sym lanes.ports) is.ports;
   running = runs;
+  within = inside;
 }
   where
+    inside : (side : Side) (n : ℕ) → has (running_of side after) n ≡ true → n < count_of side sc.sizes
+    inside Biu n h = is.within Biu n (subst (λ r. has r n ≡ true) lanes.biu h)
+    inside Rmu n h = is.within Rmu n (subst (λ r. has r n ≡ true) lanes.rmu h)
+
     runs : (side : Side) → AreRunning side (running_of side after) (at_node me i change w.sites)
     runs Biu = subst (λ r. AreRunning Biu r (at_node me i change w.sites)) (sym lanes.biu) (running-one Biu before.running_biu w.sites me i change pends.runs (is.running Biu))
     runs Rmu = subst (λ r. AreRunning Rmu r (at_node me i change w.sites)) (sym lanes.rmu) (running-one Rmu before.running_rmu w.sites me i change pends.runs (is.running Rmu))

@@ -97,7 +97,7 @@ events-are (p ∷ events) = by p.event.kind (events-are events)
   where
     by : (k : EventKind) → length events ≡ length (arrivals_in events) + length (ticks_in events)
         → suc (length events) ≡ length (cons_option (coming_with p.time k) (arrivals_in events)) + length (cons_option (tick_with p.time k) (ticks_in events))
-    by (kind.Arrive from bytes) rest = ap suc rest
+    by (kind.Arrive from bytes) rest = omega (arith, rest)
     by (kind.Tick word wanted) rest = omega (arith, rest)
 
 pub events-count : (sizes : Sizes) (me : Side) (lane : Held) (s : Site) → HoldsSite sizes me lane s → length lane.events ≡ length (times_of s)
@@ -132,3 +132,7 @@ spare-at sc lanes sites me i s rooms there holds at few =
     let many = events-count sc.sizes me (lane_of lanes (name_of me i)) s (lane-holds sc.sizes lanes sites me i s holds at) in
     let room : HasRoom sc me (lane_of lanes (name_of me i)) = subst (λ k. HasRoom sc k (lane_of lanes (name_of me i))) (kind-named me i) (rooms-at sc lanes (name_of me i) rooms there) in
     omega (arith, many, room, few)
+
+pub node-named : (sc : Scenario) (me : Side) (i : ℕ) → i < count_of me sc.sizes → IsNodeOf sc.sizes (name_of me i)
+node-named sc Biu i h = h
+node-named sc Rmu i h = h

@@ -15,3 +15,9 @@ pub mod GoingOn
 pub mod Steps
 pub mod NextRecord
 pub mod Handed
+pub mod Seeing
+pub mod Entering
+pub mod Alike
+pub mod Acting
+pub mod Whole
+pub mod Happening

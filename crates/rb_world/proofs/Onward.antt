@@ -56,6 +56,7 @@ proceeds-on sc me i site before after w s more at does is others = record {
     number = at.number;
     site = awaits sc me i more site s at.stands;
     awaits = record { running = λ runs. refl; tick_of_none = λ stops. absurd (apart stops); nothing = λ stops. absurd (apart stops) };
+    senders = at.senders;
   });
   surrounds = subst (Surrounds sc after) (moved-so sc me i (await sc me i more) w s at.there does) is;
   others = others;
@@ -72,6 +73,7 @@ proceeds-out sc me i site before after w s at does is others = record {
     number = at.number;
     site = stopped sc me site s at.stands;
     awaits = record { running = λ runs. absurd (apart runs); tick_of_none = λ stops. refl; nothing = λ stops. refl };
+    senders = at.senders;
   });
   surrounds = subst (Surrounds sc after) (moved-so sc me i stop w s at.there does) is;
   others = others;

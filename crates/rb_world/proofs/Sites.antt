@@ -84,7 +84,7 @@ counts-one me side i change sites = length-each (at_one me i change) sites side
 
 -- A site afterwards.
 
-from-map : {X Y : Type 0} (f : X → Y) (o : Option X) (y : Y) → option_map f o ≡ Some y → (x : X) × (o ≡ Some x) × (f x ≡ y)
+pub from-map : {X Y : Type 0} (f : X → Y) (o : Option X) (y : Y) → option_map f o ≡ Some y → (x : X) × (o ≡ Some x) × (f x ≡ y)
 from-map f None y e = absurd (cc)
 from-map f (Some x) y e = (x, refl, let same : f x ≡ y = cc in same)
 
@@ -127,6 +127,22 @@ at-twice me i f g sites =
     let r : List Site = map_from 0 (at_one me i f Rmu) (map_from 0 (at_one me i g Rmu) sites.rmus) in
     ap (λ (xs : List Site). record { bius = xs; rmus = r }) (twice-list (λ n. same_side Biu me && (n == i)) f g 0 sites.bius)
     ∙ ap (λ (xs : List Site). record { bius = b; rmus = xs }) (twice-list (λ n. same_side Rmu me && (n == i)) f g 0 sites.rmus)
+
+-- a change that changes nothing
+id-list : (b : ℕ → Bool) (k : ℕ) (xs : List Site) → map_from k (λ n s. elim (b n) as (λ _. Site) [ true ↦ s | false ↦ s ]) xs ≡ xs
+id-list b k [] = refl
+id-list b k (x ∷ xs) =
+    ap (λ y. y ∷ map_from (k + 1) (λ n s. elim (b n) as (λ _. Site) [ true ↦ s | false ↦ s ]) xs) (go (b k)) ∙ ap (λ l. x ∷ l) (id-list b (k + 1) xs)
+  where
+    go : (c : Bool) → ◌≡◌ {A = Site} (elim c as (λ _. Site) [ true ↦ x | false ↦ x ]) x
+    go true = refl
+    go false = refl
+
+pub at-id : (me : Side) (i : ℕ) (sites : Each Site) → at_node me i (λ s. s) sites ≡ sites
+at-id me i sites =
+    let r : List Site = map_from 0 (at_one me i (λ s. s) Rmu) sites.rmus in
+    ap (λ (xs : List Site). record { bius = xs; rmus = r }) (id-list (λ n. same_side Biu me && (n == i)) 0 sites.bius)
+    ∙ ap (λ (xs : List Site). record { bius = sites.bius; rmus = xs }) (id-list (λ n. same_side Rmu me && (n == i)) 0 sites.rmus)
 
 same-list : (f g : ℕ → Site → Site) (k : ℕ) (xs : List Site) → ((n : ℕ) (s : Site) → slice_get xs n ≡ Some s → f (k + n) s ≡ g (k + n) s) → map_from k f xs ≡ map_from k g xs
 same-list f g k [] same = refl

@@ -1,10 +1,11 @@
 -- What is due is settled, and a turn is given.
-use Rattle.std.proofs.Common.{◌≡◌, ℕ, ◌||◌, Bool, true, false, Some, List, [], ◌∷◌, ◌++◌, length, slice_get, refl, sym, ap, ◌∙◌, subst}
-use Rattle.rb_base.specs.Nodes.{Side}
+use Rattle.std.proofs.Common.{◌≡◌, ℕ, ◌<◌, ◌||◌, Bool, true, false, Some, List, [], ◌∷◌, ◌++◌, length, slice_get, refl, sym, ap, ◌∙◌, subst}
+use Rattle.rb_base.specs.Nodes.{Side, has}
 use Rattle.rb_base.specs.Nodes.Side.{Biu, Rmu}
 use Rattle.rb_rules.specs.Book.{Each, of_kind}
 use Rattle.rb_rules.specs.Goodness.{Scenario}
 use Rattle.rb_rules.specs.Lawful.{IsLawful}
+use Rattle.rb_rules.specs.Slots.{count_of}
 use Rattle.rb_rules.specs.WorldStep.{Choice, Due, World, choose, due_of, happens, needs_no_event, settle, take, take_if_due, world_after}
 use Rattle.rb_rules.specs.WorldStep.Choice.{Take}
 use Rattle.rb_rules.specs.WorldStep.{Way}
@@ -44,8 +45,13 @@ surrounds-settled sc way v scene book turn is settles =
       book = settles.holds;
       ports = subst (HoldsPorts sc scene.ports.items) (sym (settle-ports sc way 2 v)) is.ports;
       running = running;
+      within = within;
     }
   where
+    within : (side : Side) (n : ℕ) → has (running_of side (record scene { book = book })) n ≡ true → n < count_of side sc.sizes
+    within Biu = is.within Biu
+    within Rmu = is.within Rmu
+
     running : (side : Side) → AreRunning side (running_of side (record scene { book = book })) (settle sc way 2 v).sites
     running Biu = subst (AreRunning Biu scene.running_biu) (sym (settle-sites sc way 2 v)) (is.running Biu)
     running Rmu = subst (AreRunning Rmu scene.running_rmu) (sym (settle-sites sc way 2 v)) (is.running Rmu)

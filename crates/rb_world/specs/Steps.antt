@@ -1,5 +1,5 @@
 -- What happens at one node, as it is done in parts.
-use Rattle.std.specs.Prelude.{⊤, ℕ, ◌≡◌, ◌+◌, ◌<◌, ◌≤◌, true, Option, Some, None, IfSome, All, get_or, length, slice_get}
+use Rattle.std.specs.Prelude.{⊤, ℕ, ◌≡◌, ◌+◌, ◌<◌, ◌≤◌, ◌^◌, true, Option, Some, None, IfSome, All, get_or, length, slice_get}
 use Rattle.rb_base.specs.Nodes.{Side, other}
 use Rattle.rb_base.specs.Nodes.Side.{Biu}
 use Rattle.rb_base.specs.Sizes.{Sizes}
@@ -11,11 +11,11 @@ use Rattle.rb_rules.specs.Book.{Each, Row, of_kind}
 use Rattle.rb_rules.specs.Clock.{ComesBy, Timeline}
 use Rattle.rb_rules.specs.Core.{Act, Core, next_tick}
 use Rattle.rb_rules.specs.Goodness.{Scenario, clock_of}
-use Rattle.rb_rules.specs.Hearing.{Coming}
+use Rattle.rb_rules.specs.Hearing.{Coming, Span}
 use Rattle.rb_rules.specs.Lawful.{IsLawful, kind_of}
 use Rattle.rb_rules.specs.Links.{name_of}
 use Rattle.rb_rules.specs.Slots.{count_of, first_diagnosis_of}
-use Rattle.rb_rules.specs.WorldStep.{Due, Site, World, after_act, at_node, due_of, happens, pass_and_tick, proceed, with_act, with_delivery}
+use Rattle.rb_rules.specs.WorldStep.{Due, Site, World, after_act, at_node, due_of, happens, pass_and_tick, proceed, span_from, with_act, with_delivery}
 use Rattle.rb_agenda.specs.Agenda.{IsAtTime}
 use Rattle.rb_agenda.specs.Holding.{Shows, without_waiting}
 use Rattle.rb_node.specs.Cores.{IsCore, passing_end}
@@ -42,8 +42,24 @@ pub record IsAt (sc : Scenario) (me : Side) (i : ℕ) (site : KeptSite) (scene :
   pub stands : StandsFor sc me site s
   pub none_ahead : s.ahead ≡ None
   pub runs : s.runs ≡ true
+  pub senders : All (λ (c : Coming). c.from < count_of (other me) sc.sizes) s.got
   pub surrounds : Surrounds sc scene w
   pub spare : length sc.says + 1 ≤ spare_of (lane_of scene.agenda (name_of me i))
+
+-- a window that begins lies within the ticks that a node may have, and is a stage or the tail
+pub record SpanFits (span : Span) : Type 0 where
+  pub stage : 1 ≤ span.place.stage
+  pub first : span.first ≤ 2 ^ 31
+  pub last : span.last ≤ 2 ^ 31
+
+-- so with the window that a core enters, if it enters one
+abbrev pub SpansFit : Scenario → Side → Core → Type 0
+SpansFit sc me c = (span : Span) → span_from sc.sizes sc.plan me c.state c.had ≡ Some span → SpanFits span
+
+-- the node may go on
+pub record MayProceed (sc : Scenario) (me : Side) (i : ℕ) (site : KeptSite) (scene : Scene) (w : World) (s : Site) : Type 0 where
+  pub at : IsAt sc me i site scene w s
+  pub spans : SpansFit sc me s.core
 
 -- the site of this node in a world has this core, for which the node stands, and its next tick is not pending yet
 pub record IsCoreAt (sc : Scenario) (me : Side) (node : NodeName) (site : KeptSite) (c : Core) (w : World) : Type 0 where
@@ -54,11 +70,15 @@ pub record IsCoreAt (sc : Scenario) (me : Side) (node : NodeName) (site : KeptSi
   pub there : (s : Site) → slice_get (of_kind me w.sites) (number_in node) ≡ Some s → s.core ≡ c
   pub none_ahead : (s : Site) → slice_get (of_kind me w.sites) (number_in node) ≡ Some s → s.ahead ≡ None
 
+-- nothing has changed in the lanes of the other kind's nodes
+abbrev pub OthersStay : Side → Scene → Scene → Type 0
+OthersStay me before after = of_kind (other me) after.agenda ≡ of_kind (other me) before.agenda
+
 -- the node has gone on, and only what is pending there and whether it runs has changed around it
 pub record Proceeds (sc : Scenario) (me : Side) (i : ℕ) (site : KeptSite) (before after : Scene) (w : World) (s : Site) : Type 0 where
   pub node : IsNode sc me i site (proceed sc me i s)
   pub surrounds : Surrounds sc after (moved me i (proceed sc me i) w)
-  pub others : of_kind (other me) after.agenda ≡ of_kind (other me) before.agenda
+  pub others : OthersStay me before after
 
 -- Ticks.
 
@@ -89,12 +109,14 @@ closed_if sc node (Some c) row w = closed_at sc node c row w
 abbrev pub HasRoomFor : Scenario → Side → Scene → Type 0
 HasRoomFor sc me scene = (j : ℕ) → j < count_of me sc.sizes → 1 ≤ spare_of (lane_of scene.agenda (name_of me j))
 
--- it is the node's next tick. All that came to the node came from nodes of the bus, and there is room for a message at the others
+-- it is the node's next tick, and there is room for a message at the others
 pub record MayTick (sc : Scenario) (me : Side) (i k : ℕ) (site : KeptSite) (scene : Scene) (w : World) (s : Site) : Type 0 where
   pub at : IsAt sc me i site scene w s
   pub next : next_tick sc.sizes sc.plan me i s.core ≡ Some k
-  pub senders : All (λ (c : Coming). c.from < count_of (other me) sc.sizes) s.got
+  pub later : s.core.had ≤ k
+  pub below : k < 2 ^ 31
   pub message : HasRoomFor sc (other me) scene
+  pub spans : SpansFit sc me (pass_and_tick sc w.ports me i k s.core).core
 
 -- the tick has been taken, and this is what it gave
 pub record Ticks (sc : Scenario) (me : Side) (i k : ℕ) (site : KeptSite) (scene : Scene) (w : World) (s : Site) (x : Act) : Type 0 where

@@ -1,6 +1,6 @@
 -- Which world of the definitions is stood for.
-use Rattle.std.specs.Prelude.{ℕ, ◌≡◌, ◌<◌, ◌||◌, true, false, Option, Some, None, option_map, List, [], length, slice_get}
-use Rattle.rb_base.specs.Nodes.{Side}
+use Rattle.std.specs.Prelude.{ℕ, ◌≡◌, ◌<◌, ◌||◌, true, false, Option, Some, None, option_map, All, List, [], length, slice_get}
+use Rattle.rb_base.specs.Nodes.{Side, has, other}
 use Rattle.rb_base.specs.Nodes.Side.{Biu, Rmu}
 use Rattle.rb_rules.specs.Book.{Each, Record, of_kind}
 use Rattle.rb_rules.specs.Clock.{time_of}
@@ -38,11 +38,12 @@ pub record Awaits (sc : Scenario) (me : Side) (i : ℕ) (s : Site) : Type 0 wher
   pub tick_of_none : s.runs ≡ false → s.ahead ≡ None
   pub nothing : s.runs ≡ false → s.coming ≡ []
 
--- this is kept of node i of kind me
+-- this is kept of node i of kind me, to which only nodes of the bus have said anything since its last close
 pub record IsNode (sc : Scenario) (me : Side) (i : ℕ) (k : KeptSite) (s : Site) : Type 0 where
   pub number : number_of k ≡ i
   pub site : StandsFor sc me k s
   pub awaits : Awaits sc me i s
+  pub senders : All (λ c. c.from < count_of (other me) sc.sizes) s.got
 
 -- this is kept of the nodes of a kind
 pub record AreNodes (sc : Scenario) (me : Side) (kept : List KeptSite) (sites : List Site) : Type 0 where
@@ -70,6 +71,7 @@ pub record Surrounds (sc : Scenario) (scene : Scene) (w : World) : Type 0 where
   pub book : Holds sc scene.book w
   pub ports : HoldsPorts sc scene.ports.items w.ports
   pub running : (me : Side) → AreRunning me (running_of me scene) w.sites
+  pub within : (me : Side) (i : ℕ) → has (running_of me scene) i ≡ true → i < count_of me sc.sizes
 
 -- The world.
 

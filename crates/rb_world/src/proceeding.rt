@@ -8,7 +8,7 @@ ghost use Rattle.rb_rules.specs.WorldStep.{Site as WorldSite, World, await, stop
 ghost use Rattle.rb_queue.specs.Waiting.{lane_of, spare_of};
 ghost use Rattle.rb_site.specs.Sites.{number_of};
 ghost use Rattle.rb_traffic.specs.Arriving.{number_of as number_in};
-ghost use Rattle.rb_world.specs.Steps.{IsAt, IsCoreAt, Proceeds, moved};
+ghost use Rattle.rb_world.specs.Steps.{IsCoreAt, MayProceed, OthersStay, Proceeds, moved};
 ghost use Rattle.rb_world.specs.Worlds.{Surrounds};
 
 use crate::bus::Bus;
@@ -32,7 +32,8 @@ fn await_tick<K: Kind>(bus: &Bus, node: NodeName, site: &Site<K>, scene: &mut Sc
     requires kind { kind_of node ≡ side_of K.CODE }
     requires around { (w : World) × Surrounds bus.now scene.old w }
     requires spare { 1 ≤ spare_of (lane_of scene.old.agenda node) }
-    ensures { (w : World) (c : Core) → IsCoreAt bus.now (side_of K.CODE) node site.now c w → Surrounds bus.now scene.old w
+    ensures others { OthersStay (kind_of node) scene.old scene.new }
+    ensures around { (w : World) (c : Core) → IsCoreAt bus.now (side_of K.CODE) node site.now c w → Surrounds bus.now scene.old w
         → Surrounds bus.now scene.new (moved (kind_of node) (number_in node) (await bus.now (side_of K.CODE) (number_in node) []) w) }
 {
     if let Some(tick) = site.node().next_tick() {
@@ -56,7 +57,8 @@ fn await_tick<K: Kind>(bus: &Bus, node: NodeName, site: &Site<K>, scene: &mut Sc
 fn stop_at(bus: &Bus, node: NodeName, scene: &mut Scene)
     requires node { IsNodeOf bus.now.sizes node }
     requires around { (w : World) × Surrounds bus.now scene.old w }
-    ensures { (w : World) → Surrounds bus.now scene.old w → Surrounds bus.now scene.new (moved (kind_of node) (number_in node) stop w) }
+    ensures others { OthersStay (kind_of node) scene.old scene.new }
+    ensures around { (w : World) → Surrounds bus.now scene.old w → Surrounds bus.now scene.new (moved (kind_of node) (number_in node) stop w) }
 {
     scene.agenda.drop_all(node);
     match node {
@@ -74,8 +76,8 @@ pub(crate) fn proceed<K: Kind>(
     scene: &mut Scene,
 )
     requires name { node ≡ name_of (side_of K.CODE) (number_of site.old) }
-    requires at { (w : World) × (s : WorldSite) × IsAt bus.now (side_of K.CODE) (number_of site.old) site.old scene.old w s }
-    ensures { (w : World) (s : WorldSite) → IsAt bus.now (side_of K.CODE) (number_of site.old) site.old scene.old w s
+    requires may { (w : World) × (s : WorldSite) × MayProceed bus.now (side_of K.CODE) (number_of site.old) site.old scene.old w s }
+    ensures { (w : World) (s : WorldSite) → MayProceed bus.now (side_of K.CODE) (number_of site.old) site.old scene.old w s
         → Proceeds bus.now (side_of K.CODE) (number_of site.old) site.new scene.old scene.new w s }
 {
     if let Some(span) = site.entering() {

@@ -1,7 +1,10 @@
 //! How an event is taken.
 ghost use Rattle.std.specs.Prelude.{◌≡◌, ◌<◌, ℕ};
-ghost use Rattle.rb_rules.specs.WorldStep.{Due, World as RunWorld, take};
-ghost use Rattle.rb_world.specs.Steps.{Happens, MayHappen};
+ghost use Rattle.rb_base.specs.Nodes.{side_of};
+ghost use Rattle.rb_rules.specs.Links.{name_of};
+ghost use Rattle.rb_site.specs.Sites.{number_of};
+ghost use Rattle.rb_rules.specs.WorldStep.{Due, Site as WorldSite, World as RunWorld, take};
+ghost use Rattle.rb_world.specs.Steps.{Happens, MayHappen, MayTick, Ticks, act_at};
 ghost use Rattle.rb_world.specs.Turning.{Gives};
 ghost use Rattle.rb_world.specs.Worlds.{Stands, due_in, last_of};
 ghost use Rattle.rb_book.specs.Records.{record_of};
@@ -30,7 +33,20 @@ pub(crate) fn last_of(turn: &Turn) -> Last
 }
 
 // The node takes the tick that is ahead of it.
-fn tick_at<K: Kind>(bus: &Bus, apps: &Apps, node: NodeName, i: u8, site: &mut Site<K>, scene: &mut Scene) {
+fn tick_at<K: Kind>(
+    bus: &Bus,
+    apps: &Apps,
+    node: NodeName,
+    i: u8,
+    site: &mut Site<K>,
+    scene: &mut Scene,
+)
+    requires number { i ≡ number_of site.old }
+    requires name { node ≡ name_of (side_of K.CODE) (number_of site.old) }
+    requires may { (k : ℕ) × (w : RunWorld) × (s : WorldSite) × MayTick bus.now (side_of K.CODE) (number_of site.old) k site.old scene.old w s }
+    ensures { (k : ℕ) (w : RunWorld) (s : WorldSite) → MayTick bus.now (side_of K.CODE) (number_of site.old) k site.old scene.old w s
+        → Ticks bus.now (side_of K.CODE) (number_of site.old) k site.new scene.new w s (act_at bus.now w (side_of K.CODE) (number_of site.old) k s) }
+{
     if let Some(k) = site.node().next_tick() {
         tick(bus, apps, node, i, k, site, scene);
     }

@@ -164,10 +164,10 @@ pub(crate) fn tick<K: Kind>(
     scene: &mut Scene,
 )
     requires number { i ≡ number_of site.old }
-    requires name { node ≡ name_of (side_of K.CODE) i }
-    requires may { (w : World) × (s : WorldSite) × MayTick bus.now (side_of K.CODE) i k site.old scene.old w s }
-    ensures { (w : World) (s : WorldSite) → MayTick bus.now (side_of K.CODE) i k site.old scene.old w s
-        → Ticks bus.now (side_of K.CODE) i k site.new scene.new w s (act_at bus.now w (side_of K.CODE) i k s) }
+    requires name { node ≡ name_of (side_of K.CODE) (number_of site.old) }
+    requires may { (w : World) × (s : WorldSite) × MayTick bus.now (side_of K.CODE) (number_of site.old) k site.old scene.old w s }
+    ensures { (w : World) (s : WorldSite) → MayTick bus.now (side_of K.CODE) (number_of site.old) k site.old scene.old w s
+        → Ticks bus.now (side_of K.CODE) (number_of site.old) k site.new scene.new w s (act_at bus.now w (side_of K.CODE) (number_of site.old) k s) }
 {
     let word = word_for(bus, apps, &scene.ports, i, site.node().wants_then());
     let step = site.tick(k, word);

@@ -3,6 +3,7 @@ use Rattle.rb_rules.specs.WorldStep.{World as RunWorld, due_of}
 use Rattle.rb_world.specs.Worlds.{Kept, Stands, due_in}
 use Rattle.rb_world.proofs.Idle.{busy, ended-idle, free-idle, length-due, none-due, none-due-then}
 use Rattle.rb_world.proofs.world.World.due.Goals as goal
+use Rattle.rb_world.proofs.world.World.due.Goals.{then-has_ended-via-then-has_ended, then-has_ended-via-else-has_ended+then-needs_no_event}
 
 pub returns-then-has_ended-clause-value : goal.returns-then-has_ended-clause-value
 returns-then-has_ended-clause-value c =
