@@ -1,11 +1,12 @@
 -- What a state that is handed in makes of a world.
 use Rattle.std.proofs.Common.{◌≡◌, ℕ, zero, suc, ◌<◌, ◌&&◌, nat_lt, Bool, true, false, Option, Some, None, List, [], ◌∷◌, ◌++◌, get_or, length, slice_get, slice_set, refl, sym, ap, ◌∙◌, subst}
 use Rattle.std.proofs.lemmas.Bool.{ltb-true}
-use Rattle.rb_base.specs.Nodes.{Side}
+use Rattle.rb_base.specs.Nodes.{Side, has}
 use Rattle.rb_base.specs.Nodes.Side.{Biu, Rmu}
 use Rattle.rb_rules.specs.Book.{Record, of_kind}
 use Rattle.rb_rules.specs.Goodness.{Scenario, is_before, is_good, onsets_of}
 use Rattle.rb_rules.specs.Ports.{PortState, with_state}
+use Rattle.rb_rules.specs.Slots.{count_of}
 use Rattle.rb_rules.specs.WorldStep.{World, frame_in, hand}
 use Rattle.rb_rules.specs.WorldStep.Choice.{Hand}
 use Rattle.rb_order.proofs.HandedIn.{length-handed}
@@ -114,7 +115,7 @@ pub hand-at-good : (k : Kept) (scene : Scene) (w : World) (biu state frame : ℕ
     → Surrounds k.bus scene (with_hand w biu state frame) → Stands (record k { scene = scene }) (hand k.bus w biu state)
 hand-at-good k scene w biu state frame is at good around =
     let same : hand k.bus w biu state ≡ with_hand w biu state frame =
-        hand-is k.bus w biu state (Some frame) (frame-kept w.turn frame (sym is.last ∙ at)) ∙ ap (handed_if w biu state frame) good in
+    hand-is k.bus w biu state (Some frame) (frame-kept w.turn frame (sym is.last ∙ at)) ∙ ap (handed_if w biu state frame) good in
     let reached : IsReached k.bus (with_hand w biu state frame) = subst (IsReached k.bus) same (reached-more k.bus w (Hand biu state) is.reached) in
     subst (Stands (record k { scene = scene })) (sym same) (handed-stands k scene w (with_hand w biu state frame) is reached refl refl refl around)
 
@@ -144,6 +145,7 @@ pub surrounds-handed : (sc : Scenario) (old new : Scene) (w : World) (biu state 
     → Surrounds sc new (with_hand w biu state frame)
 surrounds-handed sc old new w biu state frame is agenda book bius rmus ports = record {
   counts = is.counts;
+  within = inside;
   lanes = subst (λ a. HoldsSites sc.sizes a w.sites) (sym agenda) is.lanes;
   rooms = subst (HaveRooms sc) (sym agenda) is.rooms;
   book = subst (λ l. Holds sc l (with_hand w biu state frame)) (sym book) (book-holds sc old.book w biu state frame is.book);
@@ -154,3 +156,7 @@ surrounds-handed sc old new w biu state frame is agenda book bius rmus ports = r
     by : (me : Side) → AreRunning me (running_of me new) w.sites
     by Biu = subst (λ r. AreRunning Biu r w.sites) (sym bius) (is.running Biu)
     by Rmu = subst (λ r. AreRunning Rmu r w.sites) (sym rmus) (is.running Rmu)
+
+    inside : (me : Side) (i : ℕ) → has (running_of me new) i ≡ true → i < count_of me sc.sizes
+    inside Biu = subst (λ r. (i : ℕ) → has r i ≡ true → i < count_of Biu sc.sizes) (sym bius) (is.within Biu)
+    inside Rmu = subst (λ r. (i : ℕ) → has r i ≡ true → i < count_of Rmu sc.sizes) (sym rmus) (is.within Rmu)

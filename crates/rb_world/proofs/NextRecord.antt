@@ -1,10 +1,11 @@
 -- Steps up to the next record.
 use Rattle.std.proofs.Common.{◌≡◌, ◌≢◌, ℕ, zero, suc, ◌+◌, ◌^◌, ◌<◌, ◌≤◌, ◌==◌, ◌⊎◌, inl, inr, Bool, true, false, Option, Some, None, is_some, length, refl, sym, ap, ◌∙◌, subst, arith}
 use Rattle.std.proofs.lemmas.Bool.{cases_lt}
-use Rattle.rb_base.specs.Nodes.{Side}
+use Rattle.rb_base.specs.Nodes.{Side, has}
 use Rattle.rb_base.specs.Nodes.Side.{Biu, Rmu}
 use Rattle.rb_rules.specs.Book.{Record}
 use Rattle.rb_rules.specs.Goodness.{Scenario}
+use Rattle.rb_rules.specs.Slots.{count_of}
 use Rattle.rb_rules.specs.WorldStep.{World, due_of, go_on, take}
 use Rattle.rb_book.specs.Records.{record_of}
 use Rattle.rb_book.specs.declared.turn.Turn.{Turn}
@@ -118,13 +119,17 @@ with-seeding k w s is =
       lawful = is.lawful;
       reached = is.reached;
       nodes = is.nodes;
-      scene = record { counts = around.counts; lanes = around.lanes; rooms = around.rooms; book = around.book; ports = around.ports; running = by };
+      scene = record { counts = around.counts; lanes = around.lanes; rooms = around.rooms; book = around.book; ports = around.ports; running = by; within = inside };
       last = is.last;
     }
   where
     by : (me : Side) → AreRunning me (running_of me (record k.scene { seeding = s })) w.sites
     by Biu = is.scene.running Biu
     by Rmu = is.scene.running Rmu
+
+    inside : (me : Side) (i : ℕ) → has (running_of me (record k.scene { seeding = s })) i ≡ true → i < count_of me k.bus.sizes
+    inside Biu = is.scene.within Biu
+    inside Rmu = is.scene.within Rmu
 
 pub goes-on : (ties : Ties) (b after : Seeding) (before mid : Kept) (turn : Turn) (w : World) → b ≡ begun_with ties before.scene.seeding → after.seed ≡ b.seed
     → RunsOn ties b.draws.state after.draws.state before mid turn w

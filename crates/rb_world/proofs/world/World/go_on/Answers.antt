@@ -18,9 +18,11 @@ invariant_of-self c =
     let k : Kept = record { bus = c.self.inside.bus; nodes = record { bius = c.self.inside.bius.items; rmus = c.self.inside.rmus.items }; scene = c.self.inside.scene; last = c.self.inside.last } in
     let w : RunWorld = c.self.invariant.0 in
     let is : Stands k w = c.self.invariant.1 in
-    let going : w.book.ended ≡ false = sym (c.has_ended.ensures k.bus w is.scene.book) ∙ c.if-has_ended.false in
-    (go_on k.bus w, (going-gives k w c.settle-turn.new.self c.settle-turn.result c.last_of-self-inside.result is going
-    (c.settle-turn.ensures.settled k.bus w is.scene.book) c.last_of-self-inside.ensures).stands)
+    let going : w.book.ended ≡ false = sym (c.has_ended.ensures k.bus w is.scene.book) ∙ c.if-has_ended.false in (
+      go_on k.bus w,
+      (going-gives k w c.settle-turn.new.self c.settle-turn.result c.last_of-self-inside.result is going
+          (c.settle-turn.ensures.settled k.bus w is.scene.book) c.last_of-self-inside.ensures).stands,
+    )
 
 pub returns-clause-world : goal.returns-clause-world
 returns-clause-world c =

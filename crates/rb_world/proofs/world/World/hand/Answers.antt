@@ -29,9 +29,11 @@ invariant_of-self c =
     let scene : Scene = record k.scene { ports = c.set_state.new.ports } in
     let good : is_good k.bus Biu c.args.biu c.in-Frame.frame 0 ≡ true = sym c.is_good_at_begin.ensures ∙ c.if-is_good_at_begin.true in
     let w : RunWorld = c.self.invariant.0 in
-    let is : Stands k w = c.self.invariant.1 in
-    (hand k.bus w c.args.biu c.args.state, hand-at-good k scene w c.args.biu c.args.state c.in-Frame.frame is c.in-Frame.is good
-    (surrounds-handed k.bus k.scene scene w c.args.biu c.args.state c.in-Frame.frame is.scene refl refl refl refl (c.set_state.ensures k.bus w.ports is.scene.ports)))
+    let is : Stands k w = c.self.invariant.1 in (
+      hand k.bus w c.args.biu c.args.state,
+      hand-at-good k scene w c.args.biu c.args.state c.in-Frame.frame is c.in-Frame.is good
+          (surrounds-handed k.bus k.scene scene w c.args.biu c.args.state c.in-Frame.frame is.scene refl refl refl refl (c.set_state.ensures k.bus w.ports is.scene.ports)),
+    )
 
 pub returns-then-is_good_at_begin-clause-world : goal.returns-then-is_good_at_begin-clause-world
 returns-then-is_good_at_begin-clause-world c =

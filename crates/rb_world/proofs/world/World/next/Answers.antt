@@ -17,9 +17,9 @@ returns-clause-world g c =
     let k : Kept = record { bus = c.self-2.inside.bus; nodes = record { bius = c.self-2.inside.bius.items; rmus = c.self-2.inside.rmus.items }; scene = c.self-2.inside.scene; last = c.self-2.inside.last } in
     let after : Seeding = record { seed = c.begin-seeding.result.seed; draws = c.run_on-turn.new.draws } in
     let begun : c.begin-seeding.result ≡ begun_with c.args.ties c.args.self.now.scene.seeding =
-        c.begin-seeding.ensures ∙ ap (λ (x : Kept). begun_with c.args.ties x.scene.seeding) c.self.view_is in
+    c.begin-seeding.ensures ∙ ap (λ (x : Kept). begun_with c.args.ties x.scene.seeding) c.self.view_is in
     λ w is.
     let runs : RunsOn c.args.ties c.begin-seeding.result.draws.state c.run_on-turn.new.draws.state c.args.self.now k c.run_on-turn.result w =
-        subst (λ (x : Kept). RunsOn c.args.ties c.begin-seeding.result.draws.state c.run_on-turn.new.draws.state c.args.self.now x c.run_on-turn.result w) (sym c.self-2.view_is)
-        (c.run_on-turn.ensures.world w is) in
+    subst (λ (x : Kept). RunsOn c.args.ties c.begin-seeding.result.draws.state c.run_on-turn.new.draws.state c.args.self.now x c.run_on-turn.result w) (sym c.self-2.view_is)
+    (c.run_on-turn.ensures.world w is) in
     goes-on c.args.ties c.begin-seeding.result after c.args.self.now k c.run_on-turn.result w begun refl runs

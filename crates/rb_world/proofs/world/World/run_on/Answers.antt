@@ -34,6 +34,6 @@ loop-passed-preserved g c = record {
 pub unreachable-requires : goal.unreachable-requires
 unreachable-requires g c =
     let few = not-so-many c.loop-passed.passed c.args.ties c.args.draws.now.state c.loop-passed.draws.state c.args.self.now c.loop-passed.self c.requires.0 c.requires.1
-        (c.loop-passed.invariant.quiet c.requires.0 c.requires.1) in
+    (c.loop-passed.invariant.quiet c.requires.0 c.requires.1) in
     let many = c.loop-passed-test.false in
     absurd (omega (arith, few, many))
