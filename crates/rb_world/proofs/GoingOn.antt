@@ -1,7 +1,7 @@
 -- What a call makes of a world when no event is taken.
-use Rattle.std.proofs.Common.{◌≡◌, Bool, true, false, refl, sym, ap, ◌∙◌, subst}
+use Rattle.std.proofs.Common.{◌≡◌, true, false, refl, sym, ap, subst}
 use Rattle.rb_rules.specs.Goodness.{Scenario}
-use Rattle.rb_rules.specs.WorldStep.{World, Way, go_on, settle}
+use Rattle.rb_rules.specs.WorldStep.{World, go_on, settle}
 use Rattle.rb_rules.specs.WorldStep.Choice.{GoOn}
 use Rattle.rb_rules.specs.WorldStep.Way.{ByItself}
 use Rattle.rb_book.specs.Records.{record_of}

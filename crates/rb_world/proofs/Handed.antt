@@ -16,7 +16,6 @@ use Rattle.rb_agenda.specs.Holding.{HoldsSites}
 use Rattle.rb_book.specs.Holding.{Holds}
 use Rattle.rb_book.specs.declared.ledger.Ledger.{Ledger}
 use Rattle.rb_world.specs.Buses.{HaveRooms}
-use Rattle.rb_world.specs.declared.last.Last.{Last}
 use Rattle.rb_world.specs.declared.last.Last.TheVariants as last
 use Rattle.rb_world.specs.declared.scene.Scene.{Scene}
 use Rattle.rb_world.specs.Worlds.{AreNodes, HoldsPorts, IsReached, Kept, Stands, Surrounds, last_of, running_of}

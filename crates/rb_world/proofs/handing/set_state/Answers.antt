@@ -1,4 +1,4 @@
-use Rattle.std.proofs.Common.{◌≡◌, List, slice_set, get_or, sym, ◌∙◌, subst}
+use Rattle.std.proofs.Common.{List, slice_set, sym, ◌∙◌, subst}
 use Rattle.rb_agree.proofs.Tests.{get-some}
 use Rattle.rb_port.specs.Keeping.{HoldsPort, KeptPort}
 use Rattle.rb_rules.specs.Ports.{with_state}

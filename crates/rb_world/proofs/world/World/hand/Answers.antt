@@ -1,4 +1,4 @@
-use Rattle.std.proofs.Common.{◌≡◌, ◌<◌, true, false, length, refl, sym, ap, ◌∙◌, subst}
+use Rattle.std.proofs.Common.{◌≡◌, ◌<◌, true, false, refl, sym, ◌∙◌, subst}
 use Rattle.rb_base.specs.Nodes.Side.{Biu}
 use Rattle.rb_rules.specs.Goodness.{is_good}
 use Rattle.rb_rules.specs.WorldStep.{World as RunWorld, hand}
