@@ -1,5 +1,5 @@
 -- Single parts of a tick.
-use Rattle.std.proofs.Common.{◌≡◌, ℕ, zero, suc, ◌<◌, ◌≤◌, ◌^◌, ◌==◌, ◌&&◌, not, nat_lt, Bool, true, false, refl, ap, sym, ◌∙◌, subst, arith, Option, Some, None, IsSome, IfSome, is_some, List, option_map, if◌then◌else◌}
+use Rattle.std.proofs.Common.{◌≡◌, ℕ, zero, suc, ◌<◌, ◌≤◌, ◌==◌, ◌&&◌, not, nat_lt, Bool, true, false, refl, ap, sym, ◌∙◌, subst, arith, Option, Some, None, IfSome, is_some, List, option_map, if◌then◌else◌}
 use Rattle.std.specs.Option.{option_or}
 use Rattle.std.proofs.lemmas.Bool.Decides.{nat_tests}
 use Rattle.rb_base.specs.Nodes.{Side, has, other, set_of}
@@ -117,10 +117,6 @@ keeps-now me v slot stage word m index said =
     ∙ ap (state_kept v.sizes me v.index v.state word) (sym (said ∙ says-active me v slot stage word index))
 
 -- a message can be spelled
-
-sendable : (m : Message) (o : Option Message) → o ≡ Some m → IsSendable m → IfSome o IsSendable
-sendable m o e is = subst (λ x. IfSome x IsSendable) (sym e) is
-
 value-sendable : (st : NodeState) (slot stage : ℕ) (o : Option Heard) → 1 ≤ stage → stage ≤ 3 → IfSome (option_map (message_of st slot stage) o) IsSendable
 value-sendable st slot stage None some most = tt
 value-sendable st slot stage (Some (heard.Word word)) some most = record { some_stage = some; most_stages = most; value = tt }
@@ -140,16 +136,6 @@ pub said-sendable : (me : Side) (v : Seated) (slot stage word : ℕ) (m : Option
     → m ≡ said_by me v slot stage word → IfSome m IsSendable
 said-sendable me v slot stage word m index some most e =
     subst (λ o. IfSome o IsSendable) (sym (e ∙ says-active me v slot stage word index)) (message-sendable v.sizes me v.index v.state slot stage word some most)
-
--- The tick of the next epoch is known.
-
-pub is-known : (next : Option ℕ) (k : ℕ) → is_tick next k ≡ true → IsSome next
-is-known None k h = cc
-is-known (Some tick) k h = refl
-
-pub is-soon : (next : Option ℕ) (k : ℕ) → is_tick next k ≡ true → k < 2 ^ 31 → IfSome next (λ tick. tick < 2 ^ 31)
-is-soon None k h below = tt
-is-soon (Some tick) k h below = let same : tick ≡ k = grind (arith, nat_tests) in omega arith
 
 -- What is told of a frame.
 

@@ -278,19 +278,6 @@ chosen-sooner had stage candidate before after c = record {
   either = elim c.either [ inl is ↦ inr is.0 | inr other ↦ inl (ap (λ (b : Busy). b.tick) other.1) ];
 }
 
--- a tick that isn't the candidate's leaves the choice as it was
-pub unchosen : (had stage : ℕ) (candidate : Option ℕ) (before : Busy) → had ≤ before.tick
-    → ((k : ℕ) → had ≤ k → k ≤ before.tick → is_tick candidate k ≡ false) → IsChosen had candidate stage before before
-unchosen had stage candidate before le other = record {
-  later = le;
-  most = omega arith;
-  not_before = λ k lo hi. other k lo (omega arith);
-  either = inr (other before.tick le (omega arith), refl);
-}
-
-is-at : (candidate : Option ℕ) (a b : ℕ) (c : Bool) → a ≡ b → is_tick candidate a ≡ c → is_tick candidate b ≡ c
-is-at candidate a b c e h = subst (λ k. is_tick candidate k ≡ c) e h
-
 -- so the message is that of the lowest stage that is due
 pub says-in : (me : Side) (v : Seated) (slot had tick : ℕ) (third second first : Busy)
     → IsChosen had (tick_said me v slot 3) 3 (record { tick = tick; stage = 0 }) third → IsChosen had (tick_said me v slot 2) 2 third second
@@ -318,11 +305,3 @@ says-in me v slot had tick third second first c3 c2 c1 =
 pub said-tick : (k : ℕ) (m : Option Message) (t : Option ℕ) → is_tick t k ≡ false → is_tick (if-said m t) k ≡ false
 said-tick k None t h = refl
 said-tick k (Some m) t h = h
-
-pub said-none : (k : ℕ) (m : Option Message) (t : Option ℕ) → is_some m ≡ false → is_tick (if-said m t) k ≡ false
-said-none k None t h = refl
-said-none k (Some m) t h = cc
-
-pub said-some : (k : ℕ) (m : Option Message) (t : Option ℕ) → is_some m ≡ true → is_tick (if-said m t) k ≡ is_tick t k
-said-some k None t h = cc
-said-some k (Some m) t h = refl

@@ -34,16 +34,6 @@ pub turns-is : (v : Seated) (me : Side) (k : ℕ) → is_tick (new_epoch_of v.pl
 unfolding state_at
 turns-is v me k h = rw (h, state_at) refl
 
--- the next epoch is this tick, or another, or not known
-pub is-tick : (next : Option ℕ) (tick k : ℕ) → next ≡ Some tick → tick ≡ k → is_tick next k ≡ true
-is-tick next tick k h e = ap (λ o. is_tick o k) h ∙ grind (arith, nat_tests)
-
-pub other-tick : (next : Option ℕ) (tick k : ℕ) → next ≡ Some tick → (tick ≡ k → ⊥) → is_tick next k ≡ false
-other-tick next tick k h e = ap (λ o. is_tick o k) h ∙ grind (arith, nat_tests)
-
-pub no-tick : (next : Option ℕ) (k : ℕ) → next ≡ None → is_tick next k ≡ false
-no-tick next k h = ap (λ o. is_tick o k) h
-
 -- Nothing is said at the first tick of a frame.
 
 first-slot : (me : Side) (v : Seated) (k : ℕ) → IsShape v.sizes → HasTicks v.plan → v.state.epoch ≡ k → (window_of_tick me v k).slot ≡ 0

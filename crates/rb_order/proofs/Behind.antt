@@ -50,12 +50,12 @@ pub record IsBehind (sc : Scenario) (hands : List HandIn) (at : Side → ℕ →
   pub place : (at me i < n) ⊎ ((at me i ≡ n) × ((moment sc hands n).window ≡ 0) × PendsFirst sc hands me i (at me i) s)
 
 -- where the book waits: all nodes stand in moments up to n, and one has not passed that
-pub record WaitsAt (sc : Scenario) (hands : List HandIn) (at : Side → ℕ → ℕ) (sites : Each Site) (m : Milestone) (n : ℕ) : Type 0 where
+pub record WaitsAt (sc : Scenario) (hands : List HandIn) (at : Side → ℕ → ℕ) (sites : Each Site) (b : Book) (n : ℕ) : Type 0 where
   pub stage : (moment sc hands n).window < stages_in sc.sizes
   pub bound : (me : Side) (i : ℕ) (s : Site) → slice_get (of_kind me sites) i ≡ Some s → at me i ≤ n
-  pub within : (p : ℕ) → p ≤ n → IsWithin sc.sizes m p
+  pub within : (p : ℕ) → p ≤ n → IsWithin sc.sizes b.upcoming p
   pub behind : IsBehind sc hands at sites n
-  pub from : (n ≡ 0) ⊎ ((g : ℕ) × (IsRunning (moment sc hands g) × (n ≡ next_stage sc.sizes (moment sc hands g) g)))
+  pub from : (n ≡ 0) ⊎ ((g : ℕ) × (IsRunning (moment sc hands g) × ((n ≡ next_stage sc.sizes (moment sc hands g) g) × (b ≡ (moment sc hands g).book))))
 
 true-false : true ≡ false → ⊥
 true-false e = cc
@@ -131,7 +131,7 @@ begins-at sc hands n frame e =
 
 -- Stages.
 
-place-same : (p : Place) → same_place p p ≡ true
+pub place-same : (p : Place) → same_place p p ≡ true
 place-same p = rw (same-is p.frame p.frame refl, same-is p.slot p.slot refl, same-is p.stage p.stage refl) refl
 
 stage-waits : (sc : Scenario) (hands : List HandIn) (now : ℕ) (at : Side → ℕ → ℕ) (sites : Each Site) (g : ℕ) → SitesStand sc hands now at sites → AllHaveTold sc hands at sites
@@ -189,13 +189,13 @@ after-number sc hands g stage not_last =
 
 -- The world.
 
-settled-next : (sc : Scenario) (hands : List HandIn) (g : ℕ) → IsRunning (moment sc hands g)
+pub settled-next : (sc : Scenario) (hands : List HandIn) (g : ℕ) → IsRunning (moment sc hands g)
     → (moment sc hands g).book.upcoming ≡ next_of sc (moment sc hands g).frame (moment sc hands g).window
 unfolding SettlesNext
 settled-next sc hands g running = settles-next sc hands g running
 
 of-moment : (sc : Scenario) (hands : List HandIn) (now : ℕ) (at : Side → ℕ → ℕ) (sites : Each Site) (b : Book) (g : ℕ) → SitesStand sc hands now at sites → AllHaveTold sc hands at sites
-    → Paced sc at sites b → b.ended ≡ false → needs_no_event sc b.upcoming ≡ false → b ≡ (moment sc hands g).book → (n : ℕ) × WaitsAt sc hands at sites b.upcoming n
+    → Paced sc at sites b → b.ended ≡ false → needs_no_event sc b.upcoming ≡ false → b ≡ (moment sc hands g).book → (n : ℕ) × WaitsAt sc hands at sites b n
 of-moment sc hands now at sites b g stand told paced going needs is =
     let m : Moment = moment sc hands g in
     let number = number-of sc hands g in
@@ -207,8 +207,8 @@ of-moment sc hands now at sites b g stand told paced going needs is =
           let inner : Milestone = if m.frame == sc.frames then End else Stage (place_at sc.sizes m) in
           let next : NextIsStage sc hands g = next-is-stage sc hands g (omega arith) in
           let is_in : b.upcoming ≡ inner = up ∙ ap (λ b. if b then inner else Begin (m.frame + 1)) (lt-ltb m.window (stages_in sc.sizes) stage) in
-          let by : (t : Bool) → (m.frame == sc.frames) ≡ t → (n : ℕ) × WaitsAt sc hands at sites b.upcoming n =
-          λ t. elim t as (λ t. (m.frame == sc.frames) ≡ t → (n : ℕ) × WaitsAt sc hands at sites b.upcoming n) [
+          let by : (t : Bool) → (m.frame == sc.frames) ≡ t → (n : ℕ) × WaitsAt sc hands at sites b n =
+          λ t. elim t as (λ t. (m.frame == sc.frames) ≡ t → (n : ℕ) × WaitsAt sc hands at sites b n) [
             | true ↦ λ e.
                 let end : b.upcoming ≡ End = is_in ∙ ap (λ t. if t then End else Stage (place_at sc.sizes m)) e in
                 absurd (true-false (ap (needs_no_event sc) (sym end) ∙ needs))
@@ -218,7 +218,7 @@ of-moment sc hands now at sites b g stand told paced going needs is =
                 λ me i s there.
                 subst (λ k. at me i ≤ k) (after-number sc hands g stage e) (subst (λ m. IsWithin sc.sizes m (at me i)) at_stage (paced.bound going me i s there)) in
                 let open_still : is_complete sc sites (Stage (place_at sc.sizes m)) ≡ false = subst (λ m. is_complete sc sites m ≡ false) at_stage (paced.waits going needs) in
-                (n, record { stage = next.window; bound = bound; within = λ p le. subst (λ m. IsWithin sc.sizes m p) (sym at_stage) (subst (λ k. p ≤ k) (sym (after-number sc hands g stage e)) le); behind = stage-waits sc hands now at sites g stand told stage bound open_still; from = inr (g, (running, refl)) })
+                (n, record { stage = next.window; bound = bound; within = λ p le. subst (λ m. IsWithin sc.sizes m p) (sym at_stage) (subst (λ k. p ≤ k) (sym (after-number sc hands g stage e)) le); behind = stage-waits sc hands now at sites g stand told stage bound open_still; from = inr (g, (running, (refl, is))) })
           ] in
           by (m.frame == sc.frames) refl
       | inr over ↦
@@ -232,11 +232,11 @@ of-moment sc hands now at sites b g stand told paced going needs is =
           λ me i s there. subst (λ k. at me i ≤ k) (sym n_is) (subst (λ m. IsWithin sc.sizes m (at me i)) begin (paced.bound going me i s there)) in
           let open_still : is_complete sc sites (Begin (m.frame + 1)) ≡ false = subst (λ m. is_complete sc sites m ≡ false) begin (paced.waits going needs) in
           let first : (moment sc hands n).window ≡ 0 = places.1 in
-          (n, record { stage = omega arith; bound = bound; within = λ p le. subst (λ m. IsWithin sc.sizes m p) (sym begin) (subst (λ k. p ≤ k) n_is le); behind = begin-waits sc hands now at sites (m.frame + 1) n stand told places.0 places.1 bound open_still; from = inr (g, (running, refl)) })
+          (n, record { stage = omega arith; bound = bound; within = λ p le. subst (λ m. IsWithin sc.sizes m p) (sym begin) (subst (λ k. p ≤ k) n_is le); behind = begin-waits sc hands now at sites (m.frame + 1) n stand told places.0 places.1 bound open_still; from = inr (g, (running, (refl, is))) })
     ]
 
 pub waits-at : (sc : Scenario) (hands : List HandIn) (now : ℕ) (at : Side → ℕ → ℕ) (sites : Each Site) (b : Book) → SitesStand sc hands now at sites → AllHaveTold sc hands at sites
-    → Paced sc at sites b → b.ended ≡ false → needs_no_event sc b.upcoming ≡ false → IsOfMoment sc hands b → (n : ℕ) × WaitsAt sc hands at sites b.upcoming n
+    → Paced sc at sites b → b.ended ≡ false → needs_no_event sc b.upcoming ≡ false → IsOfMoment sc hands b → (n : ℕ) × WaitsAt sc hands at sites b n
 waits-at sc hands now at sites b stand told paced going needs (inr of) = of-moment sc hands now at sites b of.0 stand told paced going needs of.1
 waits-at sc hands now at sites b stand told paced going needs (inl fresh) =
     let begin : b.upcoming ≡ Begin 0 = ap (λ (b : Book). b.upcoming) fresh in
@@ -289,30 +289,30 @@ pub record ClosesNow (sc : Scenario) (hands : List HandIn) (t : ℕ) (me : Side)
   pub time : t ≡ time_of (clock_of sc me i) (last_tick sc (moment sc hands p) me st)
 
 -- a node closes a window only where another has not passed it
-pub closes-before : (sc : Scenario) (hands : List HandIn) (now t : ℕ) (at : Side → ℕ → ℕ) (sites : Each Site) (b : Milestone) (n : ℕ) → IsLawful sc → now ≤ t → SitesStand sc hands now at sites
-    → HavePassed sc hands now at → AllPend t sites → WaitsAt sc hands at sites b n
+pub closes-before : (sc : Scenario) (hands : List HandIn) (now t : ℕ) (at : Side → ℕ → ℕ) (sites : Each Site) (n : ℕ) → IsLawful sc → now ≤ t → SitesStand sc hands now at sites
+    → HavePassed sc hands now at → AllPend t sites → (moment sc hands n).window < stages_in sc.sizes → IsBehind sc hands at sites n
     → ((q : ℕ) → q < n → (moment sc hands q).window ≤ stages_in sc.sizes → InTime sc (moment sc hands q) (moment sc hands (next_stage sc.sizes (moment sc hands q) q)))
     → BegunWell sc (moment sc hands n) → (me : Side) (i p : ℕ) → p ≡ at me i → ClosesNow sc hands t me i p → p ≤ n → p < n
-closes-before sc hands now t at sites b n lawful le stand passed pend waits times well me i p is close within =
-    let k : Side = waits.behind.me in
-    let j : ℕ = waits.behind.i in
-    let z : Site = waits.behind.s in
-    let up : IsUp sc hands (sent_by sc hands at sites) now k j (at k j) z = stand.up k j z waits.behind.there waits.behind.runs in
+closes-before sc hands now t at sites n lawful le stand passed pend stage behind times well me i p is close within =
+    let k : Side = behind.me in
+    let j : ℕ = behind.i in
+    let z : Site = behind.s in
+    let up : IsUp sc hands (sent_by sc hands at sites) now k j (at k j) z = stand.up k j z behind.there behind.runs in
     let q : ℕ = at k j in
-    let after : t ≤ up.a.time = tick-after t z.ahead up.a z.coming up.stands.receives.pends (pend-of t sites pend k j z waits.behind.there) in
+    let after : t ≤ up.a.time = tick-after t z.ahead up.a z.coming up.stands.receives.pends (pend-of t sites pend k j z behind.there) in
     let at_time : up.a.time ≡ time_of (clock_of sc k j) up.a.tick = up.stands.receives.at_time in
     elim (cases_lt p n) [
       | inl lt ↦ lt
       | inr ge ↦
           let same : p ≡ n = omega arith in
-          elim waits.behind.place [
+          elim behind.place [
             | inl lt ↦
                 let here : InTime sc (moment sc hands q) (moment sc hands (next_stage sc.sizes (moment sc hands q) q)) = times q lt up.stands.stands.window in
                 let next : NextIsStage sc hands q = next-is-stage sc hands q up.stands.stands.window in
                 let y : ℕ = next_stage sc.sizes (moment sc hands q) q in
                 let y_le : y ≤ p = elim (cases_lt n y) [
                   | inr ge_y ↦ omega arith
-                  | inl lt_y ↦ let tail = next.between n lt lt_y in absurd (omega (arith, tail.0, waits.stage))
+                  | inl lt_y ↦ let tail = next.between n lt lt_y in absurd (omega (arith, tail.0, stage))
                 ] in
                 let good_y : is_good_at sc (moment sc hands y) me i ≡ true = good-back sc hands y p me i y_le close.good in
                 let state = good-state sc hands y me i (has-ticks sc lawful) good_y in

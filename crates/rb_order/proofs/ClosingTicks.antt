@@ -1,13 +1,10 @@
--- For the law that events are rounds, which is still to come: the tick with which a node closes a window does what the rounds
+-- For the law that events are rounds: the tick with which a node closes a window does what the rounds
 -- do with the node in that window.
-use Rattle.std.proofs.Common.{◌≡◌, ℕ, ◌+◌, ◌<◌, ◌^◌, ◌&&◌, nat_le, true, false, List, [], map, sym, ◌∙◌, ap, arith, Option, Some, None}
-use Rattle.std.proofs.lemmas.Bool.Decides.{nat_tests}
+use Rattle.std.proofs.Common.{◌≡◌, ℕ, ◌&&◌, nat_le, true, false, List, map, sym, ◌∙◌, ap, Option, Some, None}
 use Rattle.rb_base.specs.Nodes.{Side}
-use Rattle.rb_base.specs.Sizes.{Sizes}
-use Rattle.rb_rules.specs.declared.plan.Plan.{Plan}
 use Rattle.rb_rules.specs.declared.plan.Window.{Window}
 use Rattle.rb_rules.specs.Book.{Each}
-use Rattle.rb_rules.specs.Core.{Core, Act, is_spent, state_at, said_at, window_here, is_last, epoch_at, state_kept, of_source, act_on, act_at, tick}
+use Rattle.rb_rules.specs.Core.{of_source}
 use Rattle.rb_rules.specs.ExactStage.{Outcome, keep_sent}
 use Rattle.rb_rules.specs.Goodness.{Scenario, is_good, clock_of}
 use Rattle.rb_rules.specs.Hearing.{Coming, Sending, arrival_of, close_window, row_of}
@@ -51,51 +48,3 @@ result-is sc m sent me i st w inbox got h =
     ∙ ap (λ (x : Outcome). let r : Result = record { state = x.state; row = Some (row_of me i x.state heard x.closed) } in r) (sym same)
     ∙ ap (λ row. let r : Result = record { state = (closing_of sc m me i st w inbox).state; row = Some row } in r)
     (sym (row-is me i (closing_of sc m me i st w inbox).state got heard (closing_of sc m me i st w inbox).closed h.all))
-
--- a core stands at the last tick of a window: it does not turn, and has nothing more to say
-pub record StandsAtLast (sizes : Sizes) (plan : Plan) (me : Side) (i : ℕ) (st : NodeState) (w : Window) (word k : ℕ) : Type 0 where
-  pub not_spent : k < 2 ^ 31
-  pub no_turn : state_at sizes plan me st k ≡ st
-  pub no_message : said_at sizes plan me i st word k ≡ None
-  pub window : window_here sizes plan me st k ≡ w
-  pub last : is_last sizes plan me st k ≡ true
-
--- the act of a close
-abbrev pub close_act : Sizes → Side → NodeState → ℕ → Outcome → Act
-close_act sizes me st k x = record {
-  core = record { state = x.state; had = k + 1; inbox = [] };
-  epoch = epoch_at sizes me st k;
-  message = None;
-  closed = Some x.closed;
-}
-
-last-act : (sizes : Sizes) (plan : Plan) (me : Side) (i : ℕ) (c : Core) (w : Window) (word : ℕ) → StandsAtLast sizes plan me i c.state w word c.had
-    → act_on sizes plan me i c c.state None c.state ≡ close_act sizes me c.state c.had (close_window sizes plan me i c.state w (of_source c.inbox))
-unfolding act_on
-last-act sizes plan me i c w word s =
-    let x : Outcome = close_window sizes plan me i c.state (window_here sizes plan me c.state c.had) (of_source c.inbox) in
-    let still : Act = record { core = record { state = c.state; had = c.had + 1; inbox = c.inbox }; epoch = epoch_at sizes me c.state c.had; message = None; closed = None } in
-    ap (λ b. elim b as (λ _. Act) [ true ↦ close_act sizes me c.state c.had x | false ↦ still ]) s.last
-    ∙ ap (λ w. close_act sizes me c.state c.had (close_window sizes plan me i c.state w (of_source c.inbox))) s.window
-
-not-spent : (c : Core) → c.had < 2 ^ 31 → is_spent c ≡ false
-not-spent c h = grind (arith, nat_tests)
-
--- that tick closes the window on the inbox
-pub closing-tick : (sizes : Sizes) (plan : Plan) (me : Side) (i : ℕ) (c : Core) (w : Window) (word : ℕ) → StandsAtLast sizes plan me i c.state w word c.had
-    → tick sizes plan me i c word ≡ close_act sizes me c.state c.had (close_window sizes plan me i c.state w (of_source c.inbox))
-unfolding tick act_at
-closing-tick sizes plan me i c w word s =
-    ap (λ b. elim b as (λ _. Act) [ true ↦ record { core = c; epoch = None; message = None; closed = None } | false ↦ act_at sizes plan me i c word ]) (not-spent c s.not_spent)
-    ∙ ap (λ st. act_on sizes plan me i c st (said_at sizes plan me i st word c.had) (state_kept sizes me i st word (said_at sizes plan me i st word c.had))) s.no_turn
-    ∙ ap (λ m. act_on sizes plan me i c c.state m (state_kept sizes me i c.state word m)) s.no_message
-    ∙ last-act sizes plan me i c w word s
-
--- and so takes the core to the rounds' state after the window
-pub closing-state : (sc : Scenario) (m : Moment) (sent : Each (Option Sending)) (me : Side) (i : ℕ) (st : NodeState) (w : Window) (c : Core) (got : List Coming) (word : ℕ)
-    → c.state ≡ spoken sc m me i st w → HoldsHeard sc m sent me i st w c.inbox got → StandsAtLast sc.sizes sc.plan me i c.state w word c.had
-    → (tick sc.sizes sc.plan me i c word).core ≡ record { state = (go_through sc m sent me i st w).state; had = c.had + 1; inbox = [] }
-closing-state sc m sent me i st w c got word is h s =
-    ap (λ x. x.core) (closing-tick sc.sizes sc.plan me i c w word s)
-    ∙ ap (λ st. let a : Core = record { state = (close_window sc.sizes sc.plan me i st w (of_source c.inbox)).state; had = c.had + 1; inbox = [] } in a) is
-    ∙ ap (λ r. let a : Core = record { state = r.state; had = c.had + 1; inbox = [] } in a) (sym (result-is sc m sent me i st w c.inbox got h))

@@ -1,4 +1,4 @@
--- For the law that events are rounds, which is still to come: what is due: it is pending at its node, nothing is pending
+-- For the law that events are rounds: what is due: it is pending at its node, nothing is pending
 -- before it, and where it is a tick nothing comes to the node at its time.
 use Rattle.std.proofs.Common.{◌≡◌, ℕ, zero, suc, ◌+◌, ◌<◌, ◌≤◌, ◌==◌, ◌&&◌, ◌||◌, min, Bool, true, false, List, [], ◌∷◌, ◌++◌, map, filter, cond, refl, sym, ◌∙◌, ap, subst, arith, Option, Some, None, slice_get, option_map}
 use Rattle.std.specs.Prelude.{flat_map, option_to_list}

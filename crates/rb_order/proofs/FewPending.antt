@@ -12,7 +12,6 @@ use Rattle.rb_rules.specs.declared.message.Message.{Message}
 use Rattle.rb_rules.specs.Clock.{time_of}
 use Rattle.rb_rules.specs.Goodness.{Scenario, clock_of}
 use Rattle.rb_rules.specs.Hearing.{Coming, Sending, Span, coming_of, coming_said, is_said, said_by, span_of}
-use Rattle.rb_rules.specs.Lawful.{IsLawful}
 use Rattle.rb_rules.specs.Links.{name_of, same_node}
 use Rattle.rb_rules.specs.NodeState.{NodeState}
 use Rattle.rb_rules.specs.Ports.{HandIn}
@@ -22,15 +21,13 @@ use Rattle.rb_rules.specs.WorldStep.{Choice, Due, Site, Timed, World, after_act,
 use Rattle.rb_rules.specs.WorldStep.Pending.{Tick}
 use Rattle.rb_rules.specs.WorldStep.Choice.{Take}
 use Rattle.rb_rules.specs.WorldStep.Way.{ByAnEvent}
-use Rattle.rb_order.specs.Laws.{SyncSlotsHold}
 use Rattle.rb_order.specs.PendingEvents.{PendingEventsAreFewIfSyncHolds, TakesTick, most_coming, most_pending}
-use Rattle.rb_order.proofs.EveryWorld.{after-more, stands-after}
+use Rattle.rb_order.proofs.EventsHold.{stands-hold}
+use Rattle.rb_order.proofs.EveryWorld.{after-more}
 use Rattle.rb_order.proofs.Invariant.{NodeStands, ahead_so_far, entry_of, heard_so_far, is_good_at, last_tick, next_stage, sending_of}
 use Rattle.rb_order.proofs.OneTake.{StandsInRounds}
 use Rattle.rb_order.proofs.PendingLists.{Hears}
 use Rattle.rb_order.proofs.SourceSums.{all-of-sources, coming_of_source, items-once, sum-plus, sum-twos}
-use Rattle.rb_order.proofs.TickRooms.{has-room}
-use Rattle.rb_order.proofs.UpToThere.{up-to}
 use Rattle.rb_order.proofs.WorldNodes.{settle-sites}
 use Rattle.rb_order.proofs.WorldStands.{IsDown, IsUp, kind-itself, node-itself, not-other, sent_by}
 use Rattle.rb_order.proofs.WorldTicks.{after_tick, get-after, kind-other, reached, reached-not}
@@ -197,9 +194,6 @@ own-few sc me i frame k o change sites s fits there =
 
 -- Worlds.
 
-stands : (sc : Scenario) → IsLawful sc → SyncSlotsHold sc → (choices : List Choice) → StandsInRounds sc (world_after sc choices)
-stands sc lawful holds = stands-after sc lawful (has-room sc lawful) (record { up_to = λ hands n stage from. up-to sc hands lawful holds n stage from })
-
 -- a tick that is due happens in the world after one more choice
 tick-few : (sc : Scenario) → ((choices : List Choice) → StandsInRounds sc (world_after sc choices)) → (choices : List Choice) (me : Side) (i k : ℕ) (s : Site) (x : Act)
     → TakesTick sc (world_after sc choices) me i k s x
@@ -220,7 +214,7 @@ tick-few sc stands choices me i k s x h =
 pub pending-few : PendingEventsAreFewIfSyncHolds
 pending-few sc lawful holds choices =
     let w : World = world_after sc choices in
-    let in_rounds = stands sc lawful holds in
+    let in_rounds = stands-hold sc lawful holds in
     record {
       now = world-few sc w (in_rounds choices);
       own = λ me i k s x h.

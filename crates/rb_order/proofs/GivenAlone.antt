@@ -21,9 +21,6 @@ use Rattle.rb_order.proofs.SettledOnce.{FrameGiven, frame-given}
 use Rattle.rb_order.proofs.Waiting.{no-good, told-all}
 use Rattle.rb_order.proofs.WorldBooks.{go-on-turn, last-one, settle_rest}
 
-true-false : {P : Type 0} → true ≡ false → P
-true-false e = absurd (cc)
-
 -- where nobody is good, all that is asked for has been told
 none-asked : {X : Type 0} (sc : Scenario) (frame slot : ℕ) (tells : Site → Option X) (sites : Each Site) → IsShape sc.sizes → nobody_good sc frame slot ≡ true
     → all_have_told sc frame slot tells sites ≡ true

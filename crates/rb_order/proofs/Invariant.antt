@@ -1,4 +1,4 @@
--- For the law that events are rounds, which is still to come: the invariant of a run event by event. Each node stands in a moment
+-- For the law that events are rounds: the invariant of a run event by event. Each node stands in a moment
 -- of the rounds of its own; its next busy tick is pending; and what has come to it and is pending there of a source is what the
 -- source has sent in the rounds for that moment's window and for the next stage.
 use Rattle.std.proofs.Common.{◌≡◌, ℕ, suc, ◌+◌, ◌-◌, ◌^◌, ◌<◌, ◌≤◌, ◌==◌, ◌&&◌, ◌||◌, nat_lt, Bool, true, false, List, [], Option, Some, None, slice_get, option_map, option_to_list, if◌then◌else◌}

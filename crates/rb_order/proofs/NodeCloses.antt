@@ -1,4 +1,4 @@
--- For the law that events are rounds, which is still to come: at the last tick of its window a node does what the rounds do with it, and
+-- For the law that events are rounds: at the last tick of its window a node does what the rounds do with it, and
 -- goes on in the next window, or stops where it is not good any more.
 use Rattle.std.proofs.Common.{◌≡◌, ℕ, ◌+◌, ◌<◌, ◌≤◌, ◌==◌, ◌&&◌, ◌⊎◌, nat_le, nat_lt, Bool, true, false, cond, List, [], ◌∷◌, ◌++◌, filter, length, refl, ap, sym, ◌∙◌, subst, arith, inl, inr, Option, Some, None, option_map, option_to_list}
 use Rattle.std.proofs.lemmas.Bool.Decides.{nat_tests}

@@ -1,4 +1,4 @@
--- For the law that events are rounds, which is still to come: the last tick of a window at its node.
+-- For the law that events are rounds: the last tick of a window at its node.
 use Rattle.std.proofs.Common.{◌≡◌, ℕ, suc, ◌+◌, ◌*◌, ◌-◌, ◌^◌, ◌<◌, ◌≤◌, ◌==◌, ◌⊎◌, nat_le, nat_lt, if◌then◌else◌, Bool, true, false, List, [], ◌++◌, refl, ap, sym, ◌∙◌, subst, arith, inl, inr, Option, Some, None, slice_get, unwrap_or}
 use Rattle.std.proofs.lemmas.Bool.{cases_lt}
 use Rattle.std.proofs.lemmas.Bool.Decides.{nat_tests}
@@ -186,7 +186,7 @@ in-time-there sc hands p q (inr tail) within times =
     let before : m.window + 1 ≡ stages_in sc.sizes = sym later.window ∙ at in
     subst (λ q. InTime sc (moment sc hands q) (moment sc hands (next_stage sc.sizes (moment sc hands q) q))) (sym tail.0) (times.tail (omega arith))
 
-closed-stage : (sizes : Sizes) (plan : Plan) (me : Side) (i : ℕ) (st : NodeState) (w : Window) (arrivals : ℕ → List Arrival)
+pub closed-stage : (sizes : Sizes) (plan : Plan) (me : Side) (i : ℕ) (st : NodeState) (w : Window) (arrivals : ℕ → List Arrival)
     → (close_window sizes plan me i st w arrivals).closed.place.stage ≡ w.stage
 unfolding close_sync sync_outcome_of close_exact outcome_of
 closed-stage sizes plan me i st w arrivals = by (w.slot == sync_slot_of sizes)

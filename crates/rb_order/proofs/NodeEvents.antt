@@ -1,4 +1,4 @@
--- For the law that events are rounds, which is still to come: a node stays where it stands when something comes to it, when an event
+-- For the law that events are rounds: a node stays where it stands when something comes to it, when an event
 -- happens elsewhere, and at a tick that is not the last of its window.
 use Rattle.std.proofs.Common.{◌≡◌, ℕ, suc, ◌+◌, ◌^◌, ◌<◌, ◌≤◌, ◌==◌, Bool, true, false, List, [], ◌∷◌, ◌++◌, map, refl, ap, sym, ◌∙◌, subst, arith, Option, Some, None, option_map, option_to_list}
 use Rattle.std.proofs.lemmas.Bool.Decides.{nat_tests}

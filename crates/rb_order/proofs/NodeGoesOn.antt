@@ -1,4 +1,4 @@
--- For the law that events are rounds, which is still to come: at the last tick of its window a node closes it as the rounds do, and stands
+-- For the law that events are rounds: at the last tick of its window a node closes it as the rounds do, and stands
 -- in the next moment, or stops.
 use Rattle.std.proofs.Common.{◌≡◌, ℕ, zero, suc, ◌+◌, ◌^◌, ◌<◌, ◌≤◌, ◌==◌, nat_lt, Bool, true, false, List, [], ◌∷◌, ◌++◌, map, refl, ap, sym, ◌∙◌, subst, arith, Option, Some, None, slice_get, option_map, option_to_list, get_or}
 use Rattle.std.proofs.lemmas.Bool.Decides.{nat_tests}
@@ -63,11 +63,6 @@ tail-close sizes plan me i st w arrivals slot stage =
     same-is a b h = grind (arith, nat_tests)
 
 -- Nothing is sent in a tail.
-
-none-sent : (sizes : Sizes) (plan : Plan) (me : Side) (i : ℕ) (st : NodeState) (word : ℕ) → HasRoom plan → KeepsTime sizes plan me st
-    → sending_at sizes plan me i st (stages_in sizes) word ≡ None
-none-sent sizes plan me i st word room keeps =
-    ap (λ (w : Window). sending sizes plan me i st w.slot w.stage word) (sync-numbered sizes plan me st 3) ∙ unsent sizes plan me i st word
 
 unsent-of : (sc : Scenario) (m : Moment) (side : Side) (j : ℕ) (o : Option NodeState) → slice_get (of_kind side m.nodes) j ≡ o → m.window ≡ stages_in sc.sizes
     → sending_of sc m side j ≡ None

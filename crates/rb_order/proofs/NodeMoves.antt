@@ -1,4 +1,4 @@
--- For the law that events are rounds, which is still to come: where a node stands after it has closed a window: in the next one, or
+-- For the law that events are rounds: where a node stands after it has closed a window: in the next one, or
 -- past an empty tail and the turn in the first one of the next frame.
 use Rattle.std.proofs.Common.{◌≡◌, ℕ, suc, ◌+◌, ◌*◌, ◌-◌, ◌<◌, ◌≤◌, ◌==◌, ◌&&◌, nat_le, nat_lt, Bool, true, false, refl, ap, sym, ◌∙◌, subst, arith, inl, inr, ◌⊎◌, List, Option, Some, None, is_some, slice_get, option_map, unwrap_or, if◌then◌else◌}
 use Rattle.std.proofs.lemmas.Bool.{cases_lt, lt-ltb, le-ltb}
@@ -164,7 +164,7 @@ after-knows sc hands me i p st ticks h =
     numbered-knows sc m (sent_in sc m) me i m.window st ticks (omega arith) (ap (is_good sc me i m.frame) (slot-is sc.sizes sc.plan me st m.window) ∙ h.good) h.knows
 
 -- windows of stages begin alike at all states of a frame
-first-alike : (sizes : Sizes) (plan : Plan) (me : Side) (a b : NodeState) (n : ℕ) → HasTicks plan → n < stages_in sizes
+pub first-alike : (sizes : Sizes) (plan : Plan) (me : Side) (a b : NodeState) (n : ℕ) → HasTicks plan → n < stages_in sizes
     → first_of sizes plan me b (n + 1) ≡ last_of sizes plan me a n + 1
 first-alike sizes plan me a b n ticks h =
     let t : Tiles sizes plan me b n = tiles sizes plan me b n ticks h in

@@ -1,4 +1,4 @@
--- For the law that events are rounds, which is still to come: the next busy tick of a node in a window lies in it, and no message
+-- For the law that events are rounds: the next busy tick of a node in a window lies in it, and no message
 -- goes out before.
 use Rattle.std.proofs.Common.{◌≡◌, ℕ, zero, suc, ◌+◌, ◌-◌, ◌^◌, ◌<◌, ◌≤◌, ◌==◌, ◌||◌, nat_lt, Bool, true, false, refl, ap, sym, ◌∙◌, subst, arith, inl, inr, Option, Some, None, is_some}
 use Rattle.std.proofs.lemmas.Bool.{cases_lt}
@@ -33,11 +33,6 @@ or-second true b c h = refl
 or-second false true c h = refl
 or-second false false c h = cc
 
-or-third : (a b c : Bool) → (a || b || c) ≡ false → c ≡ false
-or-third true b c h = cc
-or-third false true c h = cc
-or-third false false c h = h
-
 -- the last tick of a window is busy
 last-busy : (sizes : Sizes) (plan : Plan) (me : Side) (i : ℕ) (y : NodeState) (n : ℕ) → HasRoom plan → KeepsTime sizes plan me y → n ≤ stages_in sizes
     → IsTickIn sizes plan me y n (y.epoch + last_of sizes plan me y n) → is_busy sizes plan me i y (y.epoch + last_of sizes plan me y n) ≡ true
@@ -51,10 +46,6 @@ last-busy sizes plan me i y n room keeps le at =
   where
     same : (k : ℕ) → (k == k) ≡ true
     same k = grind (arith, nat_tests)
-
-none-from : {X : Type 0} (o : Option X) → is_some o ≡ false → o ≡ None
-none-from None h = refl
-none-from (Some x) h = cc
 
 quiet-says : (sizes : Sizes) (plan : Plan) (me : Side) (i : ℕ) (y : NodeState) (k : ℕ) → state_at sizes plan me y k ≡ y
     → is_busy sizes plan me i y k ≡ false → said_at sizes plan me i y 0 k ≡ None

@@ -1,4 +1,4 @@
--- For the law that events are rounds, which is still to come: at each tick of a window the core says what the rounds send in this
+-- For the law that events are rounds: at each tick of a window the core says what the rounds send in this
 -- window, if that is its tick.
 use Rattle.std.proofs.Common.{◌≡◌, ℕ, zero, suc, ◌+◌, ◌*◌, ◌-◌, ◌/◌, ◌%◌, ◌<◌, ◌≤◌, ◌==◌, ◌&&◌, ◌⊎◌, nat_lt, Bool, true, false, refl, ap, sym, ◌∙◌, subst, arith, inl, inr, Option, Some, None, is_some, option_and_then, option_map, if◌then◌else◌}
 use Rattle.std.proofs.lemmas.Bool.{cases_lt}
@@ -114,9 +114,6 @@ apart : (sizes : Sizes) (plan : Plan) (me : Side) (st : NodeState) (m n t k : �
 apart sizes plan me st m n t k ticks lt le a b =
     let before : last_of sizes plan me st m < first_of sizes plan me st n = ends-before-later sizes plan me st m n ticks lt le in
     omega (arith, before, a.to, b.from)
-
-not-at : (a b : ℕ) → (a < b → ⊥) × (b < a → ⊥) → a ≡ b
-not-at a b h = omega (arith, h.0, h.1)
 
 if-at-none : (k : ℕ) (o : Option Sending) → ((s : Sending) → o ≡ Some s → (s.tick == k) ≡ false) → if_at k o ≡ None
 if-at-none k None other = refl

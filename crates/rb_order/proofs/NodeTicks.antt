@@ -1,4 +1,4 @@
--- For the law that events are rounds, which is still to come: what a core does at a tick of a window, whether it has already said
+-- For the law that events are rounds: what a core does at a tick of a window, whether it has already said
 -- what it has to say in it or not.
 use Rattle.std.proofs.Common.{◌≡◌, ℕ, ◌+◌, ◌*◌, ◌-◌, ◌<◌, ◌≤◌, ◌==◌, ◌&&◌, nat_lt, Bool, true, false, refl, ap, sym, ◌∙◌, subst, arith, inl, inr, Option, Some, None, is_some, option_and_then, option_map, unwrap_or, if◌then◌else◌}
 use Rattle.std.proofs.lemmas.Bool.{cases_lt}
@@ -35,7 +35,7 @@ pub record Like (sizes : Sizes) (plan : Plan) (me : Side) (i : ℕ) (st y : Node
   pub k1 : y.k1 ≡ st.k1
   pub k2 : y.k2 ≡ st.k2
 
-like-itself : (sizes : Sizes) (plan : Plan) (me : Side) (i : ℕ) (st : NodeState) → Like sizes plan me i st st
+pub like-itself : (sizes : Sizes) (plan : Plan) (me : Side) (i : ℕ) (st : NodeState) → Like sizes plan me i st st
 like-itself sizes plan me i st = record {
   epoch = refl;
   next = refl;

@@ -1,4 +1,4 @@
--- For the law that events are rounds, which is still to come: the word that a core is given at a tick is the one that the rounds
+-- For the law that events are rounds: the word that a core is given at a tick is the one that the rounds
 -- give the node in the window.
 use Rattle.std.proofs.Common.{◌≡◌, ℕ, ◌+◌, ◌-◌, ◌==◌, ◌&&◌, nat_lt, Bool, true, false, refl, ap, sym, ◌∙◌, subst, arith, Option, Some, None, is_some, option_and_then, option_map, unwrap_or, get_or, if◌then◌else◌, List}
 use Rattle.std.proofs.lemmas.Bool.Decides.{nat_tests}

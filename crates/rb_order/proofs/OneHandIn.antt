@@ -1,5 +1,5 @@
 -- For the law that events are rounds: what is handed in keeps the whole invariant.
-use Rattle.std.proofs.Common.{◌≡◌, ℕ, ◌+◌, ◌*◌, ◌%◌, ◌<◌, ◌≤◌, ◌==◌, nat_lt, Bool, true, false, List, [], ◌∷◌, ◌++◌, length, refl, ap, sym, ◌∙◌, subst, arith, inl, inr, Option, Some, None, if◌then◌else◌}
+use Rattle.std.proofs.Common.{◌≡◌, ℕ, ◌+◌, ◌*◌, ◌%◌, ◌<◌, ◌≤◌, ◌==◌, nat_lt, Bool, true, false, List, [], ◌∷◌, ◌++◌, length, refl, ap, sym, ◌∙◌, subst, arith, ◌⊎◌, inl, inr, Option, Some, None, slice_get, if◌then◌else◌}
 use Rattle.std.proofs.lemmas.Bool.Decides.{nat_tests}
 use Rattle.std.proofs.lemmas.Nat.{mul-le}
 use Rattle.rb_base.specs.Nodes.{Side}
@@ -9,16 +9,18 @@ use Rattle.rb_rules.specs.Book.{Book, of_kind}
 use Rattle.rb_rules.specs.Book.Milestone.{Begin, Stage, End}
 use Rattle.rb_rules.specs.Goodness.{Scenario, is_good}
 use Rattle.rb_rules.specs.Lawful.{IsLawful}
+use Rattle.rb_rules.specs.Moments.{IsRunning}
 use Rattle.rb_rules.specs.Ports.{HandIn, with_state}
 use Rattle.rb_rules.specs.Rounds.{Moment, moment, windows_in}
-use Rattle.rb_rules.specs.WorldStep.{World, frame_in, hand}
+use Rattle.rb_rules.specs.WorldStep.{Site, World, frame_in, hand}
 use Rattle.rb_order.specs.Closing.{stages_in}
+use Rattle.rb_order.proofs.Behind.{begins-at}
 use Rattle.rb_order.proofs.HandedIn.{AreEarly, length-handed, passed-handed, port-handed, sites-handed, tell-handed, told-handed}
 use Rattle.rb_order.proofs.HandedMoments.{Alike, handed-alike}
 use Rattle.rb_order.proofs.MomentBooks.{next_of, number-of, place_at, settles-next, SettlesNext}
 use Rattle.rb_order.proofs.NodeActs.{HasRoom}
 use Rattle.rb_order.proofs.ToldSoFar.{so-far-handed}
-use Rattle.rb_order.proofs.OneTake.{StandsInRounds, WorldInRounds}
+use Rattle.rb_order.proofs.OneEvent.{WorldInRounds}
 use Rattle.rb_order.proofs.RoundNodes.{slot_numbered}
 use Rattle.rb_order.proofs.SameHeard.{Every}
 use Rattle.rb_order.proofs.Settling.{get-within}
@@ -79,10 +81,17 @@ every-more : {X : Type 0} (P : X → Type 0) (xs : List X) (x : X) → Every P x
 every-more P [] x all one = (one, tt)
 every-more P (y ∷ ys) x all one = (all.0, every-more P ys x all.1 one)
 
+-- after a hand-in: the nodes stand where they stood, and a run that gets a state goes on up to a frame's begin, which no node has passed
+pub record HandsIn (sc : Scenario) (now : ℕ) (at : Side → ℕ → ℕ) (w y : World) : Type 0 where
+  pub stands : WorldInRounds sc now at y
+  pub sites : y.sites ≡ w.sites
+  pub free : (y.hands ≡ w.hands) ⊎ ((g : ℕ) × (IsRunning (moment sc y.hands g) × (((moment sc y.hands g).window ≡ 0)
+      × ((me : Side) (i : ℕ) (s : Site) → slice_get (of_kind me w.sites) i ≡ Some s → at me i ≤ g + 1))))
+
 -- a state that is handed in while the record of a frame is the turn
 handed : (sc : Scenario) (now : ℕ) (at : Side → ℕ → ℕ) (w : World) (biu state frame : ℕ) → IsLawful sc → HasRoom sc.plan → WorldInRounds sc now at w
     → frame_in w.turn ≡ Some frame → is_good sc Biu biu frame 0 ≡ true
-    → StandsInRounds sc (record w { ports = with_state biu state w.ports; hands = w.hands ++ record { frame = frame; biu = biu; state = state } ∷ [] })
+    → HandsIn sc now at w (record w { ports = with_state biu state w.ports; hands = w.hands ++ record { frame = frame; biu = biu; state = state } ∷ [] })
 handed sc now at w biu state frame lawful room h turn good =
     let hands : List HandIn = w.hands in
     let x : HandIn = record { frame = frame; biu = biu; state = state } in
@@ -93,8 +102,6 @@ handed sc now at w biu state frame lawful room h turn good =
     let book = at-first sc hands w.book frame some h.book a.going a.next in
     let alike : Alike sc (moment sc hands book.0) (moment sc more book.0) = handed-alike sc hands x book.0 (omega (arith, book.1.0, some)) in
     record {
-      now = now;
-      at = at;
       stands = record {
         sites = sites-handed sc hands x now at w.sites early h.sites;
         passed = passed-handed sc hands x now at w.sites early h.sites.counts h.passed;
@@ -121,26 +128,37 @@ handed sc now at w biu state frame lawful room h turn good =
         so_far = so-far-handed sc hands x at w.sites early h.so_far;
         bound = h.bound;
       };
+      sites = refl;
+      free = inr (
+        book.0,
+        (
+          ap (λ (m : Moment). m.book.ended) alike.is ∙ sym (ap (λ (b : Book). b.ended) book.1.1) ∙ a.going,
+          (
+            (begins-at sc more book.0 frame book.1.0).1,
+            λ me i s there. let le : at me i ≤ frame * (windows_in sc.sizes + 1) + 1 = a.near me i s there in omega (arith, le, book.1.0),
+          ),
+        ),
+      );
     }
 
 pub hand-keeps : (sc : Scenario) (now : ℕ) (at : Side → ℕ → ℕ) (w : World) (biu state : ℕ) → IsLawful sc → HasRoom sc.plan → WorldInRounds sc now at w
-    → StandsInRounds sc (hand sc w biu state)
+    → HandsIn sc now at w (hand sc w biu state)
 unfolding hand
 hand-keeps sc now at w biu state lawful room h = by (frame_in w.turn) refl
   where
-    by : (o : Option ℕ) → frame_in w.turn ≡ o → StandsInRounds sc (elim o as (λ _. World) [
+    by : (o : Option ℕ) → frame_in w.turn ≡ o → HandsIn sc now at w (elim o as (λ _. World) [
       | None ↦ w
       | Some frame ↦ elim (is_good sc Biu biu frame 0) [
         | true ↦ record w { ports = with_state biu state w.ports; hands = w.hands ++ record { frame = frame; biu = biu; state = state } ∷ [] }
         | false ↦ w
       ]
     ])
-    by None e = record { now = now; at = at; stands = h }
+    by None e = record { stands = h; sites = refl; free = inl refl }
     by (Some frame) e = inner (is_good sc Biu biu frame 0) refl
       where
-        inner : (b : Bool) → is_good sc Biu biu frame 0 ≡ b → StandsInRounds sc (elim b as (λ _. World) [
+        inner : (b : Bool) → is_good sc Biu biu frame 0 ≡ b → HandsIn sc now at w (elim b as (λ _. World) [
           | true ↦ record w { ports = with_state biu state w.ports; hands = w.hands ++ record { frame = frame; biu = biu; state = state } ∷ [] }
           | false ↦ w
         ])
         inner true f = handed sc now at w biu state frame lawful room h e f
-        inner false f = record { now = now; at = at; stands = h }
+        inner false f = record { stands = h; sites = refl; free = inl refl }

@@ -41,14 +41,8 @@ IsWithin sizes (Begin frame) p = p ≤ number_of sizes (Begin frame)
 IsWithin sizes (Stage place) p = p ≤ number_of sizes (after_stage sizes place)
 IsWithin sizes End p = ⊤
 
-lt-is : (a b : ℕ) → a < b → nat_lt a b ≡ true
-lt-is a b h = grind (arith, nat_tests)
-
 lt-from : (a b : ℕ) → nat_lt a b ≡ true → a < b
 lt-from a b h = grind (arith, nat_tests)
-
-same-is : (a b : ℕ) → a ≡ b → (a == b) ≡ true
-same-is a b h = grind (arith, nat_tests)
 
 -- what comes after a stage
 abbrev pub then_stage : Sizes → Place → Bool → Bool → Milestone

@@ -1,4 +1,4 @@
--- For the law that events are rounds, which is still to come: what has come of a source for the open window, what is pending
+-- For the law that events are rounds: what has come of a source for the open window, what is pending
 -- of it, and what was sent: how an arrival keeps them together.
 use Rattle.std.proofs.Common.{◌≡◌, ℕ, zero, suc, ◌+◌, ◌<◌, ◌≤◌, ◌^◌, ◌==◌, ◌&&◌, not, nat_lt, nat_le, Bool, true, false, List, [], ◌∷◌, ◌++◌, map, filter, remove, length, length-append, refl, sym, ◌∙◌, ap, subst, arith, cond}
 use Rattle.std.proofs.lemmas.Bool.Decides.{nat_tests}
@@ -33,11 +33,6 @@ abbrev pub StandsAt : ℕ → Coming → List Coming → Type 0
 StandsAt n x [] = ⊥
 StandsAt zero x (y ∷ ys) = y ≡ x
 StandsAt (suc n) x (y ∷ ys) = StandsAt n x ys
-
--- One item is taken out of a list.
-kept-cond : (b : Bool) (P : Coming → Type 0) (x : Coming) (xs : List Coming) → P x → Every P xs → Every P (cond b (x ∷ xs) xs)
-kept-cond true P x xs p e = (p, e)
-kept-cond false P x xs p e = e
 
 left : (P : Coming → Type 0) (q : Coming → Bool) (n : ℕ) (x : Coming) (xs : List Coming) → StandsAt n x xs → Every P (filter q xs) → Every P (filter q (remove xs n))
 left P q n x [] s e = absurd s

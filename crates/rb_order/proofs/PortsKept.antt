@@ -14,9 +14,9 @@ use Rattle.rb_rules.specs.declared.role.Role.{Role}
 use Rattle.rb_rules.specs.declared.role.Role.TheVariants.{Schedule, Data, DiagBiu, DiagRmu, Sync}
 use Rattle.rb_rules.specs.declared.sense.Sense.{Sense}
 use Rattle.rb_rules.specs.Book.{line_in, of_kind}
-use Rattle.rb_rules.specs.ExactStage.{Outcome, close_exact, delivery_of, keep_sent, outcome_of}
+use Rattle.rb_rules.specs.ExactStage.{Outcome, close_exact, delivery_of, keep_sent, outcome_of, says}
 use Rattle.rb_rules.specs.Goodness.{Scenario, is_good}
-use Rattle.rb_rules.specs.Hearing.{Coming, port_at, row_of}
+use Rattle.rb_rules.specs.Hearing.{Coming, port_at, row_of, word_for}
 use Rattle.rb_rules.specs.NodeState.{NodeState}
 use Rattle.rb_rules.specs.Ports.{HandIn, PortState, hand_over, with_state}
 use Rattle.rb_rules.specs.Rounds.{Moment, Result, begin_frame, close_on, go_through, heard_at, moment, port_after, sent_in, step, window_in, windows_in, word_for_window}
@@ -25,9 +25,12 @@ use Rattle.rb_rules.specs.SyncStage.{close_sync, sync_outcome_of}
 use Rattle.rb_rules.specs.WorldStep.{with_delivery}
 use Rattle.rb_rules.proofs.Books.{stepped}
 use Rattle.rb_rules.proofs.RoundStates.{HasTicks}
+use Rattle.rb_agree.proofs.NodeWindows.{sync_windows_are}
 use Rattle.rb_order.specs.Closing.{stages_in}
 use Rattle.rb_order.proofs.CloseOrder.{IsFrameLater, IsWindowLater, frame-later, window-later}
-use Rattle.rb_order.proofs.Invariant.{next_stage}
+use Rattle.rb_order.proofs.Invariant.{next_stage, word_at}
+use Rattle.rb_order.proofs.NodeActs.{HasWord}
+use Rattle.rb_order.proofs.NodeWords.{from-says}
 use Rattle.rb_order.proofs.PortMoments.{port-after-close, port-after-window}
 use Rattle.rb_order.proofs.RoundNodes.{AllStand, item-at, moments-stand, slot-is, slot_numbered}
 use Rattle.rb_order.proofs.SameHeard.{Every}
@@ -195,3 +198,15 @@ port-then sc hands ports p q i st x heard closed c ticks counted many within pla
     ∙ ap (port_after (line_in (go_through sc (moment sc hands p) (sent_in sc (moment sc hands p)) Biu i st (window_in sc (moment sc hands p) Biu st)).row)) same
     ∙ sym (port-after-window sc hands p i st (omega arith) counted there)
     ∙ sym (port-there sc hands p q i ticks counted within place none)
+
+-- in the sync slot the port plays no part in what a node says
+pub sync-word : (sc : Scenario) (ports : List PortState) (m : Moment) (me : Side) (i : ℕ) (st : NodeState) (q : ℕ) → q < 3 → m.window ≡ 3 * sync_slot_of sc.sizes + q
+    → HasWord sc ports me i st m.window (word_at sc m me i st)
+sync-word sc ports m me i st q small at =
+    let slot : ℕ = (window_in sc m me st).slot in
+    let stage : ℕ = (window_in sc m me st).stage in
+    let role : role_of sc.sizes slot ≡ Sync = ap (λ (w : Window). role_of sc.sizes w.slot) ((sync_windows_are sc m q small at).are me st) ∙ sync-role sc.sizes in
+    let word : word_for sc ports i slot (role_of sc.sizes slot) ≡ word_for sc m.ports i slot (role_of sc.sizes slot) =
+    ap (word_for sc ports i slot) role ∙ sym (ap (word_for sc m.ports i slot) role) in
+    from-says sc.sizes me i st slot stage (word_for sc ports i slot (role_of sc.sizes slot)) (word_for sc m.ports i slot (role_of sc.sizes slot))
+    (ap (says sc.sizes me i st slot stage) word)

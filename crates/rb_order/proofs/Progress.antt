@@ -1,5 +1,5 @@
--- For the law that something is due: as long as a node runs, something is pending, and so some event is due.
-use Rattle.std.proofs.Common.{◌≡◌, ℕ, ◌≤◌, ◌||◌, true, false, List, [], ◌∷◌, ◌++◌, flat_map, length, map, refl, ap, ◌∙◌, subst, arith, Option, Some, None, option_map, option_to_list, slice_get}
+-- For the law that something is due: as long as something is pending, some event is due.
+use Rattle.std.proofs.Common.{◌≡◌, ℕ, ◌≤◌, ◌||◌, false, List, [], ◌∷◌, ◌++◌, flat_map, length, map, refl, ap, ◌∙◌, subst, arith, Option, Some, None, option_map, option_to_list, slice_get}
 use Rattle.rb_base.specs.Nodes.{Side}
 use Rattle.rb_base.specs.Nodes.Side.{Biu, Rmu}
 use Rattle.rb_rules.specs.Book.{in_order, of_kind}
@@ -8,18 +8,17 @@ use Rattle.rb_rules.specs.Hearing.{Coming}
 use Rattle.rb_rules.specs.WorldStep.{Choice, Due, Site, Timed, World, due_of, least, needs_no_event, times_of, world_after}
 use Rattle.rb_order.specs.Laws.{SomethingIsDue}
 use Rattle.rb_order.proofs.DueEvents.{every-at, every-back, every-front, every-unflat, least-none, some-due}
-use Rattle.rb_order.proofs.OneTake.{StandsInRounds}
 use Rattle.rb_order.proofs.SameHeard.{Every}
 use Rattle.rb_order.proofs.WorldNodes.{worlds-known}
-use Rattle.rb_order.proofs.WorldStands.{IsUp, sent_by}
 
--- a node that runs
-pub record SomeRuns (w : World) : Type 0 where
+-- a node with a pending tick
+pub record SomePends (w : World) : Type 0 where
   pub me : Side
   pub i : ℕ
   pub s : Site
+  pub a : Timed
   pub there : slice_get (of_kind me w.sites) i ≡ Some s
-  pub runs : s.runs ≡ true
+  pub pends : s.ahead ≡ Some a
 
 -- its next tick is among all that pends
 some-time : (w : World) (me : Side) (i : ℕ) (s : Site) (a : Timed) → slice_get (of_kind me w.sites) i ≡ Some s → s.ahead ≡ Some a
@@ -39,13 +38,12 @@ some-time w me i s a there pend = by (least (flat_map times_of (in_order w.sites
         let none : Every (λ u. ⊥) (flat_map times_of (in_order w.sites)) = least-none (λ u. ⊥) (flat_map times_of (in_order w.sites)) e in
         absurd (own (at me there (every-unflat (λ u. ⊥) times_of (in_order w.sites) none)))
 
--- where a node runs in a world that stands in the rounds, some event is due
-pub due-where-runs : (sc : Scenario) (choices : List Choice) → StandsInRounds sc (world_after sc choices) → SomeRuns (world_after sc choices)
+-- where a tick is pending, some event is due
+due-where-pends : (sc : Scenario) (choices : List Choice) → SomePends (world_after sc choices)
     → (world_after sc choices).book.ended ≡ false → needs_no_event sc (world_after sc choices).book.upcoming ≡ false → 1 ≤ length (due_of sc (world_after sc choices))
-due-where-runs sc choices h node going needs =
+due-where-pends sc choices node going needs =
     let w : World = world_after sc choices in
-    let up : IsUp sc w.hands (sent_by sc w.hands h.at w.sites) h.now node.me node.i (h.at node.me node.i) node.s = h.stands.sites.up node.me node.i node.s node.there node.runs in
-    let pending = some-time w node.me node.i node.s up.a node.there up.stands.receives.pends in
+    let pending = some-time w node.me node.i node.s node.a node.there node.pends in
     let goes : (w.book.ended || needs_no_event sc w.book.upcoming) ≡ false = ap (λ b. b || needs_no_event sc w.book.upcoming) going ∙ needs in
     some-item (due_of sc w) (some-due sc w pending.0 (record { known = (worlds-known sc choices).known }) goes pending.1)
   where
@@ -53,8 +51,8 @@ due-where-runs sc choices h node going needs =
     some-item [] never = absurd (never refl)
     some-item (d ∷ ds) never = omega arith
 
--- so the law holds where in each world in which the next record needs an event some node runs
-pub something-is-due : (sc : Scenario) → ((choices : List Choice) → StandsInRounds sc (world_after sc choices))
-    → ((choices : List Choice) → (world_after sc choices).book.ended ≡ false → needs_no_event sc (world_after sc choices).book.upcoming ≡ false → SomeRuns (world_after sc choices))
+-- so the law holds where in each world in which the next record needs an event some tick is pending
+pub something-is-due : (sc : Scenario)
+    → ((choices : List Choice) → (world_after sc choices).book.ended ≡ false → needs_no_event sc (world_after sc choices).book.upcoming ≡ false → SomePends (world_after sc choices))
     → SomethingIsDue sc
-something-is-due sc stands runs choices going needs = due-where-runs sc choices (stands choices) (runs choices going needs) going needs
+something-is-due sc pends choices going needs = due-where-pends sc choices (pends choices going needs) going needs

@@ -1,4 +1,4 @@
--- For the law that events are rounds, which is still to come: what a tick of one node does at the nodes that hear of it.
+-- For the law that events are rounds: what a tick of one node does at the nodes that hear of it.
 use Rattle.std.proofs.Common.{◌≡◌, ℕ, suc, ◌+◌, ◌-◌, ◌<◌, ◌≤◌, ◌==◌, ◌⊎◌, nat_lt, Bool, true, false, All, List, [], ◌∷◌, ◌++◌, refl, ap, sym, ◌∙◌, subst, arith, inl, inr, if◌then◌else◌}
 use Rattle.std.proofs.lemmas.Bool.Decides.{nat_tests}
 use Rattle.std.proofs.lemmas.List.Elements.{All-head, All-tail}
@@ -72,9 +72,6 @@ comes-after sc lawful me i j frame x =
     omega arith
 
 -- What is known of who has sent what.
-
-pub same-function : (f g : ℕ → Bool) → ((j : ℕ) → f j ≡ g j) → f ≡ g
-same-function f g same = fun_ext same
 
 -- where it stays the same for all sources, the node stands as before
 pub stands-same : (sc : Scenario) (hands : List HandIn) (sent sent2 : Side → ℕ → ℕ → Bool) (now : ℕ) (me : Side) (i p : ℕ) (s : Site) (st : NodeState) (a : Timed)

@@ -1,4 +1,4 @@
--- For the law that events are rounds, which is still to come: a node in an open window: what was sent to it so far has come or
+-- For the law that events are rounds: a node in an open window: what was sent to it so far has come or
 -- is pending, and its next busy tick is pending. An arrival keeps it so.
 use Rattle.std.proofs.Common.{◌≡◌, ℕ, zero, suc, ◌^◌, ◌<◌, ◌≤◌, List, [], ◌∷◌, map, remove, refl, sym, ◌∙◌, subst, arith, inl, inr, Some}
 use Rattle.std.proofs.lemmas.Bool.{cases_lt}

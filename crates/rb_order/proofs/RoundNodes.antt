@@ -1,4 +1,4 @@
--- For the law that events are rounds, which is still to come: in every moment of the rounds each good node is in the moment's
+-- For the law that events are rounds: in every moment of the rounds each good node is in the moment's
 -- frame, and knows the middles of the windows passed.
 use Rattle.std.proofs.Common.{◌≡◌, ℕ, zero, suc, ◌+◌, ◌-◌, ◌*◌, ◌/◌, ◌<◌, ◌≤◌, ◌==◌, ◌&&◌, nat_lt, min, Bool, true, false, List, [], ◌∷◌, length, refl, subst, inl, inr, sym, ◌∙◌, ap, arith, Option, Some, None, get_or, slice_get, option_map, is_some}
 use Rattle.std.proofs.lemmas.Bool.{cases_lt}
@@ -161,7 +161,7 @@ less-true : (a b : ℕ) → a < b → nat_lt a b ≡ true
 less-true a b h = grind (arith, nat_tests)
 
 -- at the end of a frame a node knows its next epoch
-epoch-known : (sizes : Sizes) (plan : Plan) (me : Side) (st : NodeState) → Knows sizes me (windows_in sizes) st → is_some (new_epoch_of plan me st) ≡ true
+pub epoch-known : (sizes : Sizes) (plan : Plan) (me : Side) (st : NodeState) → Knows sizes me (windows_in sizes) st → is_some (new_epoch_of plan me st) ≡ true
 epoch-known sizes plan Biu st h =
     map-some (λ k2. k2 + plan.v + plan.z + plan.c) st.k2 ∙ h.k2 ∙ less-true (3 * sync_slot_of sizes + 2 - 1) (windows_in sizes) (omega arith)
 epoch-known sizes plan Rmu st h =

@@ -282,13 +282,6 @@ in-running sc hands lawful p within running =
 
 -- At the begin.
 
-first-window : (sc : Scenario) (hands : List HandIn) → (moment sc hands 0).window ≤ 3 * sync_slot_of sc.sizes
-unfolding begin_frame
-first-window sc hands = omega arith
-
 pub first-running : (sc : Scenario) (hands : List HandIn) → IsRunning (moment sc hands 0)
 unfolding begin_frame with_frame
 first-running sc hands = refl
-
-pub in-time-first : (sc : Scenario) (hands : List HandIn) → IsLawful sc → InTime sc (moment sc hands 0) (moment sc hands (next_stage sc.sizes (moment sc hands 0) 0))
-in-time-first sc hands lawful = in-exact sc hands lawful 0 (begun-well sc hands lawful 0 (first-running sc hands)) (first-window sc hands)

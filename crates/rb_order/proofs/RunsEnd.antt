@@ -1,5 +1,4 @@
--- For the law that every run ends: where each world stands in the rounds, only so many events are taken, whatever is
--- chosen.
+-- For the law that every run ends: where each world has ticks left, only so many events are taken, whatever is chosen.
 use Rattle.std.proofs.Common.{◌≡◌, ℕ, zero, suc, ◌+◌, ◌*◌, ◌^◌, ◌<◌, ◌≤◌, ◌==◌, ◌&&◌, Bool, true, false, List, [], ◌∷◌, ◌++◌, length, map, refl, sym, ◌∙◌, subst, arith, Option, Some, None, slice_get}
 use Rattle.std.specs.List.{range_with_len}
 use Rattle.std.proofs.lemmas.Nat.{mul-le}
@@ -9,7 +8,7 @@ use Rattle.rb_rules.specs.Book.{of_kind}
 use Rattle.rb_rules.specs.Core.{Act}
 use Rattle.rb_rules.specs.Goodness.{Scenario, is_good}
 use Rattle.rb_rules.specs.Ports.{with_state}
-use Rattle.rb_rules.specs.Slots.{same_side}
+use Rattle.rb_rules.specs.Slots.{count_of, same_side}
 use Rattle.rb_rules.specs.WorldStep.{Choice, Due, Pending, Site, Timed, World, after_act, after_arrival, at_node, choose, due_of, first_world, frame_in, fresh_site, go_on, hand, happens, pass_and_tick, proceed, settle, span_from, take, take_if_due, with_act, with_pending, world_after}
 use Rattle.rb_rules.specs.WorldStep.Choice.{Take, GoOn, Hand}
 use Rattle.rb_rules.specs.WorldStep.Pending.{Tick, Arrival}
@@ -17,67 +16,63 @@ use Rattle.rb_rules.specs.WorldStep.Way.{ByAnEvent, ByItself}
 use Rattle.rb_rules.proofs.WindowNumbers.{length-each}
 use Rattle.rb_order.specs.Laws.{EveryRunEnds, most_at_once, most_takes, nodes_of, taken_by, takes_from}
 use Rattle.rb_order.proofs.DueEvents.{IsDue, IsReady}
-use Rattle.rb_order.proofs.EveryWorld.{after-more}
+use Rattle.rb_order.proofs.EveryWorld.{after-more, due-going}
+use Rattle.rb_order.proofs.OneEvent.{all-pend, up-there}
 use Rattle.rb_order.proofs.OneTake.{StandsInRounds}
 use Rattle.rb_order.proofs.Takes.{LeavesFew, all_left, arrival-left, enter-few, left_of, message-left, one-less, sum_left, tick-left, ticks_left}
 use Rattle.rb_order.proofs.WorldNodes.{events-due, settle-sites}
-use Rattle.rb_order.proofs.WorldStands.{IsDown, IsUp, sent_by, some-same}
+use Rattle.rb_order.proofs.WorldStands.{AllPend, IsUp, sent_by, some-same}
 
 -- A take.
 
--- what is known of a node with a pending tick
-record HasRoomLeft (s : Site) (a : Timed) : Type 0 where
-  had : s.core.had ≤ a.tick
-  below : a.tick < 2 ^ 31
+-- a world in which each tick that may be taken is one of those that its node may have
+pub record HasTicksLeft (sc : Scenario) (w : World) : Type 0 where
+  pub counts : (me : Side) → length (of_kind me w.sites) ≡ count_of me sc.sizes
+  pub left : (me : Side) (i : ℕ) (s : Site) (a : Timed) → slice_get (of_kind me w.sites) i ≡ Some s → s.ahead ≡ Some a → AllPend a.time w.sites → (s.core.had ≤ a.tick) × (a.tick < 2 ^ 31)
 
-room-left : (sc : Scenario) (w : World) (me : Side) (i : ℕ) (s : Site) (a : Timed) → StandsInRounds sc w → slice_get (of_kind me w.sites) i ≡ Some s → s.ahead ≡ Some a → HasRoomLeft s a
-room-left sc w me i s a h there pend = by s.runs refl
-  where
-    none-some : (a : Timed) → None ≡ Some a → ⊥
-    none-some a e = cc
+-- as each world that stands in the rounds is
+pub in-rounds-left : (sc : Scenario) (w : World) → StandsInRounds sc w → HasTicksLeft sc w
+in-rounds-left sc w h = record {
+  counts = h.stands.sites.counts;
+  left = λ me i s a there pend first.
+      let up : IsUp sc w.hands (sent_by sc w.hands h.at w.sites) h.now me i (h.at me i) s = up-there sc h.now h.at w me i s a h.stands.sites there pend in
+      let same : up.a ≡ a = some-same up.a a (sym up.stands.receives.pends ∙ pend) in
+      subst (λ (a : Timed). (s.core.had ≤ a.tick) × (a.tick < 2 ^ 31)) same (up.stands.receives.is_next.later, up.stands.receives.is_next.below);
+}
 
-    by : (b : Bool) → s.runs ≡ b → HasRoomLeft s a
-    by true e =
-        let up : IsUp sc w.hands (sent_by sc w.hands h.at w.sites) h.now me i (h.at me i) s = h.stands.sites.up me i s there e in
-        let same : up.a ≡ a = some-same up.a a (sym up.stands.receives.pends ∙ pend) in
-        subst (HasRoomLeft s) same (record { had = up.stands.receives.is_next.later; below = up.stands.receives.is_next.below })
-    by false e =
-        let down : IsDown sc w.hands me i (h.at me i) s = h.stands.sites.down me i s there e in
-        absurd (none-some a (sym down.ahead ∙ pend))
-
-nodes-there : (sc : Scenario) (w : World) (me : Side) (i : ℕ) (change : Site → Site) → StandsInRounds sc w
+nodes-there : (sc : Scenario) (w : World) (me : Side) (i : ℕ) (change : Site → Site) → HasTicksLeft sc w
     → length (at_node me i change w.sites).bius + length (at_node me i change w.sites).rmus ≡ nodes_of sc.sizes
 nodes-there sc w me i change h =
     let make : Side → ℕ → Site → Site = λ side n s. elim (same_side side me && (n == i)) as (λ _. Site) [ true ↦ change s | false ↦ s ] in
-    let bius : length (at_node me i change w.sites).bius ≡ sc.sizes.bius = length-each make w.sites Biu ∙ h.stands.sites.counts Biu in
-    let rmus : length (at_node me i change w.sites).rmus ≡ sc.sizes.rmus = length-each make w.sites Rmu ∙ h.stands.sites.counts Rmu in
+    let bius : length (at_node me i change w.sites).bius ≡ sc.sizes.bius = length-each make w.sites Biu ∙ h.counts Biu in
+    let rmus : length (at_node me i change w.sites).rmus ≡ sc.sizes.rmus = length-each make w.sites Rmu ∙ h.counts Rmu in
     omega (arith, bius, rmus)
 
-pending-less : (sc : Scenario) (w : World) (me : Side) (i t : ℕ) (s : Site) (p : Pending) → StandsInRounds sc w → slice_get (of_kind me w.sites) i ≡ Some s → IsReady t s p
+pending-less : (sc : Scenario) (w : World) (me : Side) (i t : ℕ) (s : Site) (p : Pending) → HasTicksLeft sc w → slice_get (of_kind me w.sites) i ≡ Some s → IsReady t s p → AllPend t w.sites
     → all_left (most_at_once sc) (with_pending sc w me i s p).sites + 1 ≤ all_left (most_at_once sc) w.sites
 unfolding with_act
-pending-less sc w me i t s (Tick k) h there ready =
+pending-less sc w me i t s (Tick k) h there ready first =
     let most : ℕ = most_at_once sc in
     let a : Timed = ready.0 in
-    let room : HasRoomLeft s a = room-left sc w me i s a h there ready.1.0 in
+    let room = h.left me i s a there ready.1.0 (subst (λ t. AllPend t w.sites) (sym ready.1.1.1.0) first) in
     let x : Act = pass_and_tick sc w.ports me i a.tick s.core in
     let change : Site → Site = after_act sc w.ports me i x in
-    let one = one-less most change me i (nodes_of sc.sizes + 1) w.sites s there (tick-left sc w.ports me i a s ready.1.0 room.had room.below) in
+    let one = one-less most change me i (nodes_of sc.sizes + 1) w.sites s there (tick-left sc w.ports me i a s ready.1.0 room.0 room.1) in
     let sent = message-left most sc me i x.core.state.frame a.tick x.message (at_node me i change w.sites) in
     let many = nodes-there sc w me i change h in
     subst (λ k. all_left most (with_act sc w me i k (pass_and_tick sc w.ports me i k s.core)).sites + 1 ≤ all_left most w.sites) ready.1.1.0 (omega (arith, one, sent, many))
-pending-less sc w me i t s (Arrival n c) h there ready =
+pending-less sc w me i t s (Arrival n c) h there ready first =
     one-less (most_at_once sc) (after_arrival sc me i n c) me i 1 w.sites s there (arrival-left sc me i n c s ready.0)
 
-happens-less : (sc : Scenario) (w : World) (d : Due) → StandsInRounds sc w → IsDue w d → all_left (most_at_once sc) (happens sc w d).sites + 1 ≤ all_left (most_at_once sc) w.sites
+happens-less : (sc : Scenario) (w : World) (d : Due) → HasTicksLeft sc w → IsDue w d → all_left (most_at_once sc) (happens sc w d).sites + 1 ≤ all_left (most_at_once sc) w.sites
 unfolding happens
 happens-less sc w d h due =
     subst (λ o. all_left (most_at_once sc) (elim o as (λ _. World) [ None ↦ w | Some s ↦ with_pending sc w d.side d.node s d.pending ]).sites + 1 ≤ all_left (most_at_once sc) w.sites)
-    (sym due.there) (pending-less sc w d.side d.node due.t due.s d.pending h due.there due.ready)
+    (sym due.there) (pending-less sc w d.side d.node due.t due.s d.pending h due.there due.ready (all-pend w due.t due.first))
 
 -- A choice.
 
-choice-less : (sc : Scenario) (choices : List Choice) (c : Choice) → StandsInRounds sc (world_after sc choices)
+choice-less : (sc : Scenario) (choices : List Choice) (c : Choice) → ((world_after sc choices).book.ended ≡ false → HasTicksLeft sc (world_after sc choices))
     → taken_by sc (world_after sc choices) c + all_left (most_at_once sc) (choose sc (world_after sc choices) c).sites ≤ all_left (most_at_once sc) (world_after sc choices).sites
 unfolding take go_on hand
 choice-less sc choices (Take i) h = by (slice_get (due_of sc (world_after sc choices)) i) refl
@@ -88,7 +83,7 @@ choice-less sc choices (Take i) h = by (slice_get (due_of sc (world_after sc cho
     by None e = omega arith
     by (Some d) e =
         let w : World = world_after sc choices in
-        let less = happens-less sc w d h (events-due sc choices i d e) in
+        let less = happens-less sc w d (h (due-going sc w i d e).0) (events-due sc choices i d e) in
         let same : (take_if_due sc w (Some d)).sites ≡ (happens sc w d).sites = settle-sites sc ByAnEvent 2 (happens sc w d) in
         subst (λ sites. 1 + all_left (most_at_once sc) sites ≤ all_left (most_at_once sc) w.sites) (sym same) (omega (arith, less))
 choice-less sc choices GoOn h = by (world_after sc choices).book.ended
@@ -117,7 +112,7 @@ choice-less sc choices (Hand biu state) h = by (world_after sc choices) (frame_i
 
 -- All choices.
 
-choices-less : (sc : Scenario) → ((choices : List Choice) → StandsInRounds sc (world_after sc choices)) → (before rest : List Choice)
+choices-less : (sc : Scenario) → ((choices : List Choice) → (world_after sc choices).book.ended ≡ false → HasTicksLeft sc (world_after sc choices)) → (before rest : List Choice)
     → takes_from sc (world_after sc before) rest ≤ all_left (most_at_once sc) (world_after sc before).sites
 choices-less sc stands before [] = omega arith
 choices-less sc stands before (c ∷ rest) =
@@ -159,14 +154,10 @@ first-left sc =
     let both : nodes_of sc.sizes * all ≡ sc.sizes.bius * all + sc.sizes.rmus * all = omega arith in
     omega (arith, bius, rmus, both)
 
--- where each world stands in the rounds, only so many events are taken, and each node that runs has ticks left
-pub every-run-ends : (sc : Scenario) → ((choices : List Choice) → StandsInRounds sc (world_after sc choices)) → EveryRunEnds sc
-every-run-ends sc stands = record {
-  few = λ choices. let less = choices-less sc stands [] choices in let first = first-left sc in omega (arith, less, first);
-  room = λ choices me i s there runs.
-      let h : StandsInRounds sc (world_after sc choices) = stands choices in
-      let up = h.stands.sites.up me i s there runs in
-      let later = up.stands.receives.is_next.later in
-      let below = up.stands.receives.is_next.below in
-      omega (arith, later, below);
+-- where each world has ticks left, only so many events are taken
+pub every-run-ends : (sc : Scenario) → ((choices : List Choice) → (world_after sc choices).book.ended ≡ false → HasTicksLeft sc (world_after sc choices))
+    → ((choices : List Choice) (me : Side) (i : ℕ) (s : Site) → slice_get (of_kind me (world_after sc choices).sites) i ≡ Some s → s.runs ≡ true → s.core.had < 2 ^ 31) → EveryRunEnds sc
+every-run-ends sc left room = record {
+  few = λ choices. let less = choices-less sc left [] choices in let first = first-left sc in omega (arith, less, first);
+  room = room;
 }

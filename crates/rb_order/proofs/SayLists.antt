@@ -1,4 +1,4 @@
--- For the law that events are rounds, which is still to come: what nodes that are not good say in a window that opens: it comes in the
+-- For the law that events are rounds: what nodes that are not good say in a window that opens: it comes in the
 -- window, and stands together with what good nodes have already sent for it.
 use Rattle.std.proofs.Common.{◌≡◌, ℕ, zero, suc, ◌+◌, ◌<◌, ◌≤◌, ◌==◌, ◌&&◌, ◌⊎◌, nat_le, nat_lt, Bool, true, false, cond, All, List, [], ◌∷◌, ◌++◌, filter, flat_map, map, length, refl, ap, sym, ◌∙◌, subst, arith, inl, inr}
 use Rattle.std.specs.List.{range_with_len}
@@ -44,7 +44,7 @@ said-comes sc me i j span version s lengths early within =
           omega arith,
     )
 
-said-all : (sc : Scenario) (me : Side) (i j : ℕ) (span : Span) → HasLengths (shortest_of sc.plan) (longest_of sc.plan) (clock_of sc me i)
+pub said-all : (sc : Scenario) (me : Side) (i j : ℕ) (span : Span) → HasLengths (shortest_of sc.plan) (longest_of sc.plan) (clock_of sc me i)
     → (says : List Say) → All (IsSayOf sc) says
     → Every (ComesIn (clock_of sc me i) span) (map (coming_said sc.plan.version (clock_of sc me i) j span) (filter (is_said me i j span) says))
 said-all sc me i j span lengths [] all = tt
@@ -122,9 +122,6 @@ every-both P Q (x ∷ xs) a b = ((a.0, b.0), every-both P Q xs a.1 b.1)
 
 same-true : (a b : ℕ) → a ≡ b → (a == b) ≡ true
 same-true a b h = grind (arith, nat_tests)
-
-differs : (a b : ℕ) → (a < b → ⊥) → (b < a → ⊥) → a ≡ b
-differs a b h k = omega (arith, h, k)
 
 not-same : (a j k : ℕ) → a ≡ k → (k < j) ⊎ (j < k) → (a == j) ≡ false
 not-same a j k e (inl lt) = grind (arith, nat_tests)

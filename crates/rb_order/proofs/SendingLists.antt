@@ -1,4 +1,4 @@
--- For the law that events are rounds, which is still to come: what was sent and what is pending stay together when a message
+-- For the law that events are rounds: what was sent and what is pending stay together when a message
 -- goes out, and when a window opens.
 use Rattle.std.proofs.Common.{◌≡◌, ℕ, ◌+◌, ◌<◌, ◌≤◌, ◌==◌, nat_lt, nat_le, Bool, true, false, List, [], ◌∷◌, ◌++◌, filter, length, length-append, refl, sym, ◌∙◌, ap, subst, arith, inl, inr, cond}
 use Rattle.std.proofs.lemmas.Bool.Decides.{nat_tests}

@@ -1,4 +1,4 @@
--- For the law that events are rounds, which is still to come: where each node has told what it tells in the rounds, the begin of a frame that
+-- For the law that events are rounds: where each node has told what it tells in the rounds, the begin of a frame that
 -- the world settles is settled as in the rounds, and so whatever is settled makes the book one of the rounds'.
 use Rattle.std.proofs.Common.{◌≡◌, ℕ, zero, suc, ◌+◌, ◌<◌, ◌≤◌, ◌==◌, ◌&&◌, ◌||◌, ◌⊎◌, not, nat_lt, Bool, true, false, List, [], ◌∷◌, length, map, refl, ap, sym, ◌∙◌, subst, arith, inl, inr, Option, Some, None, is_some, slice_get, option_map, if◌then◌else◌}
 use Rattle.std.proofs.lemmas.Bool.{cases_lt, lt-ltb, le-ltb}
@@ -175,9 +175,6 @@ true-false e = absurd (cc)
 differs : (a b : ℕ) → (a == b) ≡ false → a ≤ b → a < b
 differs a b h le = grind (arith, nat_tests)
 
-same-is : (a b : ℕ) → a ≡ b → (a == b) ≡ true
-same-is a b h = grind (arith, nat_tests)
-
 pub runs-in : (sc : Scenario) (hands : List HandIn) (p : ℕ) → (moment sc hands p).book.ended ≡ false → RunsIn sc (moment sc hands p)
 unfolding begin_frame
 runs-in sc hands zero h = record { bound = omega arith; at_first = λ e. refl }
@@ -213,10 +210,6 @@ pub record TellRounds (sc : Scenario) (hands : List HandIn) (sites : Each Site) 
   pub rows : RowsOfRounds sc hands sites
   pub begun : BegunOfRounds sc hands sites
   pub counts : (me : Side) → length (of_kind me sites) ≡ count_of me sc.sizes
-
-not-same : (a b : ℕ) → (a < b) ⊎ (b < a) → (a == b) ≡ false
-not-same a b (inl h) = grind (arith, nat_tests)
-not-same a b (inr h) = grind (arith, nat_tests)
 
 tail-book : (sc : Scenario) (hands : List HandIn) (g : ℕ) → (moment sc hands g).window ≡ stages_in sc.sizes → ((moment sc hands g).frame == sc.frames) ≡ false
     → (moment sc hands (suc g)).book ≡ (moment sc hands g).book

@@ -173,7 +173,7 @@ says-few sc me i span =
 
 -- A tick.
 
-busy-later : (sizes : Sizes) (plan : Plan) (me : Side) (i : ℕ) (st : NodeState) (n k x : ℕ) → busy_among sizes plan me i st n k ≡ Some x → k ≤ x
+pub busy-later : (sizes : Sizes) (plan : Plan) (me : Side) (i : ℕ) (st : NodeState) (n k x : ℕ) → busy_among sizes plan me i st n k ≡ Some x → k ≤ x
 busy-later sizes plan me i st zero k x e = cc
 busy-later sizes plan me i st (suc n) k x e = by (is_busy sizes plan me i st k) (λ h. busy-later sizes plan me i st n (suc k) x h) e
   where
@@ -182,7 +182,7 @@ busy-later sizes plan me i st (suc n) k x e = by (is_busy sizes plan me i st k) 
     by true rest h = let same : k ≡ x = cc in omega (arith, same)
     by false rest h = let le : suc k ≤ x = rest h in omega (arith, le)
 
-tick-had : (sizes : Sizes) (plan : Plan) (me : Side) (i : ℕ) (c : Core) (word : ℕ) → c.had < 2 ^ 31 → (tick sizes plan me i c word).core.had ≡ c.had + 1
+pub tick-had : (sizes : Sizes) (plan : Plan) (me : Side) (i : ℕ) (c : Core) (word : ℕ) → c.had < 2 ^ 31 → (tick sizes plan me i c word).core.had ≡ c.had + 1
 unfolding tick act_at act_on
 tick-had sizes plan me i c word small =
     let st : NodeState = state_at sizes plan me c.state c.had in

@@ -24,7 +24,7 @@ pub has-room : (sc : Scenario) → IsLawful sc → HasRoom sc.plan
 has-room sc lawful = record { ticks = has-ticks sc lawful; inside = sends_inside_all sc.sizes sc.plan lawful.plan lawful.feasible }
 
 -- a frame has at most 341,000 ticks
-few-ticks : (sizes : Sizes) (plan : Plan) → IsShape sizes → IsPlan plan → frame_ticks sizes plan ≤ 341000
+pub few-ticks : (sizes : Sizes) (plan : Plan) → IsShape sizes → IsPlan plan → frame_ticks sizes plan ≤ 341000
 few-ticks sizes plan shape is =
     let bius : sizes.bius ≤ 16 = shape.most_bius in
     let rmus : sizes.rmus ≤ 16 = shape.most_rmus in

@@ -1,4 +1,4 @@
--- For the law that events are rounds, which is still to come: what a timely window and epochs that are close together give of being in time.
+-- For the law that events are rounds: what a timely window and epochs that are close together give of being in time.
 use Rattle.std.proofs.Common.{◌≡◌, ℕ, suc, ◌+◌, ◌*◌, ◌<◌, ◌≤◌, true, false, All, List, [], ◌∷◌, refl, ap, sym, ◌∙◌, subst, arith, inl, Some, slice_get, Option, None, option_map, option_to_list, ◌-◌}
 use Rattle.std.proofs.lemmas.List.Elements.{All-head, All-tail}
 use Rattle.std.proofs.Math.Nat.{add-mul, mul-add}

@@ -277,7 +277,7 @@ all-have-told sc hands at sites me i frame k r m change s there new all =
 
 -- An arrival, a hand-in, and the first world.
 
-arrival-keeps : (sc : Scenario) (me : Side) (i n : ℕ) (c : Coming) (s : Site)
+pub arrival-keeps : (sc : Scenario) (me : Side) (i n : ℕ) (c : Coming) (s : Site)
     → ((after_arrival sc me i n c s).row ≡ s.row) × (((after_arrival sc me i n c s).begun ≡ s.begun) × (((after_arrival sc me i n c s).ahead ≡ s.ahead) × ((after_arrival sc me i n c s).runs ≡ s.runs)))
 unfolding after_arrival
 arrival-keeps sc me i n c s = (refl, (refl, (refl, refl)))

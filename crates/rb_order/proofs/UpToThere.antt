@@ -12,7 +12,8 @@ use Rattle.rb_rules.proofs.Books.{stepped}
 use Rattle.rb_agree.proofs.Places.{running_earlier}
 use Rattle.rb_agree.proofs.FrameBegins.{reached}
 use Rattle.rb_order.specs.Closing.{stages_in}
-use Rattle.rb_order.specs.Laws.{SyncSlotsHold}
+use Rattle.rb_order.proofs.BreachWindows.{in-reached}
+use Rattle.rb_order.proofs.BreakNodes.{BreaksAt}
 use Rattle.rb_order.proofs.CloseOrder.{IsWindowLater, window-later}
 use Rattle.rb_order.proofs.FrameTimes.{BegunWell, begun-well, well-on}
 use Rattle.rb_order.proofs.Invariant.{InTime, next_stage}
@@ -76,34 +77,16 @@ end-on sc hands g running at_end =
     differs true h = absurd (h refl)
     differs false h = refl
 
--- the next stage of a moment of the run runs, where it comes in a sync slot or after one
-holds-next : (sc : Scenario) (hands : List HandIn) → IsLawful sc → SyncSlotsHold sc → (g : ℕ) → IsRunning (moment sc hands g) → (moment sc hands g).window ≤ stages_in sc.sizes
-    → 3 * sync_slot_of sc.sizes ≤ (moment sc hands g).window → IsRunning (moment sc hands (next_stage sc.sizes (moment sc hands g) g))
-holds-next sc hands lawful holds g running within late =
-    let m : Moment = moment sc hands g in
-    elim (cases_lt m.window (stages_in sc.sizes)) [
-      | inl stage ↦
-          let e : g + 1 ≡ suc g = omega arith in
-          let on : IsRunning (moment sc hands (suc g)) = ap (λ n. (moment sc hands n).book.ended) (sym e) ∙ holds hands g running late stage in
-          elim (cases_lt (m.window + 1) (stages_in sc.sizes)) [
-            | inl inner ↦ subst (λ q. IsRunning (moment sc hands q)) (sym (next-inner sc.sizes m g inner)) on
-            | inr outer ↦
-                let is : next_stage sc.sizes m g ≡ suc (suc (suc g)) = next-outer sc.sizes m g outer ∙ omega arith in
-                subst (λ q. IsRunning (moment sc hands q)) (sym is) (last-on sc hands lawful g (omega arith) on)
-          ]
-      | inr tail ↦
-          let is : next_stage sc.sizes m g ≡ suc (suc g) = next-outer sc.sizes m g (omega arith) ∙ omega arith in
-          subst (λ q. IsRunning (moment sc hands q)) (sym is) (runs-on sc hands lawful g (omega arith) running)
-    ]
-
 -- in a moment of the run nodes are in time
-in-here : (sc : Scenario) (hands : List HandIn) → IsLawful sc → SyncSlotsHold sc → (p : ℕ) → IsRunning (moment sc hands p) → (moment sc hands p).window ≤ stages_in sc.sizes
+in-here : (sc : Scenario) (hands : List HandIn) → IsLawful sc → (p : ℕ) → IsRunning (moment sc hands p) → (moment sc hands p).window ≤ stages_in sc.sizes
     → InTime sc (moment sc hands p) (moment sc hands (next_stage sc.sizes (moment sc hands p) p))
-in-here sc hands lawful holds p running within =
-    elim (cases_lt (3 * sync_slot_of sc.sizes) (moment sc hands p).window) [
-      | inr exact ↦ in-exact sc hands lawful p (begun-well sc hands lawful p running) exact
-      | inl late ↦
-          let on : Running sc hands p = in-running sc hands lawful p within (holds-next sc hands lawful holds p running within (omega arith)) in
+in-here sc hands lawful p running within =
+    elim (cases_lt (moment sc hands p).window (stages_in sc.sizes)) [
+      | inl stage ↦ in-reached sc hands lawful p running stage
+      | inr tail ↦
+          let is : next_stage sc.sizes (moment sc hands p) p ≡ suc (suc p) = next-outer sc.sizes (moment sc hands p) p (omega arith) ∙ omega arith in
+          let on : Running sc hands p =
+          in-running sc hands lawful p within (subst (λ q. IsRunning (moment sc hands q)) (sym is) (runs-on sc hands lawful p (omega arith) running)) in
           on.times
     ]
 
@@ -122,9 +105,9 @@ next-le sc hands p n within stage lt =
       | inl past ↦ let tail = (next-is-stage sc hands p within).between n lt past in absurd (omega (arith, tail.0, stage))
     ]
 
-from-running : (sc : Scenario) (hands : List HandIn) → IsLawful sc → SyncSlotsHold sc → (n : ℕ) → (moment sc hands n).window < stages_in sc.sizes → IsRunning (moment sc hands n) → UpTo sc hands n
-from-running sc hands lawful holds n stage running = record {
-  times = λ p le within. in-here sc hands lawful holds p (running_earlier sc hands p n le running) within;
+pub from-running : (sc : Scenario) (hands : List HandIn) → IsLawful sc → (n : ℕ) → (moment sc hands n).window < stages_in sc.sizes → IsRunning (moment sc hands n) → UpTo sc hands n
+from-running sc hands lawful n stage running = record {
+  times = λ p le within. in-here sc hands lawful p (running_earlier sc hands p n le running) within;
   later = λ p lt within.
       let on : Running sc hands p =
       in-running sc hands lawful p within (running_earlier sc hands (next_stage sc.sizes (moment sc hands p) p) n (next-le sc hands p n within stage lt) running) in
@@ -132,47 +115,105 @@ from-running sc hands lawful holds n stage running = record {
   well = begun-well sc hands lawful n running;
 }
 
-pub up-to : (sc : Scenario) (hands : List HandIn) → IsLawful sc → SyncSlotsHold sc → (n : ℕ) → (moment sc hands n).window < stages_in sc.sizes
-    → (n ≡ 0) ⊎ ((g : ℕ) × (IsRunning (moment sc hands g) × (n ≡ next_stage sc.sizes (moment sc hands g) g))) → UpTo sc hands n
-up-to sc hands lawful holds n stage (inl first) = from-running sc hands lawful holds n stage (subst (λ n. IsRunning (moment sc hands n)) (sym first) (first-running sc hands))
-up-to sc hands lawful holds n stage (inr from) =
-    let g : ℕ = from.0 in
-    let m : Moment = moment sc hands g in
-    let running : IsRunning m = from.1.0 in
+-- a run breaks off in no moment before one that runs
+pub breaks-later : (sc : Scenario) (hands : List HandIn) (b q n : ℕ) → BreaksAt sc hands b q → IsRunning (moment sc hands n) → n ≤ b
+breaks-later sc hands b q n off running = elim (cases_lt b n) [
+  | inr ge ↦ ge
+  | inl lt ↦
+      let on : IsRunning (moment sc hands (suc b)) = running_earlier sc hands (suc b) n (omega arith) running in
+      absurd (true-false (sym off.ends ∙ on))
+]
+  where
+    true-false : true ≡ false → ⊥
+    true-false e = cc
+
+-- up to a stage after one at which the run has not ended nodes are in time, and no sync slot before it breaks the run off
+pub record Reaches (sc : Scenario) (hands : List HandIn) (n : ℕ) : Type 0 where
+  pub up_to : UpTo sc hands n
+  pub not_past : (b q : ℕ) → BreaksAt sc hands b q → n ≤ b
+
+reaches-running : (sc : Scenario) (hands : List HandIn) → IsLawful sc → (n : ℕ) → (moment sc hands n).window < stages_in sc.sizes → IsRunning (moment sc hands n) → Reaches sc hands n
+reaches-running sc hands lawful n stage running =
+    record { up_to = from-running sc hands lawful n stage running; not_past = λ b q off. breaks-later sc hands b q n off running }
+
+-- the first stage is reached
+pub reaches-first : (sc : Scenario) (hands : List HandIn) → IsLawful sc → (n : ℕ) → (moment sc hands n).window < stages_in sc.sizes → n ≡ 0 → Reaches sc hands n
+reaches-first sc hands lawful n stage first = reaches-running sc hands lawful n stage (subst (λ n. IsRunning (moment sc hands n)) (sym first) (first-running sc hands))
+
+-- or the run breaks off with the stage before
+pub reach : (sc : Scenario) (hands : List HandIn) → IsLawful sc → (n : ℕ) → (moment sc hands n).window < stages_in sc.sizes → (g : ℕ) → IsRunning (moment sc hands g)
+    → n ≡ next_stage sc.sizes (moment sc hands g) g → Reaches sc hands n ⊎ ((q : ℕ) × BreaksAt sc hands g q)
+reach sc hands lawful n stage g running next =
     let number = number-of sc hands g in
     elim (cases_lt m.window (3 * sync_slot_of sc.sizes)) [
-      | inl exact ↦
-          let is : n ≡ suc g = from.1.1 ∙ next-inner sc.sizes m g (omega arith) in
-          let later : IsWindowLater sc m (moment sc hands (suc g)) = window-later sc hands m (omega arith) in
-          let w : (moment sc hands (suc g)).window ≡ m.window + 1 = later.window in
-          let well : BegunWell sc m = begun-well sc hands lawful g running in
-          let well_then : BegunWell sc (moment sc hands (suc g)) = well-on sc hands lawful g (omega arith) well in
-          record {
-            times = λ p le within. elim (cases_lt g p) [
-              | inl after ↦
-                  let same : suc g ≡ p = omega (arith, is, le, after) in
-                  subst (λ p. InTime sc (moment sc hands p) (moment sc hands (next_stage sc.sizes (moment sc hands p) p))) same (in-exact sc hands lawful (suc g) well_then (omega arith))
-              | inr not_after ↦ in-here sc hands lawful holds p (running_earlier sc hands p g not_after running) within
-            ];
-            later = λ p lt within. elim (cases_lt p g) [
-              | inl before ↦
-                  let on : Running sc hands p =
-                  in-running sc hands lawful p within (running_earlier sc hands (next_stage sc.sizes (moment sc hands p) p) g (next-le sc hands p g within (omega arith) before) running) in
-                  on.later
-              | inr not_before ↦
-                  let same : g ≡ p = omega (arith, is, lt, not_before) in
-                  subst (AllLater sc hands) same (exact-later sc hands lawful g well (omega arith))
-            ];
-            well = subst (λ n. BegunWell sc (moment sc hands n)) (sym is) well_then;
-          }
+      | inl exact ↦ inl (in-exact-slot exact)
       | inr late ↦ elim (cases_lt (stages_in sc.sizes) m.window) [
-        | inr within ↦
-            from-running sc hands lawful holds n stage (subst (λ n. IsRunning (moment sc hands n)) (sym from.1.1) (holds-next sc hands lawful holds g running within late))
+        | inr within ↦ elim (cases_lt m.window (stages_in sc.sizes)) [
+          | inr tail ↦
+              let is : n ≡ suc (suc g) = next ∙ next-outer sc.sizes m g (omega arith) ∙ omega arith in
+              inl (reaches-running sc hands lawful n stage (subst (λ n. IsRunning (moment sc hands n)) (sym is) (runs-on sc hands lawful g (omega arith) running)))
+          | inl below ↦ by (moment sc hands (suc g)).book.ended refl late below
+        ]
         | inl at_end ↦
-            let is : n ≡ suc g = from.1.1 ∙ next-outer sc.sizes m g (omega arith) ∙ omega (arith, number.1) in
-            from-running sc hands lawful holds n stage (subst (λ n. IsRunning (moment sc hands n)) (sym is) (end-on sc hands g running (omega arith)))
+            let is : n ≡ suc g = next ∙ next-outer sc.sizes m g (omega arith) ∙ omega (arith, number.1) in
+            inl (reaches-running sc hands lawful n stage (subst (λ n. IsRunning (moment sc hands n)) (sym is) (end-on sc hands g running (omega arith))))
       ]
     ]
+  where
+    m : Moment
+    m = moment sc hands g
+
+    in-exact-slot : m.window < 3 * sync_slot_of sc.sizes → Reaches sc hands n
+    in-exact-slot exact =
+        let is : n ≡ suc g = next ∙ next-inner sc.sizes m g (omega arith) in
+        let later : IsWindowLater sc m (moment sc hands (suc g)) = window-later sc hands m (omega arith) in
+        let w : (moment sc hands (suc g)).window ≡ m.window + 1 = later.window in
+        let well : BegunWell sc m = begun-well sc hands lawful g running in
+        let well_then : BegunWell sc (moment sc hands (suc g)) = well-on sc hands lawful g (omega arith) well in
+        let up_to : UpTo sc hands n = record {
+          times = λ p le within. elim (cases_lt g p) [
+            | inl after ↦
+                let same : suc g ≡ p = omega (arith, is, le, after) in
+                subst (λ p. InTime sc (moment sc hands p) (moment sc hands (next_stage sc.sizes (moment sc hands p) p))) same (in-exact sc hands lawful (suc g) well_then (omega arith))
+            | inr not_after ↦ in-here sc hands lawful p (running_earlier sc hands p g not_after running) within
+          ];
+          later = λ p lt within. elim (cases_lt p g) [
+            | inl before ↦
+                let on : Running sc hands p =
+                in-running sc hands lawful p within (running_earlier sc hands (next_stage sc.sizes (moment sc hands p) p) g (next-le sc hands p g within (omega arith) before) running) in
+                on.later
+            | inr not_before ↦
+                let same : g ≡ p = omega (arith, is, lt, not_before) in
+                subst (AllLater sc hands) same (exact-later sc hands lawful g well (omega arith))
+          ];
+          well = subst (λ n. BegunWell sc (moment sc hands n)) (sym is) well_then;
+        } in
+        record {
+          up_to = up_to;
+          not_past = λ b q off.
+              let le : g ≤ b = breaks-later sc hands b q g off running in
+              elim (cases_lt g b) [
+                | inl lt ↦ omega (arith, is, lt)
+                | inr ge ↦
+                    let same : b ≡ g = omega arith in
+                    let there : (moment sc hands g).window ≡ 3 * sync_slot_of sc.sizes + q = subst (λ n. (moment sc hands n).window ≡ 3 * sync_slot_of sc.sizes + q) same off.window in
+                    absurd (omega (arith, exact, there))
+              ];
+        }
+
+    by : (t : Bool) → (moment sc hands (suc g)).book.ended ≡ t → 3 * sync_slot_of sc.sizes ≤ m.window → m.window < stages_in sc.sizes
+        → Reaches sc hands n ⊎ ((q : ℕ) × BreaksAt sc hands g q)
+    by true e late below =
+        let small : m.window - 3 * sync_slot_of sc.sizes < 3 = omega (arith, late, below) in
+        inr (m.window - 3 * sync_slot_of sc.sizes, record { running = running; ends = e; small = small; window = omega (arith, late) })
+    by false e late below =
+        elim (cases_lt (m.window + 1) (stages_in sc.sizes)) [
+          | inl inner ↦
+              inl (reaches-running sc hands lawful n stage (subst (λ n. IsRunning (moment sc hands n)) (sym (next ∙ next-inner sc.sizes m g inner)) e))
+          | inr outer ↦
+              let is : n ≡ suc (suc (suc g)) = next ∙ next-outer sc.sizes m g outer ∙ omega arith in
+              inl (reaches-running sc hands lawful n stage (subst (λ n. IsRunning (moment sc hands n)) (sym is) (last-on sc hands lawful g (omega arith) e)))
+        ]
 
 -- and so in the moments that follow one before it
 pub next-up-to : (sc : Scenario) (hands : List HandIn) (n p : ℕ) → UpTo sc hands n → (moment sc hands n).window < stages_in sc.sizes → p < n → (moment sc hands p).window ≤ stages_in sc.sizes

@@ -1,4 +1,4 @@
--- For the law that events are rounds, which is still to come: a due event keeps all nodes of the world in the rounds: each stands in a
+-- For the law that events are rounds: a due event keeps all nodes of the world in the rounds: each stands in a
 -- moment, and has passed the windows before.
 use Rattle.std.proofs.Common.{◌≡◌, ℕ, ◌+◌, ◌^◌, ◌<◌, ◌≤◌, ◌⊎◌, Bool, true, false, List, refl, ap, sym, ◌∙◌, subst, arith, inl, inr, Option, Some, None, slice_get}
 use Rattle.std.proofs.lemmas.Bool.{cases_lt}

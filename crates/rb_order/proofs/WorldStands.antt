@@ -1,4 +1,4 @@
--- For the law that events are rounds, which is still to come: all nodes of a world, each in its own moment of the rounds. One arrival, and
+-- For the law that events are rounds: all nodes of a world, each in its own moment of the rounds. One arrival, and
 -- one tick of a node that goes on or stops, keep it.
 use Rattle.std.proofs.Common.{◌≡◌, ℕ, ◌≤◌, ◌==◌, ◌&&◌, Bool, true, false, List, [], length, refl, ap, sym, ◌∙◌, subst, arith, Option, Some, None, slice_get, option_and_then, option_map}
 use Rattle.std.proofs.lemmas.Bool.Decides.{nat_tests}

@@ -1,4 +1,4 @@
--- For the law that events are rounds, which is still to come: a tick of one node keeps all nodes of the world: that node goes on or stops,
+-- For the law that events are rounds: a tick of one node keeps all nodes of the world: that node goes on or stops,
 -- and what it says is on its way to the nodes of the other kind.
 use Rattle.std.proofs.Common.{◌≡◌, ℕ, ◌<◌, ◌≤◌, ◌==◌, ◌&&◌, ◌⊎◌, Bool, true, false, List, [], ◌∷◌, ◌++◌, length, refl, ap, sym, ◌∙◌, subst, arith, inl, inr, Option, Some, None, slice_get, option_and_then, option_map, option_to_list}
 use Rattle.std.proofs.lemmas.Bool.Decides.{nat_tests}
@@ -133,12 +133,6 @@ sent-then-is sc hands at sites me i r frame k b m change s there ahead =
     go (is_node me i side j) refl)
 
 -- The node itself afterwards.
-
-pub record Afterwards (sc : Scenario) (hands : List HandIn) (sent : Side → ℕ → ℕ → Bool) (t : ℕ) (me : Side) (i q k r : ℕ) (z : Site) : Type 0 where
-  pub b : Option Timed
-  pub ahead : z.ahead ≡ b
-  pub steps : Steps (λ p. sending_of sc (moment sc hands p) me i) q k r b
-  pub node : ((z.runs ≡ true) × IsUp sc hands sent t me i r z) ⊎ ((z.runs ≡ false) × IsDown sc hands me i r z)
 
 true-false : true ≡ false → ⊥
 true-false e = cc

@@ -1,4 +1,4 @@
--- What is proved of rounds and of single events so far.
+-- What is proved of rounds and of runs event by event.
 use Rattle.std.specs.Prelude.{ℕ, ◌≡◌, ◌+◌, ◌*◌, ◌^◌, ◌<◌, ◌≤◌, ◌⊎◌, true, false, Some, None, List, [], ◌∷◌, ◌++◌, length, slice_get}
 use Rattle.rb_base.specs.Nodes.{Side}
 use Rattle.rb_base.specs.Sizes.{Sizes, sync_slot_of}
@@ -97,16 +97,16 @@ SyncSlotsHold sc =
     (hands : List HandIn) (n : ℕ) → IsRunning (moment sc hands n) → 3 * sync_slot_of sc.sizes ≤ (moment sc hands n).window
     → (moment sc hands n).window < stages_in sc.sizes → IsRunning (moment sc hands (n + 1))
 
--- What holds in each lawful scenario whose sync slots hold.
+-- What holds in each lawful scenario.
 
-abbrev pub EventsAreRoundsIfSyncHolds : Type 0
-EventsAreRoundsIfSyncHolds = (sc : Scenario) → IsLawful sc → SyncSlotsHold sc → EventsAreRounds sc
+abbrev pub EventsAreRoundsInLawful : Type 0
+EventsAreRoundsInLawful = (sc : Scenario) → IsLawful sc → EventsAreRounds sc
 
-abbrev pub SomethingIsDueIfSyncHolds : Type 0
-SomethingIsDueIfSyncHolds = (sc : Scenario) → IsLawful sc → SyncSlotsHold sc → SomethingIsDue sc
+abbrev pub SomethingIsDueInLawful : Type 0
+SomethingIsDueInLawful = (sc : Scenario) → IsLawful sc → SomethingIsDue sc
 
-abbrev pub OneTurnARecordIfSyncHolds : Type 0
-OneTurnARecordIfSyncHolds = (sc : Scenario) → IsLawful sc → SyncSlotsHold sc → OneTurnARecord sc
+abbrev pub OneTurnARecordInLawful : Type 0
+OneTurnARecordInLawful = (sc : Scenario) → IsLawful sc → OneTurnARecord sc
 
-abbrev pub EveryRunEndsIfSyncHolds : Type 0
-EveryRunEndsIfSyncHolds = (sc : Scenario) → IsLawful sc → SyncSlotsHold sc → EveryRunEnds sc
+abbrev pub EveryRunEndsInLawful : Type 0
+EveryRunEndsInLawful = (sc : Scenario) → IsLawful sc → EveryRunEnds sc

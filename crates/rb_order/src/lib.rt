@@ -4,7 +4,7 @@
 
 ghost use Rattle.rb_order.specs.ByItself.{WhatNeedsNoEventIsGiven};
 ghost use Rattle.rb_order.specs.Closing.{GoodNodesCloseInOrder};
-ghost use Rattle.rb_order.specs.Laws.{EventsAreRoundsIfSyncHolds, EventsOnlyAdd, EveryRunEndsIfSyncHolds, HandInsComeLate, OneTurnARecordIfSyncHolds, QuietTicksCount, RecordsAreOfAllSteps, RoundsOnlyAdd, SomethingIsDueIfSyncHolds};
+ghost use Rattle.rb_order.specs.Laws.{EventsAreRoundsInLawful, EventsOnlyAdd, EveryRunEndsInLawful, HandInsComeLate, OneTurnARecordInLawful, QuietTicksCount, RecordsAreOfAllSteps, RoundsOnlyAdd, SomethingIsDueInLawful};
 ghost use Rattle.rb_order.specs.PendingEvents.{PendingEventsAreFewIfSyncHolds};
 
 /// A run by rounds that stops at its end has all records.
@@ -46,31 +46,32 @@ pub fn close_order()
 {}
 
 /// Whatever is chosen among what is due, the records of a run event by event are the first of those of its rounds, and all of them
-/// once it has ended: in every lawful scenario in which, whatever is handed in, the premise on faults is not broken in a sync slot.
-pub fn events_are_rounds_if_sync_holds()
-    ensures { EventsAreRoundsIfSyncHolds }
+/// once it has ended: in every lawful scenario, whatever is handed in, also where the premise on faults is broken.
+pub fn events_are_rounds()
+    ensures { EventsAreRoundsInLawful }
 {}
 
-/// No run stands still: in such a scenario some event is due, whatever was chosen, as long as the run has not ended and its next
+/// No run stands still: in every lawful scenario some event is due, whatever was chosen, as long as the run has not ended and its next
 /// record needs an event.
-pub fn something_is_due_if_sync_holds()
-    ensures { SomethingIsDueIfSyncHolds }
+pub fn something_is_due()
+    ensures { SomethingIsDueInLawful }
 {}
 
-/// In such a scenario each call gives no record, or the next of the rounds.
-pub fn one_turn_a_record_if_sync_holds()
-    ensures { OneTurnARecordIfSyncHolds }
+/// In every lawful scenario each call gives no record, or the next of the rounds.
+pub fn one_turn_a_record()
+    ensures { OneTurnARecordInLawful }
 {}
 
-/// In such a scenario every run ends: whatever is chosen, at most so many events are taken as the nodes, the number of their ticks and
+/// Every run ends in every lawful scenario: whatever is chosen, at most so many events are taken as the nodes, the number of their ticks and
 /// what is said allow (`most_takes`), and no node that runs has had 2^31 ticks. Until then some event is due, or the next record is given
 /// without one.
-pub fn every_run_ends_if_sync_holds()
-    ensures { EveryRunEndsIfSyncHolds }
+pub fn every_run_ends()
+    ensures { EveryRunEndsInLawful }
 {}
 
-/// In such a scenario room for `most_pending` events at each node, reserved at opening, is enough: for its tick, for two messages of
-/// each node of the other kind, and for as many as there are entries of what is said. Whatever was chosen, no more is pending at a node
+/// In a lawful scenario in which, whatever is handed in, the premise on faults is not broken in a sync slot, room for `most_pending`
+/// events at each node, reserved at opening, is enough: for its tick, for two messages of each node of the other kind, and for as many
+/// as there are entries of what is said. Whatever was chosen, no more is pending at a node
 /// (`now`), nor after a tick of its own (`own`), nor with the message that another node sends at its tick (`message`).
 pub fn pending_events_are_few_if_sync_holds()
     ensures { PendingEventsAreFewIfSyncHolds }

@@ -1,5 +1,5 @@
 use Rattle.rb_order.proofs.EventsHold.{events-hold}
-use Rattle.rb_order.proofs.events_are_rounds_if_sync_holds.Goals as goal
+use Rattle.rb_order.proofs.events_are_rounds.Goals as goal
 
 pub returns : goal.returns
 returns c = events-hold
