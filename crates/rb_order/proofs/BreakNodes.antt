@@ -1,17 +1,16 @@
 -- For the law that events are rounds: what is asked of the nodes of a world in which the run breaks off in a sync slot.
-use Rattle.std.proofs.Common.{◌≡◌, ℕ, suc, ◌+◌, ◌*◌, ◌<◌, ◌≤◌, ◌⊎◌, Bool, true, List, Some, slice_get}
+use Rattle.std.proofs.Common.{◌≡◌, ℕ, ◌≤◌, ◌⊎◌, Bool, true, List, Some, slice_get}
 use Rattle.rb_base.specs.Nodes.{Side}
-use Rattle.rb_base.specs.Sizes.{sync_slot_of}
 use Rattle.rb_rules.specs.Book.{Each, Row, of_kind}
 use Rattle.rb_rules.specs.Clock.{time_of}
 use Rattle.rb_rules.specs.Goodness.{Scenario, clock_of}
 use Rattle.rb_rules.specs.Hearing.{Coming}
-use Rattle.rb_rules.specs.Moments.{IsRunning}
 use Rattle.rb_rules.specs.NodeState.{NodeState}
 use Rattle.rb_rules.specs.Ports.{HandIn, PortState}
 use Rattle.rb_rules.specs.Rounds.{moment}
 use Rattle.rb_rules.specs.WorldStep.{Site, Timed, after_act, after_arrival, at_node, pass_and_tick, with_message}
 use Rattle.rb_rules.proofs.Stamps.{Moves}
+use Rattle.rb_order.specs.PendingEvents.{BreaksAt}
 use Rattle.rb_order.proofs.BreakBegins.{FirstCloses}
 use Rattle.rb_order.proofs.BreakEvents.{TickBreaks}
 use Rattle.rb_order.proofs.BreakMessages.{HasStopped}
@@ -21,13 +20,6 @@ use Rattle.rb_order.proofs.PendingLists.{StandsAt}
 use Rattle.rb_order.proofs.Receiving.{ArrivesNow}
 use Rattle.rb_order.proofs.Settling.{RowOfRounds}
 use Rattle.rb_order.proofs.WorldStands.{sent_by}
-
--- the run breaks off with stage q of the sync slot, which is the window of moment b
-pub record BreaksAt (sc : Scenario) (hands : List HandIn) (b q : ℕ) : Type 0 where
-  pub running : IsRunning (moment sc hands b)
-  pub ends : (moment sc hands (suc b)).book.ended ≡ true
-  pub small : q < 3
-  pub window : (moment sc hands b).window ≡ 3 * sync_slot_of sc.sizes + q
 
 -- a node whose next tick is the last of the window
 pub record WaitsLast (sc : Scenario) (hands : List HandIn) (b : ℕ) (me : Side) (i : ℕ) (s : Site) : Type 0 where

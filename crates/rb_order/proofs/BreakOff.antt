@@ -19,7 +19,8 @@ use Rattle.rb_rules.specs.WorldStep.Way.{ByAnEvent}
 use Rattle.rb_order.specs.Closing.{stages_in}
 use Rattle.rb_order.proofs.Behind.{closes-before, runs-there, settled-next}
 use Rattle.rb_order.proofs.BreakBegins.{FirstCloses, all-have-sent}
-use Rattle.rb_order.proofs.BreakNodes.{BreaksAt, FirstOf, KeepsNodes}
+use Rattle.rb_order.specs.PendingEvents.{BreaksAt}
+use Rattle.rb_order.proofs.BreakNodes.{FirstOf, KeepsNodes}
 use Rattle.rb_rules.proofs.Drift.{times_rise_to}
 use Rattle.rb_order.proofs.BreakRooms.{HasLater, has-later}
 use Rattle.rb_order.proofs.BreakRuns.{AllSent, NodesOff, WaitsYet, first-of, pending-off, waits-yet}

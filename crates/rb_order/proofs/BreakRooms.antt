@@ -21,7 +21,8 @@ use Rattle.rb_rules.proofs.WindowNumbers.{sync-numbered}
 use Rattle.rb_sync.proofs.EpochTicks.{frame_ticks}
 use Rattle.rb_sync.proofs.Times.{stamp_to}
 use Rattle.rb_order.specs.Closing.{stages_in}
-use Rattle.rb_order.proofs.BreakNodes.{BreaksAt, FirstOf}
+use Rattle.rb_order.specs.PendingEvents.{BreaksAt}
+use Rattle.rb_order.proofs.BreakNodes.{FirstOf}
 use Rattle.rb_order.proofs.BreakSites.{acted}
 use Rattle.rb_order.proofs.CloseOrder.{good-clock, has-ticks, shortest-some, times-apart}
 use Rattle.rb_order.proofs.FrameTimes.{BegunWell, begun-well, good-node}

@@ -21,7 +21,8 @@ use Rattle.rb_order.proofs.BreakEvents.{TickBreaks}
 use Rattle.rb_order.proofs.BreakMessages.{HasStopped}
 use Rattle.rb_order.proofs.BreakRooms.{acted-small, arrived-small, has-later}
 use Rattle.rb_order.proofs.PendingLists.{StandsAt}
-use Rattle.rb_order.proofs.BreakNodes.{BreaksAt, FirstOf, KeepsNodes, TellsStage, WaitsLast}
+use Rattle.rb_order.specs.PendingEvents.{BreaksAt}
+use Rattle.rb_order.proofs.BreakNodes.{FirstOf, KeepsNodes, TellsStage, WaitsLast}
 use Rattle.rb_order.proofs.CloseOrder.{good-clock}
 use Rattle.rb_order.proofs.DueEvents.{IsReady}
 use Rattle.rb_order.proofs.Invariant.{entry_of, is_good_at}

@@ -1,27 +1,32 @@
 -- What holds of runs event by event in every lawful scenario.
-use Rattle.std.proofs.Common.{◌≡◌, ℕ, zero, suc, ◌+◌, ◌^◌, ◌<◌, Bool, true, false, List, ap, sym, ◌∙◌, arith, inl, inr, Some, slice_get}
+use Rattle.std.proofs.Common.{◌≡◌, ℕ, zero, suc, ◌+◌, ◌-◌, ◌^◌, ◌<◌, ◌≤◌, Bool, true, false, List, ◌++◌, length, length-append, ap, sym, ◌∙◌, arith, inl, inr, Some, slice_get}
+use Rattle.std.proofs.lemmas.Bool.{cases_lt}
 use Rattle.rb_base.specs.Nodes.{Side}
-use Rattle.rb_rules.specs.Book.{Each, of_kind}
+use Rattle.rb_rules.specs.Book.{Book, Each, of_kind}
 use Rattle.rb_rules.specs.Goodness.{Scenario}
 use Rattle.rb_rules.specs.Lawful.{IsLawful}
-use Rattle.rb_rules.specs.Moments.{IsRunning}
+use Rattle.rb_rules.proofs.Books.{moments-on}
+use Rattle.rb_agree.proofs.Places.{running_earlier}
 use Rattle.rb_rules.specs.Ports.{HandIn}
 use Rattle.rb_rules.specs.Rounds.{moment}
-use Rattle.rb_rules.specs.WorldStep.{Choice, Site, World, needs_no_event, world_after}
-use Rattle.rb_order.specs.Laws.{EventsAreRoundsInLawful, EveryRunEndsInLawful, OneTurnARecordInLawful, SomethingIsDueInLawful, SyncSlotsHold}
+use Rattle.rb_rules.specs.WorldStep.{Choice, Due, Site, World, due_of, needs_no_event, take_if_due, world_after}
+use Rattle.rb_order.specs.Laws.{EventsAreRoundsInLawful, EveryRunEndsInLawful, OneTurnARecordInLawful, SomethingIsDueInLawful}
 use Rattle.rb_order.proofs.BreakKeeps.{early-keeps}
-use Rattle.rb_order.proofs.BreakNodes.{BreaksAt, KeepsNodes}
-use Rattle.rb_order.proofs.BreakOff.{left-off, runs-small}
+use Rattle.rb_order.specs.PendingEvents.{BreaksAt, IsBeforeBreak}
+use Rattle.rb_order.proofs.BreakNodes.{KeepsNodes}
+use Rattle.rb_order.proofs.BreakOff.{IsOver, left-off, runs-small}
 use Rattle.rb_order.proofs.BreakRuns.{WaitsYet, waits-yet}
 use Rattle.rb_order.proofs.BreakWorld.{NodesBreak}
 use Rattle.rb_order.proofs.Behind.{IsBehind}
-use Rattle.rb_order.proofs.EveryWorld.{AnyWorld, any-after, events-are-rounds}
+use Rattle.rb_order.proofs.EveryWorld.{AnyWorld, InRun, IsAtBreak, any-after, due-going, events-are-rounds, take-before}
 use Rattle.rb_order.proofs.LastKeeps.{NodesLast, last-keeps}
 use Rattle.rb_order.proofs.OneTake.{StandsInRounds, world-waits}
 use Rattle.rb_order.proofs.Progress.{SomePends, something-is-due}
 use Rattle.rb_order.proofs.RunsEnd.{HasTicksLeft, every-run-ends, in-rounds-left}
+use Rattle.rb_order.proofs.SettlingFrames.{IsOfMoment}
 use Rattle.rb_order.proofs.TickRooms.{has-room}
 use Rattle.rb_order.proofs.Turns.{turns-are-next}
+use Rattle.rb_order.proofs.WorldNodes.{events-due}
 use Rattle.rb_order.proofs.WorldStands.{IsUp, sent_by}
 
 true-false : {P : Type 0} → true ≡ false → P
@@ -88,20 +93,55 @@ pub ends-hold : EveryRunEndsInLawful
 ends-hold sc lawful =
     every-run-ends sc (λ choices. ticks-left sc lawful (world_after sc choices) (any sc lawful choices)) (λ choices. runs-left sc lawful (world_after sc choices) (any sc lawful choices))
 
--- Where the sync slots hold no run breaks off in one.
+-- Until the run breaks off in a sync slot.
 
-never : {P : Type 0} (sc : Scenario) → SyncSlotsHold sc → (hands : List HandIn) (b q : ℕ) → BreaksAt sc hands b q → P
-never sc holds hands b q off =
-    let k : b + 1 ≡ suc b = omega arith in
-    let window = off.window in
-    let small = off.small in
-    let on : IsRunning (moment sc hands (b + 1)) = holds hands b off.running (omega (arith, window)) (omega (arith, window, small)) in
-    true-false (sym off.ends ∙ sym (ap (λ n. (moment sc hands n).book.ended) k) ∙ on)
+-- the moments up to that stage have no more records than it
+no-less : (sc : Scenario) (hands : List HandIn) (b n : ℕ) → b ≤ n → length (moment sc hands b).book.given ≤ length (moment sc hands n).book.given
+no-less sc hands b n le =
+    let more = (moments-on sc hands b (n - b)).more in
+    let is : b + (n - b) ≡ n = omega (arith, le) in
+    let long : length (moment sc hands (b + (n - b))).book.given ≡ length ((moment sc hands b).book.given ++ more.0) = ap length more.1 in
+    let both = length-append (moment sc hands b).book.given more.0 in
+    let same : length (moment sc hands (b + (n - b))).book.given ≡ length (moment sc hands n).book.given = ap (λ n. length (moment sc hands n).book.given) is in
+    omega (arith, long, both, same)
 
-pub stands-hold : (sc : Scenario) → IsLawful sc → SyncSlotsHold sc → (choices : List Choice) → StandsInRounds sc (world_after sc choices)
-stands-hold sc lawful holds choices = by (any sc lawful choices)
+not-less : (sc : Scenario) (w : World) (b q : ℕ) → IsBeforeBreak sc w → BreaksAt sc w.hands b q → (n : ℕ) → b ≤ n → w.book ≡ (moment sc w.hands n).book → ⊥
+not-less sc w b q before off n le is =
+    let few : length w.book.given < length (moment sc w.hands b).book.given = before b q off in
+    let here : length w.book.given ≡ length (moment sc w.hands n).book.given = ap (λ (b : Book). length b.given) is in
+    let more = no-less sc w.hands b n le in
+    absurd (omega (arith, few, here, more))
+
+not-at : (sc : Scenario) (w : World) → IsBeforeBreak sc w → IsAtBreak sc w → ⊥
+not-at sc w before at = not-less sc w at.0 at.1.0 before at.1.1.0 at.0 (omega arith) at.1.1.1
+
+-- all nodes stand in the rounds
+pub before-runs : (sc : Scenario) → IsLawful sc → (choices : List Choice) → IsBeforeBreak sc (world_after sc choices) → InRun sc (world_after sc choices)
+before-runs sc lawful choices before = by (any sc lawful choices)
   where
-    by : AnyWorld sc (nodes_at sc) (world_after sc choices) → StandsInRounds sc (world_after sc choices)
-    by (inl run) = run.stands
-    by (inr (inl off)) = never sc holds (world_after sc choices).hands off.stands.b off.stands.q off.stands.off
-    by (inr (inr over)) = never sc holds (world_after sc choices).hands over.b over.q over.off
+    w : World
+    w = world_after sc choices
+
+    over : (h : IsOver sc w) → ⊥
+    over h = of h.of
+      where
+        of : IsOfMoment sc w.hands w.book → ⊥
+        of (inl fresh) = true-false (sym h.ended ∙ ap (λ (b : Book). b.ended) fresh)
+        of (inr at) = elim (cases_lt at.0 h.b) [
+          | inl lt ↦ true-false (sym h.ended ∙ ap (λ (b : Book). b.ended) at.1 ∙ running_earlier sc w.hands at.0 h.b (omega (arith, lt)) h.off.running)
+          | inr ge ↦ not-less sc w h.b h.q before h.off at.0 ge at.1
+        ]
+
+    by : AnyWorld sc (nodes_at sc) w → InRun sc w
+    by (inl run) = run
+    by (inr (inl off)) = absurd (not-at sc w before (off.stands.b, (off.stands.q, (off.stands.off, off.stands.is))))
+    by (inr (inr h)) = absurd (over h)
+
+-- and after a due event that is taken, too
+pub before-takes : (sc : Scenario) → IsLawful sc → (choices : List Choice) → IsBeforeBreak sc (world_after sc choices) → (place : ℕ) (d : Due)
+    → slice_get (due_of sc (world_after sc choices)) place ≡ Some d → InRun sc (take_if_due sc (world_after sc choices) (Some d))
+before-takes sc lawful choices before place d e =
+    let w : World = world_after sc choices in
+    let going = due-going sc w place d e in
+    take-before sc (nodes_at sc) w d lawful (has-room sc lawful) (keeps sc lawful) (before-runs sc lawful choices before) going.0 going.1 (events-due sc choices place d e)
+    (not-at sc w before)

@@ -16,7 +16,8 @@ use Rattle.rb_rules.specs.WorldStep.Pending.{Tick, Arrival}
 use Rattle.rb_rules.specs.WorldStep.Way.{ByItself}
 use Rattle.rb_order.proofs.Alone.{go-on-settled}
 use Rattle.rb_order.proofs.Behind.{WaitsAt}
-use Rattle.rb_order.proofs.BreakNodes.{BreaksAt, KeepsNodes}
+use Rattle.rb_order.specs.PendingEvents.{BreaksAt}
+use Rattle.rb_order.proofs.BreakNodes.{KeepsNodes}
 use Rattle.rb_order.proofs.BreakOff.{BreaksOff, IsOver, begins-off, take-off}
 use Rattle.rb_order.proofs.Completing.{next_world}
 use Rattle.rb_order.proofs.DueEvents.{IsDue, IsReady}
@@ -85,9 +86,17 @@ go-on-keeps sc now at w lawful room h = by w.book.ended
 
 -- Choices in the run.
 
+-- the next record is that of a stage of the sync slot with which the run breaks off
+abbrev pub IsAtBreak : Scenario → World → Type 0
+IsAtBreak sc w = (b : ℕ) × ((q : ℕ) × (BreaksAt sc w.hands b q × (w.book ≡ (moment sc w.hands b).book)))
+
+-- what comes of a due event that is taken
+abbrev TakesTo : (sc : Scenario) → (ℕ → List HandIn → ℕ → (Side → ℕ → ℕ → Bool) → Each Site → Type 0) → World → World → Type 0
+TakesTo sc N w after = InRun sc after ⊎ (IsAtBreak sc w × (BreaksOff sc N after ⊎ IsOver sc after))
+
 -- a due event that is taken: either the nodes stand in the rounds after it, or it is the first close of a stage with which the run breaks off
 take-run : (sc : Scenario) (N : ℕ → List HandIn → ℕ → (Side → ℕ → ℕ → Bool) → Each Site → Type 0) (w : World) (d : Due) → IsLawful sc → HasRoom sc.plan → ((q : ℕ) → q < 3 → KeepsNodes sc q (N q)) → InRun sc w
-    → w.book.ended ≡ false → needs_no_event sc w.book.upcoming ≡ false → IsDue w d → AnyWorld sc N (take_if_due sc w (Some d))
+    → w.book.ended ≡ false → needs_no_event sc w.book.upcoming ≡ false → IsDue w d → TakesTo sc N w (take_if_due sc w (Some d))
 take-run sc N w d lawful room keeps run going needs due = from-where waits.1.from
   where
     h : StandsInRounds sc w
@@ -111,7 +120,7 @@ take-run sc N w d lawful room keeps run going needs due = from-where waits.1.fro
     s : Site
     s = due.s
 
-    reached : Reaches sc hands n → AnyWorld sc N (take_if_due sc w (Some d))
+    reached : Reaches sc hands n → TakesTo sc N w (take_if_due sc w (Some d))
     reached r =
         let may : MayHappen sc h.at w n = record { stage = waits.1.stage; bound = waits.1.bound; within = waits.1.within; up_to = r.up_to } in
         let after : StandsUpTo sc hands n (take_if_due sc w (Some d)) =
@@ -124,7 +133,7 @@ take-run sc N w d lawful room keeps run going needs due = from-where waits.1.fro
               omega (arith, le, not_past);
         })
 
-    breaks : (b q : ℕ) → BreaksAt sc hands b q → n ≡ next_stage sc.sizes (moment sc hands b) b → w.book ≡ (moment sc hands b).book → AnyWorld sc N (take_if_due sc w (Some d))
+    breaks : (b q : ℕ) → BreaksAt sc hands b q → n ≡ next_stage sc.sizes (moment sc hands b) b → w.book ≡ (moment sc hands b).book → TakesTo sc N w (take_if_due sc w (Some d))
     breaks b q off n_is is = by d.pending refl
       where
         stage : (moment sc hands b).window < stages_in sc.sizes
@@ -139,7 +148,7 @@ take-run sc N w d lawful room keeps run going needs due = from-where waits.1.fro
             let later = next.later in
             record { stage = stage; bound = bound; within = λ p le. waits.1.within p (omega (arith, le, n_is, later)); up_to = from-running sc hands lawful b stage off.running }
 
-        still : ClosesEarlier sc hands h.at b me i d.pending → AnyWorld sc N (take_if_due sc w (Some d))
+        still : ClosesEarlier sc hands h.at b me i d.pending → TakesTo sc N w (take_if_due sc w (Some d))
         still early =
             let after : StandsUpTo sc hands b (take_if_due sc w (Some d)) = take-keeps sc h.now h.at w d lawful room h.stands b may going due early in
             inl (record {
@@ -150,7 +159,7 @@ take-run sc N w d lawful room keeps run going needs due = from-where waits.1.fro
                   omega (arith, le, not_past);
             })
 
-        by : (p : Pending) → d.pending ≡ p → AnyWorld sc N (take_if_due sc w (Some d))
+        by : (p : Pending) → d.pending ≡ p → TakesTo sc N w (take_if_due sc w (Some d))
         by (Arrival place c) e = still (subst (ClosesEarlier sc hands h.at b me i) (sym e) tt)
         by (Tick k) e =
             let ready : IsReady due.t s (Tick k) = subst (IsReady due.t s) e due.ready in
@@ -174,20 +183,31 @@ take-run sc N w d lawful room keeps run going needs due = from-where waits.1.fro
                         let last : k ≡ last_tick sc (moment sc hands p) me up.st = omega (arith, not_lt, tick, within) in
                         let time : up.a.time ≡ due.t = ap (λ (a : Timed). a.time) a_is ∙ ready.1.1.1.0 in
                         let later : h.now ≤ up.a.time = up.stands.receives.tick_after in
-                        inr (begins-off sc N h.now h.at w b q d k up.st lawful room (keeps q off.small) off h.stands bound is needs due e same
-                        (subst (λ p. slice_get (of_kind me (moment sc hands p).nodes) i ≡ Some up.st) same up.stands.state)
-                        (subst (λ p. is_good_at sc (moment sc hands p) me i ≡ true) same up.stands.good)
-                        (subst (λ p. k ≡ last_tick sc (moment sc hands p) me up.st) same last) (omega (arith, later, time))
-                        (sym time ∙ up.stands.receives.at_time ∙ ap (time_of (clock_of sc me i)) tick))
+                        inr (
+                          (b, (q, (off, is))),
+                          begins-off sc N h.now h.at w b q d k up.st lawful room (keeps q off.small) off h.stands bound is needs due e same
+                              (subst (λ p. slice_get (of_kind me (moment sc hands p).nodes) i ≡ Some up.st) same up.stands.state)
+                              (subst (λ p. is_good_at sc (moment sc hands p) me i ≡ true) same up.stands.good)
+                              (subst (λ p. k ≡ last_tick sc (moment sc hands p) me up.st) same last) (omega (arith, later, time))
+                              (sym time ∙ up.stands.receives.at_time ∙ ap (time_of (clock_of sc me i)) tick),
+                        )
                   ]
             ]
 
-    from-where : (n ≡ 0) ⊎ ((g : ℕ) × (IsRunning (moment sc hands g) × ((n ≡ next_stage sc.sizes (moment sc hands g) g) × (w.book ≡ (moment sc hands g).book)))) → AnyWorld sc N (take_if_due sc w (Some d))
+    from-where : (n ≡ 0) ⊎ ((g : ℕ) × (IsRunning (moment sc hands g) × ((n ≡ next_stage sc.sizes (moment sc hands g) g) × (w.book ≡ (moment sc hands g).book)))) → TakesTo sc N w (take_if_due sc w (Some d))
     from-where (inl first) = reached (reaches-first sc hands lawful n waits.1.stage first)
     from-where (inr from) = elim (reach sc hands lawful n waits.1.stage from.0 from.1.0 from.1.1.0) [
       | inl r ↦ reached r
       | inr b ↦ breaks from.0 b.0 b.1 from.1.1.0 from.1.1.1
     ]
+
+-- so a due event that is taken before it leaves them in the rounds
+pub take-before : (sc : Scenario) (N : ℕ → List HandIn → ℕ → (Side → ℕ → ℕ → Bool) → Each Site → Type 0) (w : World) (d : Due) → IsLawful sc → HasRoom sc.plan → ((q : ℕ) → q < 3 → KeepsNodes sc q (N q)) → InRun sc w
+    → w.book.ended ≡ false → needs_no_event sc w.book.upcoming ≡ false → IsDue w d → (IsAtBreak sc w → ⊥) → InRun sc (take_if_due sc w (Some d))
+take-before sc N w d lawful room keeps run going needs due before = elim (take-run sc N w d lawful room keeps run going needs due) [
+  | inl after ↦ after
+  | inr off ↦ absurd (before off.0)
+]
 
 -- what settles by itself
 go-on-run : (sc : Scenario) (w : World) → IsLawful sc → HasRoom sc.plan → InRun sc w → InRun sc (go_on sc w)
@@ -266,7 +286,7 @@ choice-keeps sc N choices (Take i) lawful room keeps h = by (slice_get (due_of s
     w = world_after sc choices
 
     of : (d : Due) → w.book.ended ≡ false → needs_no_event sc w.book.upcoming ≡ false → IsDue w d → AnyWorld sc N w → AnyWorld sc N (take_if_due sc w (Some d))
-    of d going needs due (inl run) = take-run sc N w d lawful room keeps run going needs due
+    of d going needs due (inl run) = elim (take-run sc N w d lawful room keeps run going needs due) [ inl after ↦ inl after | inr off ↦ inr off.1 ]
     of d going needs due (inr (inl off)) = inr (take-off sc N w d lawful room keeps off due)
     of d going needs due (inr (inr over)) = true-false (sym over.ended ∙ going)
 

@@ -12,18 +12,18 @@ use Rattle.rb_rules.specs.declared.message.Message.{Message}
 use Rattle.rb_rules.specs.Clock.{time_of}
 use Rattle.rb_rules.specs.Goodness.{Scenario, clock_of}
 use Rattle.rb_rules.specs.Hearing.{Coming, Sending, Span, coming_of, coming_said, is_said, said_by, span_of}
+use Rattle.rb_rules.specs.Lawful.{IsLawful}
 use Rattle.rb_rules.specs.Links.{name_of, same_node}
 use Rattle.rb_rules.specs.NodeState.{NodeState}
 use Rattle.rb_rules.specs.Ports.{HandIn}
 use Rattle.rb_rules.specs.Rounds.{Moment, moment, window_in}
 use Rattle.rb_rules.specs.Slots.{count_of}
-use Rattle.rb_rules.specs.WorldStep.{Choice, Due, Site, Timed, World, after_act, at_node, choose, happens, pass_and_tick, sent_to, take, take_if_due, times_of, with_act, with_message, with_pending, world_after}
+use Rattle.rb_rules.specs.WorldStep.{Choice, Due, Site, Timed, World, after_act, at_node, happens, pass_and_tick, sent_to, take_if_due, times_of, with_act, with_message, with_pending, world_after}
 use Rattle.rb_rules.specs.WorldStep.Pending.{Tick}
-use Rattle.rb_rules.specs.WorldStep.Choice.{Take}
 use Rattle.rb_rules.specs.WorldStep.Way.{ByAnEvent}
-use Rattle.rb_order.specs.PendingEvents.{PendingEventsAreFewIfSyncHolds, TakesTick, most_coming, most_pending}
-use Rattle.rb_order.proofs.EventsHold.{stands-hold}
-use Rattle.rb_order.proofs.EveryWorld.{after-more}
+use Rattle.rb_order.specs.PendingEvents.{IsBeforeBreak, PendingEventsAreFewUntilSyncBreaks, TakesTick, most_coming, most_pending}
+use Rattle.rb_order.proofs.EventsHold.{before-runs, before-takes}
+use Rattle.rb_order.proofs.EveryWorld.{InRun}
 use Rattle.rb_order.proofs.Invariant.{NodeStands, ahead_so_far, entry_of, heard_so_far, is_good_at, last_tick, next_stage, sending_of}
 use Rattle.rb_order.proofs.OneTake.{StandsInRounds}
 use Rattle.rb_order.proofs.PendingLists.{Hears}
@@ -194,31 +194,28 @@ own-few sc me i frame k o change sites s fits there =
 
 -- Worlds.
 
--- a tick that is due happens in the world after one more choice
-tick-few : (sc : Scenario) → ((choices : List Choice) → StandsInRounds sc (world_after sc choices)) → (choices : List Choice) (me : Side) (i k : ℕ) (s : Site) (x : Act)
+-- a tick that is due happens in a world in the rounds
+tick-few : (sc : Scenario) → IsLawful sc → (choices : List Choice) → IsBeforeBreak sc (world_after sc choices) → (me : Side) (i k : ℕ) (s : Site) (x : Act)
     → TakesTick sc (world_after sc choices) me i k s x
     → HaveRoom sc (with_message sc me i x.core.state.frame k x.message (at_node me i (after_act sc (world_after sc choices).ports me i x) (world_after sc choices).sites))
-unfolding take happens with_act
-tick-few sc stands choices me i k s x h =
+unfolding happens with_act
+tick-few sc lawful choices before me i k s x h =
     let w : World = world_after sc choices in
     let d : Due = record { side = me; node = i; pending = Tick k } in
-    let next : List Choice = choices ++ Take h.place ∷ [] in
-    let after : HaveRoom sc (choose sc w (Take h.place)).sites =
-    subst (λ (w : World). HaveRoom sc w.sites) (after-more sc choices (Take h.place)) (world-few sc (world_after sc next) (stands next)) in
-    let taken : HaveRoom sc (take_if_due sc w (Some d)).sites = subst (λ o. HaveRoom sc (take_if_due sc w o).sites) h.is_due after in
+    let run : InRun sc (take_if_due sc w (Some d)) = before-takes sc lawful choices before h.place d h.is_due in
+    let taken : HaveRoom sc (take_if_due sc w (Some d)).sites = world-few sc (take_if_due sc w (Some d)) run.stands in
     let happened : HaveRoom sc (happens sc w d).sites = subst (HaveRoom sc) (settle-sites sc ByAnEvent 2 (happens sc w d)) taken in
     let acted : HaveRoom sc (with_act sc w me i k (pass_and_tick sc w.ports me i k s.core)).sites =
     subst (λ o. HaveRoom sc (elim o as (λ _. World) [ None ↦ w | Some s ↦ with_pending sc w me i s (Tick k) ]).sites) h.there happened in
     subst (λ x. HaveRoom sc (with_act sc w me i k x).sites) (sym h.does) acted
 
-pub pending-few : PendingEventsAreFewIfSyncHolds
-pending-few sc lawful holds choices =
+pub pending-few : PendingEventsAreFewUntilSyncBreaks
+pending-few sc lawful choices before =
     let w : World = world_after sc choices in
-    let in_rounds = stands-hold sc lawful holds in
     record {
-      now = world-few sc w (in_rounds choices);
+      now = world-few sc w (before-runs sc lawful choices before).stands;
       own = λ me i k s x h.
-          own-few sc me i x.core.state.frame k x.message (after_act sc w.ports me i x) w.sites s (tick-few sc in_rounds choices me i k s x h) h.there;
+          own-few sc me i x.core.state.frame k x.message (after_act sc w.ports me i x) w.sites s (tick-few sc lawful choices before me i k s x h) h.there;
       message = λ me i k s x m h e j z there runs.
-          message-few sc me i x.core.state.frame k x.message m (after_act sc w.ports me i x) w.sites (tick-few sc in_rounds choices me i k s x h) e j z there runs;
+          message-few sc me i x.core.state.frame k x.message m (after_act sc w.ports me i x) w.sites (tick-few sc lawful choices before me i k s x h) e j z there runs;
     }

@@ -13,7 +13,7 @@ use Rattle.rb_agree.proofs.Places.{running_earlier}
 use Rattle.rb_agree.proofs.FrameBegins.{reached}
 use Rattle.rb_order.specs.Closing.{stages_in}
 use Rattle.rb_order.proofs.BreachWindows.{in-reached}
-use Rattle.rb_order.proofs.BreakNodes.{BreaksAt}
+use Rattle.rb_order.specs.PendingEvents.{BreaksAt}
 use Rattle.rb_order.proofs.CloseOrder.{IsWindowLater, window-later}
 use Rattle.rb_order.proofs.FrameTimes.{BegunWell, begun-well, well-on}
 use Rattle.rb_order.proofs.Invariant.{InTime, next_stage}

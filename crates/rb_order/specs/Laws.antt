@@ -1,18 +1,16 @@
 -- What is proved of rounds and of runs event by event.
 use Rattle.std.specs.Prelude.{ℕ, ◌≡◌, ◌+◌, ◌*◌, ◌^◌, ◌<◌, ◌≤◌, ◌⊎◌, true, false, Some, None, List, [], ◌∷◌, ◌++◌, length, slice_get}
 use Rattle.rb_base.specs.Nodes.{Side}
-use Rattle.rb_base.specs.Sizes.{Sizes, sync_slot_of}
+use Rattle.rb_base.specs.Sizes.{Sizes}
 use Rattle.rb_rules.specs.declared.plan.Plan.{Plan}
 use Rattle.rb_rules.specs.Book.{Record, of_kind}
 use Rattle.rb_rules.specs.Core.{Core, next_tick, ticks}
 use Rattle.rb_rules.specs.Goodness.{Scenario}
 use Rattle.rb_rules.specs.Lawful.{IsLawful}
-use Rattle.rb_rules.specs.Moments.{IsRunning}
 use Rattle.rb_rules.specs.Ports.{HandIn}
 use Rattle.rb_rules.specs.Rounds.{moment, steps_of, records_of}
 use Rattle.rb_rules.specs.WorldStep.{Site, World, Choice, Due, EventsAreRounds, IsPrefix, choose, due_of, first_world, go_on, needs_no_event, take, world_after}
 use Rattle.rb_rules.specs.WorldStep.Choice.{Take, GoOn, Hand}
-use Rattle.rb_order.specs.Closing.{stages_in}
 
 -- the records of a scenario are those of the moment after all steps: that the run stops at its end changes nothing
 abbrev pub RecordsAreOfAllSteps : Type 0
@@ -90,12 +88,6 @@ most_takes sc = nodes_of sc.sizes * (2 ^ 31 * (most_at_once sc + 1) + most_at_on
 pub record EveryRunEnds (sc : Scenario) : Type 0 where
   pub few : (choices : List Choice) → takes_from sc (first_world sc) choices ≤ most_takes sc
   pub room : (choices : List Choice) (me : Side) (i : ℕ) (s : Site) → slice_get (of_kind me (world_after sc choices).sites) i ≡ Some s → s.runs ≡ true → s.core.had < 2 ^ 31
-
--- whatever is handed in, the premise on faults holds in each sync slot that is reached
-abbrev pub SyncSlotsHold : Scenario → Type 0
-SyncSlotsHold sc =
-    (hands : List HandIn) (n : ℕ) → IsRunning (moment sc hands n) → 3 * sync_slot_of sc.sizes ≤ (moment sc hands n).window
-    → (moment sc hands n).window < stages_in sc.sizes → IsRunning (moment sc hands (n + 1))
 
 -- What holds in each lawful scenario.
 

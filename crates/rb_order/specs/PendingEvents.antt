@@ -1,15 +1,18 @@
 -- How much may be pending at a node.
-use Rattle.std.specs.Prelude.{ℕ, ◌≡◌, ◌+◌, ◌*◌, ◌≤◌, true, Some, List, length, slice_get}
+use Rattle.std.specs.Prelude.{ℕ, ◌≡◌, ◌+◌, ◌*◌, ◌<◌, ◌≤◌, suc, true, Some, List, length, slice_get}
 use Rattle.rb_base.specs.Nodes.{Side, other}
+use Rattle.rb_base.specs.Sizes.{sync_slot_of}
 use Rattle.rb_rules.specs.declared.message.Message.{Message}
 use Rattle.rb_rules.specs.Book.{of_kind}
 use Rattle.rb_rules.specs.Core.{Act}
 use Rattle.rb_rules.specs.Goodness.{Scenario}
 use Rattle.rb_rules.specs.Lawful.{IsLawful}
+use Rattle.rb_rules.specs.Moments.{IsRunning}
+use Rattle.rb_rules.specs.Ports.{HandIn}
+use Rattle.rb_rules.specs.Rounds.{moment}
 use Rattle.rb_rules.specs.Slots.{count_of}
 use Rattle.rb_rules.specs.WorldStep.{Choice, Site, World, after_act, due_of, pass_and_tick, times_of, world_after}
 use Rattle.rb_rules.specs.WorldStep.Pending.{Tick}
-use Rattle.rb_order.specs.Laws.{SyncSlotsHold}
 
 -- what comes to a node of this kind: of each node of the other kind a message for the window in which the node stands and one for the
 -- next, and besides these what is said to it in its window
@@ -36,9 +39,20 @@ pub record EventsFit (sc : Scenario) (w : World) : Type 0 where
   pub message : (me : Side) (i k : ℕ) (s : Site) (x : Act) (m : Message) → TakesTick sc w me i k s x → x.message ≡ Some m → (j : ℕ) (receiver : Site)
       → slice_get (of_kind (other me) w.sites) j ≡ Some receiver → receiver.runs ≡ true → length (times_of receiver) + 1 ≤ most_pending sc (other me)
 
--- whatever was chosen, events fit
-abbrev pub PendingEventsAreFew : Scenario → Type 0
-PendingEventsAreFew sc = (choices : List Choice) → EventsFit sc (world_after sc choices)
+-- the run breaks off with stage q of the sync slot, which is the window of moment b
+pub record BreaksAt (sc : Scenario) (hands : List HandIn) (b q : ℕ) : Type 0 where
+  pub running : IsRunning (moment sc hands b)
+  pub ends : (moment sc hands (suc b)).book.ended ≡ true
+  pub small : q < 3
+  pub window : (moment sc hands b).window ≡ 3 * sync_slot_of sc.sizes + q
 
-abbrev pub PendingEventsAreFewIfSyncHolds : Type 0
-PendingEventsAreFewIfSyncHolds = (sc : Scenario) → IsLawful sc → SyncSlotsHold sc → PendingEventsAreFew sc
+-- where the run, with what is handed in so far, breaks off in a sync slot, not all records before that stage have been given
+abbrev pub IsBeforeBreak : Scenario → World → Type 0
+IsBeforeBreak sc w = (b q : ℕ) → BreaksAt sc w.hands b q → length w.book.given < length (moment sc w.hands b).book.given
+
+-- whatever was chosen, events fit until the run breaks off in a sync slot
+abbrev pub PendingEventsAreFew : Scenario → Type 0
+PendingEventsAreFew sc = (choices : List Choice) → IsBeforeBreak sc (world_after sc choices) → EventsFit sc (world_after sc choices)
+
+abbrev pub PendingEventsAreFewUntilSyncBreaks : Type 0
+PendingEventsAreFewUntilSyncBreaks = (sc : Scenario) → IsLawful sc → PendingEventsAreFew sc

@@ -5,7 +5,7 @@
 ghost use Rattle.rb_order.specs.ByItself.{WhatNeedsNoEventIsGiven};
 ghost use Rattle.rb_order.specs.Closing.{GoodNodesCloseInOrder};
 ghost use Rattle.rb_order.specs.Laws.{EventsAreRoundsInLawful, EventsOnlyAdd, EveryRunEndsInLawful, HandInsComeLate, OneTurnARecordInLawful, QuietTicksCount, RecordsAreOfAllSteps, RoundsOnlyAdd, SomethingIsDueInLawful};
-ghost use Rattle.rb_order.specs.PendingEvents.{PendingEventsAreFewIfSyncHolds};
+ghost use Rattle.rb_order.specs.PendingEvents.{PendingEventsAreFewUntilSyncBreaks};
 
 /// A run by rounds that stops at its end has all records.
 pub fn records_are_of_all_steps()
@@ -69,10 +69,11 @@ pub fn every_run_ends()
     ensures { EveryRunEndsInLawful }
 {}
 
-/// In a lawful scenario in which, whatever is handed in, the premise on faults is not broken in a sync slot, room for `most_pending`
-/// events at each node, reserved at opening, is enough: for its tick, for two messages of each node of the other kind, and for as many
-/// as there are entries of what is said. Whatever was chosen, no more is pending at a node
-/// (`now`), nor after a tick of its own (`own`), nor with the message that another node sends at its tick (`message`).
-pub fn pending_events_are_few_if_sync_holds()
-    ensures { PendingEventsAreFewIfSyncHolds }
+/// In every lawful scenario room for `most_pending` events at each node, reserved at opening, is enough until the run breaks off in a
+/// sync slot (`IsBeforeBreak`): for its tick, for two messages of each node of the other kind, and for as many as there are entries of
+/// what is said. Whatever was chosen, as long as not all records before the stage with which the run breaks off have been given, no
+/// more is pending at a node (`now`), nor after a tick of its own (`own`), nor with the message that another node sends at its tick
+/// (`message`). Where the run does not break off in a sync slot this holds to its end.
+pub fn pending_events_are_few_until_sync_breaks()
+    ensures { PendingEventsAreFewUntilSyncBreaks }
 {}
