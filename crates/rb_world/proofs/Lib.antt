@@ -15,3 +15,4 @@ pub mod Alike
 pub mod Acting
 pub mod Whole
 pub mod Happening
+pub mod Chosen
