@@ -16,3 +16,4 @@ pub mod Acting
 pub mod Whole
 pub mod Happening
 pub mod Chosen
+pub mod Ready
