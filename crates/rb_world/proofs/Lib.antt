@@ -21,3 +21,5 @@ pub mod Alike
 pub mod Acting
 pub mod Whole
 pub mod Happening
+pub mod Chosen
+pub mod Ready

@@ -1,0 +1,118 @@
+use Rattle.std.proofs.Common.{◌≡◌, sym, ap, ◌∙◌, subst, arith}
+use Rattle.std.specs.Prelude.{get_or, None}
+use Rattle.rb_base.specs.Nodes.Side.{Biu, Rmu}
+use Rattle.rb_base.specs.declared.node.NodeName.TheVariants as node
+use Rattle.rb_rules.specs.WorldStep.Pending.{Tick}
+use Rattle.rb_agenda.specs.Holding.{without_waiting}
+use Rattle.rb_site.specs.Sites.{number_of}
+use Rattle.rb_world.specs.Steps.{MayTick, moved}
+use Rattle.rb_world.proofs.Ready.{tick-ready}
+use Rattle.rb_world.proofs.Told.{got-is}
+use Rattle.rb_world.proofs.taking.happen.Goals as goal
+
+-- src/taking.rt:74:46
+pub index_mut-requires : goal.index_mut-requires
+index_mut-requires g c =
+    let r = tick-ready c.args.bus.now (record { bius = c.args.bius.now.items; rmus = c.args.rmus.now.items }) c.args.scene.now c.args.time c.args.node c.args.event.now c.requires.0 c.requires.1 c.requires.2 Biu c.in-Tick-Biu.i c.in-Tick-Biu.word-0 c.in-Tick-Biu.wanted-0 c.requires.3 c.in-Tick-Biu.is-0 c.in-Tick-Biu.is-1 in
+    omega (arith, r.inside, c.from.ensures)
+
+-- src/taking.rt:74:13
+pub tick_at-requires-clause-number : goal.tick_at-requires-clause-number
+tick_at-requires-clause-number g c =
+    let r = tick-ready c.args.bus.now (record { bius = c.args.bius.now.items; rmus = c.args.rmus.now.items }) c.args.scene.now c.args.time c.args.node c.args.event.now c.requires.0 c.requires.1 c.requires.2 Biu c.in-Tick-Biu.i c.in-Tick-Biu.word-0 c.in-Tick-Biu.wanted-0 c.requires.3 c.in-Tick-Biu.is-0 c.in-Tick-Biu.is-1 in
+    let is : r.site ≡ c.index_mut.result.now = sym (c.index_mut.ensures.value ∙ ap (λ n. get_or c.args.bius.now.items n c.index_mut.result.now) c.from.ensures ∙ got-is c.args.bius.now.items c.in-Tick-Biu.i r.site c.index_mut.result.now r.kept_there) in
+    sym r.number ∙ ap number_of is
+
+-- src/taking.rt:74:13
+pub tick_at-requires-clause-name : goal.tick_at-requires-clause-name
+tick_at-requires-clause-name g c =
+    let r = tick-ready c.args.bus.now (record { bius = c.args.bius.now.items; rmus = c.args.rmus.now.items }) c.args.scene.now c.args.time c.args.node c.args.event.now c.requires.0 c.requires.1 c.requires.2 Biu c.in-Tick-Biu.i c.in-Tick-Biu.word-0 c.in-Tick-Biu.wanted-0 c.requires.3 c.in-Tick-Biu.is-0 c.in-Tick-Biu.is-1 in
+    let is : r.site ≡ c.index_mut.result.now = sym (c.index_mut.ensures.value ∙ ap (λ n. get_or c.args.bius.now.items n c.index_mut.result.now) c.from.ensures ∙ got-is c.args.bius.now.items c.in-Tick-Biu.i r.site c.index_mut.result.now r.kept_there) in
+    c.in-Tick-Biu.is-1 ∙ ap node.Biu (sym r.number ∙ ap number_of is)
+
+-- src/taking.rt:74:13
+pub tick_at-requires-clause-may : goal.tick_at-requires-clause-may
+tick_at-requires-clause-may g c =
+    let r = tick-ready c.args.bus.now (record { bius = c.args.bius.now.items; rmus = c.args.rmus.now.items }) c.args.scene.now c.args.time c.args.node c.args.event.now c.requires.0 c.requires.1 c.requires.2 Biu c.in-Tick-Biu.i c.in-Tick-Biu.word-0 c.in-Tick-Biu.wanted-0 c.requires.3 c.in-Tick-Biu.is-0 c.in-Tick-Biu.is-1 in
+    let is : r.site ≡ c.index_mut.result.now = sym (c.index_mut.ensures.value ∙ ap (λ n. get_or c.args.bius.now.items n c.index_mut.result.now) c.from.ensures ∙ got-is c.args.bius.now.items c.in-Tick-Biu.i r.site c.index_mut.result.now r.kept_there) in
+    (r.tick, moved Biu c.in-Tick-Biu.i (without_waiting (Tick r.tick)) c.requires.0, record r.s { ahead = None },
+    subst (λ k. MayTick c.args.bus.now Biu (number_of k) r.tick k c.args.scene.now (moved Biu c.in-Tick-Biu.i (without_waiting (Tick r.tick)) c.requires.0) (record r.s { ahead = None })) is
+    (subst (λ i. MayTick c.args.bus.now Biu i r.tick r.site c.args.scene.now (moved Biu c.in-Tick-Biu.i (without_waiting (Tick r.tick)) c.requires.0) (record r.s { ahead = None })) (sym r.number) r.may))
+
+-- src/taking.rt:77:46
+pub index_mut-requires-in-Tick-Rmu : goal.index_mut-requires-in-Tick-Rmu
+index_mut-requires-in-Tick-Rmu g c =
+    let r = tick-ready c.args.bus.now (record { bius = c.args.bius.now.items; rmus = c.args.rmus.now.items }) c.args.scene.now c.args.time c.args.node c.args.event.now c.requires.0 c.requires.1 c.requires.2 Rmu c.in-Tick-Rmu.i c.in-Tick-Rmu.word-0 c.in-Tick-Rmu.wanted-0 c.requires.3 c.in-Tick-Rmu.is-0 c.in-Tick-Rmu.is-1 in
+    omega (arith, r.inside, c.from-in-Tick-Rmu.ensures)
+
+-- src/taking.rt:77:13
+pub tick_at-requires-in-Tick-Rmu-clause-number : goal.tick_at-requires-in-Tick-Rmu-clause-number
+tick_at-requires-in-Tick-Rmu-clause-number g c =
+    let r = tick-ready c.args.bus.now (record { bius = c.args.bius.now.items; rmus = c.args.rmus.now.items }) c.args.scene.now c.args.time c.args.node c.args.event.now c.requires.0 c.requires.1 c.requires.2 Rmu c.in-Tick-Rmu.i c.in-Tick-Rmu.word-0 c.in-Tick-Rmu.wanted-0 c.requires.3 c.in-Tick-Rmu.is-0 c.in-Tick-Rmu.is-1 in
+    let is : r.site ≡ c.index_mut-in-Tick-Rmu.result.now = sym (c.index_mut-in-Tick-Rmu.ensures.value ∙ ap (λ n. get_or c.args.rmus.now.items n c.index_mut-in-Tick-Rmu.result.now) c.from-in-Tick-Rmu.ensures ∙ got-is c.args.rmus.now.items c.in-Tick-Rmu.i r.site c.index_mut-in-Tick-Rmu.result.now r.kept_there) in
+    sym r.number ∙ ap number_of is
+
+-- src/taking.rt:77:13
+pub tick_at-requires-in-Tick-Rmu-clause-name : goal.tick_at-requires-in-Tick-Rmu-clause-name
+tick_at-requires-in-Tick-Rmu-clause-name g c =
+    let r = tick-ready c.args.bus.now (record { bius = c.args.bius.now.items; rmus = c.args.rmus.now.items }) c.args.scene.now c.args.time c.args.node c.args.event.now c.requires.0 c.requires.1 c.requires.2 Rmu c.in-Tick-Rmu.i c.in-Tick-Rmu.word-0 c.in-Tick-Rmu.wanted-0 c.requires.3 c.in-Tick-Rmu.is-0 c.in-Tick-Rmu.is-1 in
+    let is : r.site ≡ c.index_mut-in-Tick-Rmu.result.now = sym (c.index_mut-in-Tick-Rmu.ensures.value ∙ ap (λ n. get_or c.args.rmus.now.items n c.index_mut-in-Tick-Rmu.result.now) c.from-in-Tick-Rmu.ensures ∙ got-is c.args.rmus.now.items c.in-Tick-Rmu.i r.site c.index_mut-in-Tick-Rmu.result.now r.kept_there) in
+    c.in-Tick-Rmu.is-1 ∙ ap node.Rmu (sym r.number ∙ ap number_of is)
+
+-- src/taking.rt:77:13
+pub tick_at-requires-in-Tick-Rmu-clause-may : goal.tick_at-requires-in-Tick-Rmu-clause-may
+tick_at-requires-in-Tick-Rmu-clause-may g c =
+    let r = tick-ready c.args.bus.now (record { bius = c.args.bius.now.items; rmus = c.args.rmus.now.items }) c.args.scene.now c.args.time c.args.node c.args.event.now c.requires.0 c.requires.1 c.requires.2 Rmu c.in-Tick-Rmu.i c.in-Tick-Rmu.word-0 c.in-Tick-Rmu.wanted-0 c.requires.3 c.in-Tick-Rmu.is-0 c.in-Tick-Rmu.is-1 in
+    let is : r.site ≡ c.index_mut-in-Tick-Rmu.result.now = sym (c.index_mut-in-Tick-Rmu.ensures.value ∙ ap (λ n. get_or c.args.rmus.now.items n c.index_mut-in-Tick-Rmu.result.now) c.from-in-Tick-Rmu.ensures ∙ got-is c.args.rmus.now.items c.in-Tick-Rmu.i r.site c.index_mut-in-Tick-Rmu.result.now r.kept_there) in
+    (r.tick, moved Rmu c.in-Tick-Rmu.i (without_waiting (Tick r.tick)) c.requires.0, record r.s { ahead = None },
+    subst (λ k. MayTick c.args.bus.now Rmu (number_of k) r.tick k c.args.scene.now (moved Rmu c.in-Tick-Rmu.i (without_waiting (Tick r.tick)) c.requires.0) (record r.s { ahead = None })) is
+    (subst (λ i. MayTick c.args.bus.now Rmu i r.tick r.site c.args.scene.now (moved Rmu c.in-Tick-Rmu.i (without_waiting (Tick r.tick)) c.requires.0) (record r.s { ahead = None })) (sym r.number) r.may))
+
+-- src/taking.rt:80:13
+pub index_mut-requires-in-Arrive-Biu : goal.index_mut-requires-in-Arrive-Biu
+index_mut-requires-in-Arrive-Biu g c = ?
+
+-- src/taking.rt:80:41
+pub clock-requires : goal.clock-requires
+clock-requires g c = ?
+
+-- src/taking.rt:80:13
+pub arrive-requires-clause-in_time : goal.arrive-requires-clause-in_time
+arrive-requires-clause-in_time g c = ?
+
+-- src/taking.rt:80:13
+pub arrive-requires-clause-source : goal.arrive-requires-clause-source
+arrive-requires-clause-source g c = ?
+
+-- src/taking.rt:83:13
+pub index_mut-requires-in-Arrive-Rmu : goal.index_mut-requires-in-Arrive-Rmu
+index_mut-requires-in-Arrive-Rmu g c = ?
+
+-- src/taking.rt:83:41
+pub clock-requires-in-Arrive-Rmu : goal.clock-requires-in-Arrive-Rmu
+clock-requires-in-Arrive-Rmu g c = ?
+
+-- src/taking.rt:83:13
+pub arrive-requires-in-Arrive-Rmu-clause-in_time :
+    goal.arrive-requires-in-Arrive-Rmu-clause-in_time
+arrive-requires-in-Arrive-Rmu-clause-in_time g c = ?
+
+-- src/taking.rt:83:13
+pub arrive-requires-in-Arrive-Rmu-clause-source : goal.arrive-requires-in-Arrive-Rmu-clause-source
+arrive-requires-in-Arrive-Rmu-clause-source g c = ?
+
+-- src/taking.rt:56:1
+pub returns-in-Tick-Biu : goal.returns-in-Tick-Biu
+returns-in-Tick-Biu g c = ?
+
+-- src/taking.rt:56:1
+pub returns-in-Tick-Rmu : goal.returns-in-Tick-Rmu
+returns-in-Tick-Rmu g c = ?
+
+-- src/taking.rt:56:1
+pub returns-in-Arrive-Biu : goal.returns-in-Arrive-Biu
+returns-in-Arrive-Biu g c = ?
+
+-- src/taking.rt:56:1
+pub returns-in-Arrive-Rmu : goal.returns-in-Arrive-Rmu
+returns-in-Arrive-Rmu g c = ?
