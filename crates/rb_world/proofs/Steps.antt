@@ -1,6 +1,7 @@
 -- How many steps lead to the next record.
 use Rattle.std.proofs.Common.{◌≡◌, ℕ, zero, suc, ◌+◌, ◌*◌, ◌^◌, ◌<◌, ◌≤◌, ◌-◌, ◌≢◌, Bool, true, false, Option, Some, None, List, [], ◌∷◌, ◌++◌, fold, is_some, length, slice_get, refl, sym, ap, ◌∙◌, subst, arith}
 use Rattle.std.proofs.lemmas.Nat.{mod_below, mul-le}
+use Rattle.rb_order.proofs.EventsHold.{due-holds, ends-hold}
 use Rattle.rb_order.proofs.RoundNodes.{item-at}
 use Rattle.rb_rules.specs.Book.{Record}
 use Rattle.rb_rules.specs.Goodness.{Scenario}
@@ -21,10 +22,10 @@ use Rattle.rb_world.proofs.LastTurn.{reached-ends}
 -- The laws of runs.
 
 something-due : (sc : Scenario) → IsLawful sc → SomethingIsDue sc
-something-due sc lawful = ?
+something-due = due-holds
 
 run-ends : (sc : Scenario) → IsLawful sc → EveryRunEnds sc
-run-ends sc lawful = ?
+run-ends = ends-hold
 
 -- Where no record comes, an event was due.
 
