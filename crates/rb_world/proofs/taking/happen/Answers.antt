@@ -8,7 +8,9 @@ use Rattle.rb_site.specs.Sites.{number_of}
 use Rattle.rb_rules.specs.WorldStep.{Site as WorldSite}
 use Rattle.rb_world.specs.Steps.{Happens, MayTick, Ticks, act_at, moved}
 use Rattle.rb_world.proofs.Happening.{biu-happens, rmu-happens, tick-acts}
-use Rattle.rb_world.proofs.Ready.{tick-ready}
+use Rattle.rb_world.proofs.Ready.{node-there, tick-ready}
+use Rattle.rb_world.proofs.Lanes.{node-named}
+use Rattle.rb_rules.specs.Lawful.{IsNodeOf}
 use Rattle.rb_world.proofs.Told.{got-is}
 use Rattle.rb_world.proofs.taking.happen.Goals as goal
 
@@ -72,11 +74,15 @@ tick_at-requires-in-Tick-Rmu-clause-may g c =
 
 -- src/taking.rt:80:13
 pub index_mut-requires-in-Arrive-Biu : goal.index_mut-requires-in-Arrive-Biu
-index_mut-requires-in-Arrive-Biu g c = ?
+index_mut-requires-in-Arrive-Biu g c =
+    let there = node-there c.args.bus.now (record { bius = c.args.bius.now.items; rmus = c.args.rmus.now.items }) c.args.scene.now c.args.time c.args.node c.args.event.now c.requires.0 c.requires.1 c.requires.2 Biu c.in-Arrive-Biu.i c.requires.3 c.in-Arrive-Biu.is-1 in
+    omega (arith, there.1, c.from-in-Arrive-Biu.ensures)
 
 -- src/taking.rt:80:41
 pub clock-requires : goal.clock-requires
-clock-requires g c = ?
+clock-requires g c =
+    let there = node-there c.args.bus.now (record { bius = c.args.bius.now.items; rmus = c.args.rmus.now.items }) c.args.scene.now c.args.time c.args.node c.args.event.now c.requires.0 c.requires.1 c.requires.2 Biu c.in-Arrive-Biu.i c.requires.3 c.in-Arrive-Biu.is-1 in
+    subst (IsNodeOf c.args.bus.now.sizes) (sym c.in-Arrive-Biu.is-1) (node-named c.args.bus.now Biu c.in-Arrive-Biu.i there.0)
 
 -- src/taking.rt:80:13
 pub arrive-requires-clause-in_time : goal.arrive-requires-clause-in_time
@@ -88,11 +94,15 @@ arrive-requires-clause-source g c = ?
 
 -- src/taking.rt:83:13
 pub index_mut-requires-in-Arrive-Rmu : goal.index_mut-requires-in-Arrive-Rmu
-index_mut-requires-in-Arrive-Rmu g c = ?
+index_mut-requires-in-Arrive-Rmu g c =
+    let there = node-there c.args.bus.now (record { bius = c.args.bius.now.items; rmus = c.args.rmus.now.items }) c.args.scene.now c.args.time c.args.node c.args.event.now c.requires.0 c.requires.1 c.requires.2 Rmu c.in-Arrive-Rmu.i c.requires.3 c.in-Arrive-Rmu.is-1 in
+    omega (arith, there.1, c.from-in-Arrive-Rmu.ensures)
 
 -- src/taking.rt:83:41
 pub clock-requires-in-Arrive-Rmu : goal.clock-requires-in-Arrive-Rmu
-clock-requires-in-Arrive-Rmu g c = ?
+clock-requires-in-Arrive-Rmu g c =
+    let there = node-there c.args.bus.now (record { bius = c.args.bius.now.items; rmus = c.args.rmus.now.items }) c.args.scene.now c.args.time c.args.node c.args.event.now c.requires.0 c.requires.1 c.requires.2 Rmu c.in-Arrive-Rmu.i c.requires.3 c.in-Arrive-Rmu.is-1 in
+    subst (IsNodeOf c.args.bus.now.sizes) (sym c.in-Arrive-Rmu.is-1) (node-named c.args.bus.now Rmu c.in-Arrive-Rmu.i there.0)
 
 -- src/taking.rt:83:13
 pub arrive-requires-in-Arrive-Rmu-clause-in_time :
