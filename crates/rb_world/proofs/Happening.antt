@@ -88,9 +88,9 @@ sent-nodes sc me j frame k None side kept sites are = are
 sent-nodes sc me j frame k (Some m) side kept sites are = record {
   many = are.many;
   each = λ n a z ea ez.
-    let f : Side → ℕ → Site → Site = sent_to sc me j frame (record { tick = k; message = m }) in
-    let found = from-map (f side n) (slice_get (of_kind side sites) n) z (sym (get-each f sites side n) ∙ ez) in
-    subst (IsNode sc side n a) found.2 (sent-node sc me j frame (record { tick = k; message = m }) side n a found.0 (are.each n a found.0 ea found.1));
+      let f : Side → ℕ → Site → Site = sent_to sc me j frame (record { tick = k; message = m }) in
+      let found = from-map (f side n) (slice_get (of_kind side sites) n) z (sym (get-each f sites side n) ∙ ez) in
+      subst (IsNode sc side n a) found.2 (sent-node sc me j frame (record { tick = k; message = m }) side n a found.0 (are.each n a found.0 ea found.1));
 }
 
 -- one node of its kind has changed
@@ -125,20 +125,21 @@ pub nodes-other : (sc : Scenario) (me : Side) (i : ℕ) (change : Site → Site)
 nodes-other sc me i change kept sites are = record {
   many = are.many;
   each = λ n a z ea ez.
-    let was = was-there me i change sites (other me) n z ez in
-    let z_is : was.site ≡ z = sym (ap (λ b. elim b as (λ _. Site) [ true ↦ change was.site | false ↦ was.site ]) (not-other me i n)) ∙ was.is in
-    subst (IsNode sc (other me) n a) z_is (are.each n a was.site ea was.there);
+      let was = was-there me i change sites (other me) n z ez in
+      let z_is : was.site ≡ z = sym (ap (λ b. elim b as (λ _. Site) [ true ↦ change was.site | false ↦ was.site ]) (not-other me i n)) ∙ was.is in
+      subst (IsNode sc (other me) n a) z_is (are.each n a was.site ea was.there);
 }
 
 pub acted-nodes : (sc : Scenario) (w : World) (me : Side) (i k : ℕ) (x : Act) (kept others : List KeptSite) (new : KeptSite) (s : Site) → slice_get (of_kind me w.sites) i ≡ Some s
     → IsNode sc me i new (after_act sc w.ports me i x s) → AreNodes sc me kept (of_kind me w.sites) → AreNodes sc (other me) others (of_kind (other me) w.sites)
     → AreNodes sc me (slice_set kept i new) (of_kind me (with_act sc w me i k x).sites) × AreNodes sc (other me) others (of_kind (other me) (with_act sc w me i k x).sites)
 unfolding with_act
-acted-nodes sc w me i k x kept others new s there is own far =
-    (sent-nodes sc me i x.core.state.frame k x.message me (slice_set kept i new) (at_node me i (after_act sc w.ports me i x) w.sites)
-    (nodes-own sc me i (after_act sc w.ports me i x) kept w.sites new s there is own),
-    sent-nodes sc me i x.core.state.frame k x.message (other me) others (at_node me i (after_act sc w.ports me i x) w.sites)
-    (nodes-other sc me i (after_act sc w.ports me i x) others w.sites far))
+acted-nodes sc w me i k x kept others new s there is own far = (
+  sent-nodes sc me i x.core.state.frame k x.message me (slice_set kept i new) (at_node me i (after_act sc w.ports me i x) w.sites)
+      (nodes-own sc me i (after_act sc w.ports me i x) kept w.sites new s there is own),
+  sent-nodes sc me i x.core.state.frame k x.message (other me) others (at_node me i (after_act sc w.ports me i x) w.sites)
+      (nodes-other sc me i (after_act sc w.ports me i x) others w.sites far),
+)
 
 -- The event.
 

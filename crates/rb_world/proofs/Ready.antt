@@ -147,13 +147,13 @@ tick-ready sc kept scene time name event w place d me i word wanted may shown na
         later = after.later;
         below = after.below;
         message = λ j h.
-          let far : length (of_kind (other me) w1.sites) ≡ count_of (other me) sc.sizes = around.counts (other me) in
-          let z = has-item (of_kind (other me) w1.sites) j (omega (arith, far, h)) in
-          let was = was-there me i (without_waiting (Tick k.tick)) w.sites (other me) j z.item z.is in
-          let same : was.site ≡ z.item = sym (ap (λ b. elim b as (λ _. Site) [ true ↦ without_waiting (Tick k.tick) was.site | false ↦ was.site ]) (not-other me i j)) ∙ was.is in
-          let few : length (times_of z.item) ≤ most_pending sc (other me) = subst (λ (s : Site). length (times_of s) ≤ most_pending sc (other me)) same (room.now (other me) j was.site was.there) in
-          let spare = spare-at sc scene.agenda w1.sites (other me) j z.item around.rooms (has-lane sc scene w1 (name_of (other me) j) around (node-named sc (other me) j h)) around.lanes z.is few in
-          let one : 1 ≤ spare_of (lane_of scene.agenda (name_of (other me) j)) = omega (arith, spare) in one;
+            let far : length (of_kind (other me) w1.sites) ≡ count_of (other me) sc.sizes = around.counts (other me) in
+            let z = has-item (of_kind (other me) w1.sites) j (omega (arith, far, h)) in
+            let was = was-there me i (without_waiting (Tick k.tick)) w.sites (other me) j z.item z.is in
+            let same : was.site ≡ z.item = sym (ap (λ b. elim b as (λ _. Site) [ true ↦ without_waiting (Tick k.tick) was.site | false ↦ was.site ]) (not-other me i j)) ∙ was.is in
+            let few : length (times_of z.item) ≤ most_pending sc (other me) = subst (λ (s : Site). length (times_of s) ≤ most_pending sc (other me)) same (room.now (other me) j was.site was.there) in
+            let spare = spare-at sc scene.agenda w1.sites (other me) j z.item around.rooms (has-lane sc scene w1 (name_of (other me) j) around (node-named sc (other me) j h)) around.lanes z.is few in
+            let one : 1 ≤ spare_of (lane_of scene.agenda (name_of (other me) j)) = omega (arith, spare) in one;
         spans = spans-reached sc w may.lawful may.reached me i k.tick s (pass_and_tick sc w.ports me i k.tick s.core)
             (record { there = due.there; place = place; is_due = may.found ∙ ap (λ (x : Due). Some x) k.is; does = refl });
       };

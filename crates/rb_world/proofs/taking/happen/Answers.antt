@@ -38,10 +38,13 @@ tick_at-requires-clause-name g c =
 pub tick_at-requires-clause-may : goal.tick_at-requires-clause-may
 tick_at-requires-clause-may g c =
     let r = tick-ready c.args.bus.now (record { bius = c.args.bius.now.items; rmus = c.args.rmus.now.items }) c.args.scene.now c.args.time c.args.node c.args.event.now c.requires.0 c.requires.1 c.requires.2 Biu c.in-Tick-Biu.i c.in-Tick-Biu.word-0 c.in-Tick-Biu.wanted-0 c.requires.3 c.in-Tick-Biu.is-0 c.in-Tick-Biu.is-1 in
-    let is : r.site ≡ c.index_mut.result.now = sym (c.index_mut.ensures.value ∙ ap (λ n. get_or c.args.bius.now.items n c.index_mut.result.now) c.from.ensures ∙ got-is c.args.bius.now.items c.in-Tick-Biu.i r.site c.index_mut.result.now r.kept_there) in
-    (r.tick, moved Biu c.in-Tick-Biu.i (without_waiting (Tick r.tick)) c.requires.0, record r.s { ahead = None },
-    subst (λ k. MayTick c.args.bus.now Biu (number_of k) r.tick k c.args.scene.now (moved Biu c.in-Tick-Biu.i (without_waiting (Tick r.tick)) c.requires.0) (record r.s { ahead = None })) is
-    (subst (λ i. MayTick c.args.bus.now Biu i r.tick r.site c.args.scene.now (moved Biu c.in-Tick-Biu.i (without_waiting (Tick r.tick)) c.requires.0) (record r.s { ahead = None })) (sym r.number) r.may))
+    let is : r.site ≡ c.index_mut.result.now = sym (c.index_mut.ensures.value ∙ ap (λ n. get_or c.args.bius.now.items n c.index_mut.result.now) c.from.ensures ∙ got-is c.args.bius.now.items c.in-Tick-Biu.i r.site c.index_mut.result.now r.kept_there) in (
+      r.tick,
+      moved Biu c.in-Tick-Biu.i (without_waiting (Tick r.tick)) c.requires.0,
+      record r.s { ahead = None },
+      subst (λ k. MayTick c.args.bus.now Biu (number_of k) r.tick k c.args.scene.now (moved Biu c.in-Tick-Biu.i (without_waiting (Tick r.tick)) c.requires.0) (record r.s { ahead = None })) is
+          (subst (λ i. MayTick c.args.bus.now Biu i r.tick r.site c.args.scene.now (moved Biu c.in-Tick-Biu.i (without_waiting (Tick r.tick)) c.requires.0) (record r.s { ahead = None })) (sym r.number) r.may),
+    )
 
 -- src/taking.rt:77:46
 pub index_mut-requires-in-Tick-Rmu : goal.index_mut-requires-in-Tick-Rmu
@@ -67,10 +70,13 @@ tick_at-requires-in-Tick-Rmu-clause-name g c =
 pub tick_at-requires-in-Tick-Rmu-clause-may : goal.tick_at-requires-in-Tick-Rmu-clause-may
 tick_at-requires-in-Tick-Rmu-clause-may g c =
     let r = tick-ready c.args.bus.now (record { bius = c.args.bius.now.items; rmus = c.args.rmus.now.items }) c.args.scene.now c.args.time c.args.node c.args.event.now c.requires.0 c.requires.1 c.requires.2 Rmu c.in-Tick-Rmu.i c.in-Tick-Rmu.word-0 c.in-Tick-Rmu.wanted-0 c.requires.3 c.in-Tick-Rmu.is-0 c.in-Tick-Rmu.is-1 in
-    let is : r.site ≡ c.index_mut-in-Tick-Rmu.result.now = sym (c.index_mut-in-Tick-Rmu.ensures.value ∙ ap (λ n. get_or c.args.rmus.now.items n c.index_mut-in-Tick-Rmu.result.now) c.from-in-Tick-Rmu.ensures ∙ got-is c.args.rmus.now.items c.in-Tick-Rmu.i r.site c.index_mut-in-Tick-Rmu.result.now r.kept_there) in
-    (r.tick, moved Rmu c.in-Tick-Rmu.i (without_waiting (Tick r.tick)) c.requires.0, record r.s { ahead = None },
-    subst (λ k. MayTick c.args.bus.now Rmu (number_of k) r.tick k c.args.scene.now (moved Rmu c.in-Tick-Rmu.i (without_waiting (Tick r.tick)) c.requires.0) (record r.s { ahead = None })) is
-    (subst (λ i. MayTick c.args.bus.now Rmu i r.tick r.site c.args.scene.now (moved Rmu c.in-Tick-Rmu.i (without_waiting (Tick r.tick)) c.requires.0) (record r.s { ahead = None })) (sym r.number) r.may))
+    let is : r.site ≡ c.index_mut-in-Tick-Rmu.result.now = sym (c.index_mut-in-Tick-Rmu.ensures.value ∙ ap (λ n. get_or c.args.rmus.now.items n c.index_mut-in-Tick-Rmu.result.now) c.from-in-Tick-Rmu.ensures ∙ got-is c.args.rmus.now.items c.in-Tick-Rmu.i r.site c.index_mut-in-Tick-Rmu.result.now r.kept_there) in (
+      r.tick,
+      moved Rmu c.in-Tick-Rmu.i (without_waiting (Tick r.tick)) c.requires.0,
+      record r.s { ahead = None },
+      subst (λ k. MayTick c.args.bus.now Rmu (number_of k) r.tick k c.args.scene.now (moved Rmu c.in-Tick-Rmu.i (without_waiting (Tick r.tick)) c.requires.0) (record r.s { ahead = None })) is
+          (subst (λ i. MayTick c.args.bus.now Rmu i r.tick r.site c.args.scene.now (moved Rmu c.in-Tick-Rmu.i (without_waiting (Tick r.tick)) c.requires.0) (record r.s { ahead = None })) (sym r.number) r.may),
+    )
 
 -- src/taking.rt:80:13
 pub index_mut-requires-in-Arrive-Biu : goal.index_mut-requires-in-Arrive-Biu
@@ -125,9 +131,9 @@ returns-in-Tick-Biu g c =
     let bare : WorldSite = record r.s { ahead = None } in
     let number = sym (ap number_of is) ∙ r.number in
     let ticks = c.tick_at.ensures r.tick w1 bare (subst (λ k. MayTick sc Biu (number_of k) r.tick k c.args.scene.now w1 bare) is
-        (subst (λ i. MayTick sc Biu i r.tick r.site c.args.scene.now w1 bare) (sym r.number) r.may)) in
+    (subst (λ i. MayTick sc Biu i r.tick r.site c.args.scene.now w1 bare) (sym r.number) r.may)) in
     let so : Ticks sc Biu i r.tick c.tick_at.new.site c.tick_at.new.scene w1 bare (act_at sc w1 Biu i r.tick bare) =
-        subst (λ n. Ticks sc Biu n r.tick c.tick_at.new.site c.tick_at.new.scene w1 bare (act_at sc w1 Biu n r.tick bare)) number ticks in
+    subst (λ n. Ticks sc Biu n r.tick c.tick_at.new.site c.tick_at.new.scene w1 bare (act_at sc w1 Biu n r.tick bare)) number ticks in
     subst (λ n. Happens sc (record { bius = slice_set c.args.bius.now.items n c.tick_at.new.site; rmus = c.args.rmus.now.items }) c.tick_at.new.scene w d) (sym c.from.ensures)
     (biu-happens sc w d (slice_set c.args.bius.now.items c.in-Tick-Biu.i c.tick_at.new.site) c.args.rmus.now.items c.tick_at.new.scene
     (tick-acts sc w d Biu i r.tick r.s c.args.bius.now.items c.args.rmus.now.items c.tick_at.new.site c.tick_at.new.scene r.is r.there (may.nodes Biu) (may.nodes Rmu) so))
@@ -144,9 +150,9 @@ returns-in-Tick-Rmu g c =
     let bare : WorldSite = record r.s { ahead = None } in
     let number = sym (ap number_of is) ∙ r.number in
     let ticks = c.tick_at-in-Tick-Rmu.ensures r.tick w1 bare (subst (λ k. MayTick sc Rmu (number_of k) r.tick k c.args.scene.now w1 bare) is
-        (subst (λ i. MayTick sc Rmu i r.tick r.site c.args.scene.now w1 bare) (sym r.number) r.may)) in
+    (subst (λ i. MayTick sc Rmu i r.tick r.site c.args.scene.now w1 bare) (sym r.number) r.may)) in
     let so : Ticks sc Rmu i r.tick c.tick_at-in-Tick-Rmu.new.site c.tick_at-in-Tick-Rmu.new.scene w1 bare (act_at sc w1 Rmu i r.tick bare) =
-        subst (λ n. Ticks sc Rmu n r.tick c.tick_at-in-Tick-Rmu.new.site c.tick_at-in-Tick-Rmu.new.scene w1 bare (act_at sc w1 Rmu n r.tick bare)) number ticks in
+    subst (λ n. Ticks sc Rmu n r.tick c.tick_at-in-Tick-Rmu.new.site c.tick_at-in-Tick-Rmu.new.scene w1 bare (act_at sc w1 Rmu n r.tick bare)) number ticks in
     subst (λ n. Happens sc (record { bius = c.args.bius.now.items; rmus = slice_set c.args.rmus.now.items n c.tick_at-in-Tick-Rmu.new.site }) c.tick_at-in-Tick-Rmu.new.scene w d) (sym c.from-in-Tick-Rmu.ensures)
     (rmu-happens sc w d c.args.bius.now.items (slice_set c.args.rmus.now.items c.in-Tick-Rmu.i c.tick_at-in-Tick-Rmu.new.site) c.tick_at-in-Tick-Rmu.new.scene
     (tick-acts sc w d Rmu i r.tick r.s c.args.rmus.now.items c.args.bius.now.items c.tick_at-in-Tick-Rmu.new.site c.tick_at-in-Tick-Rmu.new.scene r.is r.there (may.nodes Rmu) (may.nodes Biu) so))
