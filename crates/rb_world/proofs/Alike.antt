@@ -33,10 +33,11 @@ holds-list sizes me k F G [] [] same h = h
 holds-list sizes me k F G [] (x ∷ xs) same h = absurd h
 holds-list sizes me k F G (l ∷ ls) [] same h = absurd h
 holds-list sizes me k F G (l ∷ ls) (x ∷ xs) same h =
-    let start : k + 0 ≡ k = omega arith in
-    (subst (λ m. HoldsSite sizes me l (F m x) → HoldsSite sizes me l (G m x)) start (same 0 x refl l) h.0,
-    holds-list sizes me (k + 1) F G ls xs
-    (λ n s e. let next : k + suc n ≡ k + 1 + n = omega arith in subst (λ m. (l : Held) → HoldsSite sizes me l (F m s) → HoldsSite sizes me l (G m s)) next (same (suc n) s e)) h.1)
+    let start : k + 0 ≡ k = omega arith in (
+      subst (λ m. HoldsSite sizes me l (F m x) → HoldsSite sizes me l (G m x)) start (same 0 x refl l) h.0,
+      holds-list sizes me (k + 1) F G ls xs
+          (λ n s e. let next : k + suc n ≡ k + 1 + n = omega arith in subst (λ m. (l : Held) → HoldsSite sizes me l (F m s) → HoldsSite sizes me l (G m s)) next (same (suc n) s e)) h.1,
+    )
 
 pub alike : (sc : Scenario) (scene : Scene) (w : World) (me : Side) (i : ℕ) (f g : Site → Site) → ((s : Site) → slice_get (of_kind me w.sites) i ≡ Some s → SameShown (g s) (f s))
     → Surrounds sc scene (moved me i f w) → Surrounds sc scene (moved me i g w)

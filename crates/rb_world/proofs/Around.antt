@@ -131,7 +131,7 @@ sent-more sc scene lanes w me j frame k m is holds rooms =
     one : (side : Side) (r : ℕ) → AreRunning side r w.sites → AreRunning side r (map_each (sent_to sc me j frame (record { tick = k; message = m })) w.sites)
     one side r runs n z e =
         let found = from-map (sent_to sc me j frame (record { tick = k; message = m }) side n) (slice_get (of_kind side w.sites) n) z
-            (sym (get-each (sent_to sc me j frame (record { tick = k; message = m })) w.sites side n) ∙ e) in
+        (sym (get-each (sent_to sc me j frame (record { tick = k; message = m })) w.sites side n) ∙ e) in
         runs n found.0 found.1 ∙ sym (sent-keeps (λ s. s.runs) (λ s cs. refl) sc me j frame (record { tick = k; message = m }) side n found.0) ∙ ap (λ (s : Site). s.runs) found.2
 
     runs : (side : Side) → AreRunning side (running_of side (record scene { agenda = lanes })) (map_each (sent_to sc me j frame (record { tick = k; message = m })) w.sites)

@@ -37,14 +37,16 @@ pub may-happen : (k : Kept) (w : World) (i : ℕ) (name : NodeName) (event : Eve
 may-happen k w i name event lanes is below takes due =
     let rooms : HaveRooms k.bus lanes =
     subst (HaveRooms k.bus) (sym takes.left)
-    (rooms-with k.bus k.scene.agenda name (without_ready takes.place (lane_of k.scene.agenda name)) is.scene.rooms takes.stands.lane (room-left takes.place (lane_of k.scene.agenda name))) in
-    (due.due, record {
-      lawful = is.lawful;
-      reached = is.reached;
-      found = ap (λ (l : List Due). slice_get l i) (due-is-now k.bus w (due-busy k w i is below)) ∙ due.found;
-      node = due.named;
-      shows = due.shows;
-      time_is = due.time_is;
-      nodes = is.nodes;
-      surrounds = pends-more k.bus k.scene lanes w due.due.side due.due.node (without_waiting due.due.pending) (waits-pends due.due.pending) is.scene due.left rooms;
-    })
+    (rooms-with k.bus k.scene.agenda name (without_ready takes.place (lane_of k.scene.agenda name)) is.scene.rooms takes.stands.lane (room-left takes.place (lane_of k.scene.agenda name))) in (
+      due.due,
+      record {
+        lawful = is.lawful;
+        reached = is.reached;
+        found = ap (λ (l : List Due). slice_get l i) (due-is-now k.bus w (due-busy k w i is below)) ∙ due.found;
+        node = due.named;
+        shows = due.shows;
+        time_is = due.time_is;
+        nodes = is.nodes;
+        surrounds = pends-more k.bus k.scene lanes w due.due.side due.due.node (without_waiting due.due.pending) (waits-pends due.due.pending) is.scene due.left rooms;
+      },
+    )

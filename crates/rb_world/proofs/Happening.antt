@@ -14,14 +14,15 @@ use Rattle.rb_rules.specs.Goodness.{Scenario, is_good}
 use Rattle.rb_rules.specs.Hearing.{Sending, Span, coming_of, row_of}
 use Rattle.rb_rules.specs.Ports.{PortState}
 use Rattle.rb_rules.specs.Slots.{count_of, same_side}
-use Rattle.rb_rules.specs.WorldStep.{Site, World, after_act, at_node, await, coming_from, enter, proceed, says_in, sent_to, span_from, stop, with_act, with_close, with_epoch, with_message}
+use Rattle.rb_rules.specs.WorldStep.{Due, Site, World, after_act, at_node, await, coming_from, enter, happens, pass_and_tick, proceed, says_in, sent_to, span_from, stop, with_act, with_close, with_epoch, with_message}
 use Rattle.rb_rules.specs.WorldStep.Pending.{Tick}
 use Rattle.rb_rules.proofs.WindowNumbers.{get-each}
 use Rattle.rb_agenda.specs.Holding.{without_waiting}
 use Rattle.rb_order.proofs.WorldStands.{is_node, not-other}
 use Rattle.rb_site.specs.Sites.{Kept as KeptSite, Stands as StandsFor, acted}
-use Rattle.rb_world.specs.Steps.{moved}
-use Rattle.rb_world.specs.Worlds.{AreNodes, Awaits, IsNode}
+use Rattle.rb_world.specs.declared.scene.Scene.{Scene}
+use Rattle.rb_world.specs.Steps.{Happens, Ticks, moved}
+use Rattle.rb_world.specs.Worlds.{AreNodes, Awaits, IsNode, Surrounds}
 use Rattle.rb_world.proofs.Sites.{at-same, at-twice, at_one, from-map, was-there}
 use Rattle.rb_world.proofs.Told.{set-here, set-there}
 
@@ -53,7 +54,7 @@ acted-same sc ports me i x s = by x.epoch x.closed
     by (Some e) None = refl
     by (Some e) (Some c) = refl
 
-after-act-same : (sc : Scenario) (ports : List PortState) (me : Side) (i : ℕ) (x : Act) (s : Site) → after_act sc ports me i x (record s { ahead = None }) ≡ after_act sc ports me i x s
+pub after-act-same : (sc : Scenario) (ports : List PortState) (me : Side) (i : ℕ) (x : Act) (s : Site) → after_act sc ports me i x (record s { ahead = None }) ≡ after_act sc ports me i x s
 unfolding after_act
 after-act-same sc ports me i x s = ap (proceed sc me i) (acted-same sc ports me i x s) ∙ proceed-same sc me i (acted sc ports me i x s)
 
@@ -87,9 +88,9 @@ sent-nodes sc me j frame k None side kept sites are = are
 sent-nodes sc me j frame k (Some m) side kept sites are = record {
   many = are.many;
   each = λ n a z ea ez.
-    let f : Side → ℕ → Site → Site = sent_to sc me j frame (record { tick = k; message = m }) in
-    let found = from-map (f side n) (slice_get (of_kind side sites) n) z (sym (get-each f sites side n) ∙ ez) in
-    subst (IsNode sc side n a) found.2 (sent-node sc me j frame (record { tick = k; message = m }) side n a found.0 (are.each n a found.0 ea found.1));
+      let f : Side → ℕ → Site → Site = sent_to sc me j frame (record { tick = k; message = m }) in
+      let found = from-map (f side n) (slice_get (of_kind side sites) n) z (sym (get-each f sites side n) ∙ ez) in
+      subst (IsNode sc side n a) found.2 (sent-node sc me j frame (record { tick = k; message = m }) side n a found.0 (are.each n a found.0 ea found.1));
 }
 
 -- one node of its kind has changed
@@ -124,17 +125,60 @@ pub nodes-other : (sc : Scenario) (me : Side) (i : ℕ) (change : Site → Site)
 nodes-other sc me i change kept sites are = record {
   many = are.many;
   each = λ n a z ea ez.
-    let was = was-there me i change sites (other me) n z ez in
-    let z_is : was.site ≡ z = sym (ap (λ b. elim b as (λ _. Site) [ true ↦ change was.site | false ↦ was.site ]) (not-other me i n)) ∙ was.is in
-    subst (IsNode sc (other me) n a) z_is (are.each n a was.site ea was.there);
+      let was = was-there me i change sites (other me) n z ez in
+      let z_is : was.site ≡ z = sym (ap (λ b. elim b as (λ _. Site) [ true ↦ change was.site | false ↦ was.site ]) (not-other me i n)) ∙ was.is in
+      subst (IsNode sc (other me) n a) z_is (are.each n a was.site ea was.there);
 }
 
 pub acted-nodes : (sc : Scenario) (w : World) (me : Side) (i k : ℕ) (x : Act) (kept others : List KeptSite) (new : KeptSite) (s : Site) → slice_get (of_kind me w.sites) i ≡ Some s
     → IsNode sc me i new (after_act sc w.ports me i x s) → AreNodes sc me kept (of_kind me w.sites) → AreNodes sc (other me) others (of_kind (other me) w.sites)
     → AreNodes sc me (slice_set kept i new) (of_kind me (with_act sc w me i k x).sites) × AreNodes sc (other me) others (of_kind (other me) (with_act sc w me i k x).sites)
 unfolding with_act
-acted-nodes sc w me i k x kept others new s there is own far =
-    (sent-nodes sc me i x.core.state.frame k x.message me (slice_set kept i new) (at_node me i (after_act sc w.ports me i x) w.sites)
-    (nodes-own sc me i (after_act sc w.ports me i x) kept w.sites new s there is own),
-    sent-nodes sc me i x.core.state.frame k x.message (other me) others (at_node me i (after_act sc w.ports me i x) w.sites)
-    (nodes-other sc me i (after_act sc w.ports me i x) others w.sites far))
+acted-nodes sc w me i k x kept others new s there is own far = (
+  sent-nodes sc me i x.core.state.frame k x.message me (slice_set kept i new) (at_node me i (after_act sc w.ports me i x) w.sites)
+      (nodes-own sc me i (after_act sc w.ports me i x) kept w.sites new s there is own),
+  sent-nodes sc me i x.core.state.frame k x.message (other me) others (at_node me i (after_act sc w.ports me i x) w.sites)
+      (nodes-other sc me i (after_act sc w.ports me i x) others w.sites far),
+)
+
+-- The event.
+
+pub happens-tick : (sc : Scenario) (w : World) (d : Due) (me : Side) (i k : ℕ) (s : Site) → d ≡ record { side = me; node = i; pending = Tick k } → slice_get (of_kind me w.sites) i ≡ Some s
+    → happens sc w d ≡ with_act sc w me i k (pass_and_tick sc w.ports me i k s.core)
+unfolding happens
+happens-tick sc w d me i k s is there =
+    ap (happens sc w) is ∙ ap (λ o. elim o as (λ _. World) [ None ↦ w | Some s ↦ with_act sc w me i k (pass_and_tick sc w.ports me i k s.core) ]) there
+
+-- what is kept then stands for it
+pub record Acts (sc : Scenario) (me : Side) (kept others : List KeptSite) (scene : Scene) (v : World) : Type 0 where
+  pub own : AreNodes sc me kept (of_kind me v.sites)
+  pub far : AreNodes sc (other me) others (of_kind (other me) v.sites)
+  pub surrounds : Surrounds sc scene v
+
+pub tick-acts : (sc : Scenario) (w : World) (d : Due) (me : Side) (i k : ℕ) (s : Site) (kept others : List KeptSite) (new : KeptSite) (scene : Scene)
+    → d ≡ record { side = me; node = i; pending = Tick k } → slice_get (of_kind me w.sites) i ≡ Some s
+    → AreNodes sc me kept (of_kind me w.sites) → AreNodes sc (other me) others (of_kind (other me) w.sites)
+    → Ticks sc me i k new scene (moved me i (without_waiting (Tick k)) w) (record s { ahead = None }) (pass_and_tick sc w.ports me i k s.core)
+    → Acts sc me (slice_set kept i new) others scene (happens sc w d)
+tick-acts sc w d me i k s kept others new scene is there own far ticks =
+    let x : Act = pass_and_tick sc w.ports me i k s.core in
+    let node : IsNode sc me i new (after_act sc w.ports me i x s) = subst (IsNode sc me i new) (after-act-same sc w.ports me i x s) ticks.node in
+    let both = acted-nodes sc w me i k x kept others new s there node own far in
+    subst (Acts sc me (slice_set kept i new) others scene) (sym (happens-tick sc w d me i k s is there))
+    (record { own = both.0; far = both.1; surrounds = subst (Surrounds sc scene) (act-same sc w me i k x) ticks.surrounds })
+
+pub biu-happens : (sc : Scenario) (w : World) (d : Due) (bius rmus : List KeptSite) (scene : Scene) → Acts sc Biu bius rmus scene (happens sc w d)
+    → Happens sc (record { bius = bius; rmus = rmus }) scene w d
+biu-happens sc w d bius rmus scene acts = record { nodes = nodes; surrounds = acts.surrounds }
+  where
+    nodes : (me : Side) → AreNodes sc me (of_kind me (let x : Each KeptSite = record { bius = bius; rmus = rmus } in x)) (of_kind me (happens sc w d).sites)
+    nodes Biu = acts.own
+    nodes Rmu = acts.far
+
+pub rmu-happens : (sc : Scenario) (w : World) (d : Due) (bius rmus : List KeptSite) (scene : Scene) → Acts sc Rmu rmus bius scene (happens sc w d)
+    → Happens sc (record { bius = bius; rmus = rmus }) scene w d
+rmu-happens sc w d bius rmus scene acts = record { nodes = nodes; surrounds = acts.surrounds }
+  where
+    nodes : (me : Side) → AreNodes sc me (of_kind me (let x : Each KeptSite = record { bius = bius; rmus = rmus } in x)) (of_kind me (happens sc w d).sites)
+    nodes Biu = acts.far
+    nodes Rmu = acts.own

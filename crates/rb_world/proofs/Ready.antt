@@ -147,13 +147,13 @@ tick-ready sc kept scene time name event w place d me i word wanted may shown na
         later = after.later;
         below = after.below;
         message = λ j h.
-          let far : length (of_kind (other me) w1.sites) ≡ count_of (other me) sc.sizes = around.counts (other me) in
-          let z = has-item (of_kind (other me) w1.sites) j (omega (arith, far, h)) in
-          let was = was-there me i (without_waiting (Tick k.tick)) w.sites (other me) j z.item z.is in
-          let same : was.site ≡ z.item = sym (ap (λ b. elim b as (λ _. Site) [ true ↦ without_waiting (Tick k.tick) was.site | false ↦ was.site ]) (not-other me i j)) ∙ was.is in
-          let few : length (times_of z.item) ≤ most_pending sc (other me) = subst (λ (s : Site). length (times_of s) ≤ most_pending sc (other me)) same (room.now (other me) j was.site was.there) in
-          let spare = spare-at sc scene.agenda w1.sites (other me) j z.item around.rooms (has-lane sc scene w1 (name_of (other me) j) around (node-named sc (other me) j h)) around.lanes z.is few in
-          let one : 1 ≤ spare_of (lane_of scene.agenda (name_of (other me) j)) = omega (arith, spare) in one;
+            let far : length (of_kind (other me) w1.sites) ≡ count_of (other me) sc.sizes = around.counts (other me) in
+            let z = has-item (of_kind (other me) w1.sites) j (omega (arith, far, h)) in
+            let was = was-there me i (without_waiting (Tick k.tick)) w.sites (other me) j z.item z.is in
+            let same : was.site ≡ z.item = sym (ap (λ b. elim b as (λ _. Site) [ true ↦ without_waiting (Tick k.tick) was.site | false ↦ was.site ]) (not-other me i j)) ∙ was.is in
+            let few : length (times_of z.item) ≤ most_pending sc (other me) = subst (λ (s : Site). length (times_of s) ≤ most_pending sc (other me)) same (room.now (other me) j was.site was.there) in
+            let spare = spare-at sc scene.agenda w1.sites (other me) j z.item around.rooms (has-lane sc scene w1 (name_of (other me) j) around (node-named sc (other me) j h)) around.lanes z.is few in
+            let one : 1 ≤ spare_of (lane_of scene.agenda (name_of (other me) j)) = omega (arith, spare) in one;
         spans = spans-reached sc w may.lawful may.reached me i k.tick s (pass_and_tick sc w.ports me i k.tick s.core)
             (record { there = due.there; place = place; is_due = may.found ∙ ap (λ (x : Due). Some x) k.is; does = refl });
       };
@@ -171,3 +171,23 @@ tick-ready sc kept scene time name event w place d me i word wanted may shown na
           let never : ◌≡◌ {A = Option ℕ} None (Some k) = sym (ap (λ n. busy_among sc.sizes sc.plan me i s.core.state n s.core.had) none) ∙ e in cc
       | inr le ↦ next-is sc.sizes sc.plan me i s.core k le e
     ]
+
+-- the node of an event that is due is one of the bus, and something is kept of it
+pub node-there : (sc : Scenario) (kept : Each KeptSite) (scene : Scene) (time : ℕ) (name : NodeName) (event : Event) (w : World) (place : ℕ) (d : Due) (me : Side) (i : ℕ)
+    → MayHappen sc kept scene time name event w place d → name ≡ name_of me i → (i < count_of me sc.sizes) × (i < length (of_kind me kept))
+node-there sc kept scene time name event w place d me i may named =
+    let same : name_of d.side d.node ≡ name_of me i = sym may.node ∙ named in
+    let side : d.side ≡ me = sym (kind-named d.side d.node) ∙ ap kind_of same ∙ kind-named me i in
+    let number : d.node ≡ i = sym (number-named d.side d.node) ∙ ap number_of same ∙ number-named me i in
+    let due : IsDue w d = due-reached sc w place d may.reached may.found in
+    let there : slice_get (of_kind me w.sites) i ≡ Some due.s = subst (λ n. slice_get (of_kind me w.sites) n ≡ Some due.s) number (subst (λ k. slice_get (of_kind k w.sites) d.node ≡ Some due.s) side due.there) in
+    let counts : length (of_kind me (moved d.side d.node (without_waiting d.pending) w).sites) ≡ count_of me sc.sizes = may.surrounds.counts me in
+    let long : length (of_kind me (moved d.side d.node (without_waiting d.pending) w).sites) ≡ length (of_kind me w.sites) = counts-one d.side me d.node (without_waiting d.pending) w.sites in
+    let many : length (of_kind me kept) ≡ count_of me sc.sizes = (may.nodes me).many in
+    let lt = below-there (of_kind me w.sites) i due.s there in
+    (omega (arith, counts, long, lt), omega (arith, counts, long, lt, many))
+  where
+    below-there : {X : Type 0} (xs : List X) (i : ℕ) (x : X) → slice_get xs i ≡ Some x → i < length xs
+    below-there [] i x e = cc
+    below-there (y ∷ xs) zero x e = omega arith
+    below-there (y ∷ xs) (suc i) x e = let lt = below-there xs i x e in omega (arith, lt)

@@ -99,9 +99,9 @@ on-sees sizes plan me i c st m kept j shown none = by (is_last sizes plan me st 
     closing = close_window sizes plan me i kept (window_here sizes plan me st c.had) (of_source c.inbox)
 
     by : (b : Bool) → (elim b as (λ _. Act) [
-        | true ↦ record { core = record { state = closing.state; had = c.had + 1; inbox = [] }; epoch = epoch_at sizes me st c.had; message = m; closed = Some closing.closed }
-        | false ↦ record { core = record { state = kept; had = c.had + 1; inbox = c.inbox }; epoch = epoch_at sizes me st c.had; message = m; closed = None }
-      ]).closed ≡ Some shown → get_or shown.sees j Nothing ≡ Nothing
+      | true ↦ record { core = record { state = closing.state; had = c.had + 1; inbox = [] }; epoch = epoch_at sizes me st c.had; message = m; closed = Some closing.closed }
+      | false ↦ record { core = record { state = kept; had = c.had + 1; inbox = c.inbox }; epoch = epoch_at sizes me st c.had; message = m; closed = None }
+    ]).closed ≡ Some shown → get_or shown.sees j Nothing ≡ Nothing
     by true e =
         subst (λ (x : Closed). get_or x.sees j Nothing ≡ Nothing) (same-some closing.closed shown e)
         (window-sees sizes plan me i kept (window_here sizes plan me st c.had) (of_source c.inbox) j none)

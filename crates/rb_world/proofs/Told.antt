@@ -161,12 +161,12 @@ get-is [] i d h = absurd (omega arith)
 get-is (x ∷ xs) zero d h = refl
 get-is (x ∷ xs) (suc i) d h = get-is xs i d (omega arith)
 
-set-here : {X : Type 0} (xs : List X) (i : ℕ) (y z : X) → slice_get (slice_set xs i y) i ≡ Some z → y ≡ z
+pub set-here : {X : Type 0} (xs : List X) (i : ℕ) (y z : X) → slice_get (slice_set xs i y) i ≡ Some z → y ≡ z
 set-here [] i y z e = cc
 set-here (x ∷ xs) zero y z e = ap (λ o. unwrap_or o y) e
 set-here (x ∷ xs) (suc i) y z e = set-here xs i y z e
 
-set-there : {X : Type 0} (xs : List X) (i n : ℕ) (y : X) → (n == i) ≡ false → slice_get (slice_set xs i y) n ≡ slice_get xs n
+pub set-there : {X : Type 0} (xs : List X) (i n : ℕ) (y : X) → (n == i) ≡ false → slice_get (slice_set xs i y) n ≡ slice_get xs n
 set-there [] i n y h = refl
 set-there (x ∷ xs) zero zero y h = absurd (cc)
 set-there (x ∷ xs) zero (suc n) y h = refl

@@ -104,9 +104,9 @@ epoch-on sizes plan me i c st m kept = by (is_last sizes plan me st c.had)
     closing = close_window sizes plan me i kept (window_here sizes plan me st c.had) (of_source c.inbox)
 
     by : (b : Bool) → (elim b as (λ _. Act) [
-        | true ↦ record { core = record { state = closing.state; had = c.had + 1; inbox = [] }; epoch = epoch_at sizes me st c.had; message = m; closed = Some closing.closed }
-        | false ↦ record { core = record { state = kept; had = c.had + 1; inbox = c.inbox }; epoch = epoch_at sizes me st c.had; message = m; closed = None }
-      ]).epoch ≡ epoch_at sizes me st c.had
+      | true ↦ record { core = record { state = closing.state; had = c.had + 1; inbox = [] }; epoch = epoch_at sizes me st c.had; message = m; closed = Some closing.closed }
+      | false ↦ record { core = record { state = kept; had = c.had + 1; inbox = c.inbox }; epoch = epoch_at sizes me st c.had; message = m; closed = None }
+    ]).epoch ≡ epoch_at sizes me st c.had
     by true = refl
     by false = refl
 

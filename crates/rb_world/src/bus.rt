@@ -117,7 +117,12 @@ impl Bus {
         ensures { Holds self.now result (first_world self.now) }
     {
         let plan = self.plan.plan();
-        Book::new(*self.plan.shape(), self.frames, plan.dmax - plan.dmin, self.onsets)
+        Book::new(
+            *self.plan.shape(),
+            self.frames,
+            plan.dmax - plan.dmin,
+            self.onsets,
+        )
     }
 
     /// The clock of a node.
@@ -127,7 +132,9 @@ impl Bus {
     {
         match node {
             NodeName::Biu(i) => self.clocks.get(usize::from(i)),
-            NodeName::Rmu(i) => self.clocks.get(usize::from(self.plan.shape().biu()) + usize::from(i)),
+            NodeName::Rmu(i) => self
+                .clocks
+                .get(usize::from(self.plan.shape().biu()) + usize::from(i)),
         }
     }
 

@@ -24,19 +24,37 @@ fn copied(bytes: &[u8]) -> ArrayVec<u8, 32>
 }
 
 // An event as it is shown, at a node.
-fn show<K: Kind>(bus: &Bus, apps: &Apps, site: &Site<K>, scene: &Scene, time: u64, node: NodeName, pending: &Event) -> Event {
+fn show<K: Kind>(
+    bus: &Bus,
+    apps: &Apps,
+    site: &Site<K>,
+    scene: &Scene,
+    time: u64,
+    node: NodeName,
+    pending: &Event,
+) -> Event {
     let had = site.node().had();
     match &pending.kind {
         EventKind::Tick { .. } => {
             let k = site.node().next_tick().unwrap_or(had);
             let want = site.node().wants_then();
             let word = word_for(bus, apps, &scene.ports, number_of(node), want);
-            let kind = EventKind::Tick { word, wanted: want != Want::Nothing };
-            Event { node, quiet: (k - had) as u32, kind }
+            let kind = EventKind::Tick {
+                word,
+                wanted: want != Want::Nothing,
+            };
+            Event {
+                node,
+                quiet: (k - had) as u32,
+                kind,
+            }
         }
         EventKind::Arrive { from, bytes } => {
             let quiet = bus.clock(node).first_at(time).saturating_sub(had) as u32;
-            let kind = EventKind::Arrive { from: *from, bytes: copied(bytes) };
+            let kind = EventKind::Arrive {
+                from: *from,
+                bytes: copied(bytes),
+            };
             Event { node, quiet, kind }
         }
     }
@@ -66,8 +84,24 @@ impl World {
         let time = self.scene.agenda.first_time();
         let pending = self.scene.agenda.event_at(node, place);
         match node {
-            NodeName::Biu(k) => show(&self.bus, apps, &self.bius[usize::from(k)], &self.scene, time, node, pending),
-            NodeName::Rmu(k) => show(&self.bus, apps, &self.rmus[usize::from(k)], &self.scene, time, node, pending),
+            NodeName::Biu(k) => show(
+                &self.bus,
+                apps,
+                &self.bius[usize::from(k)],
+                &self.scene,
+                time,
+                node,
+                pending,
+            ),
+            NodeName::Rmu(k) => show(
+                &self.bus,
+                apps,
+                &self.rmus[usize::from(k)],
+                &self.scene,
+                time,
+                node,
+                pending,
+            ),
         }
     }
 }

@@ -29,14 +29,12 @@ fn open_ports(alloc: Global, bus: &Bus) -> Result<Vec<Port>, OutOfMemory> {
 }
 
 // The nodes of a kind, of which there are so many, before their first ticks.
-fn open_sites<K: Kind>(
-    alloc: Global,
-    bus: &Bus,
-    count: u8,
-) -> Result<Vec<Site<K>>, OutOfMemory> {
+fn open_sites<K: Kind>(alloc: Global, bus: &Bus, count: u8) -> Result<Vec<Site<K>>, OutOfMemory> {
     let mut sites = Vec::with_capacity(alloc, usize::from(count))?;
     for i in 0..count {
-        sites.push(Site::new(bus.plan(), i)).map_err(|_| OutOfMemory)?;
+        sites
+            .push(Site::new(bus.plan(), i))
+            .map_err(|_| OutOfMemory)?;
     }
     Ok(sites)
 }
@@ -66,10 +64,20 @@ impl World {
         let mut bius = open_sites(alloc, &bus, bus.shape().biu())?;
         let mut rmus = open_sites(alloc, &bus, bus.shape().rmu())?;
         for i in 0..bus.shape().biu() {
-            proceed(&bus, NodeName::Biu(i), &mut bius[usize::from(i)], &mut scene);
+            proceed(
+                &bus,
+                NodeName::Biu(i),
+                &mut bius[usize::from(i)],
+                &mut scene,
+            );
         }
         for i in 0..bus.shape().rmu() {
-            proceed(&bus, NodeName::Rmu(i), &mut rmus[usize::from(i)], &mut scene);
+            proceed(
+                &bus,
+                NodeName::Rmu(i),
+                &mut rmus[usize::from(i)],
+                &mut scene,
+            );
         }
         Ok(World {
             bus,

@@ -69,12 +69,7 @@ fn stop_at(bus: &Bus, node: NodeName, scene: &mut Scene)
 
 /// The node goes on to its next tick. At a window's begin a node that is not good there stops, and to the others comes what they
 /// are told in it.
-pub(crate) fn proceed<K: Kind>(
-    bus: &Bus,
-    node: NodeName,
-    site: &mut Site<K>,
-    scene: &mut Scene,
-)
+pub(crate) fn proceed<K: Kind>(bus: &Bus, node: NodeName, site: &mut Site<K>, scene: &mut Scene)
     requires name { node ≡ name_of (side_of K.CODE) (number_of site.old) }
     requires may { (w : World) × (s : WorldSite) × MayProceed bus.now (side_of K.CODE) (number_of site.old) site.old scene.old w s }
     ensures { (w : World) (s : WorldSite) → MayProceed bus.now (side_of K.CODE) (number_of site.old) site.old scene.old w s

@@ -121,7 +121,13 @@ fn close<K: Kind>(
         engine.trusted_biu(),
         engine.trusted_rmu(),
     );
-    deliver(bus, apps, number_of(node), closed.delivered, &mut scene.ports);
+    deliver(
+        bus,
+        apps,
+        number_of(node),
+        closed.delivered,
+        &mut scene.ports,
+    );
 }
 
 // What a node sends at a tick is on its way.

@@ -57,11 +57,12 @@ await_tick-requires-clause-around g c =
     let node = c.args.node in
     let there = has-lane sc c.args.scene.now w node at.surrounds (subst (IsNodeOf sc.sizes) (sym c.requires.name) (node-named sc (side_of g.K.Kind.CODE) (number_of c.args.site.now) at.within)) in
     elim c.match-entering.branch [
-      | in-Some+else-not-is_good d ↦
-          (moved (kind_of node) (number_in node) (hears sc node (span_in d.in-Some.span)) w,
-          subst (λ m. Surrounds sc m (moved (kind_of node) (number_in node) (hears sc node (span_in d.in-Some.span)) w)) (sym d.scene-is)
-          (says-around sc c.args.scene.now d.say.new.agenda w node (span_in d.in-Some.span) (says_in sc (kind_of node) (number_in node) (span_in d.in-Some.span)) there d.say.ensures.lanes
-          (d.say.ensures.world w.sites at.surrounds.lanes) at.surrounds))
+      | in-Some+else-not-is_good d ↦ (
+        moved (kind_of node) (number_in node) (hears sc node (span_in d.in-Some.span)) w,
+        subst (λ m. Surrounds sc m (moved (kind_of node) (number_in node) (hears sc node (span_in d.in-Some.span)) w)) (sym d.scene-is)
+            (says-around sc c.args.scene.now d.say.new.agenda w node (span_in d.in-Some.span) (says_in sc (kind_of node) (number_in node) (span_in d.in-Some.span)) there d.say.ensures.lanes
+            (d.say.ensures.world w.sites at.surrounds.lanes) at.surrounds),
+      )
       | in_default d ↦ (w, subst (λ m. Surrounds sc m w) (sym d.scene-is) at.surrounds)
     ]
 

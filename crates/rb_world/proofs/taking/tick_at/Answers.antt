@@ -17,7 +17,7 @@ tick-requires-clause-may g c =
     let s = c.requires.may.2 in
     let may = c.requires.may.3 in
     let found = sym (next-is sc me (number_of site) k site s.core may.at.stands.sizes may.at.stands.plan may.at.number may.next)
-        ∙ ap (λ n. next_of me n s.core) (sym c.node.ensures) ∙ sym (c.next_tick.ensures.core s.core (subst (λ n. IsCore n s.core) (sym c.node.ensures) may.at.stands.core)) ∙ c.in-Some.is in
+    ∙ ap (λ n. next_of me n s.core) (sym c.node.ensures) ∙ sym (c.next_tick.ensures.core s.core (subst (λ n. IsCore n s.core) (sym c.node.ensures) may.at.stands.core)) ∙ c.in-Some.is in
     (w, s, subst (λ k. MayTick sc me (number_of site) k site c.args.scene.now w s) (some-same k c.in-Some.k found) may)
 
 pub returns-in-Some : goal.returns-in-Some
@@ -27,7 +27,7 @@ returns-in-Some g c =
     let me = side_of g.K.Kind.CODE in
     let site = c.args.site.now in
     let found = sym (next-is sc me (number_of site) k site s.core may.at.stands.sizes may.at.stands.plan may.at.number may.next)
-        ∙ ap (λ n. next_of me n s.core) (sym c.node.ensures) ∙ sym (c.next_tick.ensures.core s.core (subst (λ n. IsCore n s.core) (sym c.node.ensures) may.at.stands.core)) ∙ c.in-Some.is in
+    ∙ ap (λ n. next_of me n s.core) (sym c.node.ensures) ∙ sym (c.next_tick.ensures.core s.core (subst (λ n. IsCore n s.core) (sym c.node.ensures) may.at.stands.core)) ∙ c.in-Some.is in
     let same = some-same k c.in-Some.k found in
     subst (λ k. Ticks sc me (number_of site) k c.tick.new.site c.tick.new.scene w s (act_at sc w me (number_of site) k s)) (sym same)
     (c.tick.ensures w s (subst (λ k. MayTick sc me (number_of site) k site c.args.scene.now w s) same may))
@@ -39,5 +39,5 @@ returns-in_default g c =
     let me = side_of g.K.Kind.CODE in
     let site = c.args.site.now in
     let found = sym c.in_default.is ∙ c.next_tick.ensures.core s.core (subst (λ n. IsCore n s.core) (sym c.node.ensures) may.at.stands.core) ∙ ap (λ n. next_of me n s.core) c.node.ensures
-        ∙ next-is sc me (number_of site) k site s.core may.at.stands.sizes may.at.stands.plan may.at.number may.next in
+    ∙ next-is sc me (number_of site) k site s.core may.at.stands.sizes may.at.stands.plan may.at.number may.next in
     absurd (none-some k found)

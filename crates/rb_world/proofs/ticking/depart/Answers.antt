@@ -13,9 +13,10 @@ pub send-requires-clause-room : goal.send-requires-clause-room
 send-requires-clause-room c =
     λ i h.
     let is = c.requires.around.1 in
-    let within = is.within (other (kind_of c.args.node)) i (subst (λ r. has r i ≡ true) c.running_others-running.ensures h) in
-    (has-lane c.args.bus.now c.args.scene.now c.requires.around.0 (name_of (other (kind_of c.args.node)) i) is (node-named c.args.bus.now (other (kind_of c.args.node)) i within),
-    c.requires.room i within)
+    let within = is.within (other (kind_of c.args.node)) i (subst (λ r. has r i ≡ true) c.running_others-running.ensures h) in (
+      has-lane c.args.bus.now c.args.scene.now c.requires.around.0 (name_of (other (kind_of c.args.node)) i) is (node-named c.args.bus.now (other (kind_of c.args.node)) i within),
+      c.requires.room i within,
+    )
 
 pub returns-in-Some : goal.returns-in-Some
 returns-in-Some c =

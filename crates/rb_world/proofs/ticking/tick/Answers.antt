@@ -27,8 +27,8 @@ word_for-word-requires-clause-want g c =
     let s = c.requires.may.1 in
     let may = c.requires.may.2 in
     let wanted = c.wants_then.ensures s.core (subst (λ n. IsCore n s.core) (sym c.node.ensures) may.at.stands.core)
-        ∙ ap (λ n. want_then me n s.core (next_of me n s.core)) c.node.ensures
-        ∙ want-is sc me (number_of site) c.args.k site s.core may.at.stands.sizes may.at.stands.plan may.at.number may.next in
+    ∙ ap (λ n. want_then me n s.core (next_of me n s.core)) c.node.ensures
+    ∙ want-is sc me (number_of site) c.args.k site s.core may.at.stands.sizes may.at.stands.plan may.at.number may.next in
     subst (λ i. CanWant sc i c.wants_then.result) (sym c.requires.number)
     (subst (CanWant sc (number_of site)) (sym wanted) (can-want sc me (number_of site) (pass_to c.args.k s.core) may.at.within))
 
@@ -42,12 +42,12 @@ begin-requires-clause-tick g c =
     let s = c.requires.may.1 in
     let may = c.requires.may.2 in
     let wanted = c.wants_then.ensures s.core (subst (λ n. IsCore n s.core) (sym c.node.ensures) may.at.stands.core)
-        ∙ ap (λ n. want_then me n s.core (next_of me n s.core)) c.node.ensures
-        ∙ want-is sc me (number_of site) k site s.core may.at.stands.sizes may.at.stands.plan may.at.number may.next in
+    ∙ ap (λ n. want_then me n s.core (next_of me n s.core)) c.node.ensures
+    ∙ want-is sc me (number_of site) k site s.core may.at.stands.sizes may.at.stands.plan may.at.number may.next in
     let ticked : IsTicked sc w.ports me site c.tick-step.new.self c.tick-step.result k s = c.tick-step.ensures.ticked sc w.ports s may.at.stands
-        (c.word_for-word.ensures w.ports (wants_in sc me (number_of site) (pass_to k s.core)) (subst (λ ps. HoldsPorts sc ps w.ports) (sym c.deref.ensures.value) may.at.surrounds.ports)
-        (wants-words sc.sizes sc.plan me (number_of site) (pass_to k s.core)) wanted
-        ∙ ap (λ n. word_of sc w.ports n (wants_in sc me (number_of site) (pass_to k s.core))) c.requires.number) in
+    (c.word_for-word.ensures w.ports (wants_in sc me (number_of site) (pass_to k s.core)) (subst (λ ps. HoldsPorts sc ps w.ports) (sym c.deref.ensures.value) may.at.surrounds.ports)
+    (wants-words sc.sizes sc.plan me (number_of site) (pass_to k s.core)) wanted
+    ∙ ap (λ n. word_of sc w.ports n (wants_in sc me (number_of site) (pass_to k s.core))) c.requires.number) in
     subst (λ o. IfSome o (λ e. e.tick ≤ 2 ^ 31)) (sym ticked.act.epoch) (epoch-tick sc w.ports me (number_of site) k s.core may.later may.below)
 
 pub close-requires-clause-sources : goal.close-requires-clause-sources
@@ -60,12 +60,12 @@ close-requires-clause-sources g c =
     let s = c.requires.may.1 in
     let may = c.requires.may.2 in
     let wanted = c.wants_then.ensures s.core (subst (λ n. IsCore n s.core) (sym c.node.ensures) may.at.stands.core)
-        ∙ ap (λ n. want_then me n s.core (next_of me n s.core)) c.node.ensures
-        ∙ want-is sc me (number_of site) k site s.core may.at.stands.sizes may.at.stands.plan may.at.number may.next in
+    ∙ ap (λ n. want_then me n s.core (next_of me n s.core)) c.node.ensures
+    ∙ want-is sc me (number_of site) k site s.core may.at.stands.sizes may.at.stands.plan may.at.number may.next in
     let ticked : IsTicked sc w.ports me site c.tick-step.new.self c.tick-step.result k s = c.tick-step.ensures.ticked sc w.ports s may.at.stands
-        (c.word_for-word.ensures w.ports (wants_in sc me (number_of site) (pass_to k s.core)) (subst (λ ps. HoldsPorts sc ps w.ports) (sym c.deref.ensures.value) may.at.surrounds.ports)
-        (wants-words sc.sizes sc.plan me (number_of site) (pass_to k s.core)) wanted
-        ∙ ap (λ n. word_of sc w.ports n (wants_in sc me (number_of site) (pass_to k s.core))) c.requires.number) in
+    (c.word_for-word.ensures w.ports (wants_in sc me (number_of site) (pass_to k s.core)) (subst (λ ps. HoldsPorts sc ps w.ports) (sym c.deref.ensures.value) may.at.surrounds.ports)
+    (wants-words sc.sizes sc.plan me (number_of site) (pass_to k s.core)) wanted
+    ∙ ap (λ n. word_of sc w.ports n (wants_in sc me (number_of site) (pass_to k s.core))) c.requires.number) in
     λ closed.
     subst (λ m. SeesOnlyNodes sc m c.tick-step.new.self.node.shown) (sym (ap kind_of c.requires.name ∙ kind-named me (number_of site)))
     (sees-nodes sc me (number_of site) k site c.args.scene.now w s c.tick-step.result c.tick-step.new.self.node.shown may ticked.act closed)
@@ -80,15 +80,15 @@ proceed-requires-clause-may g c =
     let s = c.requires.may.1 in
     let may = c.requires.may.2 in
     let wanted = c.wants_then.ensures s.core (subst (λ n. IsCore n s.core) (sym c.node.ensures) may.at.stands.core)
-        ∙ ap (λ n. want_then me n s.core (next_of me n s.core)) c.node.ensures
-        ∙ want-is sc me (number_of site) k site s.core may.at.stands.sizes may.at.stands.plan may.at.number may.next in
+    ∙ ap (λ n. want_then me n s.core (next_of me n s.core)) c.node.ensures
+    ∙ want-is sc me (number_of site) k site s.core may.at.stands.sizes may.at.stands.plan may.at.number may.next in
     let ticked : IsTicked sc w.ports me site c.tick-step.new.self c.tick-step.result k s = c.tick-step.ensures.ticked sc w.ports s may.at.stands
-        (c.word_for-word.ensures w.ports (wants_in sc me (number_of site) (pass_to k s.core)) (subst (λ ps. HoldsPorts sc ps w.ports) (sym c.deref.ensures.value) may.at.surrounds.ports)
-        (wants-words sc.sizes sc.plan me (number_of site) (pass_to k s.core)) wanted
-        ∙ ap (λ n. word_of sc w.ports n (wants_in sc me (number_of site) (pass_to k s.core))) c.requires.number) in
+    (c.word_for-word.ensures w.ports (wants_in sc me (number_of site) (pass_to k s.core)) (subst (λ ps. HoldsPorts sc ps w.ports) (sym c.deref.ensures.value) may.at.surrounds.ports)
+    (wants-words sc.sizes sc.plan me (number_of site) (pass_to k s.core)) wanted
+    ∙ ap (λ n. word_of sc w.ports n (wants_in sc me (number_of site) (pass_to k s.core))) c.requires.number) in
     let x = act_of sc w me site k s in
     let told = told-then sc me k c.args.node site c.tick-step.new.self c.args.scene.now c.close.new.scene w s c.tick-step.result c.requires.name may ticked
-        (c.close.ensures.around _ (c.begin.ensures.around w may.at.surrounds)) in
+    (c.close.ensures.around _ (c.begin.ensures.around w may.at.surrounds)) in
     let agenda = c.close.ensures.agenda ∙ ap (λ (m : Scene). m.agenda) c.begin.ensures.rest in
     let ready = may-then sc me k site c.tick-step.new.self c.args.scene.now c.close.new.scene w s c.tick-step.result c.tick-step.ensures.same.index may ticked agenda told in
     let z = acted sc w.ports me (number_of site) x s in
@@ -108,22 +108,22 @@ depart-requires-clause-around g c =
     let s = c.requires.may.1 in
     let may = c.requires.may.2 in
     let wanted = c.wants_then.ensures s.core (subst (λ n. IsCore n s.core) (sym c.node.ensures) may.at.stands.core)
-        ∙ ap (λ n. want_then me n s.core (next_of me n s.core)) c.node.ensures
-        ∙ want-is sc me (number_of site) k site s.core may.at.stands.sizes may.at.stands.plan may.at.number may.next in
+    ∙ ap (λ n. want_then me n s.core (next_of me n s.core)) c.node.ensures
+    ∙ want-is sc me (number_of site) k site s.core may.at.stands.sizes may.at.stands.plan may.at.number may.next in
     let ticked : IsTicked sc w.ports me site c.tick-step.new.self c.tick-step.result k s = c.tick-step.ensures.ticked sc w.ports s may.at.stands
-        (c.word_for-word.ensures w.ports (wants_in sc me (number_of site) (pass_to k s.core)) (subst (λ ps. HoldsPorts sc ps w.ports) (sym c.deref.ensures.value) may.at.surrounds.ports)
-        (wants-words sc.sizes sc.plan me (number_of site) (pass_to k s.core)) wanted
-        ∙ ap (λ n. word_of sc w.ports n (wants_in sc me (number_of site) (pass_to k s.core))) c.requires.number) in
+    (c.word_for-word.ensures w.ports (wants_in sc me (number_of site) (pass_to k s.core)) (subst (λ ps. HoldsPorts sc ps w.ports) (sym c.deref.ensures.value) may.at.surrounds.ports)
+    (wants-words sc.sizes sc.plan me (number_of site) (pass_to k s.core)) wanted
+    ∙ ap (λ n. word_of sc w.ports n (wants_in sc me (number_of site) (pass_to k s.core))) c.requires.number) in
     let x = act_of sc w me site k s in
     let told = told-then sc me k c.args.node site c.tick-step.new.self c.args.scene.now c.close.new.scene w s c.tick-step.result c.requires.name may ticked
-        (c.close.ensures.around _ (c.begin.ensures.around w may.at.surrounds)) in
+    (c.close.ensures.around _ (c.begin.ensures.around w may.at.surrounds)) in
     let agenda = c.close.ensures.agenda ∙ ap (λ (m : Scene). m.agenda) c.begin.ensures.rest in
     let ready = may-then sc me k site c.tick-step.new.self c.args.scene.now c.close.new.scene w s c.tick-step.result c.tick-step.ensures.same.index may ticked agenda told in
     let z = acted sc w.ports me (number_of site) x s in
     let v = told_in sc w me (number_of site) x in
     let on : Proceeds sc me (number_of site) c.proceed.new.site c.close.new.scene c.proceed.new.scene v z =
-        subst (λ i. Proceeds sc me i c.proceed.new.site c.close.new.scene c.proceed.new.scene v z) c.tick-step.ensures.same.index
-        (c.proceed.ensures v z (subst (λ i. MayProceed sc me i c.tick-step.new.self c.close.new.scene v z) (sym c.tick-step.ensures.same.index) ready)) in
+    subst (λ i. Proceeds sc me i c.proceed.new.site c.close.new.scene c.proceed.new.scene v z) c.tick-step.ensures.same.index
+    (c.proceed.ensures v z (subst (λ i. MayProceed sc me i c.tick-step.new.self c.close.new.scene v z) (sym c.tick-step.ensures.same.index) ready)) in
     (moved me (number_of site) (proceed sc me (number_of site)) v, on.surrounds)
 
 pub depart-requires-clause-room : goal.depart-requires-clause-room
@@ -136,22 +136,22 @@ depart-requires-clause-room g c =
     let s = c.requires.may.1 in
     let may = c.requires.may.2 in
     let wanted = c.wants_then.ensures s.core (subst (λ n. IsCore n s.core) (sym c.node.ensures) may.at.stands.core)
-        ∙ ap (λ n. want_then me n s.core (next_of me n s.core)) c.node.ensures
-        ∙ want-is sc me (number_of site) k site s.core may.at.stands.sizes may.at.stands.plan may.at.number may.next in
+    ∙ ap (λ n. want_then me n s.core (next_of me n s.core)) c.node.ensures
+    ∙ want-is sc me (number_of site) k site s.core may.at.stands.sizes may.at.stands.plan may.at.number may.next in
     let ticked : IsTicked sc w.ports me site c.tick-step.new.self c.tick-step.result k s = c.tick-step.ensures.ticked sc w.ports s may.at.stands
-        (c.word_for-word.ensures w.ports (wants_in sc me (number_of site) (pass_to k s.core)) (subst (λ ps. HoldsPorts sc ps w.ports) (sym c.deref.ensures.value) may.at.surrounds.ports)
-        (wants-words sc.sizes sc.plan me (number_of site) (pass_to k s.core)) wanted
-        ∙ ap (λ n. word_of sc w.ports n (wants_in sc me (number_of site) (pass_to k s.core))) c.requires.number) in
+    (c.word_for-word.ensures w.ports (wants_in sc me (number_of site) (pass_to k s.core)) (subst (λ ps. HoldsPorts sc ps w.ports) (sym c.deref.ensures.value) may.at.surrounds.ports)
+    (wants-words sc.sizes sc.plan me (number_of site) (pass_to k s.core)) wanted
+    ∙ ap (λ n. word_of sc w.ports n (wants_in sc me (number_of site) (pass_to k s.core))) c.requires.number) in
     let x = act_of sc w me site k s in
     let told = told-then sc me k c.args.node site c.tick-step.new.self c.args.scene.now c.close.new.scene w s c.tick-step.result c.requires.name may ticked
-        (c.close.ensures.around _ (c.begin.ensures.around w may.at.surrounds)) in
+    (c.close.ensures.around _ (c.begin.ensures.around w may.at.surrounds)) in
     let agenda = c.close.ensures.agenda ∙ ap (λ (m : Scene). m.agenda) c.begin.ensures.rest in
     let ready = may-then sc me k site c.tick-step.new.self c.args.scene.now c.close.new.scene w s c.tick-step.result c.tick-step.ensures.same.index may ticked agenda told in
     let z = acted sc w.ports me (number_of site) x s in
     let v = told_in sc w me (number_of site) x in
     let on : Proceeds sc me (number_of site) c.proceed.new.site c.close.new.scene c.proceed.new.scene v z =
-        subst (λ i. Proceeds sc me i c.proceed.new.site c.close.new.scene c.proceed.new.scene v z) c.tick-step.ensures.same.index
-        (c.proceed.ensures v z (subst (λ i. MayProceed sc me i c.tick-step.new.self c.close.new.scene v z) (sym c.tick-step.ensures.same.index) ready)) in
+    subst (λ i. Proceeds sc me i c.proceed.new.site c.close.new.scene c.proceed.new.scene v z) c.tick-step.ensures.same.index
+    (c.proceed.ensures v z (subst (λ i. MayProceed sc me i c.tick-step.new.self c.close.new.scene v z) (sym c.tick-step.ensures.same.index) ready)) in
     subst (λ m. HasRoomFor sc (other m) c.proceed.new.scene) (sym (ap kind_of c.requires.name ∙ kind-named me (number_of site)))
     (room-then sc me (number_of site) c.args.scene.now c.close.new.scene c.proceed.new.scene may.message agenda on.others)
 
@@ -163,21 +163,21 @@ returns g c =
     let site = c.args.site.now in
     let k = c.args.k in
     let wanted = c.wants_then.ensures s.core (subst (λ n. IsCore n s.core) (sym c.node.ensures) may.at.stands.core)
-        ∙ ap (λ n. want_then me n s.core (next_of me n s.core)) c.node.ensures
-        ∙ want-is sc me (number_of site) k site s.core may.at.stands.sizes may.at.stands.plan may.at.number may.next in
+    ∙ ap (λ n. want_then me n s.core (next_of me n s.core)) c.node.ensures
+    ∙ want-is sc me (number_of site) k site s.core may.at.stands.sizes may.at.stands.plan may.at.number may.next in
     let ticked : IsTicked sc w.ports me site c.tick-step.new.self c.tick-step.result k s = c.tick-step.ensures.ticked sc w.ports s may.at.stands
-        (c.word_for-word.ensures w.ports (wants_in sc me (number_of site) (pass_to k s.core)) (subst (λ ps. HoldsPorts sc ps w.ports) (sym c.deref.ensures.value) may.at.surrounds.ports)
-        (wants-words sc.sizes sc.plan me (number_of site) (pass_to k s.core)) wanted
-        ∙ ap (λ n. word_of sc w.ports n (wants_in sc me (number_of site) (pass_to k s.core))) c.requires.number) in
+    (c.word_for-word.ensures w.ports (wants_in sc me (number_of site) (pass_to k s.core)) (subst (λ ps. HoldsPorts sc ps w.ports) (sym c.deref.ensures.value) may.at.surrounds.ports)
+    (wants-words sc.sizes sc.plan me (number_of site) (pass_to k s.core)) wanted
+    ∙ ap (λ n. word_of sc w.ports n (wants_in sc me (number_of site) (pass_to k s.core))) c.requires.number) in
     let x = act_of sc w me site k s in
     let told = told-then sc me k c.args.node site c.tick-step.new.self c.args.scene.now c.close.new.scene w s c.tick-step.result c.requires.name may ticked
-        (c.close.ensures.around _ (c.begin.ensures.around w may.at.surrounds)) in
+    (c.close.ensures.around _ (c.begin.ensures.around w may.at.surrounds)) in
     let agenda = c.close.ensures.agenda ∙ ap (λ (m : Scene). m.agenda) c.begin.ensures.rest in
     let ready = may-then sc me k site c.tick-step.new.self c.args.scene.now c.close.new.scene w s c.tick-step.result c.tick-step.ensures.same.index may ticked agenda told in
     let z = acted sc w.ports me (number_of site) x s in
     let v = told_in sc w me (number_of site) x in
     let on : Proceeds sc me (number_of site) c.proceed.new.site c.close.new.scene c.proceed.new.scene v z =
-        subst (λ i. Proceeds sc me i c.proceed.new.site c.close.new.scene c.proceed.new.scene v z) c.tick-step.ensures.same.index
-        (c.proceed.ensures v z (subst (λ i. MayProceed sc me i c.tick-step.new.self c.close.new.scene v z) (sym c.tick-step.ensures.same.index) ready)) in
+    subst (λ i. Proceeds sc me i c.proceed.new.site c.close.new.scene c.proceed.new.scene v z) c.tick-step.ensures.same.index
+    (c.proceed.ensures v z (subst (λ i. MayProceed sc me i c.tick-step.new.self c.close.new.scene v z) (sym c.tick-step.ensures.same.index) ready)) in
     whole sc me (number_of site) k c.args.node c.proceed.new.site c.close.new.scene c.proceed.new.scene c.depart.new.scene w s x c.tick-step.result c.frame-frame.result c.requires.name on
     (c.frame-frame.ensures ∙ ap (λ (v : Seated). v.state.frame) (c.engine.ensures ∙ ap (λ (n : Running). n.seat) c.node-2.ensures)) ticked.act.message (c.depart.ensures (moved me (number_of site) (proceed sc me (number_of site)) v) on.surrounds)

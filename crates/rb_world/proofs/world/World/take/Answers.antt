@@ -19,7 +19,7 @@ happen-requires g c =
     let is : Stands k w = c.self.invariant.1 in
     let both = may-happen k w i name event lanes is below c.take-node.ensures.taken (c.take-node.ensures.world k.bus w is.scene.lanes) in
     let may : MayHappen k.bus k.nodes (record k.scene { agenda = lanes }) c.first_time-time.result name event w i both.0 =
-        subst (λ t. MayHappen k.bus k.nodes (record k.scene { agenda = lanes }) t name event w i both.0) (sym c.first_time-time.ensures.value) both.1 in
+    subst (λ t. MayHappen k.bus k.nodes (record k.scene { agenda = lanes }) t name event w i both.0) (sym c.first_time-time.ensures.value) both.1 in
     (w, i, both.0, may)
 
 pub invariant_of-self : goal.invariant_of-self
@@ -34,11 +34,11 @@ invariant_of-self g c =
     let is : Stands k w = c.self.invariant.1 in
     let both = may-happen k w i name event lanes is below c.take-node.ensures.taken (c.take-node.ensures.world k.bus w is.scene.lanes) in
     let may : MayHappen k.bus k.nodes (record k.scene { agenda = lanes }) c.first_time-time.result name event w i both.0 =
-        subst (λ t. MayHappen k.bus k.nodes (record k.scene { agenda = lanes }) t name event w i both.0) (sym c.first_time-time.ensures.value) both.1 in
+    subst (λ t. MayHappen k.bus k.nodes (record k.scene { agenda = lanes }) t name event w i both.0) (sym c.first_time-time.ensures.value) both.1 in
     let happened = c.happen.ensures w i both.0 may in
     let settles = c.settle-turn.ensures.settled k.bus (happens k.bus w both.0) happened.surrounds.book in
     let given = taken k.bus w i both.0 (record { bius = c.happen.new.bius.items; rmus = c.happen.new.rmus.items }) c.happen.new.scene c.settle-turn.new.self c.settle-turn.result
-        c.last_of-self-inside.result is.lawful is.reached may.found happened settles c.last_of-self-inside.ensures in
+    c.last_of-self-inside.result is.lawful is.reached may.found happened settles c.last_of-self-inside.ensures in
     (take k.bus w i, given.stands)
 
 pub returns-clause-world : goal.returns-clause-world
@@ -53,9 +53,9 @@ returns-clause-world g c =
     let is : Stands k w = subst (λ (k : Kept). Stands k w) (sym c.self.view_is) stands in
     let both = may-happen k w i name event lanes is below c.take-node.ensures.taken (c.take-node.ensures.world k.bus w is.scene.lanes) in
     let may : MayHappen k.bus k.nodes (record k.scene { agenda = lanes }) c.first_time-time.result name event w i both.0 =
-        subst (λ t. MayHappen k.bus k.nodes (record k.scene { agenda = lanes }) t name event w i both.0) (sym c.first_time-time.ensures.value) both.1 in
+    subst (λ t. MayHappen k.bus k.nodes (record k.scene { agenda = lanes }) t name event w i both.0) (sym c.first_time-time.ensures.value) both.1 in
     let happened = c.happen.ensures w i both.0 may in
     let settles = c.settle-turn.ensures.settled k.bus (happens k.bus w both.0) happened.surrounds.book in
     let given = taken k.bus w i both.0 (record { bius = c.happen.new.bius.items; rmus = c.happen.new.rmus.items }) c.happen.new.scene c.settle-turn.new.self c.settle-turn.result
-        c.last_of-self-inside.result is.lawful is.reached may.found happened settles c.last_of-self-inside.ensures in
+    c.last_of-self-inside.result is.lawful is.reached may.found happened settles c.last_of-self-inside.ensures in
     subst (λ (kept : Kept). Gives (record { bus = k.bus; nodes = record { bius = c.happen.new.bius.items; rmus = c.happen.new.rmus.items }; scene = record c.happen.new.scene { book = c.settle-turn.new.self }; last = c.last_of-self-inside.result }) c.settle-turn.result (take kept.bus w i)) c.self.view_is given
