@@ -23,7 +23,7 @@ use Rattle.rb_node.specs.Cores.{next_of}
 use Rattle.rb_node.specs.Wants.{want_for, want_then}
 use Rattle.rb_node.specs.declared.act.Step.{Step}
 use Rattle.rb_node.specs.declared.act.Want.{Want}
-use Rattle.rb_site.specs.Sites.{Kept as KeptSite, Stands as StandsFor, acted, number_of}
+use Rattle.rb_site.specs.Sites.{Kept as KeptSite, Stands as StandsFor, after_tick, number_of}
 use Rattle.rb_site.specs.Tells.{IsTicked}
 use Rattle.rb_traffic.specs.Arriving.{number_of as number_in}
 use Rattle.rb_world.specs.declared.scene.Scene.{Scene}
@@ -52,9 +52,9 @@ want-is sc me i k site c sizes plan number next =
 -- Around the node, when it has told what it has to tell.
 
 -- what it tells by what is kept, and by the definitions
-acted-alike : (sc : Scenario) (ports : List PortState) (me : Side) (i : ℕ) (x : Act) (c : Closed) (row : Row) (s : Site) → x.closed ≡ Some c
-    → row_of me i x.core.state (coming_from s.got) c ≡ row → SameShown (acted sc ports me i x s) (with_row c.place.stage row (with_epoch sc ports me i x.epoch s))
-acted-alike sc ports me i x c row s closed is =
+after_tick-alike : (sc : Scenario) (ports : List PortState) (me : Side) (i : ℕ) (x : Act) (c : Closed) (row : Row) (s : Site) → x.closed ≡ Some c
+    → row_of me i x.core.state (coming_from s.got) c ≡ row → SameShown (after_tick sc ports me i x s) (with_row c.place.stage row (with_epoch sc ports me i x.epoch s))
+after_tick-alike sc ports me i x c row s closed is =
     subst (λ o. SameShown (with_epoch sc ports me i x.epoch (with_close me i x.core.state o (record s { core = x.core }))) (with_row c.place.stage row (with_epoch sc ports me i x.epoch s))) (sym closed)
     (by x.epoch (c.place.stage == 4))
   where
@@ -70,7 +70,7 @@ acted-alike sc ports me i x c row s closed is =
     by (Some e) false = record { coming = refl; ahead = refl; runs = refl; row = ap (λ r. Some r) is; begun = refl }
 
 begun-alike : (sc : Scenario) (ports : List PortState) (me : Side) (i : ℕ) (x : Act) (s : Site) → x.closed ≡ None
-    → SameShown (acted sc ports me i x s) (with_epoch sc ports me i x.epoch s)
+    → SameShown (after_tick sc ports me i x s) (with_epoch sc ports me i x.epoch s)
 begun-alike sc ports me i x s closed =
     subst (λ o. SameShown (with_epoch sc ports me i x.epoch (with_close me i x.core.state o (record s { core = x.core }))) (with_epoch sc ports me i x.epoch s)) (sym closed) (by x.epoch)
   where
@@ -81,7 +81,7 @@ begun-alike sc ports me i x s closed =
 -- the world once the node has told, before it goes on
 abbrev pub told_in : Scenario → World → Side → ℕ → Act → World
 told_in sc w me i x =
-    record (moved me i (acted sc w.ports me i x) w) { ports = with_delivery sc i (option_and_then (λ (c : Closed). c.delivered) x.closed) w.ports }
+    record (moved me i (after_tick sc w.ports me i x) w) { ports = with_delivery sc i (option_and_then (λ (c : Closed). c.delivered) x.closed) w.ports }
 
 some-same : {X : Type 0} (a b : X) → Some a ≡ Some b → a ≡ b
 some-same a b e = ap (λ o. unwrap_or o a) e
@@ -90,8 +90,8 @@ told-by : (sc : Scenario) (me : Side) (i : ℕ) (scene : Scene) (w : World) (s :
     → ((c : Closed) → o ≡ Some c → row_of me i x.core.state (coming_from s.got) c ≡ row)
     → Surrounds sc scene (closed_if sc (name_of me i) o row (moved me i (with_epoch sc w.ports me i x.epoch) w)) → Surrounds sc scene (told_in sc w me i x)
 told-by sc me i scene w s x None row there closed is h =
-    subst (λ o. Surrounds sc scene (record (moved me i (acted sc w.ports me i x) w) { ports = with_delivery sc i (option_and_then (λ (c : Closed). c.delivered) o) w.ports })) (sym closed)
-    (alike sc scene w me i (with_epoch sc w.ports me i x.epoch) (acted sc w.ports me i x) (λ z e. begun-alike sc w.ports me i x z closed) h)
+    subst (λ o. Surrounds sc scene (record (moved me i (after_tick sc w.ports me i x) w) { ports = with_delivery sc i (option_and_then (λ (c : Closed). c.delivered) o) w.ports })) (sym closed)
+    (alike sc scene w me i (with_epoch sc w.ports me i x.epoch) (after_tick sc w.ports me i x) (λ z e. begun-alike sc w.ports me i x z closed) h)
 told-by sc me i scene w s x (Some c) row there closed is h =
     let f : Site → Site = λ z. with_row c.place.stage row (with_epoch sc w.ports me i x.epoch z) in
     let at : World = record w { ports = with_delivery sc i c.delivered w.ports } in
@@ -101,11 +101,11 @@ told-by sc me i scene w s x (Some c) row there closed is h =
     (subst (λ k. Surrounds sc scene (record (moved k (number_in (name_of me i)) (with_row c.place.stage row) (moved me i (with_epoch sc w.ports me i x.epoch) w)) { ports = with_delivery sc (number_in (name_of me i)) c.delivered w.ports })) (kind-named me i) h)) in
     let once : Surrounds sc scene (moved me i f at) =
     subst (λ (sites : Each Site). Surrounds sc scene (record at { sites = sites })) (at-twice me i (with_row c.place.stage row) (with_epoch sc w.ports me i x.epoch) w.sites) named in
-    subst (λ o. Surrounds sc scene (record (moved me i (acted sc w.ports me i x) w) { ports = with_delivery sc i (option_and_then (λ (c : Closed). c.delivered) o) w.ports })) (sym closed)
-    (alike sc scene at me i f (acted sc w.ports me i x)
+    subst (λ o. Surrounds sc scene (record (moved me i (after_tick sc w.ports me i x) w) { ports = with_delivery sc i (option_and_then (λ (c : Closed). c.delivered) o) w.ports })) (sym closed)
+    (alike sc scene at me i f (after_tick sc w.ports me i x)
     (λ z e.
     let same : s ≡ z = some-same s z (sym there ∙ e) in
-    acted-alike sc w.ports me i x c row z closed (subst (λ (y : Site). row_of me i x.core.state (coming_from y.got) c ≡ row) same (is c refl))) once)
+    after_tick-alike sc w.ports me i x c row z closed (subst (λ (y : Site). row_of me i x.core.state (coming_from y.got) c ≡ row) same (is c refl))) once)
 
 -- The node's own name being this, and by what the step says.
 pub told-around : (sc : Scenario) (me : Side) (i : ℕ) (name : NodeName) (scene : Scene) (w : World) (s : Site) (x : Act) (step : Step) (shown : Closed) (row : Row)
@@ -135,13 +135,13 @@ told-around sc me i name scene w s x step shown row named there act is h =
 -- what the world is after the tick
 pub act-is : (sc : Scenario) (w : World) (me : Side) (i k : ℕ) (x : Act)
     → record (moved me i (proceed sc me i) (told_in sc w me i x)) {
-      sites = with_message sc me i x.core.state.frame k x.message (at_node me i (proceed sc me i) (at_node me i (acted sc w.ports me i x) w.sites));
+      sites = with_message sc me i x.core.state.frame k x.message (at_node me i (proceed sc me i) (at_node me i (after_tick sc w.ports me i x) w.sites));
     }
     ≡ with_act sc w me i k x
 unfolding with_act after_act
 act-is sc w me i k x =
     ap (λ (sites : Each Site). record w { sites = with_message sc me i x.core.state.frame k x.message sites; ports = with_delivery sc i (option_and_then (λ (c : Closed). c.delivered) x.closed) w.ports })
-    (at-twice me i (proceed sc me i) (acted sc w.ports me i x) w.sites)
+    (at-twice me i (proceed sc me i) (after_tick sc w.ports me i x) w.sites)
 
 pub next-is : (sc : Scenario) (me : Side) (i k : ℕ) (site : KeptSite) (c : Core) → site.node.seat.sizes ≡ sc.sizes → site.node.seat.plan ≡ sc.plan → number_of site ≡ i
     → next_tick sc.sizes sc.plan me i c ≡ Some k → next_of me site.node c ≡ Some k

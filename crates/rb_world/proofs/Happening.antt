@@ -19,7 +19,7 @@ use Rattle.rb_rules.specs.WorldStep.Pending.{Tick}
 use Rattle.rb_rules.proofs.WindowNumbers.{get-each}
 use Rattle.rb_agenda.specs.Holding.{without_waiting}
 use Rattle.rb_order.proofs.WorldStands.{is_node, not-other}
-use Rattle.rb_site.specs.Sites.{Kept as KeptSite, Stands as StandsFor, acted}
+use Rattle.rb_site.specs.Sites.{Kept as KeptSite, Stands as StandsFor, after_tick}
 use Rattle.rb_world.specs.declared.scene.Scene.{Scene}
 use Rattle.rb_world.specs.Steps.{Happens, Ticks, moved}
 use Rattle.rb_world.specs.Worlds.{AreNodes, Awaits, IsNode, Surrounds}
@@ -44,8 +44,8 @@ proceed-same : (sc : Scenario) (me : Side) (i : ℕ) (s : Site) → proceed sc m
 unfolding proceed
 proceed-same sc me i s = entered-same sc me i (span_from sc.sizes sc.plan me s.core.state s.core.had) s
 
-acted-same : (sc : Scenario) (ports : List PortState) (me : Side) (i : ℕ) (x : Act) (s : Site) → acted sc ports me i x (record s { ahead = None }) ≡ record (acted sc ports me i x s) { ahead = None }
-acted-same sc ports me i x s = by x.epoch x.closed
+after_tick-same : (sc : Scenario) (ports : List PortState) (me : Side) (i : ℕ) (x : Act) (s : Site) → after_tick sc ports me i x (record s { ahead = None }) ≡ record (after_tick sc ports me i x s) { ahead = None }
+after_tick-same sc ports me i x s = by x.epoch x.closed
   where
     by : (e : Option Epoch) (o : Option Closed) → with_epoch sc ports me i e (with_close me i x.core.state o (record (record s { ahead = None }) { core = x.core }))
         ≡ record (with_epoch sc ports me i e (with_close me i x.core.state o (record s { core = x.core }))) { ahead = None }
@@ -56,7 +56,7 @@ acted-same sc ports me i x s = by x.epoch x.closed
 
 pub after-act-same : (sc : Scenario) (ports : List PortState) (me : Side) (i : ℕ) (x : Act) (s : Site) → after_act sc ports me i x (record s { ahead = None }) ≡ after_act sc ports me i x s
 unfolding after_act
-after-act-same sc ports me i x s = ap (proceed sc me i) (acted-same sc ports me i x s) ∙ proceed-same sc me i (acted sc ports me i x s)
+after-act-same sc ports me i x s = ap (proceed sc me i) (after_tick-same sc ports me i x s) ∙ proceed-same sc me i (after_tick sc ports me i x s)
 
 pub act-same : (sc : Scenario) (w : World) (me : Side) (i k : ℕ) (x : Act) → with_act sc (moved me i (without_waiting (Tick k)) w) me i k x ≡ with_act sc w me i k x
 unfolding with_act
@@ -130,11 +130,11 @@ nodes-other sc me i change kept sites are = record {
       subst (IsNode sc (other me) n a) z_is (are.each n a was.site ea was.there);
 }
 
-pub acted-nodes : (sc : Scenario) (w : World) (me : Side) (i k : ℕ) (x : Act) (kept others : List KeptSite) (new : KeptSite) (s : Site) → slice_get (of_kind me w.sites) i ≡ Some s
+pub after_tick-nodes : (sc : Scenario) (w : World) (me : Side) (i k : ℕ) (x : Act) (kept others : List KeptSite) (new : KeptSite) (s : Site) → slice_get (of_kind me w.sites) i ≡ Some s
     → IsNode sc me i new (after_act sc w.ports me i x s) → AreNodes sc me kept (of_kind me w.sites) → AreNodes sc (other me) others (of_kind (other me) w.sites)
     → AreNodes sc me (slice_set kept i new) (of_kind me (with_act sc w me i k x).sites) × AreNodes sc (other me) others (of_kind (other me) (with_act sc w me i k x).sites)
 unfolding with_act
-acted-nodes sc w me i k x kept others new s there is own far = (
+after_tick-nodes sc w me i k x kept others new s there is own far = (
   sent-nodes sc me i x.core.state.frame k x.message me (slice_set kept i new) (at_node me i (after_act sc w.ports me i x) w.sites)
       (nodes-own sc me i (after_act sc w.ports me i x) kept w.sites new s there is own),
   sent-nodes sc me i x.core.state.frame k x.message (other me) others (at_node me i (after_act sc w.ports me i x) w.sites)
@@ -163,7 +163,7 @@ pub tick-acts : (sc : Scenario) (w : World) (d : Due) (me : Side) (i k : ℕ) (s
 tick-acts sc w d me i k s kept others new scene is there own far ticks =
     let x : Act = pass_and_tick sc w.ports me i k s.core in
     let node : IsNode sc me i new (after_act sc w.ports me i x s) = subst (IsNode sc me i new) (after-act-same sc w.ports me i x s) ticks.node in
-    let both = acted-nodes sc w me i k x kept others new s there node own far in
+    let both = after_tick-nodes sc w me i k x kept others new s there node own far in
     subst (Acts sc me (slice_set kept i new) others scene) (sym (happens-tick sc w d me i k s is there))
     (record { own = both.0; far = both.1; surrounds = subst (Surrounds sc scene) (act-same sc w me i k x) ticks.surrounds })
 

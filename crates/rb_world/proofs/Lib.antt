@@ -23,3 +23,5 @@ pub mod Whole
 pub mod Happening
 pub mod Chosen
 pub mod Ready
+pub mod Beginning
+pub mod Openings

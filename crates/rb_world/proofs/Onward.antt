@@ -10,7 +10,7 @@ use Rattle.rb_rules.specs.Links.{name_of}
 use Rattle.rb_rules.specs.WorldStep.{Site, World, at_node, await, enter, proceed, says_in, span_from, stop}
 use Rattle.rb_queue.specs.Waiting.{Held, with_lane}
 use Rattle.rb_site.specs.Sites.{Kept as KeptSite, Stands as StandsFor}
-use Rattle.rb_site.proofs.Standing.{awaits, stopped}
+use Rattle.rb_site.proofs.Standing.{awaits, stops}
 use Rattle.rb_world.specs.declared.scene.Scene.{Scene}
 use Rattle.rb_world.specs.Steps.{IsAt, Proceeds, moved}
 use Rattle.rb_world.specs.Worlds.{IsNode, Surrounds}
@@ -71,7 +71,7 @@ pub proceeds-out : (sc : Scenario) (me : Side) (i : ℕ) (site : KeptSite) (befo
 proceeds-out sc me i site before after w s at does is others = record {
   node = subst (IsNode sc me i (record site { runs = false })) (sym does) (record {
     number = at.number;
-    site = stopped sc me site s at.stands;
+    site = stops sc me site s at.stands;
     awaits = record { running = λ runs. absurd (apart runs); tick_of_none = λ stops. refl; nothing = λ stops. refl };
     senders = at.senders;
   });

@@ -25,7 +25,7 @@ use Rattle.rb_rules.specs.WorldStep.{Site, World, after_act, at_node, await, com
 use Rattle.rb_queue.specs.Waiting.{Held, empty_lane, lane_of, spare_of}
 use Rattle.rb_node.specs.Acts.{IsAct}
 use Rattle.rb_node.specs.declared.act.Step.{Step}
-use Rattle.rb_site.specs.Sites.{Kept as KeptSite, acted, number_of}
+use Rattle.rb_site.specs.Sites.{Kept as KeptSite, after_tick, number_of}
 use Rattle.rb_site.specs.Tells.{IsTicked, row_at}
 use Rattle.rb_traffic.specs.Arriving.{number_of as number_in}
 use Rattle.rb_world.specs.declared.scene.Scene.{Scene}
@@ -40,10 +40,10 @@ use Rattle.rb_world.proofs.Seeing.{none-came, tick-sees}
 
 -- What a site keeps.
 
-acted-keeps : {Y : Type 0} (h : Site → Y) (sc : Scenario) (ports : List PortState) (me : Side) (i : ℕ) (x : Act) (s : Site)
+after_tick-keeps : {Y : Type 0} (h : Site → Y) (sc : Scenario) (ports : List PortState) (me : Side) (i : ℕ) (x : Act) (s : Site)
     → ((z : Site) (e : Epoch) → h (with_epoch sc ports me i (Some e) z) ≡ h z) → ((z : Site) (c : Closed) → h (with_close me i x.core.state (Some c) z) ≡ h z)
-    → h (acted sc ports me i x s) ≡ h (record s { core = x.core })
-acted-keeps h sc ports me i x s epochs closes = begun x.epoch ∙ closed x.closed
+    → h (after_tick sc ports me i x s) ≡ h (record s { core = x.core })
+after_tick-keeps h sc ports me i x s epochs closes = begun x.epoch ∙ closed x.closed
   where
     z : Site
     z = record s { core = x.core }
@@ -56,17 +56,17 @@ acted-keeps h sc ports me i x s epochs closes = begun x.epoch ∙ closed x.close
     begun None = refl
     begun (Some e) = epochs (with_close me i x.core.state x.closed z) e
 
-pub acted-core : (sc : Scenario) (ports : List PortState) (me : Side) (i : ℕ) (x : Act) (s : Site) → (acted sc ports me i x s).core ≡ x.core
-acted-core sc ports me i x s = acted-keeps (λ s. s.core) sc ports me i x s (λ z e. refl) (λ z c. refl)
+pub after_tick-core : (sc : Scenario) (ports : List PortState) (me : Side) (i : ℕ) (x : Act) (s : Site) → (after_tick sc ports me i x s).core ≡ x.core
+after_tick-core sc ports me i x s = after_tick-keeps (λ s. s.core) sc ports me i x s (λ z e. refl) (λ z c. refl)
 
-acted-ahead : (sc : Scenario) (ports : List PortState) (me : Side) (i : ℕ) (x : Act) (s : Site) → (acted sc ports me i x s).ahead ≡ s.ahead
-acted-ahead sc ports me i x s = acted-keeps (λ s. s.ahead) sc ports me i x s (λ z e. refl) (λ z c. refl)
+after_tick-ahead : (sc : Scenario) (ports : List PortState) (me : Side) (i : ℕ) (x : Act) (s : Site) → (after_tick sc ports me i x s).ahead ≡ s.ahead
+after_tick-ahead sc ports me i x s = after_tick-keeps (λ s. s.ahead) sc ports me i x s (λ z e. refl) (λ z c. refl)
 
-acted-runs : (sc : Scenario) (ports : List PortState) (me : Side) (i : ℕ) (x : Act) (s : Site) → (acted sc ports me i x s).runs ≡ s.runs
-acted-runs sc ports me i x s = acted-keeps (λ s. s.runs) sc ports me i x s (λ z e. refl) (λ z c. refl)
+after_tick-runs : (sc : Scenario) (ports : List PortState) (me : Side) (i : ℕ) (x : Act) (s : Site) → (after_tick sc ports me i x s).runs ≡ s.runs
+after_tick-runs sc ports me i x s = after_tick-keeps (λ s. s.runs) sc ports me i x s (λ z e. refl) (λ z c. refl)
 
-acted-got : (sc : Scenario) (ports : List PortState) (me : Side) (i : ℕ) (x : Act) (s : Site) (P : Coming → Type 0) → All P s.got → All P (acted sc ports me i x s).got
-acted-got sc ports me i x s P all = begun x.epoch (closed x.closed)
+after_tick-got : (sc : Scenario) (ports : List PortState) (me : Side) (i : ℕ) (x : Act) (s : Site) (P : Coming → Type 0) → All P s.got → All P (after_tick sc ports me i x s).got
+after_tick-got sc ports me i x s P all = begun x.epoch (closed x.closed)
   where
     closed : (o : Option Closed) → All P (with_close me i x.core.state o (record s { core = x.core })).got
     closed None = all
@@ -89,7 +89,7 @@ pub proceed-core : (sc : Scenario) (me : Side) (i : ℕ) (s : Site) → (proceed
 unfolding proceed
 proceed-core sc me i s = entered-core sc me i (span_from sc.sizes sc.plan me s.core.state s.core.had) s
 
-after-is : (sc : Scenario) (ports : List PortState) (me : Side) (i : ℕ) (x : Act) (s : Site) → proceed sc me i (acted sc ports me i x s) ≡ after_act sc ports me i x s
+after-is : (sc : Scenario) (ports : List PortState) (me : Side) (i : ℕ) (x : Act) (s : Site) → proceed sc me i (after_tick sc ports me i x s) ≡ after_act sc ports me i x s
 unfolding after_act
 after-is sc ports me i x s = refl
 
@@ -175,7 +175,7 @@ act_of sc w me site k s = pass_and_tick sc w.ports me (number_of site) k s.core
 state-is : (sc : Scenario) (me : Side) (k : ℕ) (site after : KeptSite) (w : World) (s : Site) (step : Step) → IsTicked sc w.ports me site after step k s
     → (act_of sc w me site k s).core.state ≡ after.node.seat.state
 state-is sc me k site after w s step ticked =
-    ap (λ (c : Core). c.state) (sym (acted-core sc w.ports me (number_of site) (act_of sc w me site k s) s)) ∙ ticked.stands.core.state
+    ap (λ (c : Core). c.state) (sym (after_tick-core sc w.ports me (number_of site) (act_of sc w me site k s) s)) ∙ ticked.stands.core.state
 
 pub told-then : (sc : Scenario) (me : Side) (k : ℕ) (name : NodeName) (site after : KeptSite) (before scene : Scene) (w : World) (s : Site) (step : Step) → name ≡ name_of me (number_of site)
     → MayTick sc me (number_of site) k site before w s → IsTicked sc w.ports me site after step k s
@@ -193,7 +193,7 @@ told-then sc me k name site after before scene w s step named may ticked around 
 pub may-then : (sc : Scenario) (me : Side) (k : ℕ) (site after : KeptSite) (before scene : Scene) (w : World) (s : Site) (step : Step) → number_of after ≡ number_of site
     → MayTick sc me (number_of site) k site before w s → IsTicked sc w.ports me site after step k s → scene.agenda ≡ before.agenda
     → Surrounds sc scene (told_in sc w me (number_of site) (act_of sc w me site k s))
-    → MayProceed sc me (number_of site) after scene (told_in sc w me (number_of site) (act_of sc w me site k s)) (acted sc w.ports me (number_of site) (act_of sc w me site k s) s)
+    → MayProceed sc me (number_of site) after scene (told_in sc w me (number_of site) (act_of sc w me site k s)) (after_tick sc w.ports me (number_of site) (act_of sc w me site k s) s)
 may-then sc me k site after before scene w s step same may ticked agenda told =
     let i : ℕ = number_of site in
     let x : Act = act_of sc w me site k s in
@@ -201,16 +201,16 @@ may-then sc me k site after before scene w s step same may ticked agenda told =
       at = record {
         lawful = may.at.lawful;
         within = may.at.within;
-        there = changed-there me i (acted sc w.ports me i x) w s may.at.there;
+        there = changed-there me i (after_tick sc w.ports me i x) w s may.at.there;
         number = same;
         stands = ticked.stands;
-        none_ahead = acted-ahead sc w.ports me i x s ∙ may.at.none_ahead;
-        runs = acted-runs sc w.ports me i x s ∙ may.at.runs;
-        senders = acted-got sc w.ports me i x s (λ c. c.from < count_of (other me) sc.sizes) may.at.senders;
+        none_ahead = after_tick-ahead sc w.ports me i x s ∙ may.at.none_ahead;
+        runs = after_tick-runs sc w.ports me i x s ∙ may.at.runs;
+        senders = after_tick-got sc w.ports me i x s (λ c. c.from < count_of (other me) sc.sizes) may.at.senders;
         surrounds = told;
         spare = subst (λ ls. length sc.says + 1 ≤ spare_of (lane_of ls (name_of me i))) (sym agenda) may.at.spare;
       };
-      spans = subst (SpansFit sc me) (sym (acted-core sc w.ports me i x s)) may.spans;
+      spans = subst (SpansFit sc me) (sym (after_tick-core sc w.ports me i x s)) may.spans;
     }
 
 -- room for the message, when the node has gone on
@@ -226,7 +226,7 @@ room-then sc me i before scene after room agenda others j h =
     by Rmu same h = subst (λ (ls : List Held). 1 ≤ spare_of (unwrap_or (slice_get ls j) (empty_lane 0))) (sym same) h
 
 pub whole : (sc : Scenario) (me : Side) (i k : ℕ) (name : NodeName) (site : KeptSite) (before scene after : Scene) (w : World) (s : Site) (x : Act) (step : Step) (frame : ℕ)
-    → name ≡ name_of me i → Proceeds sc me i site before scene (told_in sc w me i x) (acted sc w.ports me i x s) → frame ≡ site.node.seat.state.frame → step.message ≡ x.message
+    → name ≡ name_of me i → Proceeds sc me i site before scene (told_in sc w me i x) (after_tick sc w.ports me i x s) → frame ≡ site.node.seat.state.frame → step.message ≡ x.message
     → Surrounds sc after (record (moved me i (proceed sc me i) (told_in sc w me i x)) {
       sites = with_message sc (kind_of name) (number_in name) frame k step.message (moved me i (proceed sc me i) (told_in sc w me i x)).sites;
     })
@@ -234,7 +234,7 @@ pub whole : (sc : Scenario) (me : Side) (i k : ℕ) (name : NodeName) (site : Ke
 whole sc me i k name site before scene after w s x step frame named on frame_is message sent =
     let v : World = moved me i (proceed sc me i) (told_in sc w me i x) in
     let state : x.core.state ≡ site.node.seat.state =
-    ap (λ (c : Core). c.state) (sym (proceed-core sc me i (acted sc w.ports me i x s) ∙ acted-core sc w.ports me i x s)) ∙ on.node.site.core.state in
+    ap (λ (c : Core). c.state) (sym (proceed-core sc me i (after_tick sc w.ports me i x s) ∙ after_tick-core sc w.ports me i x s)) ∙ on.node.site.core.state in
     let frame_so : frame ≡ x.core.state.frame = frame_is ∙ ap (λ (st : NodeState). st.frame) (sym state) in
     let named_so : Surrounds sc after (record v { sites = with_message sc me i frame k step.message v.sites }) =
     subst (λ j. Surrounds sc after (record v { sites = with_message sc me j frame k step.message v.sites })) (number-named me i)

@@ -4,3 +4,4 @@ pub mod Turning
 pub mod Steps
 pub mod Nexts
 pub mod Driving
+pub mod Openings

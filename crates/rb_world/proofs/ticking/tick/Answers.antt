@@ -8,7 +8,7 @@ use Rattle.rb_node.specs.Acts.{IsAct}
 use Rattle.rb_node.specs.Cores.{IsCore, Running, next_of}
 use Rattle.rb_slot.specs.Engines.{Seated}
 use Rattle.rb_node.specs.Wants.{want_then}
-use Rattle.rb_site.specs.Sites.{acted, number_of}
+use Rattle.rb_site.specs.Sites.{after_tick, number_of}
 use Rattle.rb_site.specs.Tells.{IsTicked}
 use Rattle.rb_world.specs.declared.scene.Scene.{Scene}
 use Rattle.rb_world.specs.Steps.{CanWant, moved, HasRoomFor, MayTick, MayProceed, OthersStay, Proceeds, SeesOnlyNodes}
@@ -91,7 +91,7 @@ proceed-requires-clause-may g c =
     (c.close.ensures.around _ (c.begin.ensures.around w may.at.surrounds)) in
     let agenda = c.close.ensures.agenda ∙ ap (λ (m : Scene). m.agenda) c.begin.ensures.rest in
     let ready = may-then sc me k site c.tick-step.new.self c.args.scene.now c.close.new.scene w s c.tick-step.result c.tick-step.ensures.same.index may ticked agenda told in
-    let z = acted sc w.ports me (number_of site) x s in
+    let z = after_tick sc w.ports me (number_of site) x s in
     let v = told_in sc w me (number_of site) x in
     (v, z, subst (λ i. MayProceed sc me i c.tick-step.new.self c.close.new.scene v z) (sym c.tick-step.ensures.same.index) ready)
 
@@ -119,7 +119,7 @@ depart-requires-clause-around g c =
     (c.close.ensures.around _ (c.begin.ensures.around w may.at.surrounds)) in
     let agenda = c.close.ensures.agenda ∙ ap (λ (m : Scene). m.agenda) c.begin.ensures.rest in
     let ready = may-then sc me k site c.tick-step.new.self c.args.scene.now c.close.new.scene w s c.tick-step.result c.tick-step.ensures.same.index may ticked agenda told in
-    let z = acted sc w.ports me (number_of site) x s in
+    let z = after_tick sc w.ports me (number_of site) x s in
     let v = told_in sc w me (number_of site) x in
     let on : Proceeds sc me (number_of site) c.proceed.new.site c.close.new.scene c.proceed.new.scene v z =
     subst (λ i. Proceeds sc me i c.proceed.new.site c.close.new.scene c.proceed.new.scene v z) c.tick-step.ensures.same.index
@@ -147,7 +147,7 @@ depart-requires-clause-room g c =
     (c.close.ensures.around _ (c.begin.ensures.around w may.at.surrounds)) in
     let agenda = c.close.ensures.agenda ∙ ap (λ (m : Scene). m.agenda) c.begin.ensures.rest in
     let ready = may-then sc me k site c.tick-step.new.self c.args.scene.now c.close.new.scene w s c.tick-step.result c.tick-step.ensures.same.index may ticked agenda told in
-    let z = acted sc w.ports me (number_of site) x s in
+    let z = after_tick sc w.ports me (number_of site) x s in
     let v = told_in sc w me (number_of site) x in
     let on : Proceeds sc me (number_of site) c.proceed.new.site c.close.new.scene c.proceed.new.scene v z =
     subst (λ i. Proceeds sc me i c.proceed.new.site c.close.new.scene c.proceed.new.scene v z) c.tick-step.ensures.same.index
@@ -174,7 +174,7 @@ returns g c =
     (c.close.ensures.around _ (c.begin.ensures.around w may.at.surrounds)) in
     let agenda = c.close.ensures.agenda ∙ ap (λ (m : Scene). m.agenda) c.begin.ensures.rest in
     let ready = may-then sc me k site c.tick-step.new.self c.args.scene.now c.close.new.scene w s c.tick-step.result c.tick-step.ensures.same.index may ticked agenda told in
-    let z = acted sc w.ports me (number_of site) x s in
+    let z = after_tick sc w.ports me (number_of site) x s in
     let v = told_in sc w me (number_of site) x in
     let on : Proceeds sc me (number_of site) c.proceed.new.site c.close.new.scene c.proceed.new.scene v z =
     subst (λ i. Proceeds sc me i c.proceed.new.site c.close.new.scene c.proceed.new.scene v z) c.tick-step.ensures.same.index
