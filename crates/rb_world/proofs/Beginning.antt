@@ -85,7 +85,7 @@ set-long [] n y = refl
 set-long (x ∷ xs) zero y = refl
 set-long (x ∷ xs) (suc n) y = ap suc (set-long xs n y)
 
-apart : (me : Side) (n i : ℕ) → (i ≡ n → ⊥) → is_node me n me i ≡ false
+pub apart : (me : Side) (n i : ℕ) → (i ≡ n → ⊥) → is_node me n me i ≡ false
 apart Biu n i ne = grind (arith, nat_tests, ne)
 apart Rmu n i ne = grind (arith, nat_tests, ne)
 

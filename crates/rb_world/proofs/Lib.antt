@@ -25,3 +25,4 @@ pub mod Chosen
 pub mod Ready
 pub mod Beginning
 pub mod Openings
+pub mod FirstStands

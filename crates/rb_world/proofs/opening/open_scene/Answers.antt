@@ -1,0 +1,5 @@
+use Rattle.rb_world.proofs.FirstStands.{before-surrounds}
+use Rattle.rb_world.proofs.opening.open_scene.Goals as goal
+
+pub returns : goal.returns
+returns c = ?
