@@ -103,7 +103,7 @@ no-more : (sc : Scenario) (me : Side) (r i : ℕ) → r ≡ set_of (λ i. nat_lt
 no-more sc me r i is inside =
     let e : has (set_of (λ i. nat_lt i (count_of me sc.sizes))) i ≡ true = ap (λ r. has r i) (sym is) ∙ inside in
     elim (cases_lt i 16) [
-      | inl low ↦ ltb-true (sym (has-set_of i (λ i. nat_lt i (count_of me sc.sizes)) low) ∙ e)
+      | inl low ↦ ltb-true i (count_of me sc.sizes) (sym (has-set_of i (λ i. nat_lt i (count_of me sc.sizes)) low) ∙ e)
       | inr ge ↦ absurd (let never : false ≡ true = sym (has_above (set_of (λ i. nat_lt i (count_of me sc.sizes))) i (set_of-lt (λ i. nat_lt i (count_of me sc.sizes))) ge) ∙ e in cc)
     ]
 
@@ -253,3 +253,17 @@ first-stands sc bius rmus between scene lawful one two = record {
     nodes : (me : Side) → AreNodes sc me (of_kind me (record { bius = bius; rmus = rmus })) (of_kind me (first_world sc).sites)
     nodes Biu = begun-nodes sc Biu bius between (before_all sc) one
     nodes Rmu = begun-nodes sc Rmu rmus scene (with_begun sc Biu sc.sizes.bius (before_all sc)) two
+
+-- The steps, as they are taken.
+
+pub rmus-next : (sc : Scenario) (kept : List KeptSite) (scene : Scene) (n : ℕ) → IsLawful sc → HaveBegun sc Biu n kept scene (before_all sc) → (w : World) × MayBegin sc Rmu scene w
+rmus-next sc kept scene n lawful is = (with_begun sc Biu n (before_all sc), rmus-may sc kept scene n lawful is)
+
+pub opened : (sc : Scenario) (bius rmus : List KeptSite) (between scene : Scene) (n m : ℕ) → IsLawful sc → n ≡ sc.sizes.bius → m ≡ sc.sizes.rmus
+    → HaveBegun sc Biu n bius between (before_all sc) → ((w : World) → MayBegin sc Rmu between w → HaveBegun sc Rmu m rmus scene w)
+    → Stands (record { bus = sc; nodes = record { bius = bius; rmus = rmus }; scene = scene; last = last.Quiet }) (first_world sc)
+opened sc bius rmus between scene n m lawful all_bius all_rmus one two =
+    let first : HaveBegun sc Biu sc.sizes.bius bius between (before_all sc) = subst (λ n. HaveBegun sc Biu n bius between (before_all sc)) all_bius one in
+    let w : World = with_begun sc Biu sc.sizes.bius (before_all sc) in
+    first-stands sc bius rmus between scene lawful first
+    (subst (λ m. HaveBegun sc Rmu m rmus scene w) all_rmus (two w (rmus-may sc bius between sc.sizes.bius lawful first)))
