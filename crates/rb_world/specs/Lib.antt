@@ -2,3 +2,4 @@ pub mod Buses
 pub mod Worlds
 pub mod Turning
 pub mod Steps
+pub mod Showing
