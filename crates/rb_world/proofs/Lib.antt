@@ -17,3 +17,4 @@ pub mod Whole
 pub mod Happening
 pub mod Chosen
 pub mod Ready
+pub mod Arrivals
