@@ -18,3 +18,4 @@ pub mod Happening
 pub mod Chosen
 pub mod Ready
 pub mod Showing
+pub mod Arrivals
