@@ -200,3 +200,20 @@ show-ready k w i place me j name event is below at due shown named =
     let takes : Takes k.scene.agenda i name event lanes = record { place = place; stands = at; taken = shown; left = refl } in
     let both = may-happen k w i name event lanes is below takes (takes-due k.bus w k.scene.agenda i event name place is.scene.lanes at due shown) in
     show-happening k w i both.0 me j (first_time k.scene.agenda) name event lanes is both.1 named event.kind refl
+
+-- With what is at hand: this site, these ports, this time, the node by its name.
+
+pub may-show : (k : Kept) (w : World) (i : ℕ) (me : Side) (j time : ℕ) (name : NodeName) (event : Event) (site : KeptSite) (ports : List KeptPort)
+    → (r : ShowReady k w i me j (first_time k.scene.agenda) name event) → r.site ≡ site → ports ≡ k.scene.ports.items → time ≡ first_time k.scene.agenda → name ≡ name_of me j
+    → MayShow k.bus me (number_of site) r.waits site ports time (name_of me j) event w.ports r.s
+may-show k w i me j time name event site ports r site_is ports_are time_is named =
+    subst (λ z. MayShow k.bus me (number_of z) r.waits z ports time (name_of me j) event w.ports r.s) site_is
+    (subst (λ n. MayShow k.bus me n r.waits r.site ports time (name_of me j) event w.ports r.s) (sym r.number)
+    (subst (λ n. MayShow k.bus me j r.waits r.site ports time n event w.ports r.s) named
+    (subst (λ t. MayShow k.bus me j r.waits r.site ports t name event w.ports r.s) (sym time_is)
+    (subst (λ ps. MayShow k.bus me j r.waits r.site ps (first_time k.scene.agenda) name event w.ports r.s) (sym ports_are) r.may))))
+
+pub event-shown : (k : Kept) (w : World) (i : ℕ) (me : Side) (j : ℕ) (name : NodeName) (event shown : Event) (site : KeptSite)
+    → (r : ShowReady k w i me j (first_time k.scene.agenda) name event) → r.site ≡ site → shown ≡ event_of k.bus w.ports me (number_of site) r.s.core r.waits → event_at k.bus w i ≡ Some shown
+event-shown k w i me j name event shown site r site_is e =
+    r.is ∙ ap (λ (x : Event). Some x) (sym (e ∙ ap (λ n. event_of k.bus w.ports me n r.s.core r.waits) (sym (ap number_of site_is) ∙ r.number)))
