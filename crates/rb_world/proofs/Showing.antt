@@ -1,5 +1,5 @@
 -- What is due may be shown.
-use Rattle.std.proofs.Common.{◌≡◌, ◌+◌, ◌<◌, ◌≤◌, ◌^◌, ◌==◌, ℕ, zero, suc, Bool, true, List, [], ◌∷◌, Option, Some, length, slice_get, refl, sym, ap, ◌∙◌, subst, arith}
+use Rattle.std.proofs.Common.{◌≡◌, ◌<◌, ◌≤◌, ◌^◌, ◌==◌, ℕ, Bool, true, List, Option, Some, length, slice_get, refl, sym, ap, ◌∙◌, subst, arith}
 use Rattle.std.specs.Prelude.{option_and_then, option_map, unwrap_or}
 use Rattle.std.proofs.lemmas.Bool.Decides.{nat_tests}
 use Rattle.arrayvec.specs.ArrayVec.{ArrayVec}
@@ -22,7 +22,9 @@ use Rattle.rb_agenda.specs.Agenda.{IsAtTime, IsDue, StandsAt, Takes, TakesDue, f
 use Rattle.rb_agenda.specs.Holding.{HoldsSite, HoldsSites, Shows, coming_with, due_with, waits_with, without_waiting}
 use Rattle.rb_agenda.proofs.Changes.{holds-at}
 use Rattle.rb_agenda.proofs.Places.{holds-without, ready-time}
+use Rattle.rb_agenda.proofs.Which.{has-item}
 use Rattle.rb_node.specs.Cores.{passing_end}
+use Rattle.rb_order.proofs.DueEvents.{IsDue as IsPending}
 use Rattle.rb_port.specs.Keeping.{KeptPort}
 use Rattle.rb_site.specs.Sites.{Kept as KeptSite, number_of}
 use Rattle.rb_site.proofs.Standing.{passing-most}
@@ -31,7 +33,7 @@ use Rattle.rb_world.specs.Steps.{MayHappen}
 use Rattle.rb_world.specs.Worlds.{Kept, Stands, due_in}
 use Rattle.rb_world.proofs.Arrivals.{arrival-ready, in-time}
 use Rattle.rb_world.proofs.Chosen.{may-happen}
-use Rattle.rb_world.proofs.Ready.{tick-ready}
+use Rattle.rb_world.proofs.Ready.{due-reached, next-due, node-there, tick-of}
 
 pub event-same : (a b : NodeName) (m n : ℕ) (x y : EventKind) → a ≡ b → m ≡ n → x ≡ y
     → ◌≡◌ {A = Event} (record { node = a; quiet = m; kind = x }) (record { node = b; quiet = n; kind = y })
@@ -69,8 +71,8 @@ arrival-shows sc me i waits site kept time name event states s from bytes may is
     by (Tick k) shows at next = absurd shows
     by (Arrival place c) shows at next =
         let same : c ≡ record { time = time; from = from; bytes = bytes.items } = ap (λ t. let z : Coming = record { time = t; from = c.from; bytes = c.bytes } in z) at
-            ∙ ap (λ f. let z : Coming = record { time = time; from = f; bytes = c.bytes } in z) (sym shows.0)
-            ∙ ap (λ b. let z : Coming = record { time = time; from = from; bytes = b } in z) (sym shows.1) in
+        ∙ ap (λ f. let z : Coming = record { time = time; from = f; bytes = c.bytes } in z) (sym shows.0)
+        ∙ ap (λ b. let z : Coming = record { time = time; from = from; bytes = b } in z) (sym shows.1) in
         record {
           place = place;
           is = ap (Arrival place) same;
@@ -143,31 +145,29 @@ event-is sc w i d me j p s found is there =
     ap (option_and_then (λ (d : Due). option_map (λ (s : Site). event_of sc w.ports d.side d.node s.core d.pending) (slice_get (of_kind d.side w.sites) d.node))) (found ∙ ap (λ (x : Due). Some x) is)
     ∙ ap (option_map (λ (s : Site). event_of sc w.ports me j s.core p)) there
 
-below-all : {X : Type 0} (xs : List X) (i : ℕ) (x : X) → slice_get xs i ≡ Some x → i < length xs
-below-all [] i x e = cc
-below-all (y ∷ xs) zero x e = omega arith
-below-all (y ∷ xs) (suc i) x e = let lt = below-all xs i x e in omega (arith, lt)
-
 show-happening : (k : Kept) (w : World) (i : ℕ) (d : Due) (me : Side) (j time : ℕ) (name : NodeName) (event : Event) (lanes : Each Lane) → Stands k w
     → MayHappen k.bus k.nodes (record k.scene { agenda = lanes }) time name event w i d → name ≡ name_of me j → (e : EventKind) → event.kind ≡ e → ShowReady k w i me j time name event
 show-happening k w i d me j time name event lanes is may named (kind.Tick word wanted) shown =
-    let r = tick-ready k.bus k.nodes (record k.scene { agenda = lanes }) time name event w i d me j word wanted may shown named in
-    let node = (is.nodes me).each j r.site r.s r.kept_there r.there in
+    let t = tick-of k.bus k.nodes (record k.scene { agenda = lanes }) time name event w i d me j word wanted may shown named in
+    let due : IsPending w (record { side = me; node = j; pending = Tick t.tick }) = subst (IsPending w) t.is (due-reached k.bus w i d may.reached may.found) in
+    let there = node-there k.bus k.nodes (record k.scene { agenda = lanes }) time name event w i d me j may named in
+    let found = has-item (of_kind me k.nodes) j there.1 in
+    let node = (is.nodes me).each j found.item due.s found.is due.there in
     record {
-      waits = Tick r.tick;
-      s = r.s;
-      site = r.site;
-      kept_there = r.kept_there;
-      inside = r.inside;
-      number = r.number;
+      waits = Tick t.tick;
+      s = due.s;
+      site = found.item;
+      kept_there = found.is;
+      inside = there.1;
+      number = node.number;
       may = record {
-        at = record { within = r.may.at.within; named = named; number = r.number; stands = node.site };
+        at = record { within = there.0; named = named; number = node.number; stands = node.site };
         holds = is.scene.ports;
-        shows = subst (λ (d : Due). Shows d.pending event.kind) r.is may.shows;
+        shows = subst (λ (d : Due). Shows d.pending event.kind) t.is may.shows;
         time_is = tt;
-        in_time = r.may.next;
+        in_time = (next-due k.bus me j t.tick due.s due.ready.0 node.awaits due.ready.1.0 due.ready.1.1.0).1;
       };
-      is = event-is k.bus w i d me j (Tick r.tick) r.s may.found r.is r.there;
+      is = event-is k.bus w i d me j (Tick t.tick) due.s may.found t.is due.there;
     }
 show-happening k w i d me j time name event lanes is may named (kind.Arrive from bytes) shown =
     let x : Coming = record { time = time; from = from; bytes = bytes.items } in
@@ -180,7 +180,7 @@ show-happening k w i d me j time name event lanes is may named (kind.Arrive from
       s = r.s;
       site = r.site;
       kept_there = r.kept_there;
-      inside = below-all (of_kind me k.nodes) j r.site r.kept_there;
+      inside = (node-there k.bus k.nodes (record k.scene { agenda = lanes }) time name event w i d me j may named).1;
       number = r.node.number;
       may = record {
         at = record { within = r.within; named = named; number = r.node.number; stands = r.node.site };

@@ -113,9 +113,7 @@ fn show<K: Kind>(
 {
     match &event.kind {
         EventKind::Tick { .. } => show_tick(bus, apps, site, ports, node),
-        EventKind::Arrive { from, bytes } => {
-            show_arrival(bus, site, time, node, *from, bytes)
-        }
+        EventKind::Arrive { from, bytes } => { show_arrival(bus, site, time, node, *from, bytes) }
     }
 }
 
