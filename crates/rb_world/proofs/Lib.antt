@@ -26,3 +26,5 @@ pub mod Ready
 pub mod Beginning
 pub mod Openings
 pub mod FirstStands
+pub mod Showing
+pub mod Arrivals

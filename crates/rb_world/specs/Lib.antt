@@ -5,3 +5,4 @@ pub mod Steps
 pub mod Nexts
 pub mod Driving
 pub mod Openings
+pub mod Showing
