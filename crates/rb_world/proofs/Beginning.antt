@@ -1,5 +1,5 @@
 -- Nodes begin one after another.
-use Rattle.std.proofs.Common.{◌≡◌, ℕ, zero, suc, ◌+◌, ◌*◌, ◌^◌, ◌<◌, ◌≤◌, ◌==◌, ◌⊎◌, Bool, true, false, Some, None, Option, All, List, [], ◌∷◌, ◌++◌, length, map, slice_get, refl, sym, ap, ◌∙◌, subst, arith, inl, inr}
+use Rattle.std.proofs.Common.{◌≡◌, ℕ, zero, suc, ◌+◌, ◌*◌, ◌<◌, ◌≤◌, ◌==◌, ◌⊎◌, Bool, true, false, Some, None, Option, List, [], ◌∷◌, length, slice_get, refl, sym, ap, ◌∙◌, subst, arith, inl, inr}
 use Rattle.std.specs.Prelude.{get_or, option_map, slice_set}
 use Rattle.std.proofs.lemmas.Bool.{cases_lt}
 use Rattle.std.proofs.lemmas.Bool.Decides.{nat_tests}
@@ -7,9 +7,8 @@ use Rattle.std.proofs.lemmas.List.Elements.{All-nil}
 use Rattle.std.proofs.lemmas.Option.{slice_get_read}
 use Rattle.rb_base.specs.Nodes.{Side, other}
 use Rattle.rb_base.specs.Nodes.Side.{Biu, Rmu}
-use Rattle.rb_base.specs.Sizes.{Sizes, sync_slot_of}
+use Rattle.rb_base.specs.Sizes.{Sizes}
 use Rattle.rb_rules.specs.declared.plan.Plan.{Plan}
-use Rattle.rb_rules.specs.Book.{Each, of_kind}
 use Rattle.rb_rules.specs.Core.{state_at, window_here}
 use Rattle.rb_rules.specs.Goodness.{Scenario}
 use Rattle.rb_rules.specs.Hearing.{Coming, Span, span_of}
@@ -18,17 +17,16 @@ use Rattle.rb_rules.specs.Links.{name_of}
 use Rattle.rb_rules.specs.NodeState.{NodeState, first_state}
 use Rattle.rb_rules.specs.Slots.{count_of}
 use Rattle.rb_rules.specs.Windows.{exact_window}
-use Rattle.rb_rules.specs.WorldStep.{Site, World, at_node, fresh_site, proceed, span_from}
+use Rattle.rb_rules.specs.WorldStep.{Site, World, fresh_site, proceed}
 use Rattle.rb_rules.proofs.WindowNumbers.{exact-numbered}
 use Rattle.rb_order.proofs.TickRooms.{has-room}
-use Rattle.rb_order.proofs.TickWindows.{IsTickIn, Tiles, first-same, first_of, here-is, tiles}
-use Rattle.rb_order.proofs.WorldStands.{get-at, is_node, node-is}
-use Rattle.rb_queue.specs.Waiting.{HasLane, lane_of, spare_of}
+use Rattle.rb_order.proofs.TickWindows.{IsTickIn, first-same, first_of, here-is}
+use Rattle.rb_order.proofs.WorldStands.{get-at, is_node}
 use Rattle.rb_site.specs.Sites.{Kept as KeptSite, number_of}
 use Rattle.rb_world.specs.declared.scene.Scene.{Scene}
-use Rattle.rb_world.specs.Openings.{AreFresh, HaveBegun, IsFresh, MayBegin, with_begun}
-use Rattle.rb_world.specs.Steps.{IsAt, MayProceed, Proceeds, SpanFits, SpansFit, moved}
-use Rattle.rb_world.specs.Worlds.{IsNode, Surrounds}
+use Rattle.rb_world.specs.Openings.{AreFresh, HaveBegun, MayBegin, with_begun}
+use Rattle.rb_world.specs.Steps.{MayProceed, Proceeds, SpanFits, SpansFit}
+use Rattle.rb_world.specs.Worlds.{IsNode}
 use Rattle.rb_world.proofs.Lanes.{has-lane, node-named, spare-at}
 
 -- The first window.

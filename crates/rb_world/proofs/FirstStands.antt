@@ -10,7 +10,7 @@ use Rattle.rb_base.specs.Nodes.{Side, has, other, set_of}
 use Rattle.rb_base.specs.Nodes.Side.{Biu, Rmu}
 use Rattle.rb_base.specs.Sizes.{IsShape, Sizes}
 use Rattle.rb_base.proofs.Sets.{has-set_of, has_above, set_of-lt}
-use Rattle.rb_rules.specs.Book.{Each, each_of, of_kind}
+use Rattle.rb_rules.specs.Book.{each_of, of_kind}
 use Rattle.rb_rules.specs.Goodness.{Scenario}
 use Rattle.rb_rules.specs.Hearing.{Coming, Span, port_at}
 use Rattle.rb_rules.specs.Lawful.{IsLawful}
@@ -22,17 +22,16 @@ use Rattle.rb_agenda.specs.Holding.{HoldsAll, HoldsSites}
 use Rattle.rb_book.proofs.Noting.{same-shown}
 use Rattle.rb_book.specs.Holding.{Holds}
 use Rattle.rb_order.proofs.WorldNodes.{first-counts}
-use Rattle.rb_order.proofs.WorldStands.{get-at, is_node, node-itself, not-other}
+use Rattle.rb_order.proofs.WorldStands.{get-at, node-itself, not-other}
 use Rattle.rb_order.specs.PendingEvents.{most_pending}
-use Rattle.rb_port.specs.Keeping.{KeptPort}
-use Rattle.rb_queue.specs.Waiting.{Held, empty_lane}
+use Rattle.rb_queue.specs.Waiting.{empty_lane}
 use Rattle.rb_site.specs.Sites.{Kept as KeptSite}
 use Rattle.rb_traffic.specs.Arriving.{AreRunning}
 use Rattle.rb_world.specs.Buses.{HasRoom, HaveRooms}
 use Rattle.rb_world.specs.declared.last.Last.TheVariants as last
 use Rattle.rb_world.specs.declared.scene.Scene.{Scene}
 use Rattle.rb_world.specs.Openings.{HaveBegun, MayBegin, before_all, with_begun}
-use Rattle.rb_world.specs.Worlds.{AreNodes, HoldsPorts, IsNode, Kept, Stands, Surrounds, running_of}
+use Rattle.rb_world.specs.Worlds.{AreNodes, HoldsPorts, IsNode, Stands, Surrounds, running_of}
 use Rattle.rb_world.proofs.Beginning.{apart}
 use Rattle.rb_world.proofs.Sites.{counts-one}
 

@@ -1,15 +1,15 @@
 -- A node that goes on is as in the world.
-use Rattle.std.proofs.Common.{◌≡◌, ℕ, Bool, true, false, Some, None, Option, List, [], slice_get, refl, sym, ap, ◌∙◌, subst}
-use Rattle.std.specs.Prelude.{option_map, unwrap_or}
+use Rattle.std.proofs.Common.{◌≡◌, ℕ, Bool, true, false, Some, None, List, [], slice_get, refl, sym, ap, ◌∙◌, subst}
+use Rattle.std.specs.Prelude.{unwrap_or}
 use Rattle.rb_base.specs.Nodes.{Side, other}
 use Rattle.rb_base.specs.Nodes.Side.{Biu, Rmu}
 use Rattle.rb_rules.specs.Book.{Each, of_kind}
 use Rattle.rb_rules.specs.Goodness.{Scenario, is_good}
 use Rattle.rb_rules.specs.Hearing.{Coming, Span}
 use Rattle.rb_rules.specs.Links.{name_of}
-use Rattle.rb_rules.specs.WorldStep.{Site, World, at_node, await, enter, proceed, says_in, span_from, stop}
+use Rattle.rb_rules.specs.WorldStep.{Site, World, await, enter, proceed, says_in, span_from, stop}
 use Rattle.rb_queue.specs.Waiting.{Held, with_lane}
-use Rattle.rb_site.specs.Sites.{Kept as KeptSite, Stands as StandsFor}
+use Rattle.rb_site.specs.Sites.{Kept as KeptSite}
 use Rattle.rb_site.proofs.Standing.{awaits, stops}
 use Rattle.rb_world.specs.declared.scene.Scene.{Scene}
 use Rattle.rb_world.specs.Steps.{IsAt, Proceeds, moved}

@@ -1,7 +1,7 @@
 -- How a run begins: node by node.
 use Rattle.std.specs.Prelude.{ℕ, zero, suc, ◌≡◌, ◌<◌, ◌≤◌, Some, List, length, slice_get}
 use Rattle.rb_base.specs.Nodes.{Side}
-use Rattle.rb_rules.specs.Book.{Each, each_of, of_kind}
+use Rattle.rb_rules.specs.Book.{each_of, of_kind}
 use Rattle.rb_rules.specs.Goodness.{Scenario}
 use Rattle.rb_rules.specs.Lawful.{IsLawful}
 use Rattle.rb_rules.specs.Slots.{count_of}
@@ -9,7 +9,7 @@ use Rattle.rb_rules.specs.WorldStep.{World, first_world, fresh_site, proceed}
 use Rattle.rb_site.specs.Sites.{Kept as KeptSite, Stands as StandsFor, number_of}
 use Rattle.rb_world.specs.declared.scene.Scene.{Scene}
 use Rattle.rb_world.specs.Steps.{moved}
-use Rattle.rb_world.specs.Worlds.{AreNodes, IsNode, Surrounds}
+use Rattle.rb_world.specs.Worlds.{IsNode, Surrounds}
 
 -- the world before any node has begun
 abbrev pub before_all : Scenario → World

@@ -1,5 +1,4 @@
 -- The nodes before the next have begun.
-use Rattle.std.proofs.Common.{◌≡◌}
 use Rattle.rb_base.specs.Nodes.{side_of}
 use Rattle.rb_rules.specs.WorldStep.{World as RunWorld}
 use Rattle.rb_world.specs.Openings.{HaveBegun, MayBegin}

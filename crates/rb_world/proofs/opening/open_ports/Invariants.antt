@@ -1,7 +1,4 @@
 -- The first ports are there.
-use Rattle.std.proofs.Common.{◌≡◌, [], map}
-use Rattle.rb_base.specs.Counting.{numbers}
-use Rattle.rb_rules.specs.Hearing.{port_at}
 use Rattle.rb_world.proofs.Openings.{HoldEach}
 use Rattle.rb_world.proofs.opening.open_ports.Given as goal
 

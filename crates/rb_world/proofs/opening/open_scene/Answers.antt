@@ -1,4 +1,4 @@
-use Rattle.std.proofs.Common.{◌≡◌, ℕ, nat_lt, ◌∙◌, ap, subst}
+use Rattle.std.proofs.Common.{ℕ, nat_lt, ◌∙◌, ap, subst}
 use Rattle.rb_base.specs.Nodes.{set_of}
 use Rattle.rb_base.specs.Sizes.{IsShape, Sizes}
 use Rattle.rb_rules.specs.Book.{each_of}

@@ -1,4 +1,3 @@
-use Rattle.std.proofs.Common.{refl, subst}
 use Rattle.rb_world.proofs.Going.{stop-biu, stop-rmu}
 use Rattle.rb_world.proofs.Lanes.{has-lane}
 use Rattle.rb_world.proofs.proceeding.stop_at.Goals as goal

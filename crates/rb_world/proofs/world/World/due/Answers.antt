@@ -1,4 +1,4 @@
-use Rattle.std.proofs.Common.{◌≡◌, ◌<◌, length, sym, ap, ◌∙◌, subst}
+use Rattle.std.proofs.Common.{◌≡◌, length, sym, ◌∙◌, subst}
 use Rattle.rb_rules.specs.WorldStep.{World as RunWorld, due_of}
 use Rattle.rb_world.specs.Worlds.{Kept, Stands, due_in}
 use Rattle.rb_world.proofs.Idle.{busy, ended-idle, free-idle, length-due, none-due, none-due-then}

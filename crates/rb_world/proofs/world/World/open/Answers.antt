@@ -1,4 +1,4 @@
-use Rattle.std.proofs.Common.{◌≡◌, ◌∙◌, ap, subst, sym}
+use Rattle.std.proofs.Common.{◌∙◌, ap, subst, sym}
 use Rattle.rb_base.specs.Sizes.{Sizes}
 use Rattle.rb_rules.specs.Goodness.{Scenario}
 use Rattle.rb_rules.specs.Lawful.{IsLawful}
@@ -21,11 +21,12 @@ begin_all-requires-2-clause-may c =
 
 pub invariant_of-result : goal.invariant_of-result
 invariant_of-result c =
-    let lawful = subst IsLawful (sym c.in_ok-bus.ensures) c.requires in
-    (first_world c.in_ok-bus.bus,
-    opened c.in_ok-bus.bus c.begin_all.new.sites.items c.begin_all-2.new.sites.items c.begin_all.new.scene c.begin_all-2.new.scene c.biu-2.result c.rmu-2.result lawful
-    (c.biu-2.ensures.value ∙ ap (λ (s : Sizes). s.bius) c.shape-3.ensures) (c.rmu-2.ensures.value ∙ ap (λ (s : Sizes). s.rmus) c.shape-4.ensures)
-    (c.begin_all.ensures (before_all c.in_ok-bus.bus) (bius-may c.in_ok-bus.bus c.in_ok-scene.scene lawful c.in_ok-scene.ensures)) c.begin_all-2.ensures)
+    let lawful = subst IsLawful (sym c.in_ok-bus.ensures) c.requires in (
+      first_world c.in_ok-bus.bus,
+      opened c.in_ok-bus.bus c.begin_all.new.sites.items c.begin_all-2.new.sites.items c.begin_all.new.scene c.begin_all-2.new.scene c.biu-2.result c.rmu-2.result lawful
+          (c.biu-2.ensures.value ∙ ap (λ (s : Sizes). s.bius) c.shape-3.ensures) (c.rmu-2.ensures.value ∙ ap (λ (s : Sizes). s.rmus) c.shape-4.ensures)
+          (c.begin_all.ensures (before_all c.in_ok-bus.bus) (bius-may c.in_ok-bus.bus c.in_ok-scene.scene lawful c.in_ok-scene.ensures)) c.begin_all-2.ensures,
+    )
 
 pub returns-clause-stands : goal.returns-clause-stands
 returns-clause-stands c =
