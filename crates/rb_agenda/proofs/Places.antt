@@ -2,6 +2,7 @@
 use Rattle.std.proofs.Common.{◌≡◌, ℕ, zero, suc, ◌+◌, ◌<◌, Bool, true, false, cond, Option, Some, None, List, [], ◌∷◌, ◌++◌, All, length, filter, take, drop, remove, slice_get, refl, sym, ap, ◌∙◌, subst, arith, length-append}
 use Rattle.std.specs.Prelude.{option_map, option_to_list, unwrap_or}
 use Rattle.std.specs.List.{cons_option, enumerate_from}
+use Rattle.std.proofs.lemmas.Bool.Decides.{nat_tests}
 use Rattle.std.proofs.lemmas.List.Elements.{All-cons, All-head, All-tail, filter_map-append}
 use Rattle.rb_base.specs.Nodes.{Side, other}
 use Rattle.rb_base.specs.Sizes.{Sizes}
@@ -76,6 +77,60 @@ at-ready (Some t) events =
 -- a ready event stands at its place
 pub ready-at : (lane : Held) (place : ℕ) (c : ℕ × Pending) → slice_get (ready_of lane) place ≡ Some c → slice_get lane.events c.0 ≡ Some c.1
 ready-at lane place c e = at-ready (head_of lane) lane.events place c e
+
+-- Times.
+
+-- each of the items comes at this time
+abbrev AreOf : ℕ → List (ℕ × Pending) → Type 0
+AreOf t xs = (n : ℕ) → (c : ℕ × Pending) → slice_get xs n ≡ Some c → c.1.time ≡ t
+
+of-none : (t : ℕ) → AreOf t []
+of-none t n c e = let never : ◌≡◌ {A = Option (ℕ × Pending)} None (Some c) = e in cc
+
+of-cons : (t : ℕ) (x : ℕ × Pending) (xs : List (ℕ × Pending)) → x.1.time ≡ t → AreOf t xs → AreOf t (x ∷ xs)
+of-cons t x xs here more zero c e =
+    let same : x ≡ c = ap (λ o. unwrap_or o x) e in
+    sym (ap (λ (d : ℕ × Pending). d.1.time) same) ∙ here
+of-cons t x xs here more (suc n) c e = more n c e
+
+of-append : (t : ℕ) (xs ys : List (ℕ × Pending)) → AreOf t xs → AreOf t ys → AreOf t (xs ++ ys)
+of-append t [] ys hx hy n c e = hy n c e
+of-append t (x ∷ xs) ys hx hy zero c e = hx zero c e
+of-append t (x ∷ xs) ys hx hy (suc n) c e = of-append t xs ys (λ n. hx (suc n)) hy n c e
+
+of-coming : (t j k : ℕ) (events : List Pending) → AreOf t (filter (λ c. comes t j c.1) (enumerate_from k events))
+of-coming t j k [] = of-none t
+of-coming t j k (p ∷ events) = pick (comes t j p) refl (of-coming t j (k + 1) events)
+  where
+    pick : (b : Bool) → comes t j p ≡ b → AreOf t (filter (λ c. comes t j c.1) (enumerate_from (k + 1) events))
+        → AreOf t (cond b ((k, p) ∷ filter (λ c. comes t j c.1) (enumerate_from (k + 1) events)) (filter (λ c. comes t j c.1) (enumerate_from (k + 1) events)))
+    pick true is more = of-cons t (k, p) (filter (λ c. comes t j c.1) (enumerate_from (k + 1) events)) (grind (arith, nat_tests, is)) more
+    pick false is more = more
+
+of-from : (t : ℕ) (events : List Pending) (a n : ℕ) → AreOf t (from_on t events a n)
+of-from t events a zero = subst (AreOf t) (sym (from_on-zero t events a)) (of-none t)
+of-from t events a (suc n) =
+    subst (AreOf t) (sym (from_on-suc t events a n))
+    (of-append t (coming_at t events a) (from_on t events (a + 1) n) (of-coming t a 0 events) (of-from t events (a + 1) n))
+
+of-ticks : (t : ℕ) (events : List Pending) → AreOf t (ticks_of t events)
+unfolding ticks_of
+of-ticks t events = of-coming t 256 0 events
+
+of-unless : (t : ℕ) (xs ys : List (ℕ × Pending)) → AreOf t xs → AreOf t ys → AreOf t (unless_some xs ys)
+of-unless t [] ys hx hy = hy
+of-unless t (x ∷ xs) ys hx hy = hx
+
+time-from : (o : Option ℕ) (events : List Pending) (place : ℕ) (c : ℕ × Pending) → slice_get (ready_from o events) place ≡ Some c → o ≡ Some c.1.time
+time-from None events place c e = let never : ◌≡◌ {A = Option (ℕ × Pending)} None (Some c) = e in cc
+time-from (Some t) events place c e =
+    let all : AreOf t (unless_some (arrivals_of t events) (ticks_of t events)) =
+    of-unless t (arrivals_of t events) (ticks_of t events) (subst (AreOf t) (sym (arrivals_are t events)) (of-from t events 0 256)) (of-ticks t events) in
+    ap (λ t. Some t) (sym (all place c e))
+
+-- a ready event comes at the least time of its lane
+pub ready-time : (lane : Held) (place : ℕ) (c : ℕ × Pending) → slice_get (ready_of lane) place ≡ Some c → head_of lane ≡ Some c.1.time
+ready-time lane place c e = time-from (head_of lane) lane.events place c e
 
 -- One event is taken out.
 split-at : (events : List Pending) (p : ℕ) (q : Pending) → slice_get events p ≡ Some q → events ≡ take p events ++ q ∷ drop (suc p) events

@@ -1,5 +1,6 @@
 -- A due event is taken.
-use Rattle.std.proofs.Common.{◌≡◌, ℕ, Option, Some, List, slice_get, refl, sym, ap, ◌∙◌, subst}
+use Rattle.std.proofs.Common.{◌≡◌, ℕ, ◌==◌, true, Option, Some, List, slice_get, refl, sym, ap, ◌∙◌, subst, arith}
+use Rattle.std.proofs.lemmas.Bool.Decides.{nat_tests}
 use Rattle.std.specs.Prelude.{option_map, unwrap_or}
 use Rattle.rb_base.specs.declared.event.Event.{Event}
 use Rattle.rb_base.specs.declared.event.EventKind.{EventKind}
@@ -10,12 +11,12 @@ use Rattle.rb_rules.specs.Goodness.{Scenario}
 use Rattle.rb_rules.specs.Links.{name_of}
 use Rattle.rb_rules.specs.WorldStep.{Pending as Waits, Site, Timed, World, at_node}
 use Rattle.rb_queue.specs.declared.pending.Pending.{Pending}
-use Rattle.rb_queue.specs.Waiting.{HasLane, Held, lane_of, ready_event, with_lane, without_ready}
-use Rattle.rb_agenda.specs.Agenda.{StandsAt, TakesDue, first_time}
+use Rattle.rb_queue.specs.Waiting.{HasLane, Held, head_of, lane_of, ready_event, ready_of, with_lane, without_ready}
+use Rattle.rb_agenda.specs.Agenda.{IsAtTime, StandsAt, TakesDue, first_time, key_of}
 use Rattle.rb_agenda.specs.Holding.{HoldsSite, HoldsSites, Shows, due_with, waits_with, without_waiting}
 use Rattle.rb_agenda.proofs.Changes.{holds-at}
 use Rattle.rb_agenda.proofs.Heads.{AreTimes}
-use Rattle.rb_agenda.proofs.Places.{holds-without}
+use Rattle.rb_agenda.proofs.Places.{holds-without, ready-time}
 use Rattle.rb_agenda.proofs.Which.{is-due}
 
 -- an event shows what waits
@@ -23,12 +24,24 @@ shows-own : (events : List Pending) (ahead : Option Timed) (place time : ℕ) (k
 shows-own events ahead place time (kind.Arrive from bytes) = (refl, refl)
 shows-own events ahead place time (kind.Tick word wanted) = tt
 
+at-time : (events : List Pending) (ahead : Option Timed) (place time t : ℕ) (k : EventKind) → time ≡ t → IsAtTime t (waits_with events ahead place time k)
+at-time events ahead place time t (kind.Arrive from bytes) e = e
+at-time events ahead place time t (kind.Tick word wanted) e = tt
+
 some-same : {X : Type 0} (a b : X) → Some a ≡ Some b → a ≡ b
 some-same a b e = ap (λ o. unwrap_or o a) e
 
+-- a ready event comes at the least time
+ready-first : (lanes : Each Held) (l : Held) (place : ℕ) (c : ℕ × Pending) → slice_get (ready_of l) place ≡ Some c → (key_of l == first_time lanes) ≡ true
+    → c.1.time ≡ first_time lanes
+ready-first lanes l place c e first =
+    let head : head_of l ≡ Some c.1.time = ready-time l place c e in
+    let key : key_of l ≡ c.1.time = ap (λ o. unwrap_or o 18446744073709551615) head in
+    (let time : key_of l ≡ first_time lanes = grind (arith, nat_tests, first) in sym key ∙ time)
+
 pub takes-due : (sc : Scenario) (w : World) (lanes new : Each Held) (i : ℕ) (event : Event) (name : NodeName) (place : ℕ) → HoldsSites sc.sizes lanes w.sites
     → AreTimes (in_order lanes) → StandsAt lanes (first_time lanes) i name place → ready_event place (lane_of lanes name) ≡ Some event
-    → new ≡ with_lane name (without_ready place (lane_of lanes name)) lanes → TakesDue sc w i event new
+    → new ≡ with_lane name (without_ready place (lane_of lanes name)) lanes → TakesDue sc w i (first_time lanes) name event new
 takes-due sc w lanes new i event name place holds times at shown after =
     let d = is-due sc w lanes i name place holds times at in
     let l : Held = lane_of lanes name in
@@ -46,6 +59,8 @@ takes-due sc w lanes new i event name place holds times at shown after =
     record {
       due = due_with d.side d.number l.events d.site d.event;
       site = d.site;
+      named = d.named;
+      time_is = at-time l.events d.site.ahead d.event.0 d.event.1.time (first_time lanes) d.event.1.event.kind (ready-first lanes l place d.event d.ready at.first);
       found = d.due;
       there = d.there;
       shows = subst (λ e. Shows waits e.kind) its (shows-own l.events d.site.ahead d.event.0 d.event.1.time d.event.1.event.kind);

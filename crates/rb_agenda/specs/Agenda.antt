@@ -1,5 +1,5 @@
 -- What is due among all lanes: the events of the least time, node by node.
-use Rattle.std.specs.Prelude.{◌≡◌, ℕ, ◌+◌, ◌-◌, ◌<◌, ◌≤◌, ◌==◌, nat_lt, min, true, false, if◌then◌else◌, unwrap_or, Some, List, [], ◌∷◌, All, flat_map, length, map, slice_get, take}
+use Rattle.std.specs.Prelude.{⊤, ◌≡◌, ℕ, ◌+◌, ◌-◌, ◌<◌, ◌≤◌, ◌==◌, nat_lt, min, true, false, if◌then◌else◌, unwrap_or, Some, List, [], ◌∷◌, All, flat_map, length, map, slice_get, take}
 use Rattle.rb_base.specs.declared.event.Event.{Event}
 use Rattle.rb_base.specs.declared.node.NodeName.{NodeName}
 use Rattle.rb_base.specs.declared.node.NodeName.TheVariants as node
@@ -7,7 +7,8 @@ use Rattle.rb_base.specs.Nodes.{Side}
 use Rattle.rb_rules.specs.Book.{Each, in_order, of_kind}
 use Rattle.rb_rules.specs.Goodness.{Scenario}
 use Rattle.rb_rules.specs.Links.{name_of}
-use Rattle.rb_rules.specs.WorldStep.{Due, Site, World, at_node, due_at, least, times_of}
+use Rattle.rb_rules.specs.WorldStep.{Due, Pending as Waits, Site, World, at_node, due_at, least, times_of}
+use Rattle.rb_rules.specs.WorldStep.Pending.{Tick, Arrival}
 use Rattle.rb_queue.specs.declared.pending.Pending.{Pending}
 use Rattle.rb_queue.specs.Waiting.{Held, HasLane, head_of, lane_of, ready_event, ready_of, with_lane, without_ready}
 use Rattle.rb_agenda.specs.Holding.{HoldsSites, Shows, due_with, without_waiting}
@@ -73,18 +74,25 @@ pub record IsDue (sc : Scenario) (w : World) (lanes : Each Held) (i : ℕ) (name
   pub ready : slice_get (ready_of (lane_of lanes name)) place ≡ Some event
   pub due : slice_get (due_now sc w) i ≡ Some (due_with side number (lane_of lanes name).events site event)
 
--- the i-th event that is due is taken out of its lane, and no other
-pub record Takes (before : Each Held) (i : ℕ) (event : Event) (after : Each Held) : Type 0 where
-  pub node : NodeName
+-- the i-th event that is due is taken out of the lane of this node, and no other
+pub record Takes (before : Each Held) (i : ℕ) (node : NodeName) (event : Event) (after : Each Held) : Type 0 where
   pub place : ℕ
   pub stands : StandsAt before (first_time before) i node place
   pub taken : ready_event place (lane_of before node) ≡ Some event
   pub left : after ≡ with_lane node (without_ready place (lane_of before node)) before
 
--- The i-th event that is due in a world is taken: this event shows it, and the lanes hold afterwards what waits without it
-pub record TakesDue (sc : Scenario) (w : World) (i : ℕ) (event : Event) (after : Each Held) : Type 0 where
+-- what waits, waits until this time
+abbrev pub IsAtTime : ℕ → Waits → Type 0
+IsAtTime time (Tick k) = ⊤
+IsAtTime time (Arrival place c) = c.time ≡ time
+
+-- The i-th event that is due in a world is taken: this event of this node shows it, at this time, and the lanes hold afterwards what
+-- waits without it
+pub record TakesDue (sc : Scenario) (w : World) (i time : ℕ) (name : NodeName) (event : Event) (after : Each Held) : Type 0 where
   pub due : Due
   pub site : Site
+  pub named : name ≡ name_of due.side due.node
+  pub time_is : IsAtTime time due.pending
   pub found : slice_get (due_now sc w) i ≡ Some due
   pub there : slice_get (of_kind due.side w.sites) due.node ≡ Some site
   pub shows : Shows due.pending event.kind

@@ -108,17 +108,18 @@ impl Agenda {
         self.lanes.event_at(node, place)
     }
 
-    /// Takes the i-th due event, counted from 0, out of its lane, and no other.
-    pub fn take(&mut self, i: usize) -> Event
+    /// Takes the i-th due event, counted from 0, out of the lane of its node, and no other.
+    pub fn take(&mut self, i: usize) -> (NodeName, Event)
         requires below { i < how_many self.old }
-        ensures taken { Takes self.old i result self.new }
-        ensures world { (sc : Scenario) → (w : World) → HoldsSites sc.sizes self.old w.sites → TakesDue sc w i result self.new }
+        ensures taken { Takes self.old i result.0 result.1 self.new }
+        ensures world { (sc : Scenario) → (w : World) → HoldsSites sc.sizes self.old w.sites
+            → TakesDue sc w i (first_time self.old) result.0 result.1 self.new }
     {
         let (node, place) = locate(&self.lanes, &self.keys, self.bius, least_key(&self.keys), i);
         let event = self.lanes.take(node, place);
         let key = key_of(&self.lanes, node);
         self.keys[position_of(self.bius, node)] = key;
-        event
+        (node, event)
     }
 
     /// Drops all events of the node, and no others.

@@ -29,7 +29,7 @@ fn the_node_of_the_least_time_is_next(rt: HostRuntime) -> Result<(), Fail> {
     assert_eq!(rt; agenda.first_time(), 5);
     assert!(rt; agenda.due() > 0);
     assert_eq!(rt; agenda.locate(0), (NodeName::Rmu(0), 0));
-    assert!(rt; agenda.take(0) == tick(NodeName::Rmu(0)));
+    assert!(rt; agenda.take(0) == (NodeName::Rmu(0), tick(NodeName::Rmu(0))));
     assert_eq!(rt; agenda.first_time(), 7);
     Ok(())
 }

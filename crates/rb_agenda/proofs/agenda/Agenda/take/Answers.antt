@@ -1,6 +1,6 @@
 use Rattle.std.proofs.Common.{◌≡◌, sym, ap, subst, ◌∙◌}
 use Rattle.rb_queue.specs.Waiting.{lane_of, without_ready}
-use Rattle.rb_agenda.specs.Agenda.{StandsAt, first_time, least_key}
+use Rattle.rb_agenda.specs.Agenda.{StandsAt, TakesDue, first_time, least_key}
 use Rattle.rb_agenda.specs.Holding.{HoldsSites}
 use Rattle.rb_agenda.proofs.Keeping.{kept-times, kept-with, room-of, room-without}
 use Rattle.rb_agenda.proofs.Taking.{takes-due}
@@ -23,6 +23,7 @@ returns-clause-world c =
     let lanes = c.self.inside.lanes in
     let first : c.least_key.result ≡ first_time lanes = c.least_key.ensures ∙ ap least_key (c.deref-2.ensures.value ∙ c.self.invariant.each) in
     λ sc w holds.
-    takes-due sc w lanes c.take-event.new.self c.args.i c.take-event.result c.locate-node.result.0 c.locate-node.result.1
+    subst (λ x. TakesDue sc w c.args.i (first_time x) c.locate-node.result.0 c.take-event.result c.take-event.new.self) c.self.view_is
+    (takes-due sc w lanes c.take-event.new.self c.args.i c.take-event.result c.locate-node.result.0 c.locate-node.result.1
     (subst (λ x. HoldsSites sc.sizes x w.sites) (sym c.self.view_is) holds) (kept-times lanes c.self.inside.keys.items c.self.inside.bius c.self.invariant)
-    (subst (λ t. StandsAt lanes t c.args.i c.locate-node.result.0 c.locate-node.result.1) first c.locate-node.ensures) c.take-event.ensures.value c.take-event.ensures.after
+    (subst (λ t. StandsAt lanes t c.args.i c.locate-node.result.0 c.locate-node.result.1) first c.locate-node.ensures) c.take-event.ensures.value c.take-event.ensures.after)

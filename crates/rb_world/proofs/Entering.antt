@@ -1,0 +1,170 @@
+-- A node enters a window, or not.
+use Rattle.std.proofs.Common.{◌≡◌, ℕ, ◌+◌, ◌≤◌, true, false, Some, None, List, [], ◌++◌, length, map, slice_get, refl, sym, ap, ◌∙◌, subst, arith, length-append}
+use Rattle.std.proofs.lemmas.List.{length-map}
+use Rattle.std.specs.Prelude.{option_map, unwrap_or}
+use Rattle.rb_base.specs.Nodes.{Side, other}
+use Rattle.rb_base.specs.Nodes.Side.{Biu, Rmu}
+use Rattle.rb_base.specs.declared.node.NodeName.{NodeName}
+use Rattle.rb_rules.specs.Book.{Each, of_kind}
+use Rattle.rb_rules.specs.Core.{Core}
+use Rattle.rb_rules.specs.Goodness.{Scenario, is_good}
+use Rattle.rb_rules.specs.Hearing.{Coming, Span}
+use Rattle.rb_rules.specs.Lawful.{is_node_good, kind_of}
+use Rattle.rb_rules.specs.Links.{name_of}
+use Rattle.rb_rules.specs.WorldStep.{Site, World, at_node, await, says_in, span_from, stop}
+use Rattle.rb_queue.specs.Waiting.{HasLane, Held, lane_of, spare_of, with_lane}
+use Rattle.rb_agenda.proofs.Keeping.{lane-with}
+use Rattle.rb_agenda.specs.Holding.{HoldsSites}
+use Rattle.rb_order.proofs.WorldStands.{get-at, is_node, node-itself}
+use Rattle.rb_site.specs.Sites.{Kept as KeptSite}
+use Rattle.rb_traffic.specs.Arriving.{arriving, number_of}
+use Rattle.rb_traffic.specs.Saying.{hears, with_arrivals}
+use Rattle.rb_world.specs.declared.scene.Scene.{Scene}
+use Rattle.rb_world.specs.Buses.{HaveRooms}
+use Rattle.rb_world.specs.Steps.{IsAt, IsCoreAt, OthersStay, Proceeds, moved}
+use Rattle.rb_world.specs.Worlds.{Surrounds}
+use Rattle.rb_world.proofs.Around.{Pends, pends-more}
+use Rattle.rb_world.proofs.Entries.{says-few}
+use Rattle.rb_world.proofs.Going.{name-is, says-then}
+use Rattle.rb_world.proofs.Lanes.{kind-named, number-named, rooms-with}
+use Rattle.rb_world.proofs.Onward.{goes-in, goes-on, goes-out, others-stay, proceeds-on, proceeds-out}
+
+pub good-named : (sc : Scenario) (me : Side) (i frame slot : ℕ) → is_node_good sc (name_of me i) frame slot ≡ is_good sc me i frame slot
+good-named sc Biu i frame slot = refl
+good-named sc Rmu i frame slot = refl
+
+-- the lanes of the other kind, the node being named
+pub others-named : (name : NodeName) (lane : Held) (lanes : Each Held) → of_kind (other (kind_of name)) (with_lane name lane lanes) ≡ of_kind (other (kind_of name)) lanes
+others-named name lane lanes = subst (λ n. of_kind (other (kind_of name)) (with_lane n lane lanes) ≡ of_kind (other (kind_of name)) lanes) (name-is name) (others-stay (kind_of name) (number_of name) lane lanes)
+
+-- What is said comes to the node.
+
+hears-pends : (sc : Scenario) (name : NodeName) (span : Span) → Pends (hears sc name span)
+hears-pends sc name span = record { row = λ s. refl; begun = λ s. refl; runs = λ s. refl }
+
+pub says-around : (sc : Scenario) (scene : Scene) (lanes : Each Held) (w : World) (name : NodeName) (span : Span) (more : List Coming) → HasLane scene.agenda name
+    → lanes ≡ with_lane name (with_arrivals name more (lane_of scene.agenda name)) scene.agenda → HoldsSites sc.sizes lanes (at_node (kind_of name) (number_of name) (hears sc name span) w.sites)
+    → Surrounds sc scene w → Surrounds sc (record scene { agenda = lanes }) (moved (kind_of name) (number_of name) (hears sc name span) w)
+says-around sc scene lanes w name span more there after holds is =
+    pends-more sc scene lanes w (kind_of name) (number_of name) (hears sc name span) (hears-pends sc name span) is holds
+    (subst (HaveRooms sc) (sym after) (rooms-with sc scene.agenda name (with_arrivals name more (lane_of scene.agenda name)) is.rooms there refl))
+
+-- the site of a node that has changed
+pub changed-there : (me : Side) (i : ℕ) (change : Site → Site) (w : World) (s : Site) → slice_get (of_kind me w.sites) i ≡ Some s
+    → slice_get (of_kind me (moved me i change w).sites) i ≡ Some (change s)
+changed-there me i change w s there =
+    get-at me me i i change w.sites ∙ ap (option_map (λ z. elim (is_node me i me i) as (λ _. Site) [ true ↦ change z | false ↦ z ])) there
+    ∙ ap (λ b. Some (elim b as (λ _. Site) [ true ↦ change s | false ↦ s ])) (node-itself me i)
+
+some-same : {X : Type 0} (a b : X) → Some a ≡ Some b → a ≡ b
+some-same a b e = ap (λ o. unwrap_or o a) e
+
+-- its core, where the node's name is this
+pub core-at : (sc : Scenario) (me : Side) (i : ℕ) (site : KeptSite) (scene : Scene) (w : World) (s : Site) → IsAt sc me i site scene w s → IsCoreAt sc me (name_of me i) site s.core w
+core-at sc me i site scene w s at = record {
+  number = at.number ∙ sym (number-named me i);
+  sizes = at.stands.sizes;
+  plan = at.stands.plan;
+  core = at.stands.core;
+  there = λ z e. ap (λ (s : Site). s.core) (sym (one z e));
+  none_ahead = λ z e. subst (λ (s : Site). s.ahead ≡ None) (one z e) at.none_ahead;
+}
+  where
+    one : (z : Site) → slice_get (of_kind me w.sites) (number_of (name_of me i)) ≡ Some z → s ≡ z
+    one z e = some-same s z (sym at.there ∙ subst (λ n. slice_get (of_kind me w.sites) n ≡ Some z) (number-named me i) e)
+
+pub core-then : (sc : Scenario) (me : Side) (i : ℕ) (site : KeptSite) (scene : Scene) (w : World) (s : Site) (span : Span) → IsAt sc me i site scene w s
+    → IsCoreAt sc me (name_of me i) site s.core (moved me i (λ z. record z { coming = z.coming ++ says_in sc me i span }) w)
+core-then sc me i site scene w s span at = record {
+  number = at.number ∙ sym (number-named me i);
+  sizes = at.stands.sizes;
+  plan = at.stands.plan;
+  core = at.stands.core;
+  there = λ z e. ap (λ (s : Site). s.core) (sym (one z e));
+  none_ahead = λ z e. subst (λ (s : Site). s.ahead ≡ None) (one z e) at.none_ahead;
+}
+  where
+    one : (z : Site) → slice_get (of_kind me (moved me i (λ z. record z { coming = z.coming ++ says_in sc me i span }) w).sites) (number_of (name_of me i)) ≡ Some z
+        → record s { coming = s.coming ++ says_in sc me i span } ≡ z
+    one z e =
+        some-same (record s { coming = s.coming ++ says_in sc me i span }) z
+        (sym (changed-there me i (λ z. record z { coming = z.coming ++ says_in sc me i span }) w s at.there)
+        ∙ subst (λ n. slice_get (of_kind me (moved me i (λ z. record z { coming = z.coming ++ says_in sc me i span }) w).sites) n ≡ Some z) (number-named me i) e)
+
+-- as the world has it, the node's name being this
+pub named-moved : (me : Side) (i : ℕ) (change : Site → Site) (w : World) → moved (kind_of (name_of me i)) (number_of (name_of me i)) change w ≡ moved me i change w
+named-moved Biu i change w = refl
+named-moved Rmu i change w = refl
+
+pub hears-named : (sc : Scenario) (me : Side) (i : ℕ) (span : Span) (w : World)
+    → moved (kind_of (name_of me i)) (number_of (name_of me i)) (hears sc (name_of me i) span) w ≡ moved me i (λ z. record z { coming = z.coming ++ says_in sc me i span }) w
+hears-named sc Biu i span w = refl
+hears-named sc Rmu i span w = refl
+
+pub await-named : (sc : Scenario) (me : Side) (i : ℕ) (w : World)
+    → moved (kind_of (name_of me i)) (number_of (name_of me i)) (await sc me (number_of (name_of me i)) []) w ≡ moved me i (await sc me i []) w
+await-named sc Biu i w = refl
+await-named sc Rmu i w = refl
+
+-- there is room for the next tick then
+pub spare-said : (sc : Scenario) (lanes after : Each Held) (name : NodeName) (span : Span) → HasLane lanes name
+    → after ≡ with_lane name (with_arrivals name (says_in sc (kind_of name) (number_of name) span) (lane_of lanes name)) lanes
+    → length sc.says + 1 ≤ spare_of (lane_of lanes name) → 1 ≤ spare_of (lane_of after name)
+spare-said sc lanes after name span there is spare =
+    let more : List Coming = says_in sc (kind_of name) (number_of name) span in
+    let lane : Held = lane_of lanes name in
+    let now : lane_of after name ≡ with_arrivals name more lane = ap (λ ls. lane_of ls name) is ∙ lane-with lanes name (with_arrivals name more lane) there in
+    let many : length (lane.events ++ map (arriving name) more) ≡ length lane.events + length (map (arriving name) more) = length-append lane.events (map (arriving name) more) in
+    let each : length (map (arriving name) more) ≡ length more = length-map more (arriving name) in
+    let few : length more ≤ length sc.says = says-few sc (kind_of name) (number_of name) span in
+    let left : 1 ≤ spare_of (with_arrivals name more lane) = omega (arith, many, each, few, spare) in
+    subst (λ l. 1 ≤ spare_of l) (sym now) left
+
+-- The node has gone on.
+
+-- what a call does that makes the next tick pending
+abbrev pub AwaitsTick : Scenario → Side → NodeName → KeptSite → Scene → Scene → Type 0
+AwaitsTick sc me name site before after = (w : World) (c : Core) → IsCoreAt sc me name site c w → Surrounds sc before w
+    → Surrounds sc after (moved (kind_of name) (number_of name) (await sc me (number_of name) []) w)
+
+pub after-none : (sc : Scenario) (me : Side) (i : ℕ) (name : NodeName) (site : KeptSite) (before after : Scene) (w : World) (s : Site) → name ≡ name_of me i
+    → IsAt sc me i site before w s → span_from sc.sizes sc.plan me s.core.state s.core.had ≡ None → AwaitsTick sc me name site before after → OthersStay (kind_of name) before after
+    → Proceeds sc me i site before after w s
+after-none sc me i name site before after w s named at none awaits others =
+    let does : AwaitsTick sc me (name_of me i) site before after = subst (λ n. AwaitsTick sc me n site before after) named awaits in
+    proceeds-on sc me i site before after w s [] at (goes-on sc me i s none)
+    (subst (Surrounds sc after) (await-named sc me i w) (does w s.core (core-at sc me i site before w s at) at.surrounds))
+    (subst (λ k. OthersStay k before after) (ap kind_of named ∙ kind-named me i) others)
+
+pub after-some : (sc : Scenario) (me : Side) (i : ℕ) (name : NodeName) (site : KeptSite) (before : Scene) (lanes : Each Held) (after : Scene) (w : World) (s : Site) (span : Span)
+    → name ≡ name_of me i → IsAt sc me i site before w s → span_from sc.sizes sc.plan me s.core.state s.core.had ≡ Some span
+    → is_node_good sc name span.place.frame span.place.slot ≡ true
+    → Surrounds sc (record before { agenda = lanes }) (moved (kind_of name) (number_of name) (hears sc name span) w)
+    → OthersStay (kind_of name) before (record before { agenda = lanes }) → AwaitsTick sc me name site (record before { agenda = lanes }) after
+    → OthersStay (kind_of name) (record before { agenda = lanes }) after → Proceeds sc me i site before after w s
+after-some sc me i name site before lanes after w s span named at enters good said said_others awaits others =
+    let mid : Scene = record before { agenda = lanes } in
+    let more : List Coming = says_in sc me i span in
+    let says : Site → Site = λ z. record z { coming = z.coming ++ says_in sc me i span } in
+    let does : AwaitsTick sc me (name_of me i) site mid after = subst (λ n. AwaitsTick sc me n site mid after) named awaits in
+    let heard : Surrounds sc mid (moved me i says w) =
+    subst (Surrounds sc mid) (ap (λ n. moved (kind_of n) (number_of n) (hears sc n span) w) named ∙ hears-named sc me i span w) said in
+    let kind : kind_of name ≡ me = ap kind_of named ∙ kind-named me i in
+    let here : is_good sc me i span.place.frame span.place.slot ≡ true =
+    sym (good-named sc me i span.place.frame span.place.slot) ∙ ap (λ n. is_node_good sc n span.place.frame span.place.slot) (sym named) ∙ good in
+    proceeds-on sc me i site before after w s more at (goes-in sc me i span s enters here)
+    (subst (Surrounds sc after) (await-named sc me i (moved me i says w) ∙ ap (λ (sites : Each Site). record w { sites = sites }) (says-then sc me i span w.sites))
+    (does (moved me i says w) s.core (core-then sc me i site before w s span at) heard))
+    (subst (λ k. OthersStay k before after) kind (others ∙ said_others))
+
+pub after-stop : (sc : Scenario) (me : Side) (i : ℕ) (name : NodeName) (site stopped : KeptSite) (before after : Scene) (w : World) (s : Site) (span : Span) → name ≡ name_of me i
+    → IsAt sc me i site before w s → span_from sc.sizes sc.plan me s.core.state s.core.had ≡ Some span → is_node_good sc name span.place.frame span.place.slot ≡ false
+    → stopped ≡ record site { runs = false } → Surrounds sc after (moved (kind_of name) (number_of name) stop w) → OthersStay (kind_of name) before after
+    → Proceeds sc me i stopped before after w s
+after-stop sc me i name site stopped before after w s span named at enters bad is_stopped around others =
+    let here : is_good sc me i span.place.frame span.place.slot ≡ false =
+    sym (good-named sc me i span.place.frame span.place.slot) ∙ ap (λ n. is_node_good sc n span.place.frame span.place.slot) (sym named) ∙ bad in
+    subst (λ k. Proceeds sc me i k before after w s) (sym is_stopped)
+    (proceeds-out sc me i site before after w s at (goes-out sc me i span s enters here)
+    (subst (Surrounds sc after) (ap (λ n. moved (kind_of n) (number_of n) stop w) named ∙ named-moved me i stop w) around)
+    (subst (λ k. OthersStay k before after) (ap kind_of named ∙ kind-named me i) others))

@@ -1,0 +1,13 @@
+pub mod Sites
+pub mod Around
+pub mod Turns
+pub mod Lanes
+pub mod Going
+pub mod Onward
+pub mod Entries
+pub mod Idle
+pub mod Handed
+pub mod Entering
+pub mod Beginning
+pub mod Openings
+pub mod FirstStands

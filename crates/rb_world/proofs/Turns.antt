@@ -1,0 +1,88 @@
+-- What is due is settled, and a turn is given.
+use Rattle.std.proofs.Common.{◌≡◌, ℕ, ◌<◌, ◌||◌, true, false, Some, List, [], ◌∷◌, ◌++◌, length, slice_get, refl, sym, ap, ◌∙◌, subst}
+use Rattle.rb_base.specs.Nodes.{Side, has}
+use Rattle.rb_base.specs.Nodes.Side.{Biu, Rmu}
+use Rattle.rb_rules.specs.Book.{Each, of_kind}
+use Rattle.rb_rules.specs.Goodness.{Scenario}
+use Rattle.rb_rules.specs.Lawful.{IsLawful}
+use Rattle.rb_rules.specs.Slots.{count_of}
+use Rattle.rb_rules.specs.WorldStep.{Choice, Due, World, choose, due_of, happens, needs_no_event, settle, take, take_if_due}
+use Rattle.rb_rules.specs.WorldStep.Choice.{Take}
+use Rattle.rb_rules.specs.WorldStep.{Way}
+use Rattle.rb_agenda.specs.Agenda.{due_now}
+use Rattle.rb_agenda.specs.Holding.{HoldsSites}
+use Rattle.rb_book.specs.Records.{record_of}
+use Rattle.rb_book.specs.Settling.{Settles}
+use Rattle.rb_book.specs.declared.ledger.Ledger.{Ledger}
+use Rattle.rb_book.specs.declared.turn.Turn.{Turn}
+use Rattle.rb_order.proofs.EveryWorld.{after-more}
+use Rattle.rb_order.proofs.OneTake.{settle-ports}
+use Rattle.rb_order.proofs.WorldNodes.{settle-sites}
+use Rattle.rb_site.specs.Sites.{Kept as KeptSite}
+use Rattle.rb_traffic.specs.Arriving.{AreRunning}
+use Rattle.rb_world.specs.declared.last.Last.{Last}
+use Rattle.rb_world.specs.declared.scene.Scene.{Scene}
+use Rattle.rb_world.specs.Steps.{Happens}
+use Rattle.rb_world.specs.Turning.{Gives}
+use Rattle.rb_world.specs.Worlds.{AreNodes, HoldsPorts, IsReached, Surrounds, last_of, running_of}
+
+-- one choice more leads to the next world
+pub reached-more : (sc : Scenario) (w : World) (c : Choice) → IsReached sc w → IsReached sc (choose sc w c)
+reached-more sc w c reached = record {
+  choices = reached.choices ++ c ∷ [];
+  is = ap (λ v. choose sc v c) reached.is ∙ sym (after-more sc reached.choices c);
+}
+
+-- what surrounds the nodes once something is settled
+surrounds-settled : (sc : Scenario) (way : Way) (v : World) (scene : Scene) (book : Ledger) (turn : Turn) → Surrounds sc scene v → Settles sc way v book turn
+    → Surrounds sc (record scene { book = book }) (settle sc way 2 v)
+surrounds-settled sc way v scene book turn is settles =
+    let sites = sym (settle-sites sc way 2 v) in
+    record {
+      counts = λ side. ap (λ xs. length (of_kind side xs)) (settle-sites sc way 2 v) ∙ is.counts side;
+      lanes = subst (HoldsSites sc.sizes scene.agenda) sites is.lanes;
+      rooms = is.rooms;
+      book = settles.holds;
+      ports = subst (HoldsPorts sc scene.ports.items) (sym (settle-ports sc way 2 v)) is.ports;
+      running = running;
+      within = within;
+    }
+  where
+    within : (side : Side) (n : ℕ) → has (running_of side (record scene { book = book })) n ≡ true → n < count_of side sc.sizes
+    within Biu = is.within Biu
+    within Rmu = is.within Rmu
+
+    running : (side : Side) → AreRunning side (running_of side (record scene { book = book })) (settle sc way 2 v).sites
+    running Biu = subst (AreRunning Biu scene.running_biu) (sym (settle-sites sc way 2 v)) (is.running Biu)
+    running Rmu = subst (AreRunning Rmu scene.running_rmu) (sym (settle-sites sc way 2 v)) (is.running Rmu)
+
+-- A choice that settles what is due in this way, the nodes being these before
+pub gives : (sc : Scenario) (way : Way) (w v z : World) (c : Choice) (nodes : Each KeptSite) (scene : Scene) (book : Ledger) (turn : Turn) (last : Last) → IsLawful sc
+    → IsReached sc w → z ≡ choose sc w c → z ≡ settle sc way 2 v → ((me : Side) → AreNodes sc me (of_kind me nodes) (of_kind me v.sites)) → Surrounds sc scene v
+    → Settles sc way v book turn → last ≡ last_of (record_of turn)
+    → Gives (record { bus = sc; nodes = nodes; scene = record scene { book = book }; last = last }) turn z
+gives sc way w v z c nodes scene book turn last lawful reached chosen settled are is settles kept =
+    subst (λ x. Gives (record { bus = sc; nodes = nodes; scene = record scene { book = book }; last = last }) turn x) (sym settled) (record {
+      stands = record {
+        lawful = lawful;
+        reached = subst (IsReached sc) (sym chosen ∙ settled) (reached-more sc w c reached);
+        nodes = λ me. subst (λ xs. AreNodes sc me (of_kind me nodes) (of_kind me xs)) (sym (settle-sites sc way 2 v)) (are me);
+        scene = surrounds-settled sc way v scene book turn is settles;
+        last = kept ∙ ap last_of (sym settles.turn_is);
+      };
+      turn_is = settles.turn_is;
+    })
+
+-- so with a due event that has happened
+pub taken : (sc : Scenario) (w : World) (i : ℕ) (d : Due) (nodes : Each KeptSite) (scene : Scene) (book : Ledger) (turn : Turn) (last : Last) → IsLawful sc
+    → IsReached sc w → slice_get (due_of sc w) i ≡ Some d → Happens sc nodes scene w d → Settles sc Way.ByAnEvent (happens sc w d) book turn
+    → last ≡ last_of (record_of turn) → Gives (record { bus = sc; nodes = nodes; scene = record scene { book = book }; last = last }) turn (take sc w i)
+unfolding take
+taken sc w i d nodes scene book turn last lawful reached found happened settles kept =
+    gives sc Way.ByAnEvent w (happens sc w d) (take sc w i) (Take i) nodes scene book turn last lawful reached refl (ap (take_if_due sc w) found) happened.nodes
+    happened.surrounds settles kept
+
+-- what may be taken is due now, where anything may be taken
+pub due-is-now : (sc : Scenario) (w : World) → (w.book.ended || needs_no_event sc w.book.upcoming) ≡ false → due_of sc w ≡ due_now sc w
+unfolding due_of
+due-is-now sc w e = ap (λ b. elim b as (λ _. List Due) [ true ↦ [] | false ↦ due_now sc w ]) e

@@ -1,0 +1,13 @@
+use Rattle.rb_base.specs.Nodes.{side_of}
+use Rattle.rb_world.proofs.Beginning.{begun-next, ready}
+use Rattle.rb_world.proofs.opening.begin.Goals as goal
+
+pub proceed-requires-clause-may : goal.proceed-requires-clause-may
+proceed-requires-clause-may g c =
+    ready c.args.bus.now (side_of g.K.Kind.CODE) c.args.i c.from.result c.args.sites.now.items c.index_mut.result.now c.args.scene.now c.requires.lawful c.requires.within c.from.ensures
+    c.index_mut.ensures.value c.requires.begun
+
+pub returns : goal.returns
+returns g c =
+    begun-next c.args.bus.now (side_of g.K.Kind.CODE) c.args.i c.from.result c.args.sites.now.items c.index_mut.result.now c.proceed.new.site c.args.scene.now c.proceed.new.scene
+    c.requires.lawful c.requires.within c.from.ensures c.index_mut.ensures.value c.proceed.ensures

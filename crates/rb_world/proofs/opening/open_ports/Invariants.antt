@@ -1,0 +1,6 @@
+-- The first ports are there.
+use Rattle.rb_world.proofs.Openings.{HoldEach}
+use Rattle.rb_world.proofs.opening.open_ports.Given as goal
+
+abbrev pub invariant-loop-i : goal.invariant-loop-i
+invariant-loop-i l = HoldEach l.bus l.i l.ports.items

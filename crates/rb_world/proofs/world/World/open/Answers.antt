@@ -1,0 +1,42 @@
+use Rattle.std.proofs.Common.{◌∙◌, ap, subst, sym}
+use Rattle.rb_base.specs.Sizes.{Sizes}
+use Rattle.rb_rules.specs.Goodness.{Scenario}
+use Rattle.rb_rules.specs.Lawful.{IsLawful}
+use Rattle.rb_rules.specs.WorldStep.{first_world}
+use Rattle.rb_world.specs.declared.last.Last.TheVariants as last
+use Rattle.rb_world.specs.Openings.{before_all}
+use Rattle.rb_world.specs.Worlds.{Stands}
+use Rattle.rb_world.proofs.FirstStands.{bius-may, opened, rmus-next}
+use Rattle.rb_world.proofs.world.World.open.Goals as goal
+
+pub begin_all-requires-clause-may : goal.begin_all-requires-clause-may
+begin_all-requires-clause-may c =
+    (before_all c.in_ok-bus.bus, bius-may c.in_ok-bus.bus c.in_ok-scene.scene (subst IsLawful (sym c.in_ok-bus.ensures) c.requires) c.in_ok-scene.ensures)
+
+pub begin_all-requires-2-clause-may : goal.begin_all-requires-2-clause-may
+begin_all-requires-2-clause-may c =
+    let lawful = subst IsLawful (sym c.in_ok-bus.ensures) c.requires in
+    rmus-next c.in_ok-bus.bus c.begin_all.new.sites.items c.begin_all.new.scene c.biu-2.result lawful
+    (c.begin_all.ensures (before_all c.in_ok-bus.bus) (bius-may c.in_ok-bus.bus c.in_ok-scene.scene lawful c.in_ok-scene.ensures))
+
+pub invariant_of-result : goal.invariant_of-result
+invariant_of-result c =
+    let lawful = subst IsLawful (sym c.in_ok-bus.ensures) c.requires in (
+      first_world c.in_ok-bus.bus,
+      opened c.in_ok-bus.bus c.begin_all.new.sites.items c.begin_all-2.new.sites.items c.begin_all.new.scene c.begin_all-2.new.scene c.biu-2.result c.rmu-2.result lawful
+          (c.biu-2.ensures.value ∙ ap (λ (s : Sizes). s.bius) c.shape-3.ensures) (c.rmu-2.ensures.value ∙ ap (λ (s : Sizes). s.rmus) c.shape-4.ensures)
+          (c.begin_all.ensures (before_all c.in_ok-bus.bus) (bius-may c.in_ok-bus.bus c.in_ok-scene.scene lawful c.in_ok-scene.ensures)) c.begin_all-2.ensures,
+    )
+
+pub returns-clause-stands : goal.returns-clause-stands
+returns-clause-stands c =
+    let lawful = subst IsLawful (sym c.in_ok-bus.ensures) c.requires in
+    subst (λ (sc : Scenario). Stands (record {
+      bus = c.in_ok-bus.bus;
+      nodes = record { bius = c.begin_all.new.sites.items; rmus = c.begin_all-2.new.sites.items };
+      scene = c.begin_all-2.new.scene;
+      last = last.Quiet;
+    }) (first_world sc)) c.in_ok-bus.ensures
+    (opened c.in_ok-bus.bus c.begin_all.new.sites.items c.begin_all-2.new.sites.items c.begin_all.new.scene c.begin_all-2.new.scene c.biu-2.result c.rmu-2.result lawful
+    (c.biu-2.ensures.value ∙ ap (λ (s : Sizes). s.bius) c.shape-3.ensures) (c.rmu-2.ensures.value ∙ ap (λ (s : Sizes). s.rmus) c.shape-4.ensures)
+    (c.begin_all.ensures (before_all c.in_ok-bus.bus) (bius-may c.in_ok-bus.bus c.in_ok-scene.scene lawful c.in_ok-scene.ensures)) c.begin_all-2.ensures)

@@ -1,0 +1,47 @@
+-- Nodes of a bus by their names, and how much may be pending at them.
+use Rattle.std.specs.Prelude.{ℕ, ◌≡◌, ◌+◌, ◌≤◌, All, List, length}
+use Rattle.rb_base.specs.Nodes.{Side}
+use Rattle.rb_base.specs.Nodes.Side.{Biu, Rmu}
+use Rattle.rb_rules.specs.Book.{Each}
+use Rattle.rb_rules.specs.Goodness.{Scenario}
+use Rattle.rb_rules.specs.Clock.{Timeline}
+use Rattle.rb_rules.specs.Lawful.{IsLawful}
+use Rattle.rb_rules.specs.Links.{DelayRules}
+use Rattle.rb_onset.specs.Faults.{Faults, faults_of}
+use Rattle.rb_plan.specs.Timetable.{Timetable}
+use Rattle.rb_traffic.specs.Saying.{Kept as KeptSayings, kept_of}
+use Rattle.rb_order.specs.PendingEvents.{most_pending}
+use Rattle.rb_queue.specs.Waiting.{Held}
+
+-- the scenario of a bus, by what is kept of it
+abbrev pub scenario_of : Timetable → ℕ → List ℕ → List ℕ → List ℕ → List Timeline → DelayRules → Faults → KeptSayings → Scenario
+scenario_of plan frames requests words apps clocks delays onsets sayings = record {
+  sizes = plan.sizes;
+  plan = plan.plan;
+  frames = frames;
+  requests = requests;
+  words = words;
+  apps = apps;
+  clocks = clocks;
+  delays = delays;
+  biu_onsets = onsets.biu_onsets;
+  rmu_onsets = onsets.rmu_onsets;
+  says = sayings.says;
+}
+
+-- the scenario is lawful, and this is kept of who is good and of what is said, which are so many entries
+pub record IsBus (count : ℕ) (sc : Scenario) (onsets : Faults) (sayings : KeptSayings) : Type 0 where
+  pub lawful : IsLawful sc
+  pub onsets_are : onsets ≡ faults_of sc
+  pub sayings_are : sayings ≡ kept_of sc
+  pub many : count ≡ length sc.says
+
+-- At a node of kind me there is room for all that is pending there, and, when an event has been taken, for all that may then come at
+-- once: its next tick and what is said to it in a window, or a message
+abbrev pub HasRoom : Scenario → Side → Held → Type 0
+HasRoom sc me lane = most_pending sc me + length sc.says + 1 ≤ lane.room
+
+-- so at each node
+pub record HaveRooms (sc : Scenario) (lanes : Each Held) : Type 0 where
+  pub bius : All (HasRoom sc Biu) lanes.bius
+  pub rmus : All (HasRoom sc Rmu) lanes.rmus

@@ -1,0 +1,45 @@
+-- How a run begins: node by node.
+use Rattle.std.specs.Prelude.{ℕ, zero, suc, ◌≡◌, ◌<◌, ◌≤◌, Some, List, length, slice_get}
+use Rattle.rb_base.specs.Nodes.{Side}
+use Rattle.rb_rules.specs.Book.{each_of, of_kind}
+use Rattle.rb_rules.specs.Goodness.{Scenario}
+use Rattle.rb_rules.specs.Lawful.{IsLawful}
+use Rattle.rb_rules.specs.Slots.{count_of}
+use Rattle.rb_rules.specs.WorldStep.{World, first_world, fresh_site, proceed}
+use Rattle.rb_site.specs.Sites.{Kept as KeptSite, Stands as StandsFor, number_of}
+use Rattle.rb_world.specs.declared.scene.Scene.{Scene}
+use Rattle.rb_world.specs.Steps.{moved}
+use Rattle.rb_world.specs.Worlds.{IsNode, Surrounds}
+
+-- the world before any node has begun
+abbrev pub before_all : Scenario → World
+before_all sc = record (first_world sc) { sites = each_of sc.sizes (λ me i. fresh_site sc.sizes me) }
+
+-- this is kept of node i of kind me before it begins
+pub record IsFresh (sc : Scenario) (me : Side) (i : ℕ) (k : KeptSite) : Type 0 where
+  pub number : number_of k ≡ i
+  pub stands : StandsFor sc me k (fresh_site sc.sizes me)
+
+-- so of all nodes of a kind
+pub record AreFresh (sc : Scenario) (me : Side) (kept : List KeptSite) : Type 0 where
+  pub many : length kept ≡ count_of me sc.sizes
+  pub each : (i : ℕ) (k : KeptSite) → slice_get kept i ≡ Some k → IsFresh sc me i k
+
+-- the world in which the first n nodes of kind me have begun
+unfoldable pub with_begun : Scenario → Side → ℕ → World → World
+with_begun sc me zero w = w
+with_begun sc me (suc n) w = moved me n (proceed sc me n) (with_begun sc me n w)
+
+-- no node of kind me has begun in this world, and this is kept of what surrounds the nodes
+pub record MayBegin (sc : Scenario) (me : Side) (scene : Scene) (w : World) : Type 0 where
+  pub lawful : IsLawful sc
+  pub surrounds : Surrounds sc scene w
+  pub fresh : (i : ℕ) → i < count_of me sc.sizes → slice_get (of_kind me w.sites) i ≡ Some (fresh_site sc.sizes me)
+
+-- the first n of them have begun since
+pub record HaveBegun (sc : Scenario) (me : Side) (n : ℕ) (kept : List KeptSite) (scene : Scene) (w : World) : Type 0 where
+  pub many : length kept ≡ count_of me sc.sizes
+  pub surrounds : Surrounds sc scene (with_begun sc me n w)
+  pub begun : (i : ℕ) (k : KeptSite) → i < n → slice_get kept i ≡ Some k → IsNode sc me i k (proceed sc me i (fresh_site sc.sizes me))
+  pub fresh : (i : ℕ) (k : KeptSite) → n ≤ i → slice_get kept i ≡ Some k → IsFresh sc me i k
+  pub rest : (i : ℕ) → n ≤ i → i < count_of me sc.sizes → slice_get (of_kind me (with_begun sc me n w).sites) i ≡ Some (fresh_site sc.sizes me)

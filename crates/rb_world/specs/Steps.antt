@@ -1,0 +1,156 @@
+-- What happens at one node, as it is done in parts.
+use Rattle.std.specs.Prelude.{⊤, ℕ, ◌≡◌, ◌+◌, ◌<◌, ◌≤◌, ◌^◌, true, Option, Some, None, IfSome, All, get_or, length, slice_get}
+use Rattle.rb_base.specs.Nodes.{Side, other}
+use Rattle.rb_base.specs.Nodes.Side.{Biu}
+use Rattle.rb_base.specs.Sizes.{Sizes}
+use Rattle.rb_base.specs.declared.values.See.TheVariants.{Nothing}
+use Rattle.rb_rules.specs.declared.closing.Closed.{Closed}
+use Rattle.rb_base.specs.declared.event.Event.{Event}
+use Rattle.rb_base.specs.declared.node.NodeName.{NodeName}
+use Rattle.rb_rules.specs.Book.{Each, Row, of_kind}
+use Rattle.rb_rules.specs.Clock.{ComesBy, Timeline}
+use Rattle.rb_rules.specs.Core.{Act, Core, next_tick}
+use Rattle.rb_rules.specs.Goodness.{Scenario, clock_of}
+use Rattle.rb_rules.specs.Hearing.{Coming, Span}
+use Rattle.rb_rules.specs.Lawful.{IsLawful, kind_of}
+use Rattle.rb_rules.specs.Links.{name_of}
+use Rattle.rb_rules.specs.Slots.{count_of, first_diagnosis_of}
+use Rattle.rb_rules.specs.WorldStep.{Due, Site, World, after_act, at_node, due_of, happens, pass_and_tick, proceed, span_from, with_act, with_delivery}
+use Rattle.rb_agenda.specs.Agenda.{IsAtTime}
+use Rattle.rb_agenda.specs.Holding.{Shows, without_waiting}
+use Rattle.rb_node.specs.Cores.{IsCore, passing_end}
+use Rattle.rb_node.specs.declared.act.Want.{Want}
+use Rattle.rb_node.specs.declared.act.Want.TheVariants as want
+use Rattle.rb_book.specs.Changing.{with_row}
+use Rattle.rb_queue.specs.Waiting.{lane_of, spare_of}
+use Rattle.rb_site.specs.Sites.{Kept as KeptSite, Stands as StandsFor, number_of}
+use Rattle.rb_traffic.specs.Arriving.{number_of as number_in}
+use Rattle.rb_world.specs.declared.scene.Scene.{Scene}
+use Rattle.rb_world.specs.Worlds.{AreNodes, IsNode, IsReached, Surrounds}
+
+-- the world in which the site of node i of kind me has changed
+abbrev pub moved : Side → ℕ → (Site → Site) → World → World
+moved me i change w = record w { sites = at_node me i change w.sites }
+
+-- In a world in which no tick is pending at node i of kind me, its site is this. What is kept of it and around it stands for that, and
+-- there is room for its next tick and for what is said to it in a window
+pub record IsAt (sc : Scenario) (me : Side) (i : ℕ) (site : KeptSite) (scene : Scene) (w : World) (s : Site) : Type 0 where
+  pub lawful : IsLawful sc
+  pub within : i < count_of me sc.sizes
+  pub there : slice_get (of_kind me w.sites) i ≡ Some s
+  pub number : number_of site ≡ i
+  pub stands : StandsFor sc me site s
+  pub none_ahead : s.ahead ≡ None
+  pub runs : s.runs ≡ true
+  pub senders : All (λ (c : Coming). c.from < count_of (other me) sc.sizes) s.got
+  pub surrounds : Surrounds sc scene w
+  pub spare : length sc.says + 1 ≤ spare_of (lane_of scene.agenda (name_of me i))
+
+-- a window that begins lies within the ticks that a node may have, and is a stage or the tail
+pub record SpanFits (span : Span) : Type 0 where
+  pub stage : 1 ≤ span.place.stage
+  pub first : span.first ≤ 2 ^ 31
+  pub last : span.last ≤ 2 ^ 31
+
+-- so with the window that a core enters, if it enters one
+abbrev pub SpansFit : Scenario → Side → Core → Type 0
+SpansFit sc me c = (span : Span) → span_from sc.sizes sc.plan me c.state c.had ≡ Some span → SpanFits span
+
+-- the node may go on
+pub record MayProceed (sc : Scenario) (me : Side) (i : ℕ) (site : KeptSite) (scene : Scene) (w : World) (s : Site) : Type 0 where
+  pub at : IsAt sc me i site scene w s
+  pub spans : SpansFit sc me s.core
+
+-- the site of this node in a world has this core, for which the node stands, and its next tick is not pending yet
+pub record IsCoreAt (sc : Scenario) (me : Side) (node : NodeName) (site : KeptSite) (c : Core) (w : World) : Type 0 where
+  pub number : number_of site ≡ number_in node
+  pub sizes : site.node.seat.sizes ≡ sc.sizes
+  pub plan : site.node.seat.plan ≡ sc.plan
+  pub core : IsCore site.node c
+  pub there : (s : Site) → slice_get (of_kind me w.sites) (number_in node) ≡ Some s → s.core ≡ c
+  pub none_ahead : (s : Site) → slice_get (of_kind me w.sites) (number_in node) ≡ Some s → s.ahead ≡ None
+
+-- nothing has changed in the lanes of the other kind's nodes
+abbrev pub OthersStay : Side → Scene → Scene → Type 0
+OthersStay me before after = of_kind (other me) after.agenda ≡ of_kind (other me) before.agenda
+
+-- the node has gone on, and only what is pending there and whether it runs has changed around it
+pub record Proceeds (sc : Scenario) (me : Side) (i : ℕ) (site : KeptSite) (before after : Scene) (w : World) (s : Site) : Type 0 where
+  pub node : IsNode sc me i site (proceed sc me i s)
+  pub surrounds : Surrounds sc after (moved me i (proceed sc me i) w)
+  pub others : OthersStay me before after
+
+-- Ticks.
+
+-- a word from outside is said in the slot, if there is one
+abbrev pub IsWordSlot : Sizes → Option ℕ → Type 0
+IsWordSlot sizes slot = IfSome slot (λ n. n < first_diagnosis_of Biu sizes)
+
+-- only a BIU wants anything
+abbrev pub CanWant : Scenario → ℕ → Want → Type 0
+CanWant sc i want.Nothing = ⊤
+CanWant sc i want.Request = i < sc.sizes.bius
+CanWant sc i (want.Data slot) = i < sc.sizes.bius
+
+-- a node of kind me saw nothing of nodes that are not there
+abbrev pub SeesOnlyNodes : Scenario → Side → Closed → Type 0
+SeesOnlyNodes sc me c = (j : ℕ) → count_of (other me) sc.sizes ≤ j → get_or c.sees j Nothing ≡ Nothing
+
+-- a node has closed this window and told this row of it, and what it delivered is at its port
+abbrev pub closed_at : Scenario → NodeName → Closed → Row → World → World
+closed_at sc node c row w = record (moved (kind_of node) (number_in node) (with_row c.place.stage row) w) { ports = with_delivery sc (number_in node) c.delivered w.ports }
+
+-- if it has closed one
+abbrev pub closed_if : Scenario → NodeName → Option Closed → Row → World → World
+closed_if sc node None row w = w
+closed_if sc node (Some c) row w = closed_at sc node c row w
+
+-- there is room for one event more at each node of a kind
+abbrev pub HasRoomFor : Scenario → Side → Scene → Type 0
+HasRoomFor sc me scene = (j : ℕ) → j < count_of me sc.sizes → 1 ≤ spare_of (lane_of scene.agenda (name_of me j))
+
+-- it is the node's next tick, and there is room for a message at the others
+pub record MayTick (sc : Scenario) (me : Side) (i k : ℕ) (site : KeptSite) (scene : Scene) (w : World) (s : Site) : Type 0 where
+  pub at : IsAt sc me i site scene w s
+  pub next : next_tick sc.sizes sc.plan me i s.core ≡ Some k
+  pub later : s.core.had ≤ k
+  pub below : k < 2 ^ 31
+  pub message : HasRoomFor sc (other me) scene
+  pub spans : SpansFit sc me (pass_and_tick sc w.ports me i k s.core).core
+
+-- the tick has been taken, and this is what it gave
+pub record Ticks (sc : Scenario) (me : Side) (i k : ℕ) (site : KeptSite) (scene : Scene) (w : World) (s : Site) (x : Act) : Type 0 where
+  pub node : IsNode sc me i site (after_act sc w.ports me i x s)
+  pub surrounds : Surrounds sc scene (with_act sc w me i k x)
+
+-- its act
+abbrev pub act_at : Scenario → World → Side → ℕ → ℕ → Site → Act
+act_at sc w me i k s = pass_and_tick sc w.ports me i k s.core
+
+-- Events.
+
+-- The event that is due at place i has been taken out of what is pending: this event, at this time. What is kept of the nodes stands
+-- for the world before, and what surrounds them for the world without it
+pub record MayHappen (sc : Scenario) (kept : Each KeptSite) (scene : Scene) (time : ℕ) (name : NodeName) (event : Event) (w : World) (i : ℕ) (d : Due) : Type 0 where
+  pub lawful : IsLawful sc
+  pub reached : IsReached sc w
+  pub found : slice_get (due_of sc w) i ≡ Some d
+  pub node : name ≡ name_of d.side d.node
+  pub shows : Shows d.pending event.kind
+  pub time_is : IsAtTime time d.pending
+  pub nodes : (me : Side) → AreNodes sc me (of_kind me kept) (of_kind me w.sites)
+  pub surrounds : Surrounds sc scene (moved d.side d.node (without_waiting d.pending) w)
+
+-- it has happened
+pub record Happens (sc : Scenario) (kept : Each KeptSite) (scene : Scene) (w : World) (d : Due) : Type 0 where
+  pub nodes : (me : Side) → AreNodes sc me (of_kind me kept) (of_kind me (happens sc w d).sites)
+  pub surrounds : Surrounds sc scene (happens sc w d)
+
+-- An arrival at node i of kind me is the one that has been taken out of what is pending there, at the least time of all
+pub record MayArrive (sc : Scenario) (me : Side) (i : ℕ) (clock : Timeline) (site : KeptSite) (s : Site) (c : Coming) : Type 0 where
+  pub node : IsNode sc me i site s
+  pub within : i < count_of me sc.sizes
+  pub clock_is : clock ≡ clock_of sc me i
+  pub in_time : ComesBy (passing_end me site.node) clock c.time
+  pub sender : c.from < count_of (other me) sc.sizes
+  pub runs : s.runs ≡ true

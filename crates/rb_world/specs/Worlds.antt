@@ -1,0 +1,101 @@
+-- Which world of the definitions is stood for.
+use Rattle.std.specs.Prelude.{ℕ, ◌≡◌, ◌<◌, ◌||◌, true, false, Option, Some, None, option_map, All, List, [], length, slice_get}
+use Rattle.rb_base.specs.Nodes.{Side, has, other}
+use Rattle.rb_base.specs.Nodes.Side.{Biu, Rmu}
+use Rattle.rb_rules.specs.Book.{Each, Record, of_kind}
+use Rattle.rb_rules.specs.Clock.{time_of}
+use Rattle.rb_rules.specs.Core.{next_tick}
+use Rattle.rb_rules.specs.Goodness.{Scenario, clock_of}
+use Rattle.rb_rules.specs.Lawful.{IsLawful}
+use Rattle.rb_rules.specs.Ports.{PortState}
+use Rattle.rb_rules.specs.Slots.{count_of}
+use Rattle.rb_rules.specs.WorldStep.{Choice, Site, World, world_after}
+use Rattle.rb_agenda.specs.Agenda.{how_many}
+use Rattle.rb_agenda.specs.Holding.{HoldsSites}
+use Rattle.rb_book.specs.Holding.{Holds}
+use Rattle.rb_book.specs.Settling.{is_free}
+use Rattle.rb_port.specs.Keeping.{HoldsPort, KeptPort}
+use Rattle.rb_site.specs.Sites.{Kept as KeptSite, Stands as StandsFor, number_of}
+use Rattle.rb_traffic.specs.Arriving.{AreRunning}
+use Rattle.rb_world.specs.declared.last.Last.{Last}
+use Rattle.rb_world.specs.declared.last.Last.TheVariants as last
+use Rattle.rb_world.specs.declared.scene.Scene.{Scene}
+use Rattle.rb_world.specs.Buses.{HaveRooms}
+
+-- what is kept of a run: the bus, the nodes, what surrounds them, and which turn came last
+pub record Kept : Type 0 where
+  pub bus : Scenario
+  pub nodes : Each KeptSite
+  pub scene : Scene
+  pub last : Last
+
+-- Nodes.
+
+-- The next tick that isn't quiet is pending at a node that runs, and nothing at one that does not
+pub record Awaits (sc : Scenario) (me : Side) (i : ℕ) (s : Site) : Type 0 where
+  pub running : s.runs ≡ true
+      → s.ahead ≡ option_map (λ k. record { tick = k; time = time_of (clock_of sc me i) k }) (next_tick sc.sizes sc.plan me i s.core)
+  pub tick_of_none : s.runs ≡ false → s.ahead ≡ None
+  pub nothing : s.runs ≡ false → s.coming ≡ []
+
+-- this is kept of node i of kind me, to which only nodes of the bus have said anything since its last close
+pub record IsNode (sc : Scenario) (me : Side) (i : ℕ) (k : KeptSite) (s : Site) : Type 0 where
+  pub number : number_of k ≡ i
+  pub site : StandsFor sc me k s
+  pub awaits : Awaits sc me i s
+  pub senders : All (λ c. c.from < count_of (other me) sc.sizes) s.got
+
+-- this is kept of the nodes of a kind
+pub record AreNodes (sc : Scenario) (me : Side) (kept : List KeptSite) (sites : List Site) : Type 0 where
+  pub many : length kept ≡ count_of me sc.sizes
+  pub each : (i : ℕ) (k : KeptSite) (s : Site) → slice_get kept i ≡ Some k → slice_get sites i ≡ Some s → IsNode sc me i k s
+
+-- What surrounds them.
+
+-- each port of a BIU is kept
+pub record HoldsPorts (sc : Scenario) (kept : List KeptPort) (ports : List PortState) : Type 0 where
+  pub many : length kept ≡ sc.sizes.bius
+  pub all : length ports ≡ sc.sizes.bius
+  pub each : (i : ℕ) (k : KeptPort) (port : PortState) → slice_get kept i ≡ Some k → slice_get ports i ≡ Some port → HoldsPort k port
+
+-- the nodes of a kind that run, as a mask
+abbrev pub running_of : Side → Scene → ℕ
+running_of Biu scene = scene.running_biu
+running_of Rmu scene = scene.running_rmu
+
+-- this is kept of what surrounds the nodes: what is pending, with room for more, what they told, the ports, and who runs
+pub record Surrounds (sc : Scenario) (scene : Scene) (w : World) : Type 0 where
+  pub counts : (me : Side) → length (of_kind me w.sites) ≡ count_of me sc.sizes
+  pub lanes : HoldsSites sc.sizes scene.agenda w.sites
+  pub rooms : HaveRooms sc scene.agenda
+  pub book : Holds sc scene.book w
+  pub ports : HoldsPorts sc scene.ports.items w.ports
+  pub running : (me : Side) → AreRunning me (running_of me scene) w.sites
+  pub within : (me : Side) (i : ℕ) → has (running_of me scene) i ≡ true → i < count_of me sc.sizes
+
+-- The world.
+
+-- some choices lead to it
+pub record IsReached (sc : Scenario) (w : World) : Type 0 where
+  pub choices : List Choice
+  pub is : w ≡ world_after sc choices
+
+-- what is kept of a turn
+abbrev pub last_of : Option Record → Last
+last_of None = last.Quiet
+last_of (Some (Record.Frame frame nodes ports)) = last.Frame frame
+last_of (Some (Record.Slot frame slot lines)) = last.Slot
+last_of (Some Record.Ended) = last.Ended
+last_of (Some (Record.Breach place cause)) = last.Breach place cause
+
+-- what is kept stands for a world of its bus that some choices lead to
+pub record Stands (k : Kept) (w : World) : Type 0 where
+  pub lawful : IsLawful k.bus
+  pub reached : IsReached k.bus w
+  pub nodes : (me : Side) → AreNodes k.bus me (of_kind me k.nodes) (of_kind me w.sites)
+  pub scene : Surrounds k.bus k.scene w
+  pub last : k.last ≡ last_of w.turn
+
+-- how many events may be taken, by what is kept: none where the next record needs none, and none after the last
+abbrev pub due_in : Kept → ℕ
+due_in k = elim (k.scene.book.ended || is_free k.scene.book) [ true ↦ 0 | false ↦ how_many k.scene.agenda ]

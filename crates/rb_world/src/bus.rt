@@ -1,0 +1,174 @@
+//! The bus of a run.
+ghost use Rattle.std.specs.Prelude.{◌≡◌, ◌+◌, ◌<◌, ◌≤◌, ◌^◌, IfOk, get_or, length};
+ghost use Rattle.rb_base.specs.Nodes.Side.{Biu, Rmu};
+ghost use Rattle.rb_rules.specs.Book.{Each};
+ghost use Rattle.rb_rules.specs.WorldStep.{Site, at_node, first_world, says_in};
+ghost use Rattle.rb_order.specs.PendingEvents.{most_pending};
+ghost use Rattle.rb_node.specs.Acts.{span_in};
+ghost use Rattle.rb_queue.specs.Waiting.{HasLane, lane_of, spare_of, with_lane};
+ghost use Rattle.rb_agenda.specs.Holding.{HoldsSites};
+ghost use Rattle.rb_rules.specs.Goodness.{clock_of};
+ghost use Rattle.rb_rules.specs.Lawful.{IsLawful, IsNodeOf, is_node_good, kind_of};
+ghost use Rattle.rb_book.specs.Holding.{Holds};
+ghost use Rattle.rb_scenario.specs.Acceptance.{as_scenario};
+ghost use Rattle.rb_traffic.specs.Arriving.{number_of};
+ghost use Rattle.rb_traffic.specs.Saying.{hears, kept_of, with_arrivals};
+
+use rb_agenda::Agenda;
+use rb_base::{NodeName, OutOfMemory, Shape};
+use rb_book::Book;
+use rb_clock::Clock;
+use rb_link::Delays;
+use rb_node::Span;
+use rb_onset::Onsets;
+use rb_plan::Feasible;
+use rb_scenario::{ClockList, Scenario};
+use rb_traffic::Sayings;
+use std::alloc::Global;
+use std::marker::Model;
+
+/// What a scenario fixes for its whole run.
+#[derive(Drop)]
+pub struct Bus {
+    plan: Feasible,
+    frames: u32,
+    requests: [u16; 16],
+    words: [u32; 16],
+    apps: [u8; 16],
+    clocks: ClockList,
+    delays: Delays,
+    onsets: Onsets,
+    sayings: Sayings,
+    says: usize,
+}
+
+impl Model for Bus {
+    ghost use Rattle.rb_rules.specs.Goodness.{Scenario};
+    ghost use Rattle.rb_world.specs.Buses.{IsBus, scenario_of};
+
+    ghost Value = { Scenario };
+
+    ghost view = { λ b. scenario_of b.plan b.frames b.requests b.words b.apps b.clocks b.delays b.onsets b.sayings };
+
+    ghost invariant = { λ b. IsBus b.says (scenario_of b.plan b.frames b.requests b.words b.apps b.clocks b.delays b.onsets b.sayings) b.onsets b.sayings };
+}
+
+impl Bus {
+    /// The bus of a scenario. All memory is taken here.
+    pub fn new(alloc: Global, scenario: Scenario) -> Result<Bus, OutOfMemory>
+        requires { IsLawful (as_scenario scenario) }
+        ensures { IfOk result (λ b. b ≡ as_scenario scenario) }
+    {
+        let shape = *scenario.plan.shape();
+        let version = scenario.plan.plan().version;
+        let onsets = Onsets::new(shape, scenario.biu_onset, scenario.rmu_onset);
+        let says = scenario.says.len();
+        let sayings = Sayings::new(alloc, &shape, onsets, version, scenario.says)?;
+        Ok(Bus {
+            plan: scenario.plan,
+            frames: scenario.frames,
+            requests: scenario.requests,
+            words: scenario.words,
+            apps: scenario.apps,
+            clocks: scenario.clocks,
+            delays: scenario.delays,
+            onsets,
+            sayings,
+            says,
+        })
+    }
+
+    /// How many nodes and data slots the bus has.
+    pub fn shape(&self) -> &Shape
+        ensures { result.now ≡ self.now.sizes }
+    {
+        self.plan.shape()
+    }
+
+    /// The plan of the bus.
+    pub fn plan(&self) -> &Feasible
+        ensures { result.now ≡ record { sizes = self.now.sizes; plan = self.now.plan } }
+    {
+        &self.plan
+    }
+
+    /// The application at BIU `i`.
+    pub fn app(&self, i: u8) -> u8
+        requires { i < self.now.sizes.bius }
+        ensures value { result ≡ get_or self.now.apps i 0 }
+        ensures known { result < 3 }
+    {
+        self.apps[usize::from(i)]
+    }
+
+    /// The state with which the port of BIU `i` begins.
+    pub fn word(&self, i: u8) -> u64
+        requires { i < self.now.sizes.bius }
+        ensures { result ≡ get_or self.now.words i 0 }
+    {
+        u64::from(self.words[usize::from(i)])
+    }
+
+    /// The book of a run of the bus at its begin.
+    pub fn book(&self) -> Book
+        ensures { Holds self.now result (first_world self.now) }
+    {
+        let plan = self.plan.plan();
+        Book::new(
+            *self.plan.shape(),
+            self.frames,
+            plan.dmax - plan.dmin,
+            self.onsets,
+        )
+    }
+
+    /// The clock of a node.
+    pub fn clock(&self, node: NodeName) -> &Clock
+        requires { IsNodeOf self.now.sizes node }
+        ensures { result.now ≡ clock_of self.now (kind_of node) (number_of node) }
+    {
+        match node {
+            NodeName::Biu(i) => self.clocks.get(usize::from(i)),
+            NodeName::Rmu(i) => self
+                .clocks
+                .get(usize::from(self.plan.shape().biu()) + usize::from(i)),
+        }
+    }
+
+    /// Whether the node is good in a window.
+    pub fn is_good(&self, node: NodeName, span: &Span) -> bool
+        ensures { result ≡ is_node_good self.now node span.now.place.frame span.now.place.slot }
+    {
+        self.onsets.is_good(node, span.place.frame, span.place.slot)
+    }
+
+    /// How much may be pending at a node at most, with what comes to it when an event is taken.
+    pub fn room(&self) -> usize
+        ensures biu { most_pending self.now Biu + length self.now.says + 1 ≤ result }
+        ensures rmu { most_pending self.now Rmu + length self.now.says + 1 ≤ result }
+        ensures most { result ≤ 65536 }
+    {
+        let nodes = self.plan.shape().biu().max(self.plan.shape().rmu());
+        2 * usize::from(nodes) + 2 * self.says + 2
+    }
+
+    /// What nodes that are not good say to the node in a window comes to it.
+    pub fn say(&self, agenda: &mut Agenda, node: NodeName, span: &Span)
+        requires node { IsNodeOf self.now.sizes node }
+        requires lane { HasLane agenda.old node }
+        requires spare { length self.now.says ≤ spare_of (lane_of agenda.old node) }
+        requires stage { 1 ≤ span.now.place.stage }
+        requires first { span.now.first ≤ 2 ^ 31 }
+        requires last { span.now.last ≤ 2 ^ 31 }
+        ensures lanes { agenda.new ≡ with_lane node (with_arrivals node (says_in self.now (kind_of node) (number_of node) (span_in span.now)) (lane_of agenda.old node)) agenda.old }
+        ensures world { (sites : Each Site) → HoldsSites self.now.sizes agenda.old sites
+            → HoldsSites self.now.sizes agenda.new (at_node (kind_of node) (number_of node) (hears self.now node (span_in span.now)) sites) }
+    {
+        let span = rb_traffic::Span {
+            place: span.place,
+            first: span.first,
+            last: span.last,
+        };
+        self.sayings.say(agenda, self.clock(node), node, &span);
+    }
+}

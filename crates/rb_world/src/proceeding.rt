@@ -1,0 +1,87 @@
+//! A node goes on to its next tick.
+ghost use Rattle.std.specs.Prelude.{◌≡◌, ◌<◌, ◌≤◌, ◌==◌, ◌&&◌, [], not};
+ghost use Rattle.rb_base.specs.Nodes.{has, set_of, side_of};
+ghost use Rattle.rb_rules.specs.Core.{Core};
+ghost use Rattle.rb_rules.specs.Lawful.{IsNodeOf, kind_of};
+ghost use Rattle.rb_rules.specs.Links.{name_of};
+ghost use Rattle.rb_rules.specs.WorldStep.{Site as WorldSite, World, await, stop};
+ghost use Rattle.rb_queue.specs.Waiting.{lane_of, spare_of};
+ghost use Rattle.rb_site.specs.Sites.{number_of};
+ghost use Rattle.rb_traffic.specs.Arriving.{number_of as number_in};
+ghost use Rattle.rb_world.specs.Steps.{IsCoreAt, MayProceed, OthersStay, Proceeds, moved};
+ghost use Rattle.rb_world.specs.Worlds.{Surrounds};
+
+use crate::bus::Bus;
+use crate::scene::Scene;
+use rb_base::{Event, EventKind, Kind, NodeId, NodeName, NodeSet};
+use rb_site::Site;
+
+// The set without node i.
+fn without<K: Copy>(set: NodeSet<K>, i: u8) -> NodeSet<K>
+    requires { i < 16 }
+    ensures { result ≡ set_of (λ k. not (k == i) && has set k) }
+{
+    let mut changed = NodeSet::from_bits(set.bits());
+    changed.remove(NodeId::of(i));
+    changed
+}
+
+// The node's next tick that isn't quiet is pending.
+fn await_tick<K: Kind>(bus: &Bus, node: NodeName, site: &Site<K>, scene: &mut Scene)
+    requires node { IsNodeOf bus.now.sizes node }
+    requires kind { kind_of node ≡ side_of K.CODE }
+    requires around { (w : World) × Surrounds bus.now scene.old w }
+    requires spare { 1 ≤ spare_of (lane_of scene.old.agenda node) }
+    ensures others { OthersStay (kind_of node) scene.old scene.new }
+    ensures around { (w : World) (c : Core) → IsCoreAt bus.now (side_of K.CODE) node site.now c w → Surrounds bus.now scene.old w
+        → Surrounds bus.now scene.new (moved (kind_of node) (number_in node) (await bus.now (side_of K.CODE) (number_in node) []) w) }
+{
+    if let Some(tick) = site.node().next_tick() {
+        let kind = EventKind::Tick {
+            word: 0,
+            wanted: false,
+        };
+        let time = bus.clock(node).at(tick);
+        scene.agenda.push(
+            time,
+            Event {
+                node,
+                quiet: 0,
+                kind,
+            },
+        );
+    }
+}
+
+// The node stops: nothing is pending at it any more, and nothing comes to it.
+fn stop_at(bus: &Bus, node: NodeName, scene: &mut Scene)
+    requires node { IsNodeOf bus.now.sizes node }
+    requires around { (w : World) × Surrounds bus.now scene.old w }
+    ensures others { OthersStay (kind_of node) scene.old scene.new }
+    ensures around { (w : World) → Surrounds bus.now scene.old w → Surrounds bus.now scene.new (moved (kind_of node) (number_in node) stop w) }
+{
+    scene.agenda.drop_all(node);
+    match node {
+        NodeName::Biu(i) => scene.running_biu = without(scene.running_biu, i),
+        NodeName::Rmu(i) => scene.running_rmu = without(scene.running_rmu, i),
+    }
+}
+
+/// The node goes on to its next tick. At a window's begin a node that is not good there stops, and to the others comes what they
+/// are told in it.
+pub(crate) fn proceed<K: Kind>(bus: &Bus, node: NodeName, site: &mut Site<K>, scene: &mut Scene)
+    requires name { node ≡ name_of (side_of K.CODE) (number_of site.old) }
+    requires may { (w : World) × (s : WorldSite) × MayProceed bus.now (side_of K.CODE) (number_of site.old) site.old scene.old w s }
+    ensures { (w : World) (s : WorldSite) → MayProceed bus.now (side_of K.CODE) (number_of site.old) site.old scene.old w s
+        → Proceeds bus.now (side_of K.CODE) (number_of site.old) site.new scene.old scene.new w s }
+{
+    if let Some(span) = site.entering() {
+        if !bus.is_good(node, &span) {
+            site.stop();
+            stop_at(bus, node, scene);
+            return;
+        }
+        bus.say(&mut scene.agenda, node, &span);
+    }
+    await_tick(bus, node, site, scene);
+}

@@ -1,0 +1,30 @@
+//! All nodes of a run.
+use crate::bus::Bus;
+use crate::last::Last;
+use crate::scene::Scene;
+use rb_base::{Biu, Rmu};
+use rb_site::Site;
+use std::marker::Model;
+
+/// All nodes of a bus, with what is pending at each: a run of a scenario, event by event. It stands for a world of the definitions
+/// that some choices lead to.
+#[derive(Drop)]
+pub struct World {
+    pub(crate) bus: Bus,
+    pub(crate) bius: Vec<Site<Biu>>,
+    pub(crate) rmus: Vec<Site<Rmu>>,
+    pub(crate) scene: Scene,
+    pub(crate) last: Last,
+}
+
+impl Model for World {
+    ghost use Rattle.rb_rules.specs.WorldStep.{World as RunWorld};
+    ghost use Rattle.rb_world.specs.Worlds.{Kept, Stands};
+
+    ghost Value = { Kept };
+
+    ghost view = { λ w. record { bus = w.bus; nodes = record { bius = w.bius.items; rmus = w.rmus.items }; scene = w.scene; last = w.last } };
+
+    ghost invariant = { λ w. (run : RunWorld)
+        × Stands (record { bus = w.bus; nodes = record { bius = w.bius.items; rmus = w.rmus.items }; scene = w.scene; last = w.last }) run };
+}
