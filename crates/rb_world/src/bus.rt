@@ -149,7 +149,7 @@ impl Bus {
         ensures most { result ≤ 65536 }
     {
         let nodes = self.plan.shape().biu().max(self.plan.shape().rmu());
-        2 * usize::from(nodes) + 2 * self.says + 2
+        4 * usize::from(nodes) + 4 * self.says + 2
     }
 
     /// What nodes that are not good say to the node in a window comes to it.

@@ -8,6 +8,8 @@ mod last;
 mod opening;
 mod proceeding;
 mod scene;
+#[cfg(test)]
+mod tests;
 pub mod world;
 
 pub use world::World;

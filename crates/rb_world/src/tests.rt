@@ -1,0 +1,16 @@
+//! A run that is opened.
+use crate::World;
+use rb_gen::generate;
+use std::test::Fail;
+
+#[test]
+fn generated_run_is_opened(rt: HostRuntime) -> Result<(), Fail> {
+    let Ok(scenario) = generate(rt.alloc(), 7, 1) else {
+        return Err("no memory".into());
+    };
+    let Ok(world) = World::open(rt.alloc(), scenario) else {
+        return Err("no memory".into());
+    };
+    assert!(rt; world.due() >= 1);
+    Ok(())
+}
