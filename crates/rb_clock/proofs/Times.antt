@@ -122,17 +122,17 @@ at_length clock now from ticks left is at =
     rw here at bounds
 
 -- so many ticks of such a length
-pub product_bound : (n ticks : ℕ) → n ≤ 2147483648 → ticks ≤ 2000000 → n * ticks ≤ 4294967296000000
+pub product_bound : (n ticks : ℕ) → n ≤ 8589934592 → ticks ≤ 2000000 → n * ticks ≤ 17179869184000000
 product_bound n ticks few short = omega (arith, mul-le-mul_left n short)
 
 -- what the walk adds fits, where it goes no further than a tick that may be asked for
 pub product_fits : (clock : Timeline) (now from ticks until tick : ℕ) (left : List (ℕ × ℕ)) → IsClock 1 2000000 clock → IsAt clock now from ticks left
-    → until ≤ tick → tick ≤ 2147483648 → Fits w64 ((until - from) * ticks)
+    → until ≤ tick → tick ≤ 8589934592 → Fits w64 ((until - from) * ticks)
 product_fits clock now from ticks until tick left is at le few =
     omega (arith, product_bound (until - from) ticks (omega arith) (at_length clock now from ticks left is at).1)
 
 pub sum_fits : (clock : Timeline) (now from ticks until tick : ℕ) (left : List (ℕ × ℕ)) → IsClock 1 2000000 clock → IsAt clock now from ticks left
-    → from ≤ 2147483648 → until ≤ tick → tick ≤ 2147483648 → Fits w64 (now + (until - from) * ticks)
+    → from ≤ 8589934592 → until ≤ tick → tick ≤ 8589934592 → Fits w64 (now + (until - from) * ticks)
 sum_fits clock now from ticks until tick left is at early le few =
     omega (arith, product_bound (until - from) ticks (omega arith) (at_length clock now from ticks left is at).1, at.time, time_bound clock from is)
 

@@ -139,11 +139,20 @@ impl Clock {
         &self.segments
     }
 
-    /// The time at which the tick begins.
+    /// The time at which the tick begins, of ticks up to 2^31.
     pub fn at(&self, tick: u64) -> u64
         requires { tick ≤ 2 ^ 31 }
         ensures time { result ≡ time_of self.now tick }
         ensures small { result < 2 ^ 53 }
+        ensures clock { IsClock 1 2000000 self.now }
+    {
+        self.late_at(tick)
+    }
+
+    /// The time at which the tick begins, of ticks up to 2^33, which is more than a node can have.
+    pub fn late_at(&self, tick: u64) -> u64
+        requires { tick ≤ 2 ^ 33 }
+        ensures time { result ≡ time_of self.now tick }
         ensures clock { IsClock 1 2000000 self.now }
     {
         let [(_, first), rest @ ..] = self.segments.as_slice() else {

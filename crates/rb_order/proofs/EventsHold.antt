@@ -37,7 +37,7 @@ keeps sc lawful (suc zero) small = early-keeps sc lawful (has-room sc lawful) 1 
 keeps sc lawful (suc (suc zero)) small = last-keeps sc lawful (has-room sc lawful)
 keeps sc lawful (suc (suc (suc q))) small = absurd (omega (arith, small))
 
-any : (sc : Scenario) → IsLawful sc → (choices : List Choice) → AnyWorld sc (nodes_at sc) (world_after sc choices)
+pub any : (sc : Scenario) → IsLawful sc → (choices : List Choice) → AnyWorld sc (nodes_at sc) (world_after sc choices)
 any sc lawful = any-after sc (nodes_at sc) lawful (has-room sc lawful) (keeps sc lawful)
 
 pub events-hold : EventsAreRoundsInLawful
@@ -64,7 +64,7 @@ pub turns-hold : OneTurnARecordInLawful
 turns-hold sc lawful = turns-are-next sc (events-hold sc lawful)
 
 -- as long as the run has not ended each tick that may be taken is one of those that its node may have
-ticks-left : (sc : Scenario) → IsLawful sc → (w : World) → AnyWorld sc (nodes_at sc) w → w.book.ended ≡ false → HasTicksLeft sc w
+pub ticks-left : (sc : Scenario) → IsLawful sc → (w : World) → AnyWorld sc (nodes_at sc) w → w.book.ended ≡ false → HasTicksLeft sc w
 ticks-left sc lawful w (inl run) going = in-rounds-left sc w run.stands
 ticks-left sc lawful w (inr (inl off)) going = record { counts = off.stands.nodes.counts; left = left-off sc (nodes_at sc) w lawful (keeps sc lawful) off }
 ticks-left sc lawful w (inr (inr over)) going = true-false (sym over.ended ∙ going)

@@ -107,8 +107,7 @@ fn bring(
 // Whether the entry is said by its sender in a window.
 fn is_said_in(onsets: &Onsets, span: &Span, say: &Say) -> bool
     requires { span.now.first ≤ 2 ^ 31 }
-    ensures value { (sc : Scenario) → onsets.now ≡ faults_of sc → result ≡ is_said_in sc (span_of span.now) say.now }
-    ensures inside { IsTrue result → span.now.first + say.now.offset ≤ span.now.last }
+    ensures { (sc : Scenario) → onsets.now ≡ faults_of sc → result ≡ is_said_in sc (span_of span.now) say.now }
 {
     covers(say, span.place)
         && span.first + u64::from(say.offset) <= span.last
@@ -117,10 +116,10 @@ fn is_said_in(onsets: &Onsets, span: &Span, say: &Say) -> bool
 
 // When an entry comes to a node with this clock: at a tick of the window, or early before it.
 fn time_said(clock: &Clock, span: &Span, say: &Say) -> u64
-    requires { span.now.first + say.now.offset ≤ 2 ^ 31 }
+    requires { span.now.first ≤ 2 ^ 31 }
     ensures { result ≡ time_of clock.now (span.now.first + say.now.offset) - say.now.early }
 {
-    let at = clock.at(span.first + u64::from(say.offset));
+    let at = clock.late_at(span.first + u64::from(say.offset));
     at.saturating_sub(u64::from(say.early))
 }
 
@@ -138,7 +137,6 @@ fn say_one(
     requires spare { 1 ≤ spare_of (lane_of agenda.old to) }
     requires stage { 1 ≤ span.now.place.stage }
     requires first { span.now.first ≤ 2 ^ 31 }
-    requires last { span.now.last ≤ 2 ^ 31 }
     ensures lanes { (sc : Scenario) → onsets.now ≡ faults_of sc → version ≡ sc.plan.version
         → agenda.new ≡ with_lane to (with_arrivals to (all_brought sc clock.now (span_of span.now) (say.now ∷ [])) (lane_of agenda.old to)) agenda.old }
     ensures lane { HasLane agenda.new to }
@@ -166,7 +164,6 @@ fn say_all(
     requires spare { length places.now ≤ spare_of (lane_of agenda.old to) }
     requires stage { 1 ≤ span.now.place.stage }
     requires first { span.now.first ≤ 2 ^ 31 }
-    requires last { span.now.last ≤ 2 ^ 31 }
     ensures { (sc : Scenario) → onsets.now ≡ faults_of sc → version ≡ sc.plan.version
         → agenda.new ≡ with_lane to (with_arrivals to (all_brought sc clock.now (span_of span.now) (entries_at says.now places.now)) (lane_of agenda.old to)) agenda.old }
 {
@@ -229,7 +226,6 @@ impl Sayings {
         requires room { most_to self.now to ≤ spare_of (lane_of agenda.old to) }
         requires stage { 1 ≤ span.now.place.stage }
         requires first { span.now.first ≤ 2 ^ 31 }
-        requires last { span.now.last ≤ 2 ^ 31 }
         ensures lanes { (sc : Scenario) → self.now ≡ kept_of sc → clock.now ≡ clock_of sc (kind_of to) (number_of to)
             → agenda.new ≡ with_lane to (with_arrivals to (says_in sc (kind_of to) (number_of to) (span_of span.now)) (lane_of agenda.old to)) agenda.old }
         ensures world { (sc : Scenario) → (sites : Each Site) → self.now ≡ kept_of sc → clock.now ≡ clock_of sc (kind_of to) (number_of to)

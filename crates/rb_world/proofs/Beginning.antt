@@ -54,7 +54,7 @@ first-here sc lawful me =
     here-is sc.sizes sc.plan me st 0 0 (has-room sc lawful).ticks (omega arith) at ∙ exact-numbered sc.sizes sc.plan me st 0 (omega arith)
 
 first-fits : (sc : Scenario) → IsLawful sc → (me : Side) → SpanFits (span_of (first_state sc.sizes me) (exact_window sc.plan 0))
-first-fits sc lawful me = let l = lawful.plan.l.1 in record { stage = omega arith; first = omega arith; last = omega (arith, l) }
+first-fits sc lawful me = record { stage = omega arith; first = omega arith }
 
 first-spans : (sc : Scenario) → IsLawful sc → (me : Side) → SpansFit sc me (fresh_site sc.sizes me).core
 first-spans sc lawful me span e =

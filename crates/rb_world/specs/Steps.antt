@@ -46,11 +46,10 @@ pub record IsAt (sc : Scenario) (me : Side) (i : ℕ) (site : KeptSite) (scene :
   pub surrounds : Surrounds sc scene w
   pub spare : length sc.says + 1 ≤ spare_of (lane_of scene.agenda (name_of me i))
 
--- a window that begins lies within the ticks that a node may have, and is a stage or the tail
+-- a window that begins does so within the ticks that a node may have, and is a stage or the tail
 pub record SpanFits (span : Span) : Type 0 where
   pub stage : 1 ≤ span.place.stage
   pub first : span.first ≤ 2 ^ 31
-  pub last : span.last ≤ 2 ^ 31
 
 -- so with the window that a core enters, if it enters one
 abbrev pub SpansFit : Scenario → Side → Core → Type 0

@@ -1,18 +1,21 @@
 //! The bus of a run.
 ghost use Rattle.std.specs.Prelude.{◌≡◌, ◌+◌, ◌<◌, ◌≤◌, ◌^◌, IfOk, get_or, length};
+ghost use Rattle.rb_base.specs.Nodes.{other};
 ghost use Rattle.rb_base.specs.Nodes.Side.{Biu, Rmu};
 ghost use Rattle.rb_rules.specs.Book.{Each};
 ghost use Rattle.rb_rules.specs.WorldStep.{Site, at_node, first_world, says_in};
 ghost use Rattle.rb_order.specs.PendingEvents.{most_pending};
-ghost use Rattle.rb_node.specs.Acts.{span_in};
+ghost use Rattle.rb_node.specs.Acts.{IsSendable, span_in};
 ghost use Rattle.rb_queue.specs.Waiting.{HasLane, lane_of, spare_of, with_lane};
 ghost use Rattle.rb_agenda.specs.Holding.{HoldsSites};
 ghost use Rattle.rb_rules.specs.Goodness.{clock_of};
 ghost use Rattle.rb_rules.specs.Lawful.{IsLawful, IsNodeOf, is_node_good, kind_of};
 ghost use Rattle.rb_book.specs.Holding.{Holds};
 ghost use Rattle.rb_scenario.specs.Acceptance.{as_scenario};
-ghost use Rattle.rb_traffic.specs.Arriving.{number_of};
+ghost use Rattle.rb_traffic.specs.Arriving.{AreRunning, HaveRoom, number_of};
 ghost use Rattle.rb_traffic.specs.Saying.{hears, kept_of, with_arrivals};
+ghost use Rattle.rb_traffic.specs.Departing.{with_sent};
+ghost use Rattle.rb_world.specs.Buses.{HaveRooms};
 
 use rb_agenda::Agenda;
 use rb_base::{NodeName, OutOfMemory, Shape};
@@ -23,7 +26,7 @@ use rb_node::Span;
 use rb_onset::Onsets;
 use rb_plan::Feasible;
 use rb_scenario::{ClockList, Scenario};
-use rb_traffic::Sayings;
+use rb_traffic::{Departure, Sayings, send};
 use std::alloc::Global;
 use std::marker::Model;
 
@@ -142,6 +145,14 @@ impl Bus {
         self.onsets.is_good(node, span.place.frame, span.place.slot)
     }
 
+    /// How many data slots BIU `i` asks for.
+    pub fn request(&self, i: u8) -> u32
+        requires { i < self.now.sizes.bius }
+        ensures { result ≡ get_or self.now.requests i 0 }
+    {
+        u32::from(self.requests[usize::from(i)])
+    }
+
     /// How much may be pending at a node at most, with what comes to it when an event is taken.
     pub fn room(&self) -> usize
         ensures biu { most_pending self.now Biu + length self.now.says + 1 ≤ result }
@@ -159,7 +170,6 @@ impl Bus {
         requires spare { length self.now.says ≤ spare_of (lane_of agenda.old node) }
         requires stage { 1 ≤ span.now.place.stage }
         requires first { span.now.first ≤ 2 ^ 31 }
-        requires last { span.now.last ≤ 2 ^ 31 }
         ensures lanes { agenda.new ≡ with_lane node (with_arrivals node (says_in self.now (kind_of node) (number_of node) (span_in span.now)) (lane_of agenda.old node)) agenda.old }
         ensures world { (sites : Each Site) → HoldsSites self.now.sizes agenda.old sites
             → HoldsSites self.now.sizes agenda.new (at_node (kind_of node) (number_of node) (hears self.now node (span_in span.now)) sites) }
@@ -170,5 +180,20 @@ impl Bus {
             last: span.last,
         };
         self.sayings.say(agenda, self.clock(node), node, &span);
+    }
+
+    /// A message of a good node is on its way to the nodes of the other kind that run.
+    pub fn send(&self, agenda: &mut Agenda, departure: &Departure, running: u16)
+        requires node { IsNodeOf self.now.sizes departure.now.from }
+        requires tick { departure.now.tick ≤ 2 ^ 31 }
+        requires message { IsSendable departure.now.message }
+        requires room { HaveRoom (other (kind_of departure.now.from)) running agenda.old }
+        ensures world { (sites : Each Site) → AreRunning (other (kind_of departure.now.from)) running sites
+            → HoldsSites self.now.sizes agenda.old sites → HoldsSites self.now.sizes agenda.new (with_sent self.now departure.now sites) }
+        ensures rooms { HaveRooms self.now agenda.old → HaveRooms self.now agenda.new }
+    {
+        let clock = self.clock(departure.from);
+        let version = self.plan.plan().version;
+        send(agenda, clock, &self.delays, version, departure, running);
     }
 }

@@ -2,14 +2,22 @@
 #![tactic(auto)]
 
 mod bus;
+pub mod drive;
 mod due;
 mod handing;
 mod last;
+mod next;
 mod opening;
 mod proceeding;
 mod scene;
+mod taking;
 #[cfg(test)]
 mod tests;
+mod ticking;
+pub mod ties;
 pub mod world;
 
+pub use drive::{Drive, FirstDrive, MemDrive};
+pub use rb_book::{Cause, FrameRecord, NodeLine, PortLine, SlotLine, SlotRecord, Turn};
+pub use ties::Ties;
 pub use world::World;

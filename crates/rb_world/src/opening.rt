@@ -15,6 +15,7 @@ use crate::bus::Bus;
 use crate::last::Last;
 use crate::proceeding::proceed;
 use crate::scene::Scene;
+use crate::ties::Seeding;
 use crate::world::World;
 use rb_agenda::Agenda;
 use rb_base::{Biu, Kind, NodeName, NodeSet, OutOfMemory, Rmu};
@@ -73,6 +74,7 @@ fn open_scene(alloc: Global, bus: &Bus) -> Result<Scene, OutOfMemory>
         ports,
         running_biu: NodeSet::first(bus.shape().biu()),
         running_rmu: NodeSet::first(bus.shape().rmu()),
+        seeding: Seeding::new(0),
     })
 }
 

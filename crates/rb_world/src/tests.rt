@@ -1,5 +1,5 @@
-//! A run that is opened.
-use crate::World;
+//! What takes memory, once each.
+use super::*;
 use rb_gen::generate;
 use std::test::Fail;
 
@@ -12,5 +12,13 @@ fn generated_run_is_opened(rt: HostRuntime) -> Result<(), Fail> {
         return Err("no memory".into());
     };
     assert!(rt; world.due() >= 1);
+    Ok(())
+}
+
+#[test]
+fn a_drive_keeps_turns_in_memory(rt: HostRuntime) -> Result<(), Fail> {
+    let alloc = rt.alloc();
+    let drive = MemDrive::new(alloc, 10, true)?;
+    assert!(&rt; drive.turns().len() == 0);
     Ok(())
 }

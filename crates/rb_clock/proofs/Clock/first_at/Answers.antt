@@ -52,7 +52,7 @@ overflow_mul-end c =
 pub overflow_add-end : goal.overflow_add-end
 overflow_add-end c =
     let is : IsClock 1 2000000 c.args.self.now = search rules in
-    sum_fits c.args.self.now _ _ _ _ 2147483648 _ is c.loop-next.invariant.walk c.loop-next.invariant.early (omega arith) (omega arith)
+    sum_fits c.args.self.now _ _ _ _ 2147483648 _ is c.loop-next.invariant.walk (omega (arith, c.loop-next.invariant.early)) (omega arith) (omega arith)
 
 pub div_ceil-requires : goal.div_ceil-requires
 div_ceil-requires c =

@@ -13,7 +13,7 @@ returns-else-is_said_in-clause-lanes c =
     let lanes = c.args.agenda.now in
     let to = c.args.to in
     λ sc faults version.
-    let not_said = sym (c.is_said_in.ensures.value sc faults) ∙ c.if-is_said_in.false in
+    let not_said = sym (c.is_said_in.ensures sc faults) ∙ c.if-is_said_in.false in
     sym (ap (λ cs. with_lane to (with_arrivals to cs (lane_of lanes to)) lanes) (one-brought sc c.args.clock.now (span_of c.args.span.now) c.args.say.now false not_said)
     ∙ with-nothing lanes to c.requires.lane)
 
@@ -25,7 +25,7 @@ returns-then-is_said_in-clause-lanes c =
     let span = span_of c.args.span.now in
     let say = c.args.say.now in
     λ sc faults version.
-    let said = sym (c.is_said_in.ensures.value sc faults) ∙ c.if-is_said_in.true in
+    let said = sym (c.is_said_in.ensures sc faults) ∙ c.if-is_said_in.true in
     c.bring.ensures
     ∙ ap (λ t. with_lane to (with_event (arriving to (record { time = t; from = c.number_of-from.result; bytes = bytes_of c.args.version span.place say.content })) (lane_of lanes to)) lanes) c.time_said-time.ensures
     ∙ ap (λ j. with_lane to (with_event (arriving to (record { time = time_of clock (span.first + say.offset) - say.early; from = j; bytes = bytes_of c.args.version span.place say.content })) (lane_of lanes to)) lanes)

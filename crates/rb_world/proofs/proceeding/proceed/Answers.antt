@@ -44,11 +44,6 @@ say-requires-clause-first g c =
     let may = c.requires.may.2 in
     (may.spans (span_in c.in-Some.span) (sym (c.entering.ensures c.args.bus.now c.requires.may.1 may.at.stands) ∙ ap (option_map span_in) c.in-Some.is)).first
 
-pub say-requires-clause-last : goal.say-requires-clause-last
-say-requires-clause-last g c =
-    let may = c.requires.may.2 in
-    (may.spans (span_in c.in-Some.span) (sym (c.entering.ensures c.args.bus.now c.requires.may.1 may.at.stands) ∙ ap (option_map span_in) c.in-Some.is)).last
-
 pub await_tick-requires-clause-around : goal.await_tick-requires-clause-around
 await_tick-requires-clause-around g c =
     let sc = c.args.bus.now in

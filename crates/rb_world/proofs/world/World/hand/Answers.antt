@@ -14,6 +14,7 @@ returns-in_default c =
       world = subst (λ (x : Kept). (w : RunWorld) → Stands x w → Stands x (hand x.bus w c.args.biu c.args.state)) c.self.view_is (λ w is.
           hand-elsewhere k w c.args.biu c.args.state is c.in_default.not-Frame);
       bus = refl;
+      seeding = refl;
     }
 
 pub set_state-requires : goal.set_state-requires

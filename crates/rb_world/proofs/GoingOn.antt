@@ -1,0 +1,31 @@
+-- What a call makes of a world when no event is taken.
+use Rattle.std.proofs.Common.{◌≡◌, true, false, refl, sym, ap, subst}
+use Rattle.rb_rules.specs.Goodness.{Scenario}
+use Rattle.rb_rules.specs.WorldStep.{World, go_on, settle}
+use Rattle.rb_rules.specs.WorldStep.Choice.{GoOn}
+use Rattle.rb_rules.specs.WorldStep.Way.{ByItself}
+use Rattle.rb_book.specs.Records.{record_of}
+use Rattle.rb_book.specs.Settling.{Settles}
+use Rattle.rb_book.specs.declared.ledger.Ledger.{Ledger}
+use Rattle.rb_book.specs.declared.turn.Turn.{Turn}
+use Rattle.rb_world.specs.declared.last.Last.{Last}
+use Rattle.rb_world.specs.Turning.{Gives}
+use Rattle.rb_world.specs.Worlds.{Kept, Stands, last_of}
+use Rattle.rb_world.proofs.Turns.{gives}
+
+-- a run that has ended stays
+pub ended-stays : (sc : Scenario) (w : World) → w.book.ended ≡ true → go_on sc w ≡ w
+unfolding go_on
+ended-stays sc w e = ap (λ b. elim b as (λ _. World) [ true ↦ w | false ↦ settle sc ByItself 2 w ]) e
+
+pub going-settles : (sc : Scenario) (w : World) → w.book.ended ≡ false → go_on sc w ≡ settle sc ByItself 2 w
+unfolding go_on
+going-settles sc w e = ap (λ b. elim b as (λ _. World) [ true ↦ w | false ↦ settle sc ByItself 2 w ]) e
+
+pub ended-gives : (k : Kept) (w : World) (turn : Turn) → Stands k w → w.book.ended ≡ true → w.turn ≡ record_of turn → Gives k turn (go_on k.bus w)
+ended-gives k w turn is ended same = subst (Gives k turn) (sym (ended-stays k.bus w ended)) (record { stands = is; turn_is = same })
+
+pub going-gives : (k : Kept) (w : World) (book : Ledger) (turn : Turn) (last : Last) → Stands k w → w.book.ended ≡ false → Settles k.bus ByItself w book turn
+    → last ≡ last_of (record_of turn) → Gives (record { bus = k.bus; nodes = k.nodes; scene = record k.scene { book = book }; last = last }) turn (go_on k.bus w)
+going-gives k w book turn last is going settles kept =
+    gives k.bus ByItself w w (go_on k.bus w) GoOn k.nodes k.scene book turn last is.lawful is.reached refl (going-settles k.bus w going) is.nodes is.scene settles kept

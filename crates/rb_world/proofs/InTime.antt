@@ -1,0 +1,79 @@
+-- What is due comes while the node's clock still has a tick, in every world that choices lead to.
+use Rattle.std.proofs.Common.{◌≡◌, ℕ, zero, suc, ◌^◌, ◌<◌, ◌≤◌, true, false, List, sym, ◌∙◌, subst, arith, inl, inr, Some, slice_get}
+use Rattle.rb_base.specs.Nodes.{Side}
+use Rattle.rb_rules.specs.Clock.{time_of}
+use Rattle.rb_rules.specs.Goodness.{Scenario, clock_of}
+use Rattle.rb_rules.specs.Lawful.{IsLawful}
+use Rattle.rb_rules.specs.Rounds.{moment}
+use Rattle.rb_rules.specs.WorldStep.{Choice, Due, World, due_of, world_after}
+use Rattle.rb_order.proofs.BreakKeeps.{early-keeps}
+use Rattle.rb_order.proofs.BreakNodes.{KeepsNodes}
+use Rattle.rb_order.proofs.BreakOff.{BreaksOff}
+use Rattle.rb_order.proofs.BreakRooms.{HasLater, has-later}
+use Rattle.rb_order.proofs.BreakRuns.{first-of, waits-yet}
+use Rattle.rb_order.proofs.DueEvents.{IsDue}
+use Rattle.rb_order.proofs.EventsHold.{nodes_at}
+use Rattle.rb_order.proofs.EveryWorld.{AnyWorld, InRun, any-after, due-going}
+use Rattle.rb_order.proofs.Invariant.{is_good_at}
+use Rattle.rb_order.proofs.LastKeeps.{last-keeps}
+use Rattle.rb_order.proofs.NodeEvents.{tick-after}
+use Rattle.rb_order.proofs.OneEvent.{all-pend, pend-of}
+use Rattle.rb_order.proofs.OneTake.{StandsInRounds}
+use Rattle.rb_order.proofs.TickRooms.{has-room}
+use Rattle.rb_order.proofs.WorldStands.{IsUp, sent_by}
+use Rattle.rb_world.specs.Worlds.{IsReached}
+
+true-false : {P : Type 0} → true ≡ false → P
+true-false e = absurd (cc)
+
+-- a tick that the node may have and that comes no earlier
+pub record HasTick (sc : Scenario) (t : ℕ) (me : Side) (i : ℕ) : Type 0 where
+  pub k : ℕ
+  pub small : k < 2 ^ 31
+  pub later : t ≤ time_of (clock_of sc me i) k
+
+keeps : (sc : Scenario) → IsLawful sc → (q : ℕ) → q < 3 → KeepsNodes sc q (nodes_at sc q)
+keeps sc lawful zero small = early-keeps sc lawful (has-room sc lawful) 0 (omega arith)
+keeps sc lawful (suc zero) small = early-keeps sc lawful (has-room sc lawful) 1 (omega arith)
+keeps sc lawful (suc (suc zero)) small = last-keeps sc lawful (has-room sc lawful)
+keeps sc lawful (suc (suc (suc q))) small = absurd (omega (arith, small))
+
+in-run : (sc : Scenario) (w : World) (d : Due) → InRun sc w → (due : IsDue w d) → due.s.runs ≡ true → HasTick sc due.t d.side d.node
+in-run sc w d run due runs =
+    let h : StandsInRounds sc w = run.stands in
+    let up : IsUp sc w.hands (sent_by sc w.hands h.at w.sites) h.now d.side d.node (h.at d.side d.node) due.s = h.stands.sites.up d.side d.node due.s due.there runs in
+    let le : due.t ≤ up.a.time = tick-after due.t due.s.ahead up.a due.s.coming up.stands.receives.pends (pend-of due.t w.sites (all-pend w due.t due.first) d.side d.node due.s due.there) in
+    let time : up.a.time ≡ time_of (clock_of sc d.side d.node) up.a.tick = up.stands.receives.at_time in
+    record { k = up.a.tick; small = up.stands.receives.is_next.below; later = omega (arith, le, time) }
+
+off-run : (sc : Scenario) (w : World) (d : Due) → IsLawful sc → BreaksOff sc (nodes_at sc) w → (due : IsDue w d) → due.s.runs ≡ true → HasTick sc due.t d.side d.node
+off-run sc w d lawful off due runs =
+    let k = off.stands in
+    let its : KeepsNodes sc k.q (nodes_at sc k.q) = keeps sc lawful k.q k.off.small in
+    let yet = waits-yet sc (nodes_at sc) w.hands k.b k.q k.sent w.sites its k.off k.nodes k.open_still in
+    let first = first-of sc w.hands k.b due.t w.sites yet (all-pend w due.t due.first) in
+    let good : is_good_at sc (moment sc w.hands k.b) d.side d.node ≡ true = elim (its.goes w.hands k.b k.off k.sent w.sites k.nodes.nodes d.side d.node due.s due.there) [
+      | inl stopped ↦ true-false (sym runs ∙ stopped.runs)
+      | inr good ↦ good
+    ] in
+    let more : HasLater sc due.t d.side d.node = has-later sc w.hands lawful k.b k.q due.t k.off first d.side d.node good in
+    let later = more.later in
+    record { k = more.k; small = more.small; later = omega (arith, later) }
+
+pub comes-in-time : (sc : Scenario) → IsLawful sc → (choices : List Choice) (place : ℕ) (d : Due) → slice_get (due_of sc (world_after sc choices)) place ≡ Some d
+    → (due : IsDue (world_after sc choices) d) → due.s.runs ≡ true → HasTick sc due.t d.side d.node
+comes-in-time sc lawful choices place d found due runs = by (any-after sc (nodes_at sc) lawful (has-room sc lawful) (keeps sc lawful) choices)
+  where
+    w : World
+    w = world_after sc choices
+
+    by : AnyWorld sc (nodes_at sc) (world_after sc choices) → HasTick sc due.t d.side d.node
+    by (inl run) = in-run sc (world_after sc choices) d run due runs
+    by (inr (inl off)) = off-run sc (world_after sc choices) d lawful off due runs
+    by (inr (inr over)) = let going = due-going sc (world_after sc choices) place d found in true-false (sym over.ended ∙ going.0)
+
+pub reached-in-time : (sc : Scenario) (w : World) → IsLawful sc → IsReached sc w → (place : ℕ) (d : Due) → slice_get (due_of sc w) place ≡ Some d → (due : IsDue w d) → due.s.runs ≡ true
+    → HasTick sc due.t d.side d.node
+reached-in-time sc w lawful reached =
+    subst (λ w. (place : ℕ) (d : Due) → slice_get (due_of sc w) place ≡ Some d → (due : IsDue w d) → due.s.runs ≡ true → HasTick sc due.t d.side d.node) (sym reached.is)
+    (comes-in-time sc lawful reached.choices)

@@ -1,0 +1,146 @@
+-- Once a run has ended, the last turn is its last record.
+use Rattle.std.proofs.Common.{◌≡◌, ℕ, zero, suc, ◌==◌, ◌&&◌, ◌||◌, Bool, true, false, Option, Some, None, List, [], ◌∷◌, ◌++◌, flat_map, fold, length, slice_get, if◌then◌else◌, refl, sym, ap, ◌∙◌, subst}
+use Rattle.rb_base.specs.Nodes.Side.{Biu}
+use Rattle.rb_base.specs.Sizes.{Sizes}
+use Rattle.rb_base.specs.declared.values.Place.{Place}
+use Rattle.rb_rules.specs.declared.cause.Cause.{Cause}
+use Rattle.rb_rules.specs.Book.{Begun, Book, Each, Milestone, Record, Row, after_verdict, frame_records, judged_of, in_order, with_end, with_frame, with_stage}
+use Rattle.rb_rules.specs.Book.Milestone.{Begin, Stage, End}
+use Rattle.rb_rules.specs.Book.Record.{Ended, Breach}
+use Rattle.rb_rules.specs.Goodness.{Scenario, is_good}
+use Rattle.rb_rules.specs.Judging.{JudgedStage, verdict_of}
+use Rattle.rb_rules.specs.Ports.{with_state}
+use Rattle.rb_rules.specs.WorldStep.{Choice, Due, Site, Way, World, book_with, choose, comes_so, due_at, due_of, first_world, frame_in, go_on, hand, happens, is_complete, least, needs_no_event, record_since, settle, settle_next, take, take_if_due, times_of}
+use Rattle.rb_rules.specs.WorldStep.Choice.{Take, GoOn, Hand}
+use Rattle.rb_rules.specs.WorldStep.Way.{ByAnEvent, ByItself}
+use Rattle.rb_order.proofs.WorldBooks.{happens-book, last-one, settle_rest}
+use Rattle.rb_world.specs.Nexts.{is_last}
+use Rattle.rb_world.specs.Worlds.{IsReached}
+
+not-both : {P : Type 0} (b : Bool) → b ≡ true → b ≡ false → P
+not-both b t f = absurd (cc)
+
+-- if a book with these records has ended, the next one is the last of a run
+abbrev Ends : List Record → Book → Type 0
+Ends given x = x.ended ≡ true → is_last (slice_get x.given (length given)) ≡ true
+
+one-last : (given : List Record) (r : Record) → is_last (Some r) ≡ true → is_last (slice_get (given ++ r ∷ []) (length given)) ≡ true
+one-last given r last = ap is_last (last-one given (given ++ r ∷ []) r refl) ∙ last
+
+guarded-ends : (b x : Book) (e : Bool) → e ≡ false → Ends b.given x → Ends b.given (elim e as (λ _. Book) [ true ↦ b | false ↦ x ])
+guarded-ends b x true running h = not-both true refl running
+guarded-ends b x false running h = h
+
+judged-ends : (sizes : Sizes) (place : Place) (rows : Each (Option Row)) (stages : List JudgedStage) (b : Book) (v : Option Cause)
+    → Ends b.given (after_verdict sizes place rows stages b v)
+judged-ends sizes place rows stages b None = λ e. not-both false e refl
+judged-ends sizes place rows stages b (Some cause) = λ e. one-last b.given (Breach place cause) refl
+
+stage-ends : (sc : Scenario) (place : Place) (rows : Each (Option Row)) (b : Book) → b.ended ≡ false → Ends b.given (with_stage sc place rows b)
+unfolding with_stage
+stage-ends sc place rows b running =
+    let stages : List JudgedStage = judged_of sc place rows ∷ b.stages in
+    guarded-ends b (after_verdict sc.sizes place rows stages b (verdict_of stages)) b.ended running (judged-ends sc.sizes place rows stages b (verdict_of stages))
+
+frame-ends : (sc : Scenario) (frame : ℕ) (begun : List Begun) (b : Book) → b.ended ≡ false → Ends b.given (with_frame sc frame begun b)
+unfolding with_frame
+frame-ends sc frame begun b running =
+    guarded-ends b (record {
+      upcoming = if frame == sc.frames then End else Stage (record { frame = frame; slot = 0; stage = 1 });
+      stages = [];
+      lines = [];
+      given = b.given ++ frame_records frame begun;
+      ended = false;
+    }) b.ended running (λ e. not-both false e refl)
+
+end-ends : (b : Book) → b.ended ≡ false → Ends b.given (with_end b)
+end-ends b running = guarded-ends b (record b { given = b.given ++ Ended ∷ []; ended = true }) b.ended running (λ e. one-last b.given Ended refl)
+
+book-ends : (sc : Scenario) (sites : Each Site) (b : Book) (m : Milestone) → b.ended ≡ false → Ends b.given (book_with sc sites b m)
+book-ends sc sites b (Begin frame) running = frame-ends sc frame _ b running
+book-ends sc sites b (Stage place) running = stage-ends sc place _ b running
+book-ends sc sites b End running = end-ends b running
+
+next-ends : (sc : Scenario) (way : Way) (w : World) → w.book.ended ≡ false → Ends w.book.given (settle_next sc way w).book
+next-ends sc way w going = by (comes_so sc way w.book.upcoming && is_complete sc w.sites w.book.upcoming)
+  where
+    by : (b : Bool) → Ends w.book.given (elim b as (λ _. World) [ true ↦ record w { book = book_with sc w.sites w.book w.book.upcoming } | false ↦ w ]).book
+    by true = book-ends sc w.sites w.book w.book.upcoming going
+    by false = λ e. not-both w.book.ended e going
+
+-- where the run has ended, the last turn is its last record
+abbrev pub EndsWell : World → Type 0
+EndsWell w = w.book.ended ≡ true → is_last w.turn ≡ true
+
+settle-ends : (sc : Scenario) (way : Way) (n : ℕ) (w : World) → w.book.ended ≡ false → EndsWell (settle sc way n w)
+settle-ends sc way zero w going = λ e. not-both w.book.ended e going
+settle-ends sc way (suc n) w going =
+    let next : World = settle_next sc way w in
+    one next (record_since w next) (next-ends sc way w going) (settle-ends sc way n next)
+  where
+    not-ended : (b : Bool) → (b ≡ true → false ≡ true) → b ≡ false
+    not-ended true h = sym (h refl)
+    not-ended false h = refl
+
+    one : (next : World) (o : Option Record) → (next.book.ended ≡ true → is_last o ≡ true) → (next.book.ended ≡ false → EndsWell (settle sc way n next)) → EndsWell (settle_rest sc way n next o)
+    one next None ends more = more (not-ended next.book.ended ends)
+    one next (Some r) ends more = ends
+
+go-on-ends : (sc : Scenario) (w : World) → EndsWell w → EndsWell (go_on sc w)
+unfolding go_on
+go-on-ends sc w well = by w.book.ended refl
+  where
+    by : (b : Bool) → w.book.ended ≡ b → EndsWell (elim b as (λ _. World) [ true ↦ w | false ↦ settle sc ByItself 2 w ])
+    by true e = well
+    by false e = settle-ends sc ByItself 2 w e
+
+-- where something is due, the run has not ended
+due-going : (sc : Scenario) (w : World) (i : ℕ) (d : Due) → slice_get (due_of sc w) i ≡ Some d → w.book.ended ≡ false
+unfolding due_of
+due-going sc w i d = by w.book.ended (needs_no_event sc w.book.upcoming)
+  where
+    by : (b c : Bool) → slice_get (elim (b || c) as (λ _. List Due) [ true ↦ [] | false ↦ due_at sc w (least (flat_map times_of (in_order w.sites))) ]) i ≡ Some d → b ≡ false
+    by true c e = cc
+    by false c e = refl
+
+take-ends : (sc : Scenario) (w : World) (i : ℕ) → EndsWell w → EndsWell (take sc w i)
+unfolding take
+take-ends sc w i well = by (slice_get (due_of sc w) i) refl
+  where
+    by : (o : Option Due) → slice_get (due_of sc w) i ≡ o → EndsWell (take_if_due sc w o)
+    by None e = well
+    by (Some d) e = settle-ends sc ByAnEvent 2 (happens sc w d) (ap (λ b. b.ended) (happens-book sc w d) ∙ due-going sc w i d e)
+
+hand-ends : (sc : Scenario) (w : World) (biu state : ℕ) → EndsWell w → EndsWell (hand sc w biu state)
+unfolding hand
+hand-ends sc w biu state well = by (frame_in w.turn)
+  where
+    inner : (x : World) (b : Bool) → EndsWell x → EndsWell (elim b as (λ _. World) [ true ↦ x | false ↦ w ])
+    inner x true h = h
+    inner x false h = well
+
+    by : (o : Option ℕ) → EndsWell (elim o as (λ _. World) [
+      | None ↦ w
+      | Some frame ↦ elim (is_good sc Biu biu frame 0) [
+        | true ↦ record w { ports = with_state biu state w.ports; hands = w.hands ++ record { frame = frame; biu = biu; state = state } ∷ [] }
+        | false ↦ w
+      ]
+    ])
+    by None = well
+    by (Some frame) = inner (record w { ports = with_state biu state w.ports; hands = w.hands ++ record { frame = frame; biu = biu; state = state } ∷ [] }) (is_good sc Biu biu frame 0) well
+
+choose-ends : (sc : Scenario) (w : World) (c : Choice) → EndsWell w → EndsWell (choose sc w c)
+choose-ends sc w (Take i) well = take-ends sc w i well
+choose-ends sc w GoOn well = go-on-ends sc w well
+choose-ends sc w (Hand biu state) well = hand-ends sc w biu state well
+
+all-end : (sc : Scenario) (w : World) (cs : List Choice) → EndsWell w → EndsWell (fold (choose sc) w cs)
+all-end sc w [] well = well
+all-end sc w (c ∷ cs) well = all-end sc (choose sc w c) cs (choose-ends sc w c well)
+
+first-ends : (sc : Scenario) → EndsWell (first_world sc)
+unfolding first_world
+first-ends sc = λ e. not-both false e refl
+
+pub reached-ends : (sc : Scenario) (w : World) → IsReached sc w → EndsWell w
+reached-ends sc w reached = subst EndsWell (sym reached.is) (all-end sc (first_world sc) reached.choices (first-ends sc))

@@ -1,0 +1,219 @@
+-- What is due may be shown.
+use Rattle.std.proofs.Common.{◌≡◌, ◌<◌, ◌≤◌, ◌^◌, ◌==◌, ℕ, Bool, true, List, Option, Some, length, slice_get, refl, sym, ap, ◌∙◌, subst, arith}
+use Rattle.std.specs.Prelude.{option_and_then, option_map, unwrap_or}
+use Rattle.std.proofs.lemmas.Bool.Decides.{nat_tests}
+use Rattle.arrayvec.specs.ArrayVec.{ArrayVec}
+use Rattle.rb_base.specs.Nodes.{Side}
+use Rattle.rb_base.specs.declared.event.Event.{Event}
+use Rattle.rb_base.specs.declared.event.EventKind.{EventKind}
+use Rattle.rb_base.specs.declared.event.EventKind.TheVariants as kind
+use Rattle.rb_base.specs.declared.node.NodeName.{NodeName}
+use Rattle.rb_rules.specs.Book.{Each, of_kind}
+use Rattle.rb_rules.specs.Clock.{ComesBy}
+use Rattle.rb_rules.specs.Goodness.{Scenario, clock_of}
+use Rattle.rb_rules.specs.Hearing.{Coming}
+use Rattle.rb_rules.specs.Links.{name_of}
+use Rattle.rb_rules.specs.Ports.{PortState}
+use Rattle.rb_rules.specs.WorldStep.{Due, Pending, Site, Timed, World, at_node, due_of, event_at, event_of}
+use Rattle.rb_rules.specs.WorldStep.Pending.{Tick, Arrival}
+use Rattle.rb_queue.specs.declared.pending.Pending.{Pending as Held}
+use Rattle.rb_queue.specs.Waiting.{HasLane, Held as Lane, lane_of, ready_event, ready_of, with_lane, without_ready}
+use Rattle.rb_agenda.specs.Agenda.{IsAtTime, IsDue, StandsAt, Takes, TakesDue, first_time, key_of}
+use Rattle.rb_agenda.specs.Holding.{HoldsSite, HoldsSites, Shows, coming_with, due_with, waits_with, without_waiting}
+use Rattle.rb_agenda.proofs.Changes.{holds-at}
+use Rattle.rb_agenda.proofs.Places.{holds-without, ready-time}
+use Rattle.rb_agenda.proofs.Which.{has-item}
+use Rattle.rb_node.specs.Cores.{passing_end}
+use Rattle.rb_order.proofs.DueEvents.{IsDue as IsPending}
+use Rattle.rb_port.specs.Keeping.{KeptPort}
+use Rattle.rb_site.specs.Sites.{Kept as KeptSite, number_of}
+use Rattle.rb_site.proofs.Standing.{passing-most}
+use Rattle.rb_world.specs.Showing.{IsInTime, MayShow, MayShowArrival, MayShowTick}
+use Rattle.rb_world.specs.Steps.{MayHappen}
+use Rattle.rb_world.specs.Worlds.{Kept, Stands, due_in}
+use Rattle.rb_world.proofs.Arrivals.{arrival-ready, in-time}
+use Rattle.rb_world.proofs.Chosen.{may-happen}
+use Rattle.rb_world.proofs.Ready.{due-reached, next-due, node-there, tick-of}
+
+pub event-same : (a b : NodeName) (m n : ℕ) (x y : EventKind) → a ≡ b → m ≡ n → x ≡ y
+    → ◌≡◌ {A = Event} (record { node = a; quiet = m; kind = x }) (record { node = b; quiet = n; kind = y })
+event-same a b m n x y ea em ex =
+    ap (λ a. let e : Event = record { node = a; quiet = m; kind = x } in e) ea
+    ∙ ap (λ m. let e : Event = record { node = b; quiet = m; kind = x } in e) em
+    ∙ ap (λ x. let e : Event = record { node = b; quiet = n; kind = x } in e) ex
+
+-- a tick is shown as one
+pub record ShowsTick (sc : Scenario) (me : Side) (i : ℕ) (waits : Pending) (site : KeptSite) (kept : List KeptPort) (name : NodeName) (states : List PortState) (s : Site) : Type 0 where
+  pub tick : ℕ
+  pub is : waits ≡ Tick tick
+  pub may : MayShowTick sc me i tick site kept name states s
+
+pub tick-shows : (sc : Scenario) (me : Side) (i : ℕ) (waits : Pending) (site : KeptSite) (kept : List KeptPort) (time : ℕ) (name : NodeName) (event : Event) (states : List PortState) (s : Site)
+    (word : ℕ) (wanted : Bool) → MayShow sc me i waits site kept time name event states s → event.kind ≡ kind.Tick word wanted → ShowsTick sc me i waits site kept name states s
+tick-shows sc me i waits site kept time name event states s word wanted may is = by waits (subst (Shows waits) is may.shows) may.in_time
+  where
+    by : (p : Pending) → Shows p (kind.Tick word wanted) → IsInTime sc me i s.core p → ShowsTick sc me i p site kept name states s
+    by (Tick k) shows next = record { tick = k; is = refl; may = record { at = may.at; next = next; holds = may.holds } }
+    by (Arrival place c) shows next = absurd shows
+
+-- an arrival is shown as one
+pub record ShowsArrival (sc : Scenario) (me : Side) (i : ℕ) (waits : Pending) (site : KeptSite) (time : ℕ) (name : NodeName) (from : ℕ) (bytes : List ℕ) (s : Site) : Type 0 where
+  pub place : ℕ
+  pub is : waits ≡ Arrival place (record { time = time; from = from; bytes = bytes })
+  pub may : MayShowArrival sc me i site time name s
+
+pub arrival-shows : (sc : Scenario) (me : Side) (i : ℕ) (waits : Pending) (site : KeptSite) (kept : List KeptPort) (time : ℕ) (name : NodeName) (event : Event) (states : List PortState) (s : Site)
+    (from : ℕ) (bytes : ArrayVec ℕ) → MayShow sc me i waits site kept time name event states s → event.kind ≡ kind.Arrive from bytes
+    → ShowsArrival sc me i waits site time name from bytes.items s
+arrival-shows sc me i waits site kept time name event states s from bytes may is = by waits (subst (Shows waits) is may.shows) may.time_is may.in_time
+  where
+    by : (p : Pending) → Shows p (kind.Arrive from bytes) → IsAtTime time p → IsInTime sc me i s.core p → ShowsArrival sc me i p site time name from bytes.items s
+    by (Tick k) shows at next = absurd shows
+    by (Arrival place c) shows at next =
+        let same : c ≡ record { time = time; from = from; bytes = bytes.items } = ap (λ t. let z : Coming = record { time = t; from = c.from; bytes = c.bytes } in z) at
+        ∙ ap (λ f. let z : Coming = record { time = time; from = f; bytes = c.bytes } in z) (sym shows.0)
+        ∙ ap (λ b. let z : Coming = record { time = time; from = from; bytes = b } in z) (sym shows.1) in
+        record {
+          place = place;
+          is = ap (Arrival place) same;
+          may = record { at = may.at; in_time = subst (ComesBy (2 ^ 31) (clock_of sc me i)) at next };
+        }
+
+-- An event that would be taken.
+
+shows-own : (events : List Held) (ahead : Option Timed) (place time : ℕ) (k : EventKind) → Shows (waits_with events ahead place time k) k
+shows-own events ahead place time (kind.Arrive from bytes) = (refl, refl)
+shows-own events ahead place time (kind.Tick word wanted) = tt
+
+at-time : (events : List Held) (ahead : Option Timed) (place time t : ℕ) (k : EventKind) → time ≡ t → IsAtTime t (waits_with events ahead place time k)
+at-time events ahead place time t (kind.Arrive from bytes) e = e
+at-time events ahead place time t (kind.Tick word wanted) e = tt
+
+some-same : {X : Type 0} (a b : X) → Some a ≡ Some b → a ≡ b
+some-same a b e = ap (λ o. unwrap_or o a) e
+
+ready-first : (lanes : Each Lane) (l : Lane) (place : ℕ) (c : ℕ × Held) → slice_get (ready_of l) place ≡ Some c → (key_of l == first_time lanes) ≡ true → c.1.time ≡ first_time lanes
+ready-first lanes l place c e first =
+    let key : key_of l ≡ c.1.time = ap (λ o. unwrap_or o 18446744073709551615) (ready-time l place c e) in
+    (let time : key_of l ≡ first_time lanes = grind (arith, nat_tests, first) in sym key ∙ time)
+
+-- what would be taken is due, and this would be left
+takes-due : (sc : Scenario) (w : World) (lanes : Each Lane) (i : ℕ) (event : Event) (name : NodeName) (place : ℕ) → HoldsSites sc.sizes lanes w.sites
+    → StandsAt lanes (first_time lanes) i name place → IsDue sc w lanes i name place → ready_event place (lane_of lanes name) ≡ Some event
+    → TakesDue sc w i (first_time lanes) name event (with_lane name (without_ready place (lane_of lanes name)) lanes)
+takes-due sc w lanes i event name place holds at d shown =
+    let l : Lane = lane_of lanes name in
+    let waits : Pending = waits_with l.events d.site.ahead d.event.0 d.event.1.time d.event.1.event.kind in
+    let its : d.event.1.event ≡ event = some-same d.event.1.event event (sym (ap (option_map (λ c. c.1.event)) d.ready) ∙ shown) in
+    let lane : lane_of lanes (name_of d.side d.number) ≡ l = ap (lane_of lanes) (sym d.named) in
+    let change : Site → Site = without_waiting waits in
+    let step : (s : Site) → slice_get (of_kind d.side w.sites) d.number ≡ Some s → HoldsSite sc.sizes d.side (lane_of lanes (name_of d.side d.number)) s
+    → HoldsSite sc.sizes d.side (without_ready place l) (change s) =
+    λ s e h.
+    let same : d.site ≡ s = some-same d.site s (sym d.there ∙ e) in
+    subst (λ x. HoldsSite sc.sizes d.side (without_ready place l) (change x)) same
+    (holds-without sc.sizes d.side l d.site place d.event
+    (subst (HoldsSite sc.sizes d.side l) (sym same) (subst (λ x. HoldsSite sc.sizes d.side x s) lane h)) d.ready) in
+    record {
+      due = due_with d.side d.number l.events d.site d.event;
+      site = d.site;
+      named = d.named;
+      time_is = at-time l.events d.site.ahead d.event.0 d.event.1.time (first_time lanes) d.event.1.event.kind (ready-first lanes l place d.event d.ready at.first);
+      found = d.due;
+      there = d.there;
+      shows = subst (λ e. Shows waits e.kind) its (shows-own l.events d.site.ahead d.event.0 d.event.1.time d.event.1.event.kind);
+      left = subst (λ x. HoldsSites sc.sizes x (at_node d.side d.number change w.sites)) (sym (ap (λ n. with_lane n (without_ready place l) lanes) d.named))
+          (holds-at sc.sizes lanes w.sites d.side d.number (without_ready place l) change holds (subst (HasLane lanes) d.named at.lane) step);
+    }
+
+-- All that is needed to show it.
+
+pub record ShowReady (k : Kept) (w : World) (i : ℕ) (me : Side) (j time : ℕ) (name : NodeName) (event : Event) : Type 0 where
+  pub waits : Pending
+  pub s : Site
+  pub site : KeptSite
+  pub kept_there : slice_get (of_kind me k.nodes) j ≡ Some site
+  pub inside : j < length (of_kind me k.nodes)
+  pub number : number_of site ≡ j
+  pub may : MayShow k.bus me j waits site k.scene.ports.items time name event w.ports s
+  pub is : event_at k.bus w i ≡ Some (event_of k.bus w.ports me j s.core waits)
+
+event-is : (sc : Scenario) (w : World) (i : ℕ) (d : Due) (me : Side) (j : ℕ) (p : Pending) (s : Site) → slice_get (due_of sc w) i ≡ Some d → d ≡ record { side = me; node = j; pending = p }
+    → slice_get (of_kind me w.sites) j ≡ Some s → event_at sc w i ≡ Some (event_of sc w.ports me j s.core p)
+unfolding event_at
+event-is sc w i d me j p s found is there =
+    ap (option_and_then (λ (d : Due). option_map (λ (s : Site). event_of sc w.ports d.side d.node s.core d.pending) (slice_get (of_kind d.side w.sites) d.node))) (found ∙ ap (λ (x : Due). Some x) is)
+    ∙ ap (option_map (λ (s : Site). event_of sc w.ports me j s.core p)) there
+
+show-happening : (k : Kept) (w : World) (i : ℕ) (d : Due) (me : Side) (j time : ℕ) (name : NodeName) (event : Event) (lanes : Each Lane) → Stands k w
+    → MayHappen k.bus k.nodes (record k.scene { agenda = lanes }) time name event w i d → name ≡ name_of me j → (e : EventKind) → event.kind ≡ e → ShowReady k w i me j time name event
+show-happening k w i d me j time name event lanes is may named (kind.Tick word wanted) shown =
+    let t = tick-of k.bus k.nodes (record k.scene { agenda = lanes }) time name event w i d me j word wanted may shown named in
+    let due : IsPending w (record { side = me; node = j; pending = Tick t.tick }) = subst (IsPending w) t.is (due-reached k.bus w i d may.reached may.found) in
+    let there = node-there k.bus k.nodes (record k.scene { agenda = lanes }) time name event w i d me j may named in
+    let found = has-item (of_kind me k.nodes) j there.1 in
+    let node = (is.nodes me).each j found.item due.s found.is due.there in
+    record {
+      waits = Tick t.tick;
+      s = due.s;
+      site = found.item;
+      kept_there = found.is;
+      inside = there.1;
+      number = node.number;
+      may = record {
+        at = record { within = there.0; named = named; number = node.number; stands = node.site };
+        holds = is.scene.ports;
+        shows = subst (λ (d : Due). Shows d.pending event.kind) t.is may.shows;
+        time_is = tt;
+        in_time = (next-due k.bus me j t.tick due.s due.ready.0 node.awaits due.ready.1.0 due.ready.1.1.0).1;
+      };
+      is = event-is k.bus w i d me j (Tick t.tick) due.s may.found t.is due.there;
+    }
+show-happening k w i d me j time name event lanes is may named (kind.Arrive from bytes) shown =
+    let x : Coming = record { time = time; from = from; bytes = bytes.items } in
+    let r = arrival-ready k.bus k.nodes (record k.scene { agenda = lanes }) time name event w i d me j x may (ap (coming_with time) shown) named in
+    let by = in-time k.bus k.nodes w d me j x r in
+    let early : by.tick ≤ passing_end me r.site.node = by.in_time in
+    let most : passing_end me r.site.node ≤ 2 ^ 31 = passing-most me r.site.node in
+    record {
+      waits = Arrival r.place x;
+      s = r.s;
+      site = r.site;
+      kept_there = r.kept_there;
+      inside = (node-there k.bus k.nodes (record k.scene { agenda = lanes }) time name event w i d me j may named).1;
+      number = r.node.number;
+      may = record {
+        at = record { within = r.within; named = named; number = r.node.number; stands = r.node.site };
+        holds = is.scene.ports;
+        shows = subst (λ (d : Due). Shows d.pending event.kind) r.is may.shows;
+        time_is = refl;
+        in_time = record { tick = by.tick; in_time = omega (arith, early, most); come = by.come };
+      };
+      is = event-is k.bus w i d me j (Arrival r.place x) r.s may.found r.is r.there;
+    }
+
+pub show-ready : (k : Kept) (w : World) (i place : ℕ) (me : Side) (j : ℕ) (name : NodeName) (event : Event) → Stands k w → i < due_in k
+    → StandsAt k.scene.agenda (first_time k.scene.agenda) i name place → IsDue k.bus w k.scene.agenda i name place → ready_event place (lane_of k.scene.agenda name) ≡ Some event
+    → name ≡ name_of me j → ShowReady k w i me j (first_time k.scene.agenda) name event
+show-ready k w i place me j name event is below at due shown named =
+    let lanes : Each Lane = with_lane name (without_ready place (lane_of k.scene.agenda name)) k.scene.agenda in
+    let takes : Takes k.scene.agenda i name event lanes = record { place = place; stands = at; taken = shown; left = refl } in
+    let both = may-happen k w i name event lanes is below takes (takes-due k.bus w k.scene.agenda i event name place is.scene.lanes at due shown) in
+    show-happening k w i both.0 me j (first_time k.scene.agenda) name event lanes is both.1 named event.kind refl
+
+-- With what is at hand: this site, these ports, this time, the node by its name.
+
+pub may-show : (k : Kept) (w : World) (i : ℕ) (me : Side) (j time : ℕ) (name : NodeName) (event : Event) (site : KeptSite) (ports : List KeptPort)
+    → (r : ShowReady k w i me j (first_time k.scene.agenda) name event) → r.site ≡ site → ports ≡ k.scene.ports.items → time ≡ first_time k.scene.agenda → name ≡ name_of me j
+    → MayShow k.bus me (number_of site) r.waits site ports time (name_of me j) event w.ports r.s
+may-show k w i me j time name event site ports r site_is ports_are time_is named =
+    subst (λ z. MayShow k.bus me (number_of z) r.waits z ports time (name_of me j) event w.ports r.s) site_is
+    (subst (λ n. MayShow k.bus me n r.waits r.site ports time (name_of me j) event w.ports r.s) (sym r.number)
+    (subst (λ n. MayShow k.bus me j r.waits r.site ports time n event w.ports r.s) named
+    (subst (λ t. MayShow k.bus me j r.waits r.site ports t name event w.ports r.s) (sym time_is)
+    (subst (λ ps. MayShow k.bus me j r.waits r.site ps (first_time k.scene.agenda) name event w.ports r.s) (sym ports_are) r.may))))
+
+pub event-shown : (k : Kept) (w : World) (i : ℕ) (me : Side) (j : ℕ) (name : NodeName) (event shown : Event) (site : KeptSite)
+    → (r : ShowReady k w i me j (first_time k.scene.agenda) name event) → r.site ≡ site → shown ≡ event_of k.bus w.ports me (number_of site) r.s.core r.waits → event_at k.bus w i ≡ Some shown
+event-shown k w i me j name event shown site r site_is e =
+    r.is ∙ ap (λ (x : Event). Some x) (sym (e ∙ ap (λ n. event_of k.bus w.ports me n r.s.core r.waits) (sym (ap number_of site_is) ∙ r.number)))

@@ -1,0 +1,49 @@
+-- When what is due may be shown.
+use Rattle.std.specs.Prelude.{ℕ, ◌≡◌, ◌<◌, ◌^◌, Some, List}
+use Rattle.rb_base.specs.Nodes.{Side}
+use Rattle.rb_base.specs.declared.event.Event.{Event}
+use Rattle.rb_base.specs.declared.node.NodeName.{NodeName}
+use Rattle.rb_rules.specs.Clock.{ComesBy}
+use Rattle.rb_rules.specs.Core.{Core, next_tick}
+use Rattle.rb_rules.specs.Goodness.{Scenario, clock_of}
+use Rattle.rb_rules.specs.Links.{name_of}
+use Rattle.rb_rules.specs.Ports.{PortState}
+use Rattle.rb_rules.specs.Slots.{count_of}
+use Rattle.rb_rules.specs.WorldStep.{Pending, Site}
+use Rattle.rb_rules.specs.WorldStep.Pending.{Tick, Arrival}
+use Rattle.rb_agenda.specs.Agenda.{IsAtTime}
+use Rattle.rb_agenda.specs.Holding.{Shows}
+use Rattle.rb_port.specs.Keeping.{KeptPort}
+use Rattle.rb_site.specs.Sites.{Kept as KeptSite, Stands as StandsFor, number_of}
+use Rattle.rb_world.specs.Worlds.{HoldsPorts}
+
+-- node i of kind me has this name, and what is kept of it stands for this site
+pub record IsShownAt (sc : Scenario) (me : Side) (i : ℕ) (site : KeptSite) (name : NodeName) (s : Site) : Type 0 where
+  pub within : i < count_of me sc.sizes
+  pub named : name ≡ name_of me i
+  pub number : number_of site ≡ i
+  pub stands : StandsFor sc me site s
+
+-- its next tick may be shown
+pub record MayShowTick (sc : Scenario) (me : Side) (i k : ℕ) (site : KeptSite) (kept : List KeptPort) (name : NodeName) (ports : List PortState) (s : Site) : Type 0 where
+  pub at : IsShownAt sc me i site name s
+  pub next : next_tick sc.sizes sc.plan me i s.core ≡ Some k
+  pub holds : HoldsPorts sc kept ports
+
+-- an arrival at this time may be shown
+pub record MayShowArrival (sc : Scenario) (me : Side) (i : ℕ) (site : KeptSite) (time : ℕ) (name : NodeName) (s : Site) : Type 0 where
+  pub at : IsShownAt sc me i site name s
+  pub in_time : ComesBy (2 ^ 31) (clock_of sc me i) time
+
+-- what waits is the next tick, or comes by the last that there is
+abbrev pub IsInTime : Scenario → Side → ℕ → Core → Pending → Type 0
+IsInTime sc me i c (Tick k) = next_tick sc.sizes sc.plan me i c ≡ Some k
+IsInTime sc me i c (Arrival place a) = ComesBy (2 ^ 31) (clock_of sc me i) a.time
+
+-- this event at this time is what waits there, and may be shown
+pub record MayShow (sc : Scenario) (me : Side) (i : ℕ) (waits : Pending) (site : KeptSite) (kept : List KeptPort) (time : ℕ) (name : NodeName) (event : Event) (ports : List PortState) (s : Site) : Type 0 where
+  pub at : IsShownAt sc me i site name s
+  pub holds : HoldsPorts sc kept ports
+  pub shows : Shows waits event.kind
+  pub time_is : IsAtTime time waits
+  pub in_time : IsInTime sc me i s.core waits

@@ -1,0 +1,82 @@
+//! How a run comes to its next record.
+ghost use Rattle.std.specs.Prelude.{◌≡◌, true, Option, is_some};
+ghost use Rattle.rb_rules.specs.Book.{Record};
+ghost use Rattle.rb_rules.specs.WorldStep.{World as RunWorld, go_on};
+ghost use Rattle.rb_book.specs.Records.{record_of};
+ghost use Rattle.rb_world.specs.Nexts.{GoesToNext, RunsOn, TakesStep, is_last};
+ghost use Rattle.rb_world.specs.Turning.{Gives};
+ghost use Rattle.rb_world.specs.Worlds.{Stands, last_of};
+
+use crate::last::Last;
+use crate::taking::last_of;
+use crate::ties::{Ties, choose};
+use crate::world::World;
+use rb_book::{Turn, Way};
+use rb_gen::Draws;
+use rb_port::Apps;
+
+// The last turn of a run, of which this is kept.
+fn last_turn(last: Last) -> Turn
+    ensures { (r : Option Record) → last ≡ last_of r → is_last r ≡ true → r ≡ record_of result }
+{
+    match last {
+        Last::Breach(place, cause) => Turn::Breach(place, cause),
+        _ => Turn::Ended,
+    }
+}
+
+impl World {
+    // Gives what needs no event, and after the last record that record again.
+    fn go_on(&mut self) -> Turn
+        ensures world { (w : RunWorld) → Stands self.old w → Gives self.new result (go_on self.old.bus w) }
+        ensures bus { self.new.bus ≡ self.old.bus }
+    {
+        if self.scene.book.has_ended() {
+            return last_turn(self.last);
+        }
+        let turn = self.scene.book.settle(Way::ByItself);
+        self.last = last_of(&turn);
+        turn
+    }
+
+    // Takes an event that is due, and where none is, goes on without one.
+    fn step(&mut self, apps: &Apps, ties: Ties, draws: &mut Draws) -> Turn
+        ensures world { (w : RunWorld) → Stands self.old w → TakesStep ties draws.old.state draws.new.state self.old self.new result w }
+        ensures bus { self.new.bus ≡ self.old.bus }
+    {
+        let due = self.due();
+        if due == 0 {
+            return self.go_on();
+        }
+        let i = choose(ties, draws, due);
+        self.take(apps, i)
+    }
+
+    // Takes steps up to the next record. A run has fewer than 2^64 - 1 events.
+    fn run_on(&mut self, apps: &Apps, ties: Ties, draws: &mut Draws) -> Turn
+        requires { (w : RunWorld) × Stands self.old w }
+        ensures world { (w : RunWorld) → Stands self.old w → RunsOn ties draws.old.state draws.new.state self.old self.new result w }
+        ensures bus { self.new.bus ≡ self.old.bus }
+    {
+        for passed in 0..u64::MAX {
+            let turn = self.step(apps, ties, draws);
+            let Turn::Quiet = turn else {
+                return turn;
+            };
+        }
+        unreachable!()
+    }
+
+    /// The next record: a record that needs no event is given by itself, else events that are due are taken, chosen by `ties`, until
+    /// a record comes with one. After the last record, `Ended` or a breach, it is that record again. The turn is never `Quiet`.
+    pub fn next(&mut self, apps: &Apps, ties: Ties) -> Turn
+        ensures world { (w : RunWorld) → Stands self.old w → GoesToNext ties self.old self.new result w }
+        ensures record { is_some (record_of result) ≡ true }
+        ensures bus { self.new.bus ≡ self.old.bus }
+    {
+        let mut seeding = self.scene.seeding.begin(ties);
+        let turn = self.run_on(apps, ties, &mut seeding.draws);
+        self.scene.seeding = seeding;
+        turn
+    }
+}

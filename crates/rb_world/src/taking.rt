@@ -1,0 +1,112 @@
+//! How an event is taken.
+ghost use Rattle.std.specs.Prelude.{◌≡◌, ◌<◌, ℕ};
+ghost use Rattle.rb_base.specs.Nodes.{side_of};
+ghost use Rattle.rb_rules.specs.Links.{name_of};
+ghost use Rattle.rb_site.specs.Sites.{number_of};
+ghost use Rattle.rb_rules.specs.WorldStep.{Due, Site as WorldSite, World as RunWorld, take};
+ghost use Rattle.rb_world.specs.Steps.{Happens, MayHappen, MayTick, Ticks, act_at};
+ghost use Rattle.rb_world.specs.Turning.{Gives};
+ghost use Rattle.rb_world.specs.Worlds.{Stands, due_in, last_of};
+ghost use Rattle.rb_book.specs.Records.{record_of};
+
+use crate::bus::Bus;
+use crate::last::Last;
+use crate::scene::Scene;
+use crate::ticking::tick;
+use crate::world::World;
+use rb_base::{Biu, Event, EventKind, Kind, NodeName, Rmu};
+use rb_book::{Turn, Way};
+use rb_port::Apps;
+use rb_site::Site;
+
+// What is kept of a turn.
+pub(crate) fn last_of(turn: &Turn) -> Last
+    ensures { result ≡ last_of (record_of turn.now) }
+{
+    match turn {
+        Turn::Quiet => Last::Quiet,
+        Turn::Frame(frame) => Last::Frame(frame.frame),
+        Turn::Slot(_) => Last::Slot,
+        Turn::Ended => Last::Ended,
+        Turn::Breach(place, cause) => Last::Breach(*place, *cause),
+    }
+}
+
+// The node takes the tick that is ahead of it.
+fn tick_at<K: Kind>(
+    bus: &Bus,
+    apps: &Apps,
+    node: NodeName,
+    i: u8,
+    site: &mut Site<K>,
+    scene: &mut Scene,
+)
+    requires number { i ≡ number_of site.old }
+    requires name { node ≡ name_of (side_of K.CODE) (number_of site.old) }
+    requires may { (k : ℕ) × (w : RunWorld) × (s : WorldSite) × MayTick bus.now (side_of K.CODE) (number_of site.old) k site.old scene.old w s }
+    ensures { (k : ℕ) (w : RunWorld) (s : WorldSite) → MayTick bus.now (side_of K.CODE) (number_of site.old) k site.old scene.old w s
+        → Ticks bus.now (side_of K.CODE) (number_of site.old) k site.new scene.new w s (act_at bus.now w (side_of K.CODE) (number_of site.old) k s) }
+{
+    if let Some(k) = site.node().next_tick() {
+        tick(bus, apps, node, i, k, site, scene);
+    }
+}
+
+// The event happens at its node, at a time.
+fn happen(
+    bus: &Bus,
+    apps: &Apps,
+    bius: &mut Vec<Site<Biu>>,
+    rmus: &mut Vec<Site<Rmu>>,
+    scene: &mut Scene,
+    time: u64,
+    node: NodeName,
+    event: &Event,
+)
+    requires { (w : RunWorld) × (i : ℕ) × (d : Due)
+        × MayHappen bus.now (record { bius = bius.old.items; rmus = rmus.old.items }) scene.old time node event.now w i d }
+    ensures { (w : RunWorld) (i : ℕ) (d : Due)
+        → MayHappen bus.now (record { bius = bius.old.items; rmus = rmus.old.items }) scene.old time node event.now w i d
+        → Happens bus.now (record { bius = bius.new.items; rmus = rmus.new.items }) scene.new w d }
+{
+    match (&event.kind, node) {
+        (EventKind::Tick { .. }, NodeName::Biu(i)) => {
+            tick_at(bus, apps, node, i, &mut bius[usize::from(i)], scene);
+        }
+        (EventKind::Tick { .. }, NodeName::Rmu(i)) => {
+            tick_at(bus, apps, node, i, &mut rmus[usize::from(i)], scene);
+        }
+        (EventKind::Arrive { from, bytes }, NodeName::Biu(i)) => {
+            bius[usize::from(i)].arrive(bus.clock(node), time, *from, bytes);
+        }
+        (EventKind::Arrive { from, bytes }, NodeName::Rmu(i)) => {
+            rmus[usize::from(i)].arrive(bus.clock(node), time, *from, bytes);
+        }
+    }
+}
+
+impl World {
+    /// Takes the i-th of the events that are due, counted from 0: the node has its quiet ticks, and then its tick or the arrival. The
+    /// turn is the record that comes with it, and `Quiet` where none does.
+    pub fn take(&mut self, apps: &Apps, i: usize) -> Turn
+        requires below { i < due_in self.old }
+        ensures world { (w : RunWorld) → Stands self.old w → Gives self.new result (take self.old.bus w i) }
+        ensures bus { self.new.bus ≡ self.old.bus }
+    {
+        let time = self.scene.agenda.first_time();
+        let (node, event) = self.scene.agenda.take(i);
+        happen(
+            &self.bus,
+            apps,
+            &mut self.bius,
+            &mut self.rmus,
+            &mut self.scene,
+            time,
+            node,
+            &event,
+        );
+        let turn = self.scene.book.settle(Way::ByAnEvent);
+        self.last = last_of(&turn);
+        turn
+    }
+}
