@@ -1,10 +1,10 @@
 //! The message that the bytes of an arrival spell, read from the two numbers that they are kept as.
 ghost use Rattle.std.specs.Prelude.{◌≡◌, ◌≤◌, ◌++◌, ◌*◌, ◌/◌, ◌%◌, ◌+◌, ◌==◌, ◌&&◌};
 ghost use Rattle.std.specs.Int.{to_le_bytes, w32, w64};
-ghost use Rattle.rb_rules.specs.Spelling.{check_of, has_form, may_have, message_in, message_with, tag_in};
+ghost use Rattle.rb_rules.specs.Spelling.{check_of, has_form, message_in};
 ghost use Rattle.rb_eligible.specs.Readings.{spelled};
 
-use rb_frame::{Message, Tag, Version};
+use rb_frame::{Message, Version, message_with, tag_in};
 
 // The exclusive or of the four bytes of a number.
 fn check_of_four(word: u32) -> u8
@@ -40,47 +40,6 @@ fn has_form(version: Version, low: u64, high: u32, len: u64) -> bool
     match version {
         Version::One => len == 11 && check(low, high % 0x100_0000) == 0,
         Version::Two { bus } => len == 12 && has_end(bus, low, high),
-    }
-}
-
-// The tag with this byte.
-fn tag_in(byte: u8) -> Option<Tag>
-    ensures { result ≡ tag_in byte }
-{
-    match byte {
-        1 => Some(Tag::Word),
-        2 => Some(Tag::Fault),
-        3 => Some(Tag::Sync),
-        _ => None,
-    }
-}
-
-// Whether the value may stand beside the tag.
-fn may_have(tag: Tag, value: u32) -> bool
-    ensures { result ≡ may_have tag value }
-{
-    match tag {
-        Tag::Word => true,
-        Tag::Fault => value == 0,
-        Tag::Sync => value == 0,
-    }
-}
-
-// The message with these fields, if there is one.
-fn message_with(tag: Option<Tag>, frame: u16, slot: u16, stage: u8, value: u32) -> Option<Message>
-    ensures { result ≡ message_with tag frame slot stage value }
-{
-    let tag = tag?;
-    if 1 <= stage && stage <= 3 && may_have(tag, value) {
-        Some(Message {
-            tag,
-            frame,
-            slot,
-            stage,
-            value,
-        })
-    } else {
-        None
     }
 }
 

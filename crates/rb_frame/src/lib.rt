@@ -88,8 +88,8 @@ fn has_form(version: Version, bytes: &[u8]) -> bool
     }
 }
 
-// The tag with this byte.
-fn tag_in(byte: u8) -> Option<Tag>
+/// The tag with this byte: 1 is Word, 2 Fault and 3 Sync. None for every other byte.
+pub fn tag_in(byte: u8) -> Option<Tag>
     ensures { result ≡ tag_in byte }
 {
     match byte {
@@ -111,8 +111,9 @@ fn may_have(tag: Tag, value: u32) -> bool
     }
 }
 
-// The message with these fields, if there is one.
-fn message_with(tag: Option<Tag>, frame: u16, slot: u16, stage: u8, value: u32) -> Option<Message>
+/// The message with these fields. None exactly where there is none: no tag, a stage that is not 1 to 3, or a value other than 0
+/// beside a tag that is not Word.
+pub fn message_with(tag: Option<Tag>, frame: u16, slot: u16, stage: u8, value: u32) -> Option<Message>
     ensures { result ≡ message_with tag frame slot stage value }
 {
     let tag = tag?;

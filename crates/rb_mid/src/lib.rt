@@ -2,7 +2,8 @@
 #![tactic(auto)]
 
 ghost use Rattle.std.specs.Prelude.{◌≡◌, ◌≤◌, ◌↔◌, [], IsNone, IfSome, IsTrue, length};
-ghost use Rattle.rb_rules.specs.Middle.{IsMiddle, middle_of};
+ghost use Rattle.rb_rules.specs.Middle.{IsMiddle, below, middle_of, up_to};
+ghost use Rattle.rb_mid.specs.Ranges.{IsWithin};
 
 use arrayvec::ArrayVec;
 
@@ -19,18 +20,45 @@ pub fn middle(stamps: &ArrayVec<u64, 16>) -> Option<u64>
     ensures none { IsNone result ↔ (stamps.now.items ≡ []) }
 {
     let taken = stamps.as_slice();
+    if taken.is_empty() {
+        return None;
+    }
+    let mut range = Range {
+        low: 0,
+        high: u64::MAX,
+    };
+    let central = taken[(taken.len() - 1) / 2];
+    if is_found(taken, central, &mut range) {
+        return Some(central);
+    }
     for stamp in taken {
-        if is_middle(taken, *stamp) {
+        if is_found(taken, *stamp, &mut range) {
             return Some(*stamp);
         }
     }
     None
 }
 
-// Stamps of one stage are near one another, so one of the first is mostly the middle: counting is quicker than sorting.
-fn is_middle(stamps: &[u64], stamp: u64) -> bool
+// The numbers among which the middle must be.
+#[derive(Clone, Copy)]
+struct Range {
+    low: u64,
+    high: u64,
+}
+
+// How many stamps are below a number, and how many are at most it.
+#[derive(Clone, Copy)]
+struct Ranks {
+    below: usize,
+    up_to: usize,
+}
+
+fn ranks_of(stamp: u64, stamps: &[u64]) -> Ranks
     requires { length stamps.now ≤ 16 }
-    ensures { IsTrue result ↔ IsMiddle stamp stamps.now }
+    ensures below { result.below ≡ below stamp stamps.now }
+    ensures up_to { result.up_to ≡ up_to stamp stamps.now }
+    ensures below_most { result.below ≤ 16 }
+    ensures up_to_most { result.up_to ≤ 16 }
 {
     let mut below: usize = 0;
     let mut up_to: usize = 0;
@@ -38,7 +66,42 @@ fn is_middle(stamps: &[u64], stamp: u64) -> bool
         below += usize::from(*other < stamp);
         up_to += usize::from(*other <= stamp);
     }
-    2 * below < stamps.len() && stamps.len() <= 2 * up_to
+    Ranks { below, up_to }
+}
+
+// Where the stamp is not the middle, it tells on which side of it the middle is. Sources with higher numbers are mostly heard
+// later, and all stamps of one stage are near one another, so few stamps are tried: counting is quicker than sorting.
+fn is_middle(stamps: &[u64], stamp: u64, range: &mut Range) -> bool
+    requires { length stamps.now ≤ 16 }
+    ensures middle { IsTrue result ↔ IsMiddle stamp stamps.now }
+    ensures range { IsWithin stamps.now range.old → IsWithin stamps.now range.new }
+{
+    let Ranks { below, up_to } = ranks_of(stamp, stamps);
+    if 2 * up_to < stamps.len() {
+        range.low = stamp.saturating_add(1);
+        return false;
+    }
+    if stamps.len() <= 2 * below {
+        range.high = stamp.saturating_sub(1);
+        return false;
+    }
+    true
+}
+
+// The same of a stamp that may be out of the range. Then it is not counted.
+fn is_found(stamps: &[u64], stamp: u64, range: &mut Range) -> bool
+    requires few { length stamps.now ≤ 16 }
+    requires range { IsWithin stamps.now range.old }
+    ensures middle { IsTrue result ↔ IsMiddle stamp stamps.now }
+    ensures range { IsWithin stamps.now range.new }
+{
+    if stamp < range.low {
+        return false;
+    }
+    if range.high < stamp {
+        return false;
+    }
+    is_middle(stamps, stamp, range)
 }
 
 #[cfg(test)]

@@ -1,6 +1,6 @@
 use Rattle.std.proofs.Common.{◌≡◌, ◌≤◌, take}
 use Rattle.rb_rules.specs.Middle.{below, up_to}
-use Rattle.rb_mid.proofs.is_middle.Given as goal
+use Rattle.rb_mid.proofs.ranks_of.Given as goal
 
 -- the counts among the stamps so far
 abbrev pub invariant-loop-other : goal.invariant-loop-other
