@@ -22,7 +22,7 @@ use rb_base::{Kind, NodeId};
 use rb_eligible::Inbox;
 use rb_plan::Feasible;
 use rb_rules::Closed;
-use rb_slot::{Engine, nothing_closed};
+use rb_slot::{Engine, Shown};
 use std::marker::Model;
 
 /// One node of a bus, for both kinds by one code: its engine, the ticks that it has had, what came since its last close, what it
@@ -32,7 +32,7 @@ pub struct Node<K: Kind> {
     engine: Engine<K>,
     had: u64,
     inbox: Inbox<K::Other>,
-    shown: Closed,
+    shown: Shown<K::Other>,
     ahead: Ahead,
 }
 
@@ -68,7 +68,7 @@ impl<K: Kind> Node<K> {
             engine,
             had: 0,
             inbox: Inbox::new(),
-            shown: nothing_closed(),
+            shown: Shown::new(),
             ahead,
         }
     }
@@ -94,7 +94,7 @@ impl<K: Kind> Node<K> {
     pub fn shown(&self) -> &Closed
         ensures { result.now ≡ self.now.shown }
     {
-        &self.shown
+        self.shown.closed()
     }
 
     /// The tick with which the next frame begins. None exactly until the close in this frame that fixes it: at a BIU that of
@@ -235,7 +235,7 @@ impl<K: Kind> Node<K> {
     {
         let version = self.engine.plan().plan().version;
         let step = self.step(word);
-        let closed = if_closed(step.closed, &self.shown);
+        let closed = if_closed(step.closed, self.shown.closed());
         Act {
             send: bytes_of(version, step.message),
             delivered: delivered_in(&closed),

@@ -22,7 +22,7 @@ use rb_eligible::Inbox;
 use rb_frame::encode;
 use rb_plan::{Feasible, Window};
 use rb_rules::{Closed, Epoch, Message, Version};
-use rb_slot::Engine;
+use rb_slot::{Engine, Shown};
 
 // The node turns, if this is the tick of its next epoch. It gives the tick's window and the stage of what is said in it, which
 // were these in the state before.
@@ -100,7 +100,7 @@ pub(crate) fn say_at<K: Kind>(
 pub(crate) fn close_at<K: Kind>(
     engine: &mut Engine<K>,
     inbox: &mut Inbox<K::Other>,
-    shown: &mut Closed,
+    shown: &mut Shown<K::Other>,
     window: &Window,
     now: u64,
 ) -> bool

@@ -18,8 +18,10 @@ use rb_eligible::{Inbox, Standing, Taking, is_quiet, single_of, take_single, tak
 pub use rb_rules::Closing;
 use rb_rules::Expect;
 use rb_vote::majority_taken;
+pub use over::close_stage_over;
 pub use sheet::Sheet;
 
+pub mod over;
 pub mod sheet;
 
 // The vote over what was taken. Where more than half of it is known to be alike, it is that value.
