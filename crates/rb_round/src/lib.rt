@@ -13,12 +13,12 @@ ghost use Rattle.rb_rules.specs.ExactStage.{at_source, present, see_value, with_
 ghost use Rattle.rb_rules.specs.Majority.{majority_of};
 ghost use Rattle.rb_rules.specs.Standing.{is_eligible, is_unlike};
 
+pub use over::close_stage_over;
 use rb_base::{Heard, NodeId, NodeSet, See};
 use rb_eligible::{Inbox, Standing, Taking, is_quiet, single_of, take_single, take_with_evidence};
 pub use rb_rules::Closing;
 use rb_rules::Expect;
 use rb_vote::majority_taken;
-pub use over::close_stage_over;
 pub use sheet::Sheet;
 
 pub mod over;
