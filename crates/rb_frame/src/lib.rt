@@ -113,7 +113,13 @@ fn may_have(tag: Tag, value: u32) -> bool
 
 /// The message with these fields. None exactly where there is none: no tag, a stage that is not 1 to 3, or a value other than 0
 /// beside a tag that is not Word.
-pub fn message_with(tag: Option<Tag>, frame: u16, slot: u16, stage: u8, value: u32) -> Option<Message>
+pub fn message_with(
+    tag: Option<Tag>,
+    frame: u16,
+    slot: u16,
+    stage: u8,
+    value: u32,
+) -> Option<Message>
     ensures { result ≡ message_with tag frame slot stage value }
 {
     let tag = tag?;
