@@ -1,3 +1,4 @@
 pub mod Turns
+pub mod Reports
 pub mod Tallies
 pub mod Runs

@@ -22,17 +22,17 @@ pub record HasGivenNothing (k : Kept) : Type 0 where
   pub given : world.book.given ≡ []
   pub hands : world.hands ≡ []
 
--- how a run with this last record ends
-abbrev pub ending_with : Option Record → Ending
-ending_with None = ending.Ended
-ending_with (Some (Record.Frame frame nodes ports)) = ending.Ended
-ending_with (Some (Record.Slot frame slot lines)) = ending.Ended
-ending_with (Some Record.Ended) = ending.Ended
-ending_with (Some (Record.Breach place cause)) = ending.Breach
+-- how a run ends with this record, if it does
+abbrev pub end_at : Option Record → Option Ending
+end_at None = None
+end_at (Some (Record.Frame frame nodes ports)) = None
+end_at (Some (Record.Slot frame slot lines)) = None
+end_at (Some Record.Ended) = Some ending.Ended
+end_at (Some (Record.Breach place cause)) = Some ending.Breach
 
--- how the run of a scenario ends
-abbrev pub ending_of : Scenario → Ending
-ending_of sc = ending_with (last_or None (records_of sc []))
+-- the run of a scenario ends so, by its last record
+abbrev pub EndsWith : Scenario → Ending → Type 0
+EndsWith sc ending = end_at (last_or None (records_of sc [])) ≡ Some ending
 
 -- all turns of the run were given, and their report was written
 pub record WritesAll (sc : Scenario) (is_plain : Bool) (told since : Option (List Turn)) (held after : Option (List ℕ)) : Type 0 where
