@@ -1,5 +1,5 @@
 -- The text of one turn more.
-use Rattle.std.proofs.Common.{◌≡◌, ℕ, List, [], ◌∷◌, ◌++◌, Option, Some, None, refl, sym, ap, ◌∙◌, append_assoc, filter_map}
+use Rattle.std.proofs.Common.{◌≡◌, ℕ, List, [], ◌∷◌, ◌++◌, Option, Some, None, refl, sym, ap, ◌∙◌, append_assoc, filter_map, Result, Ok, Err, OnErr}
 use Rattle.std.proofs.lemmas.List.{append-nil}
 use Rattle.std.proofs.lemmas.List.Elements.{filter_map-append}
 use Rattle.std.specs.List.{cons_option}
@@ -43,3 +43,8 @@ newest-with n (r ∷ rs) o = newest-with (newest_with n (Some r)) rs o
 -- the number of the newest block after it
 pub newest-more : (turns : List Turn) (t : Turn) → newest_after 0 (records_in (turns ++ t ∷ [])) ≡ newest_with (newest_after 0 (records_in turns)) (record_of t)
 newest-more turns t = ap (newest_after 0) (records-more turns t) ∙ newest-with 0 (records_in turns) (record_of t)
+
+-- what holds anyway holds of an error
+pub on-err : {T E P : Type 0} (r : Result T E) → P → OnErr r P
+on-err (Ok x) p = tt
+on-err (Err e) p = p
