@@ -8,7 +8,7 @@ use Rattle.rb_run.specs.declared.totals.Totals.{Totals}
 use Rattle.rb_run.specs.Runs.{HasGivenNothing, TalliesAll, end_at}
 use Rattle.rb_run.specs.Tallies.{counted, totals_of}
 use Rattle.rb_run.proofs.Numbers.{totals-more}
-use Rattle.rb_run.proofs.UnderWay.{IsUnderWay, are-all, are-given, begins, ends-last, goes-on}
+use Rattle.rb_run.proofs.UnderWay.{IsUnderWay, are-all, are-given, begins, finished, goes-on}
 use Rattle.rb_world.specs.Nexts.{is_last}
 use Rattle.rb_world.specs.Worlds.{Kept}
 
@@ -45,6 +45,6 @@ all-counted sc is_plain told mid since k after before totals passed t e is given
   turns = is.turns ++ t ∷ [];
   given = are-given sc is_plain told since after (is.turns ++ t ∷ []) (is_last (record_of t)) given;
   all = are-all sc is_plain told since after (is.turns ++ t ∷ [])
-      (subst (λ over. IsUnderWay sc is_plain told since after (is.turns ++ t ∷ []) over) (ends-last (record_of t) e ends) given);
+      (finished sc is_plain told since after (is.turns ++ t ∷ []) t e given ends);
   are = counted-next is.turns before totals t is.are now;
 }

@@ -11,7 +11,7 @@ use Rattle.rb_run.specs.Reports.{newest_after, newest_with, turn_text}
 use Rattle.rb_run.specs.Runs.{HasGivenNothing, WritesAll, WritesPart, end_at}
 use Rattle.rb_run.specs.Turns.{records_in, text_of}
 use Rattle.rb_run.proofs.Texts.{newest-more, text-more}
-use Rattle.rb_run.proofs.UnderWay.{IsUnderWay, are-all, are-given, begins, ends-last, goes-on}
+use Rattle.rb_run.proofs.UnderWay.{IsUnderWay, are-all, are-given, begins, finished, goes-on}
 use Rattle.rb_world.specs.Nexts.{is_last}
 use Rattle.rb_world.specs.Worlds.{Kept}
 
@@ -65,7 +65,7 @@ all-written sc is_plain told mid since k after held mid_held after_held newest p
   turns = is.turns ++ t ∷ [];
   given = are-given sc is_plain told since after (is.turns ++ t ∷ []) (is_last (record_of t)) given;
   all = are-all sc is_plain told since after (is.turns ++ t ∷ [])
-      (subst (λ over. IsUnderWay sc is_plain told since after (is.turns ++ t ∷ []) over) (ends-last (record_of t) e ends) given);
+      (finished sc is_plain told since after (is.turns ++ t ∷ []) t e given ends);
   text = written-next sc is_plain told mid k held mid_held after_held newest passed t is now;
 }
 
