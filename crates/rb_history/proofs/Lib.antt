@@ -1,3 +1,4 @@
 pub mod Delivered
 pub mod Gathered
 pub mod NodeLines
+pub mod RoundLines
