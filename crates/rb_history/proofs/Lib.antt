@@ -1,4 +1,5 @@
 pub mod Delivered
 pub mod Gathered
+pub mod NoBreach
 pub mod NodeLines
 pub mod RoundLines
