@@ -1,5 +1,9 @@
 pub mod Delivered
 pub mod Gathered
 pub mod NoBreach
+pub mod CoreEvents
+pub mod NodeSites
+pub mod Positions
+pub mod Worlds
 pub mod NodeLines
 pub mod RoundLines

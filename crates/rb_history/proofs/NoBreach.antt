@@ -1,32 +1,25 @@
 -- For the law of record and replay: a run without a breach goes on up to the begin of the frame after the last, and there it ends. So
 -- in each of its worlds all nodes stand in the rounds.
-use Rattle.std.proofs.Common.{◌≡◌, ℕ, zero, suc, ◌+◌, ◌*◌, ◌-◌, ◌<◌, ◌≤◌, ◌==◌, ◌||◌, nat_lt, Bool, true, false, List, [], ◌∷◌, ◌++◌, fold, length, refl, ap, sym, ◌∙◌, subst, arith, inl, inr, Option, Some, None, slice_get, if◌then◌else◌}
+use Rattle.std.proofs.Common.{◌≡◌, ℕ, zero, suc, ◌+◌, ◌*◌, ◌<◌, ◌≤◌, ◌==◌, ◌||◌, nat_lt, Bool, true, false, List, [], ◌∷◌, ◌++◌, refl, ap, sym, ◌∙◌, subst, arith, inl, inr, Option, Some, None}
 use Rattle.std.specs.List.{list_any}
-use Rattle.std.proofs.lemmas.Bool.{cases_lt, lt-ltb, le-ltb}
+use Rattle.std.proofs.lemmas.Bool.{cases_lt}
 use Rattle.std.proofs.lemmas.Bool.Decides.{nat_tests}
 use Rattle.std.proofs.lemmas.List.Folds.{list_any-append}
 use Rattle.std.proofs.lemmas.Nat.{mul-le}
-use Rattle.rb_base.specs.Nodes.{Side}
-use Rattle.rb_base.specs.Sizes.{sync_slot_of}
-use Rattle.rb_base.specs.declared.node.NodeName.{NodeName}
 use Rattle.rb_base.specs.declared.values.Place.{Place}
 use Rattle.rb_rules.specs.declared.cause.Cause.{Cause}
 use Rattle.rb_rules.specs.declared.plan.Window.{Window}
-use Rattle.rb_rules.specs.Book.{Begun, Book, Each, Record, Row, after_verdict, fresh_book, judged_of, map_each, with_end, with_frame, with_stage, frame_records, slot_records}
-use Rattle.rb_rules.specs.Book.Milestone.{Begin, End, Stage}
+use Rattle.rb_rules.specs.Book.{Begun, Book, Each, Row, after_verdict, fresh_book, judged_of, with_end, with_frame, with_stage}
 use Rattle.rb_rules.specs.Book.Record.{Ended, Breach}
 use Rattle.rb_rules.specs.Goodness.{Scenario}
 use Rattle.rb_rules.specs.Judging.{JudgedStage, verdict_of}
 use Rattle.rb_rules.specs.Lawful.{IsLawful}
-use Rattle.rb_rules.specs.Rounds.{Moment, Result, after_window, begin_frame, book_after, moment, records_of, results_of, step, steps_of, windows_in}
-use Rattle.rb_rules.specs.Windows.{windows_of_frame}
-use Rattle.rb_rules.specs.WorldStep.{Choice, Due, World, IsPrefix, choose, due_of, first_world, go_on, take, take_if_due, world_after}
+use Rattle.rb_rules.specs.Rounds.{Moment, after_window, begin_frame, book_after, moment, records_of, step, steps_of, windows_in}
+use Rattle.rb_rules.specs.WorldStep.{Choice, Due, World, IsPrefix, choose, due_of, world_after}
 use Rattle.rb_rules.specs.WorldStep.Choice.{Take, GoOn}
-use Rattle.rb_rules.proofs.Books.{GoesOn, given-are, moments-on, stepped}
+use Rattle.rb_rules.proofs.Books.{given-are, stepped}
 use Rattle.rb_order.proofs.BreakNodes.{BreaksAt}
-use Rattle.rb_order.proofs.BreakOff.{BreaksOff, IsOver}
-use Rattle.rb_order.proofs.EventsHold.{any, nodes_at}
-use Rattle.rb_order.proofs.EveryWorld.{AnyWorld, InRun, after-more}
+use Rattle.rb_order.proofs.EveryWorld.{after-more}
 use Rattle.rb_order.proofs.MomentBooks.{number-of}
 use Rattle.rb_order.proofs.SettlingFrames.{RunsIn, runs-in}
 use Rattle.rb_history.specs.Given.{first_run, first_step, step_with}
