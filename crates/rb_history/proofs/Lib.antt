@@ -4,6 +4,7 @@ pub mod NoBreach
 pub mod CoreEvents
 pub mod NodeSites
 pub mod Positions
+pub mod TickText
 pub mod Worlds
 pub mod NodeLines
 pub mod RoundLines
