@@ -5,6 +5,7 @@ pub mod CoreEvents
 pub mod NodeSites
 pub mod Positions
 pub mod TickText
+pub mod NodeRun
 pub mod Worlds
 pub mod NodeLines
 pub mod RoundLines

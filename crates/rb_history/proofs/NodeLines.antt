@@ -194,7 +194,7 @@ of-one sc frame ports nodes name st take there good others =
         ∙ gather-one 0 i i (gives rmu) nodes.rmus st there (omega arith) (λ k z other. silent rmu k z (others rmu k z other)) ∙ tells rmu i st good
 
 -- a node by its kind and number
-named : (name : NodeName) (side : Side) (k : ℕ) → same_node (name_of side k) name ≡ is_node (kind_of name) (index_of name) side k
+pub named : (name : NodeName) (side : Side) (k : ℕ) → same_node (name_of side k) name ≡ is_node (kind_of name) (index_of name) side k
 named (Biu i) biu k = refl
 named (Biu i) rmu k = refl
 named (Rmu i) biu k = refl
