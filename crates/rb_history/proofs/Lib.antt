@@ -6,6 +6,7 @@ pub mod NodeSites
 pub mod Positions
 pub mod TickText
 pub mod NodeRun
+pub mod NodeSteps
 pub mod Worlds
 pub mod NodeLines
 pub mod RoundLines

@@ -67,13 +67,13 @@ given-at sc name w d s first there =
     ap (λ o. if_given sc name w (option_and_then (λ (d : Due). option_map (λ (s : Site). event_of sc w.ports d.side d.node s.core d.pending) (slice_get (of_kind d.side w.sites) d.node)) o)) first
     ∙ ap (λ o. if_given sc name w (option_map (λ (s : Site). event_of sc w.ports d.side d.node s.core d.pending) o)) there
 
-given-none : (sc : Scenario) (name : NodeName) (w : World) → slice_get (due_of sc w) 0 ≡ None → given_next sc name w ≡ []
+pub given-none : (sc : Scenario) (name : NodeName) (w : World) → slice_get (due_of sc w) 0 ≡ None → given_next sc name w ≡ []
 unfolding given_next event_at
 given-none sc name w none =
     ap (λ o. if_given sc name w (option_and_then (λ (d : Due). option_map (λ (s : Site). event_of sc w.ports d.side d.node s.core d.pending) (slice_get (of_kind d.side w.sites) d.node)) o)) none
 
 -- by whose event it is, and whether the node goes on
-given-by : (sc : Scenario) (name : NodeName) (w : World) (d : Due) (s : Site) (own before : Bool) → slice_get (due_of sc w) 0 ≡ Some d → slice_get (of_kind d.side w.sites) d.node ≡ Some s
+pub given-by : (sc : Scenario) (name : NodeName) (w : World) (d : Due) (s : Site) (own before : Bool) → slice_get (due_of sc w) 0 ≡ Some d → slice_get (of_kind d.side w.sites) d.node ≡ Some s
     → is_node (kind_of name) (index_of name) d.side d.node ≡ own → is_before_end sc (site_of name w) ≡ before
     → given_next sc name w ≡ (if own && before then event_of sc w.ports d.side d.node s.core d.pending ∷ [] else [])
 given-by sc name w d s own before first there is on =
@@ -145,17 +145,17 @@ pub record NodeAt (sc : Scenario) (name : NodeName) (n : ℕ) : Type 0 where
   pub there : site_of name (first_run sc n) ≡ Some s
   pub how : Underway sc name n s ⊎ IsDone sc name n s
 
-before-end : (sc : Scenario) (name : NodeName) (w : World) (s : Site) → site_of name w ≡ Some s → s.core.state.frame < sc.frames → is_before_end sc (site_of name w) ≡ true
+pub before-end : (sc : Scenario) (name : NodeName) (w : World) (s : Site) → site_of name w ≡ Some s → s.core.state.frame < sc.frames → is_before_end sc (site_of name w) ≡ true
 before-end sc name w s there h = ap (is_before_end sc) there ∙ lt-ltb s.core.state.frame sc.frames h
 
-after-end : (sc : Scenario) (name : NodeName) (w : World) (s : Site) → site_of name w ≡ Some s → sc.frames ≤ s.core.state.frame → is_before_end sc (site_of name w) ≡ false
+pub after-end : (sc : Scenario) (name : NodeName) (w : World) (s : Site) → site_of name w ≡ Some s → sc.frames ≤ s.core.state.frame → is_before_end sc (site_of name w) ≡ false
 after-end sc name w s there h = ap (is_before_end sc) there ∙ le-ltb s.core.state.frame sc.frames h
 
 -- where nothing is given
 same-given : (sc : Scenario) (name : NodeName) (n : ℕ) → given_next sc name (first_run sc n) ≡ [] → given_in sc name (suc n) ≡ given_in sc name n
 same-given sc name n none = ap (λ l. given_in sc name n ++ l) none ∙ append-nil (given_in sc name n)
 
-underway-same : (sc : Scenario) (name : NodeName) (n : ℕ) (s z : Site) → given_next sc name (first_run sc n) ≡ [] → Unmoved s z → Underway sc name n s → Underway sc name (suc n) z
+pub underway-same : (sc : Scenario) (name : NodeName) (n : ℕ) (s z : Site) → given_next sc name (first_run sc n) ≡ [] → Unmoved s z → Underway sc name n s → Underway sc name (suc n) z
 underway-same sc name n s z none same u = record {
   p = u.p;
   st = u.st;
@@ -172,7 +172,7 @@ underway-same sc name n s z none same u = record {
   before = subst (λ (c : Core). c.state.frame < sc.frames) (sym same.core) u.before;
 }
 
-done-same : (sc : Scenario) (name : NodeName) (n : ℕ) (s z : Site) → given_next sc name (first_run sc n) ≡ [] → s.core.state.frame ≤ z.core.state.frame → IsDone sc name n s → IsDone sc name (suc n) z
+pub done-same : (sc : Scenario) (name : NodeName) (n : ℕ) (s z : Site) → given_next sc name (first_run sc n) ≡ [] → s.core.state.frame ≤ z.core.state.frame → IsDone sc name n s → IsDone sc name (suc n) z
 done-same sc name n s z none le d =
     let same : given_in sc name (suc n) ≡ given_in sc name n = same-given sc name n none in
     let Acts : List Event → List Act = λ events. acts_of sc.sizes sc.plan (kind_of name) (index_of name) (first_core sc.sizes (kind_of name)) (flat_map given events) in
@@ -188,7 +188,7 @@ one-given : (sc : Scenario) (name : NodeName) (n : ℕ) (e : Event) → given_ne
 one-given sc name n e is =
     ap (λ l. flat_map given (given_in sc name n ++ l)) is ∙ flat_map-append given (given_in sc name n) (e ∷ []) ∙ ap (λ l. given_so_far sc name n ++ l) (append-nil (given e))
 
-more-made : (sc : Scenario) (name : NodeName) (n : ℕ) (e : Event) (between after : Core) (lines more : List ℕ) (frames others : ℕ) → given_next sc name (first_run sc n) ≡ e ∷ []
+pub more-made : (sc : Scenario) (name : NodeName) (n : ℕ) (e : Event) (between after : Core) (lines more : List ℕ) (frames others : ℕ) → given_next sc name (first_run sc n) ≡ e ∷ []
     → Makes sc.sizes sc.plan name (kind_of name) (index_of name) (first_core sc.sizes (kind_of name)) (given_so_far sc name n) between lines frames
     → Makes sc.sizes sc.plan name (kind_of name) (index_of name) between (given e) after more others
     → Makes sc.sizes sc.plan name (kind_of name) (index_of name) (first_core sc.sizes (kind_of name)) (given_so_far sc name (suc n)) after (lines ++ more) (frames + others)
@@ -202,7 +202,7 @@ none-more : (n : ℕ) → 0 + n ≡ n
 none-more n = omega arith
 
 -- the event of a tick makes of the core what the world makes of it
-tick-made : (sc : Scenario) (name : NodeName) (w : World) (s : Site) (p : ℕ) (st : NodeState) (a : Timed) → StandsAt sc (kind_of name) (index_of name) p s.core st a
+pub tick-made : (sc : Scenario) (name : NodeName) (w : World) (s : Site) (p : ℕ) (st : NodeState) (a : Timed) → StandsAt sc (kind_of name) (index_of name) p s.core st a
     → Makes sc.sizes sc.plan name (kind_of name) (index_of name) s.core (given (event_of sc w.ports (kind_of name) (index_of name) s.core (Tick a.tick)))
     (pass_and_tick sc w.ports (kind_of name) (index_of name) a.tick s.core).core (act_lines name (pass_and_tick sc w.ports (kind_of name) (index_of name) a.tick s.core))
     (frames_with (pass_and_tick sc w.ports (kind_of name) (index_of name) a.tick s.core).epoch)
@@ -217,10 +217,3 @@ tick-made sc name w s p st a h =
     let made = makes-both sc.sizes sc.plan name me i c ready x.core (replicate (a.tick - c.had) (core.Tick 0)) (core.Tick (word_of sc w.ports i (wants_in sc me i ready)) ∷ []) [] (act_lines name x) 0 (frames_with x.epoch)
     (makes-passed sc.sizes sc.plan name me i a.tick a.tick c h.next (omega (arith, later))) (makes-tick sc.sizes sc.plan name me i (word_of sc w.ports i (wants_in sc me i ready)) ready x refl) in
     subst (λ k. Makes sc.sizes sc.plan name me i c (given (event_of sc w.ports me i c (Tick a.tick))) x.core (act_lines name x) k) (none-more (frames_with x.epoch)) made
-
--- where the node stands, the world's tick is one of the rounds
-pub record TickedAt (sc : Scenario) (w : World) (me : Side) (i p : ℕ) (s : Site) (a : Timed) (x : Act) : Type 0 where
-  pub sent : Side → ℕ → ℕ → Bool
-  pub st : NodeState
-  pub there : slice_get (of_kind me (moment sc [] p).nodes) i ≡ Some st
-  pub node : StaysOpen sc [] sent a.time w.ports me i p s st a.tick x ⊎ (ClosesWindow sc [] sent w.ports me i p s st a x × (a.tick ≡ last_tick sc (moment sc [] p) me st))
