@@ -7,6 +7,7 @@ pub mod Positions
 pub mod TickText
 pub mod NodeRun
 pub mod NodeSteps
+pub mod ReplayLaw
 pub mod Worlds
 pub mod NodeLines
 pub mod RoundLines

@@ -126,6 +126,10 @@ entered-core sc me i (Some span) s = by (is_good sc me i span.place.frame span.p
     by true = refl
     by false = refl
 
+pub proceed-core : (sc : Scenario) (me : Side) (i : ℕ) (s : Site) → (proceed sc me i s).core ≡ s.core
+unfolding proceed
+proceed-core sc me i s = entered-core sc me i (span_from sc.sizes sc.plan me s.core.state s.core.had) s
+
 pub act-core : (sc : Scenario) (ports : List PortState) (me : Side) (i : ℕ) (x : Act) (s : Site) → (after_act sc ports me i x s).core ≡ x.core
 unfolding after_act proceed
 act-core sc ports me i x s =

@@ -56,12 +56,12 @@ use Rattle.rb_history.proofs.Worlds.{MayTake, first-due, may-take, no-hands, tic
 -- Where the node stands.
 
 -- the moment in which the world has it is the one that is known
-record Here (sc : Scenario) (name : NodeName) (w : World) (h : StandsInRounds sc w) (s : Site) (p : ℕ) (st : NodeState) (a : Timed) : Type 0 where
-  is : h.at (kind_of name) (index_of name) ≡ p
-  sent : Side → ℕ → ℕ → Bool
-  stands : NodeStands sc [] sent h.now (kind_of name) (index_of name) p s st a
+pub record Here (sc : Scenario) (name : NodeName) (w : World) (h : StandsInRounds sc w) (s : Site) (p : ℕ) (st : NodeState) (a : Timed) : Type 0 where
+  pub is : h.at (kind_of name) (index_of name) ≡ p
+  pub sent : Side → ℕ → ℕ → Bool
+  pub stands : NodeStands sc [] sent h.now (kind_of name) (index_of name) p s st a
 
-here : (sc : Scenario) (name : NodeName) (w : World) (h : StandsInRounds sc w) (s : Site) (p : ℕ) (st : NodeState) (a : Timed) → HasTicks sc.plan → w.hands ≡ [] → site_of name w ≡ Some s
+pub here : (sc : Scenario) (name : NodeName) (w : World) (h : StandsInRounds sc w) (s : Site) (p : ℕ) (st : NodeState) (a : Timed) → HasTicks sc.plan → w.hands ≡ [] → site_of name w ≡ Some s
     → StandsAt sc (kind_of name) (index_of name) p s.core st a → s.ahead ≡ Some a → Here sc name w h s p st a
 here sc name w h s p st a ticks empty there at ahead =
     let me : Side = kind_of name in

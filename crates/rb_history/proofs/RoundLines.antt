@@ -438,7 +438,7 @@ frame-book sc frame begun b = by b.ended refl
     by false e h = refl
 
 -- at a window's number 0 nothing waits
-none-waits : (sc : Scenario) (name : NodeName) (m : Moment) → m.window ≡ 0 → waiting sc name m ≡ []
+pub none-waits : (sc : Scenario) (name : NodeName) (m : Moment) → m.window ≡ 0 → waiting sc name m ≡ []
 none-waits sc name m first =
     if-false (waits_now sc.sizes m.window) _ [] (right-false (nat_lt m.window (3 * sync_slot_of sc.sizes)) (m.window % 3 == 2) (ap (λ k. k % 3 == 2) first))
 

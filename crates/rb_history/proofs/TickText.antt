@@ -96,7 +96,7 @@ begin-stays sizes me a b k h =
 none-begins : (sizes : Sizes) (me : Side) (st : NodeState) (k : ℕ) → st.epoch < k → epoch_at sizes me st k ≡ None
 none-begins sizes me st k h = ap (λ b. elim b as (λ _. Option Epoch) [ true ↦ Some (epoch_of sizes me st) | false ↦ None ]) (less-not st.epoch k h)
 
-now-begins : (sizes : Sizes) (me : Side) (st : NodeState) (k : ℕ) → st.epoch ≡ k → epoch_at sizes me st k ≡ Some (epoch_of sizes me st)
+pub now-begins : (sizes : Sizes) (me : Side) (st : NodeState) (k : ℕ) → st.epoch ≡ k → epoch_at sizes me st k ≡ Some (epoch_of sizes me st)
 now-begins sizes me st k h = ap (λ b. elim b as (λ _. Option Epoch) [ true ↦ Some (epoch_of sizes me st) | false ↦ None ]) (same-is st.epoch k h)
 
 -- a node that is not in a frame yet whose moment it is in turns with its pending tick, which is the frame's first
