@@ -8,6 +8,7 @@ pub mod TickText
 pub mod NodeRun
 pub mod NodeSteps
 pub mod ReplayLaw
+pub mod FirstRuns
 pub mod Worlds
 pub mod NodeLines
 pub mod RoundLines

@@ -1,58 +1,35 @@
 -- For the law of record and replay: step by step, the events that a node is given make of a core what the node's own is, and their lines
 -- are all that the node has told where it stands.
-use Rattle.std.proofs.Common.{◌≡◌, ℕ, zero, suc, ◌+◌, ◌*◌, ◌-◌, ◌<◌, ◌≤◌, ◌==◌, ◌&&◌, ◌⊎◌, max, nat_lt, Bool, true, false, List, [], ◌∷◌, ◌++◌, append_assoc, refl, ap, sym, ◌∙◌, subst, arith, inl, inr, Option, Some, None, is_some, slice_get, option_and_then, option_map, if◌then◌else◌}
+use Rattle.std.proofs.Common.{◌≡◌, ℕ, suc, ◌+◌, ◌-◌, ◌<◌, ◌≤◌, ◌&&◌, ◌⊎◌, Bool, true, false, List, [], ◌∷◌, ◌++◌, refl, ap, sym, ◌∙◌, subst, arith, Some, None, slice_get, option_and_then, option_map, if◌then◌else◌}
 use Rattle.std.specs.Prelude.{flat_map}
 use Rattle.std.proofs.Math.ListN.{replicate}
-use Rattle.std.proofs.lemmas.Bool.{cases_lt, lt-ltb, le-ltb}
+use Rattle.std.proofs.lemmas.Bool.{lt-ltb, le-ltb}
 use Rattle.std.proofs.lemmas.Grind.{flat_map-append}
 use Rattle.std.proofs.lemmas.List.{append-nil}
 use Rattle.rb_base.specs.Nodes.{Side}
 use Rattle.rb_base.specs.declared.event.Event.{Event}
-use Rattle.rb_base.specs.declared.event.EventKind.TheVariants as kind
 use Rattle.rb_base.specs.declared.node.NodeName.{NodeName}
-use Rattle.rb_rules.specs.declared.closing.Closed.{Closed}
-use Rattle.rb_rules.specs.declared.record.Epoch.{Epoch}
-use Rattle.rb_rules.specs.Book.{Each, of_kind}
-use Rattle.rb_rules.specs.Clock.{stamp_of}
+use Rattle.rb_rules.specs.Book.{of_kind}
 use Rattle.rb_rules.specs.Core.{Act, Core, CoreEvent, acts_of, arrive, epoch_at, first_core, pass_to, tick}
 use Rattle.rb_rules.specs.Core as core
-use Rattle.rb_rules.specs.Goodness.{Scenario, clock_of}
-use Rattle.rb_rules.specs.Hearing.{Coming}
-use Rattle.rb_rules.specs.Lawful.{IsLawful, kind_of}
+use Rattle.rb_rules.specs.Goodness.{Scenario}
+use Rattle.rb_rules.specs.Lawful.{kind_of}
 use Rattle.rb_rules.specs.Links.{name_of, same_node}
 use Rattle.rb_rules.specs.NodeState.{NodeState}
 use Rattle.rb_rules.specs.Rounds.{moment}
-use Rattle.rb_rules.specs.WorldStep.{Due, Pending, Site, Timed, World, after_act, after_arrival, at_node, due_of, event_at, event_of, go_on, happens, pass_and_tick, settle, take, take_if_due, with_act, with_pending, word_of, wants_in}
+use Rattle.rb_rules.specs.WorldStep.{Due, Pending, Site, Timed, World, due_of, event_at, event_of, go_on, happens, pass_and_tick, settle, take, take_if_due, word_of, wants_in}
 use Rattle.rb_rules.specs.WorldStep.Pending.{Tick, Arrival}
 use Rattle.rb_rules.specs.WorldStep.Way.{ByAnEvent, ByItself}
-use Rattle.rb_rules.proofs.RoundStates.{HasTicks}
 use Rattle.rb_log.specs.Writing.{given}
-use Rattle.rb_order.proofs.CloseOrder.{good-clock}
-use Rattle.rb_order.proofs.DueEvents.{IsDue, IsReady}
-use Rattle.rb_order.proofs.EveryWorld.{InRun}
-use Rattle.rb_order.proofs.Invariant.{NodeStands, last_tick}
-use Rattle.rb_order.proofs.NodeActs.{HasRoom}
-use Rattle.rb_order.proofs.NodeClosing.{ClosesWindow}
-use Rattle.rb_order.proofs.NodeEvents.{StaysOpen, all-after, stands-arrival, tick-after}
-use Rattle.rb_order.proofs.OneEvent.{WorldInRounds, all-pend, happens-is, moves-of, pend-of, up-there}
-use Rattle.rb_order.proofs.OneTake.{StandsInRounds}
-use Rattle.rb_order.proofs.RoundNodes.{slot_numbered}
-use Rattle.rb_order.proofs.Settling.{some-same}
-use Rattle.rb_order.proofs.TickRooms.{has-room}
-use Rattle.rb_order.proofs.WorldEvents.{AfterTick}
 use Rattle.rb_order.proofs.WorldNodes.{settle-sites}
-use Rattle.rb_order.proofs.WorldStands.{AllPend, IsUp, is_node, node-is, node-itself, sent_by}
+use Rattle.rb_order.proofs.WorldStands.{is_node}
 use Rattle.rb_history.specs.Given.{first_run, first_step, given_in, given_next, if_given, index_of, is_before_end, site_of, step_with}
-use Rattle.rb_history.specs.Laws.{EndsWithoutBreach, IsGoodThroughout}
-use Rattle.rb_history.specs.Replays.{act_lines, delivery_lines, epoch_lines, frames_in, frames_with}
-use Rattle.rb_history.proofs.CoreEvents.{Makes, core_after, makes-arrival, makes-both, makes-passed, makes-tick}
-use Rattle.rb_history.proofs.NoBreach.{IsLastBegin, last-begin, last_moment}
+use Rattle.rb_history.specs.Replays.{act_lines, epoch_lines, frames_in, frames_with}
+use Rattle.rb_history.proofs.CoreEvents.{Makes, makes-both, makes-passed, makes-tick}
+use Rattle.rb_history.proofs.NoBreach.{last_moment}
 use Rattle.rb_history.proofs.NodeLines.{named, told_up_to}
-use Rattle.rb_history.proofs.NodeSites.{Elsewhere, Rises, Unmoved, act-core, elsewhere, own-arrival, own-tick, rises}
-use Rattle.rb_history.proofs.Positions.{StandsAt, one-place, stands-at}
-use Rattle.rb_history.proofs.TickText as text
-use Rattle.rb_history.proofs.TickText.{Turns, after-close, after-open, first-not-last, turns-now}
-use Rattle.rb_history.proofs.Worlds.{MayTake, first-due, may-take, no-hands, tick-done, worlds-in-run}
+use Rattle.rb_history.proofs.NodeSites.{Unmoved}
+use Rattle.rb_history.proofs.Positions.{StandsAt}
 
 -- What a node is given.
 

@@ -79,8 +79,8 @@ elsewhere sc w d me i s there apart =
       s,
       (
         get-at d.side me d.node i (after_arrival sc d.side d.node place c) w.sites
-        ∙ ap (option_map (λ s. elim (is_node d.side d.node me i) as (λ _. Site) [ true ↦ after_arrival sc d.side d.node place c s | false ↦ s ])) there
-        ∙ ap Some (same (after_arrival sc d.side d.node place c)),
+            ∙ ap (option_map (λ s. elim (is_node d.side d.node me i) as (λ _. Site) [ true ↦ after_arrival sc d.side d.node place c s | false ↦ s ])) there
+            ∙ ap Some (same (after_arrival sc d.side d.node place c)),
         record { core = refl; ahead = refl },
       ),
     )
@@ -90,8 +90,8 @@ elsewhere sc w d me i s there apart =
           reached sc d.side d.node x.core.state.frame k x.message me i s,
           (
             get-after sc d.side d.node x.core.state.frame k x.message change w.sites me i
-            ∙ ap (option_map (after_tick sc d.side d.node x.core.state.frame k x.message change me i)) there
-            ∙ ap (λ z. Some (reached sc d.side d.node x.core.state.frame k x.message me i z)) (same change),
+                ∙ ap (option_map (after_tick sc d.side d.node x.core.state.frame k x.message change me i)) there
+                ∙ ap (λ z. Some (reached sc d.side d.node x.core.state.frame k x.message me i z)) (same change),
             reached-unmoved sc d.side d.node x.core.state.frame k x.message me i s,
           ),
         )

@@ -1,6 +1,5 @@
 -- For the law of record and replay: one step of the run keeps what is known of a node that is good throughout.
-use Rattle.std.proofs.Common.{◌≡◌, ℕ, zero, suc, ◌+◌, ◌*◌, ◌-◌, ◌<◌, ◌≤◌, ◌==◌, ◌&&◌, ◌⊎◌, max, Bool, true, false, List, [], ◌∷◌, ◌++◌, append_assoc, refl, ap, sym, ◌∙◌, subst, arith, inl, inr, Option, Some, None, slice_get, option_and_then, option_map, if◌then◌else◌}
-use Rattle.std.specs.Prelude.{flat_map}
+use Rattle.std.proofs.Common.{◌≡◌, ℕ, suc, ◌+◌, ◌-◌, ◌<◌, ◌≤◌, ◌&&◌, ◌⊎◌, Bool, true, false, List, [], ◌∷◌, ◌++◌, append_assoc, refl, ap, sym, ◌∙◌, subst, arith, inl, inr, Option, Some, None, slice_get, option_and_then, if◌then◌else◌}
 use Rattle.std.proofs.Math.ListN.{replicate}
 use Rattle.std.proofs.lemmas.Bool.{cases_lt}
 use Rattle.std.proofs.lemmas.List.{append-nil}
@@ -19,14 +18,13 @@ use Rattle.rb_rules.specs.Lawful.{IsLawful, kind_of}
 use Rattle.rb_rules.specs.NodeState.{NodeState}
 use Rattle.rb_rules.specs.Ports.{HandIn}
 use Rattle.rb_rules.specs.Rounds.{moment}
-use Rattle.rb_rules.specs.WorldStep.{Due, Pending, Site, Timed, World, after_act, after_arrival, at_node, due_of, event_of, happens, pass_and_tick, times_of, with_act, with_pending}
+use Rattle.rb_rules.specs.WorldStep.{Due, Pending, Site, Timed, World, after_act, after_arrival, due_of, event_of, happens, pass_and_tick, times_of, with_act}
 use Rattle.rb_rules.specs.WorldStep.Pending.{Tick, Arrival}
 use Rattle.rb_rules.proofs.QuietTicks.{arrive-same}
 use Rattle.rb_rules.proofs.RoundStates.{HasTicks}
 use Rattle.rb_log.specs.Writing.{given}
 use Rattle.rb_order.proofs.CloseOrder.{good-clock}
 use Rattle.rb_order.proofs.DueEvents.{IsDue, IsReady}
-use Rattle.rb_order.proofs.EveryWorld.{InRun}
 use Rattle.rb_order.proofs.Invariant.{NodeStands, last_tick}
 use Rattle.rb_order.proofs.MomentBooks.{one-number}
 use Rattle.rb_order.proofs.NodeActs.{HasRoom}

@@ -6,38 +6,33 @@ use Rattle.std.proofs.lemmas.Bool.Decides.{nat_tests}
 use Rattle.std.proofs.lemmas.List.{append-nil}
 use Rattle.rb_base.specs.Nodes.{Side}
 use Rattle.rb_base.specs.Sizes.{sync_slot_of}
-use Rattle.rb_base.specs.declared.event.Event.{Event}
 use Rattle.rb_rules.specs.declared.cause.Cause.{Cause}
 use Rattle.rb_rules.specs.Judging.{verdict_of}
 use Rattle.rb_rules.specs.Book.{frame_records, judged_of}
 use Rattle.rb_base.specs.declared.node.NodeName.{NodeName}
 use Rattle.rb_base.specs.declared.values.Place.{Place}
-use Rattle.rb_rules.specs.declared.record.Epoch.{Epoch}
-use Rattle.rb_rules.specs.Book.{Begun, Book, Each, Milestone, Record, Row, after_stage, after_verdict, each_of, map_each, of_kind, with_end, with_frame, with_stage}
+use Rattle.rb_rules.specs.Book.{Begun, Book, Each, Milestone, Record, Row, after_stage, after_verdict, map_each, of_kind, with_frame, with_stage}
 use Rattle.rb_rules.specs.Book.Milestone.{Begin, End, Stage}
 use Rattle.rb_rules.specs.Book.Record.{Ended}
-use Rattle.rb_rules.specs.Core.{Act, Core, epoch_at, first_core}
+use Rattle.rb_rules.specs.Core.{Core, epoch_at, first_core}
 use Rattle.rb_rules.specs.Goodness.{Scenario, is_good}
 use Rattle.rb_rules.specs.Hearing.{epoch_of}
 use Rattle.rb_rules.specs.Lawful.{IsLawful, kind_of}
 use Rattle.rb_rules.specs.NodeState.{NodeState}
-use Rattle.rb_rules.specs.Ports.{HandIn}
-use Rattle.rb_rules.specs.Rounds.{Moment, begin_frame, moment, records_of, windows_in}
+use Rattle.rb_rules.specs.Rounds.{begin_frame, moment, records_of, windows_in}
 use Rattle.rb_rules.specs.Slots.{count_of}
-use Rattle.rb_rules.specs.WorldStep.{Due, Site, Timed, Way, World, book_with, begun_for, comes_so, due_of, first_world, fresh_site, go_on, happens, is_complete, proceed, record_since, settle, settle_next, take, take_if_due, told_by_good, row_for}
+use Rattle.rb_rules.specs.WorldStep.{Due, Site, Timed, Way, World, book_with, begun_for, comes_so, due_of, first_world, fresh_site, go_on, happens, is_complete, proceed, record_since, settle, settle_next, take, take_if_due}
 use Rattle.rb_rules.specs.WorldStep.Way.{ByAnEvent, ByItself}
 use Rattle.rb_rules.proofs.Books.{GoesOn, moments-on, records-are}
-use Rattle.rb_rules.proofs.RoundStates.{HasTicks}
 use Rattle.rb_rules.proofs.WindowNumbers.{get-each, get-made}
 use Rattle.rb_log.specs.Writing.{given}
 use Rattle.rb_report.specs.Report.{end_text}
 use Rattle.rb_order.specs.Closing.{stages_in}
 use Rattle.rb_order.proofs.Behind.{runs-there}
-use Rattle.rb_order.proofs.EveryWorld.{InRun}
 use Rattle.rb_order.proofs.FirstInRounds.{first-in-rounds}
 use Rattle.rb_order.proofs.FirstWorld.{at_begin}
 use Rattle.rb_order.proofs.Invariant.{is_good_at}
-use Rattle.rb_order.proofs.MomentBooks.{SettlesNext, next_of, settles-next, stage-book-next}
+use Rattle.rb_order.proofs.MomentBooks.{SettlesNext, next_of, settles-next}
 use Rattle.rb_order.proofs.NodeActs.{HasRoom}
 use Rattle.rb_order.proofs.OneEvent.{WorldInRounds}
 use Rattle.rb_order.proofs.OneTake.{StandsInRounds}
@@ -49,20 +44,20 @@ use Rattle.rb_order.proofs.TickWindows.{first_of}
 use Rattle.rb_order.proofs.ToldInOrder.{NodeTold}
 use Rattle.rb_order.proofs.ToldSoFar.{PendsFirst, first-pends}
 use Rattle.rb_order.proofs.WorldBooks.{happens-book}
-use Rattle.rb_order.proofs.WorldNodes.{next-sites, settle-sites}
+use Rattle.rb_order.proofs.WorldNodes.{next-sites}
 use Rattle.rb_order.proofs.WorldStands.{IsUp, sent_by}
-use Rattle.rb_history.specs.Given.{AreGiven, first_run, first_step, given_in, index_of, site_of, step_with}
+use Rattle.rb_history.specs.Given.{first_run, first_step, index_of, site_of, step_with}
 use Rattle.rb_history.specs.Laws.{EndsWithoutBreach, IsGoodThroughout, ReplayIsTheReport, lines_after, report_of_node}
-use Rattle.rb_history.specs.Replays.{act_lines, acts_text, epoch_lines, frames_in, frames_with, replay_text}
+use Rattle.rb_history.specs.Replays.{epoch_lines, frames_in, frames_with, replay_text}
 use Rattle.rb_history.proofs.Gathered.{if_there}
 use Rattle.rb_history.proofs.NoBreach.{IsLastBegin, goes-on, last-begin, last-book, last_moment, number-below, steps-are}
-use Rattle.rb_history.proofs.NodeLines.{lines-append, newest_after, told_up_to}
+use Rattle.rb_history.proofs.NodeLines.{lines-append, told_up_to}
 use Rattle.rb_history.proofs.NodeRun.{IsDone, NodeAt, StepSites, Underway, acts_so_far, step-sites}
 use Rattle.rb_history.proofs.NodeRun.StepSites.{Still, Taken}
 use Rattle.rb_history.proofs.NodeSites.{proceed-core, rises, Rises}
 use Rattle.rb_history.proofs.NodeSteps.{Here, here, node-step}
 use Rattle.rb_history.proofs.Positions.{StandsAt, stands-at}
-use Rattle.rb_history.proofs.RoundLines.{AreTold, are-told, good-moment, none-waits, waiting}
+use Rattle.rb_history.proofs.RoundLines.{AreTold, are-told, good-moment, none-waits}
 use Rattle.rb_history.proofs.TickText.{Turns, now-begins, turns-now}
 use Rattle.rb_history.proofs.Worlds.{no-hands, worlds-in-run}
 

@@ -240,16 +240,18 @@ record Counts (sizes : Sizes) (n : ℕ) : Type 0 where
   waits : waits_now sizes n ≡ ((n % 3 + 1 == 3) && nat_lt (slot_numbered sizes n) (sync_slot_of sizes))
 
 counts : (sizes : Sizes) (n : ℕ) → Counts sizes n
-counts sizes n = record { waits = elim (cases_lt n (3 * sync_slot_of sizes)) [
-  | inl lt ↦
-      let below : slot_numbered sizes n < sync_slot_of sizes = small n (sync_slot_of sizes) lt in
-      ap (λ b. b && (n % 3 == 2)) (lt-ltb n (3 * sync_slot_of sizes) lt) ∙ two-three n
-      ∙ sym (ap (λ b. (n % 3 + 1 == 3) && b) (lt-ltb (slot_numbered sizes n) (sync_slot_of sizes) below) ∙ and-true (n % 3 + 1 == 3))
-  | inr ge ↦
-      let above : sync_slot_of sizes ≤ slot_numbered sizes n = large n (sync_slot_of sizes) ge in
-      ap (λ b. b && (n % 3 == 2)) (le-ltb n (3 * sync_slot_of sizes) ge)
-      ∙ sym (right-false (n % 3 + 1 == 3) (nat_lt (slot_numbered sizes n) (sync_slot_of sizes)) (le-ltb (slot_numbered sizes n) (sync_slot_of sizes) above))
-] }
+counts sizes n = record {
+  waits = elim (cases_lt n (3 * sync_slot_of sizes)) [
+    | inl lt ↦
+        let below : slot_numbered sizes n < sync_slot_of sizes = small n (sync_slot_of sizes) lt in
+        ap (λ b. b && (n % 3 == 2)) (lt-ltb n (3 * sync_slot_of sizes) lt) ∙ two-three n
+        ∙ sym (ap (λ b. (n % 3 + 1 == 3) && b) (lt-ltb (slot_numbered sizes n) (sync_slot_of sizes) below) ∙ and-true (n % 3 + 1 == 3))
+    | inr ge ↦
+        let above : sync_slot_of sizes ≤ slot_numbered sizes n = large n (sync_slot_of sizes) ge in
+        ap (λ b. b && (n % 3 == 2)) (le-ltb n (3 * sync_slot_of sizes) ge)
+        ∙ sym (right-false (n % 3 + 1 == 3) (nat_lt (slot_numbered sizes n) (sync_slot_of sizes)) (le-ltb (slot_numbered sizes n) (sync_slot_of sizes) above))
+  ];
+}
   where
     small : (n s : ℕ) → n < 3 * s → min (n / 3) s < s
     small n s h = omega arith

@@ -1,6 +1,6 @@
 -- For the law of record and replay: what a tick of a node in the run has for lines, and what it moves: with them the node has told all up
 -- to where it then stands, but for the begin of a frame whose first tick pends.
-use Rattle.std.proofs.Common.{◌≡◌, ℕ, zero, suc, ◌+◌, ◌*◌, ◌-◌, ◌<◌, ◌≤◌, ◌%◌, ◌==◌, ◌&&◌, ◌⊎◌, nat_lt, Bool, true, false, List, [], ◌∷◌, ◌++◌, append_assoc, refl, ap, sym, ◌∙◌, subst, arith, inl, inr, Option, Some, None, slice_get, option_and_then, option_map, if◌then◌else◌}
+use Rattle.std.proofs.Common.{◌≡◌, ℕ, suc, ◌+◌, ◌*◌, ◌-◌, ◌<◌, ◌≤◌, ◌%◌, ◌==◌, ◌&&◌, ◌⊎◌, nat_lt, Bool, true, false, List, [], ◌++◌, append_assoc, refl, ap, sym, ◌∙◌, subst, arith, inl, inr, Option, Some, None, slice_get, option_and_then, option_map, if◌then◌else◌}
 use Rattle.std.proofs.lemmas.Bool.{cases_lt, lt-ltb, le-ltb}
 use Rattle.std.proofs.lemmas.Bool.Decides.{nat_tests}
 use Rattle.std.proofs.lemmas.List.{append-nil}
@@ -13,16 +13,16 @@ use Rattle.rb_rules.specs.declared.closing.Closed.{Closed}
 use Rattle.rb_rules.specs.declared.plan.Plan.{Plan}
 use Rattle.rb_rules.specs.declared.plan.Window.{Window}
 use Rattle.rb_rules.specs.declared.record.Epoch.{Epoch}
-use Rattle.rb_rules.specs.Book.{Row, line_in, of_kind}
+use Rattle.rb_rules.specs.Book.{line_in, of_kind}
 use Rattle.rb_rules.specs.Core.{Act, Core, epoch_at, of_source, pass_to, state_at}
 use Rattle.rb_rules.specs.Goodness.{Scenario, is_good}
 use Rattle.rb_rules.specs.Hearing.{close_window, epoch_of, row_of, window_numbered}
 use Rattle.rb_rules.specs.Lawful.{IsLawful, kind_of}
-use Rattle.rb_rules.specs.NodeState.{NodeState, trusted_of}
+use Rattle.rb_rules.specs.NodeState.{NodeState}
 use Rattle.rb_rules.specs.NodeSteps.{convicted_of}
 use Rattle.rb_rules.specs.Ports.{PortState}
 use Rattle.rb_rules.specs.Rounds.{Moment, moment, window_in, windows_in}
-use Rattle.rb_rules.specs.WorldStep.{Site, Timed, after_act, coming_from}
+use Rattle.rb_rules.specs.WorldStep.{Site, Timed, after_act}
 use Rattle.rb_rules.proofs.RoundStates.{HasTicks, Stays, close-stays, keeping-stays, stays-refl}
 use Rattle.rb_order.specs.Closing.{stages_in}
 use Rattle.rb_order.proofs.CloseOrder.{IsFrameLater, IsWindowLater, frame-later, window-later}
@@ -32,22 +32,22 @@ use Rattle.rb_order.proofs.NodeActs.{HasRoom}
 use Rattle.rb_order.proofs.NodeClosing.{ClosesWindow, GoesOn}
 use Rattle.rb_order.proofs.NodeEvents.{StaysOpen}
 use Rattle.rb_order.proofs.NodeSends.{sending_at}
-use Rattle.rb_order.proofs.NodeTicks.{Like, by_said, gone, kept_in, like-in, state_in}
+use Rattle.rb_order.proofs.NodeTicks.{by_said, gone, kept_in, state_in}
 use Rattle.rb_order.proofs.RoundNodes.{good-earlier, slot-is, slot_numbered}
 use Rattle.rb_order.proofs.Settling.{some-same}
 use Rattle.rb_order.proofs.StageOrder.{last-same, last_of}
 use Rattle.rb_order.proofs.Telling.{first-window}
 use Rattle.rb_order.proofs.TickRooms.{has-room}
-use Rattle.rb_order.proofs.TickWindows.{IsTickIn, ends-before-later, first-same, first_of}
+use Rattle.rb_order.proofs.TickWindows.{ends-before-later, first-same, first_of}
 use Rattle.rb_order.proofs.ToldSoFar.{PendsFirst, first-pends}
 use Rattle.rb_order.proofs.WorldEvents.{state-frame}
 use Rattle.rb_report.specs.Report.{delivery_text}
 use Rattle.rb_history.specs.Given.{index_of}
 use Rattle.rb_history.specs.Laws.{IsGoodThroughout}
-use Rattle.rb_history.specs.Replays.{act_lines, delivery_lines, epoch_lines, frames_with}
+use Rattle.rb_history.specs.Replays.{delivery_lines, epoch_lines, frames_with}
 use Rattle.rb_history.proofs.Delivered.{Delivers, close-by, line_of_node}
 use Rattle.rb_history.proofs.Gathered.{if_there}
-use Rattle.rb_history.proofs.NodeLines.{block_text, line_text, row_in, state_of, step_text, told_up_to, window_text}
+use Rattle.rb_history.proofs.NodeLines.{block_text, line_text, row_in, told_up_to, window_text}
 use Rattle.rb_history.proofs.NodeSites.{act-core, state-rises}
 use Rattle.rb_history.proofs.Positions.{StandsAt, stands-at}
 use Rattle.rb_history.proofs.RoundLines.{HasState, good-begin, has-state, nothing-told}

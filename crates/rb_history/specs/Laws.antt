@@ -44,7 +44,7 @@ lines_after name newest (Breach place cause ∷ records) = breach_text place cau
 abbrev pub report_of_node : NodeName → List Record → List ℕ
 report_of_node name records = lines_after name 0 records
 
--- The law.
+-- The laws.
 
 abbrev pub is_breach : Record → Bool
 is_breach (Frame frame nodes ports) = false
@@ -59,6 +59,12 @@ EndsWithoutBreach sc = list_any is_breach (records_of sc []) ≡ false
 -- the node is good with the last block, and so at each place before it
 abbrev pub IsGoodThroughout : Scenario → NodeName → Type 0
 IsGoodThroughout sc name = is_good sc (kind_of name) (index_of name) sc.frames 0 ≡ true
+
+-- each node is given one list of events
+abbrev pub OneListIsGiven : Type 0
+OneListIsGiven =
+    (sc : Scenario) → IsLawful sc → (name : NodeName)
+    → (events : List Event) × (AreGiven sc name events × ((others : List Event) → AreGiven sc name others → others ≡ events))
 
 -- a node that is good throughout a run without a breach, and is given once more what it was given, says once more what the
 -- report says of it
