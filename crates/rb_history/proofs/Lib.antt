@@ -9,6 +9,7 @@ pub mod NodeRun
 pub mod NodeSteps
 pub mod ReplayLaw
 pub mod FirstRuns
+pub mod Sized
 pub mod Worlds
 pub mod NodeLines
 pub mod RoundLines
