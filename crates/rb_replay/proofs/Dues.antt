@@ -1,5 +1,5 @@
 -- What is due of a replay, event by event.
-use Rattle.std.proofs.Common.{◌≡◌, ℕ, ◌+◌, ◌<◌, ◌≤◌, ◌^◌, nat_lt, Bool, true, false, cond, refl, ap, sym, ◌∙◌, subst, arith, lit≤, Option, Some, None, Result, Ok, Err, IfOk, OnOk, OnErr, List, [], ◌∷◌, ◌++◌, append_assoc}
+use Rattle.std.proofs.Common.{◌≡◌, ℕ, ◌+◌, ◌≤◌, ◌^◌, nat_lt, Bool, true, false, cond, refl, ap, sym, ◌∙◌, subst, arith, lit≤, Option, Some, None, Result, Ok, Err, IfOk, OnOk, OnErr, List, [], ◌∷◌, ◌++◌, append_assoc}
 use Rattle.std.proofs.Math.ListN.{replicate}
 use Rattle.std.specs.List.{flat_map}
 use Rattle.std.specs.Io.KnownBytes.{Appends}
@@ -8,7 +8,7 @@ use Rattle.rb_base.specs.Sizes.{Sizes}
 use Rattle.rb_base.specs.declared.node.NodeName.{NodeName}
 use Rattle.rb_rules.specs.declared.plan.Plan.{Plan}
 use Rattle.rb_rules.specs.declared.record.Epoch.{Epoch}
-use Rattle.rb_rules.specs.Core.{Act, Core, CoreEvent, act_at, act_on, acts_of, first_core, epoch_at, is_last, is_spent, said_at, state_at, state_kept, tick, ticks}
+use Rattle.rb_rules.specs.Core.{Act, Core, CoreEvent, act_at, act_on, acts_of, first_core, is_last, is_spent, tick}
 use Rattle.rb_rules.specs.Core.CoreEvent.{Tick, Arrive}
 use Rattle.rb_rules.specs.declared.message.Message.{Message}
 use Rattle.rb_rules.specs.Lawful.{kind_of}
@@ -43,10 +43,10 @@ passes-due me n m name frames count events due room upto most is cores d =
       stands = after;
       few = omega arith;
       text = d.text
-      ∙ quiet-text n.seat.sizes n.seat.plan me n.seat.index name frames count d.core events
-      (λ k lo hi. subst (λ st. IsQuiet n.seat.sizes n.seat.plan me n.seat.index st k) (sym d.stands.state) (quiet-before n.seat.sizes n.seat.plan me n.seat.index n.seat.state n.had k room (omega arith) (omega arith)))
-      (omega arith)
-      ∙ ap (λ (r : Running). text_after name frames (acts_at me r (ticks_of me n count d.core) events)) (sym is);
+          ∙ quiet-text n.seat.sizes n.seat.plan me n.seat.index name frames count d.core events
+          (λ k lo hi. subst (λ st. IsQuiet n.seat.sizes n.seat.plan me n.seat.index st k) (sym d.stands.state) (quiet-before n.seat.sizes n.seat.plan me n.seat.index n.seat.state n.had k room (omega arith) (omega arith)))
+          (omega arith)
+          ∙ ap (λ (r : Running). text_after name frames (acts_at me r (ticks_of me n count d.core) events)) (sym is);
     }
 
 -- A tick.
@@ -120,7 +120,7 @@ tick-advances me n m name frames begun word events due before after same cores b
         stands = cores d.core d.stands;
         few = omega arith;
         text = ap (λ k. text_after name (frames + k) (acts_at me n x.core events)) (sym is)
-        ∙ ap (λ xs. text_after name (frames + begun) xs) (sym (same-acts me n m x.core events same));
+            ∙ ap (λ xs. text_after name (frames + begun) xs) (sym (same-acts me n m x.core events same));
       };
     }
 
@@ -170,8 +170,8 @@ arrival-advances me n m name frames from bytes events due held rest cores d =
         stands = cores d.core d.stands;
         few = omega arith;
         text = d.text
-        ∙ ap (λ k. text_after name k (acts_at me n (arrive_of me n d.core from bytes) events)) none
-        ∙ ap (λ (r : Running). text_after name (frames + 0) (acts_at me r (arrive_of me n d.core from bytes) events)) (sym rest);
+            ∙ ap (λ k. text_after name k (acts_at me n (arrive_of me n d.core from bytes) events)) none
+            ∙ ap (λ (r : Running). text_after name (frames + 0) (acts_at me r (arrive_of me n d.core from bytes) events)) (sym rest);
       };
     }
 
@@ -257,7 +257,7 @@ all-due sizes plan me index n name events kind number seat is = record {
   stands = is;
   few = lit≤ tt;
   text = first-text name (acts_from sizes plan name events)
-  ∙ ap (λ (k : Side). text_after name 0 (acts_of sizes plan k (index_of name) (first_core sizes k) events)) kind
-  ∙ ap (λ i. text_after name 0 (acts_of sizes plan me i (first_core sizes me) events)) number
-  ∙ ap (λ (s : Seated). text_after name 0 (acts_of s.sizes s.plan me s.index (first_core sizes me) events)) (sym seat);
+      ∙ ap (λ (k : Side). text_after name 0 (acts_of sizes plan k (index_of name) (first_core sizes k) events)) kind
+      ∙ ap (λ i. text_after name 0 (acts_of sizes plan me i (first_core sizes me) events)) number
+      ∙ ap (λ (s : Seated). text_after name 0 (acts_of s.sizes s.plan me s.index (first_core sizes me) events)) (sym seat);
 }

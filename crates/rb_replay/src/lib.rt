@@ -3,5 +3,7 @@
 
 mod lines;
 mod replaying;
+#[cfg(test)]
+mod tests;
 
 pub use replaying::replay;

@@ -39,11 +39,7 @@ fn write_two<S: Sink>(
 }
 
 // Writes the begin of a frame, where one begins: its first tick, and whom the node holds convicted.
-fn write_epoch<S: Sink>(
-    node: NodeName,
-    epoch: Option<Epoch>,
-    output: &mut S,
-) -> Result<(), Failed>
+fn write_epoch<S: Sink>(node: NodeName, epoch: Option<Epoch>, output: &mut S) -> Result<(), Failed>
     ensures all { OnOk result (Appends (S.held output.old) (S.held output.new) (epoch_lines node epoch)) }
     ensures part { OnErr result (AppendsPart (S.held output.old) (S.held output.new) (epoch_lines node epoch)) }
     ensures cause { HasCause (S.faults output.old) (S.faults output.new) result }

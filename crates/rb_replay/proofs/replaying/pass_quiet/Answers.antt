@@ -1,4 +1,4 @@
-use Rattle.std.proofs.Common.{◌+◌, ◌≤◌, ◌^◌, ◌≡◌, List, arith, subst, ap}
+use Rattle.std.proofs.Common.{◌+◌, ◌≡◌, List, arith, subst, ap}
 use Rattle.rb_base.specs.Nodes.{side_of}
 use Rattle.rb_rules.specs.Core.{CoreEvent}
 use Rattle.rb_node.specs.Cores.{Running}
