@@ -10,6 +10,7 @@ pub mod NodeSteps
 pub mod ReplayLaw
 pub mod FirstRuns
 pub mod Sized
+pub mod Recorded
 pub mod Worlds
 pub mod NodeLines
 pub mod RoundLines

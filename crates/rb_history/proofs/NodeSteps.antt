@@ -263,11 +263,11 @@ arrival-core : (sc : Scenario) (me : Side) (i place : ℕ) (c : Coming) (s : Sit
 unfolding after_arrival
 arrival-core sc me i place c s = (refl, refl)
 
-own-arrival-step : (sc : Scenario) (name : NodeName) (n place : ℕ) (c : Coming) (s : Site) → IsLawful sc → EndsWithoutBreach sc → site_of name (first_run sc n) ≡ Some s → Underway sc name n s
+-- the node stands where it stood
+pub arrival-stands : (sc : Scenario) (name : NodeName) (n place : ℕ) (c : Coming) (s : Site) → IsLawful sc → EndsWithoutBreach sc → site_of name (first_run sc n) ≡ Some s → (u : Underway sc name n s)
     → slice_get (due_of sc (first_run sc n)) 0 ≡ Some (record { side = kind_of name; node = index_of name; pending = Arrival place c })
-    → (first_run sc (suc n)).sites ≡ (happens sc (first_run sc n) (record { side = kind_of name; node = index_of name; pending = Arrival place c })).sites
-    → NodeAt sc name (suc n)
-own-arrival-step sc name n place c s lawful none there u first sites =
+    → StandsAt sc (kind_of name) (index_of name) u.p (after_arrival sc (kind_of name) (index_of name) place c s).core u.st u.a
+arrival-stands sc name n place c s lawful none there u first =
     let me : Side = kind_of name in
     let i : ℕ = index_of name in
     let w : World = first_run sc n in
@@ -284,13 +284,30 @@ own-arrival-step sc name n place c s lawful none there u first sites =
     stands-arrival sc [] at.sent h.now me i u.p place c s u.st u.a
     (moves-of sc lawful me i (good-clock sc lawful me i (moment sc [] u.p).frame (slot_numbered sc.sizes (moment sc [] u.p).window) u.stands.good))
     (record { at = ready.0; least = all-after c.time s.ahead s.coming own; before_tick = tick-after c.time s.ahead u.a s.coming u.ahead own }) at.stands in
-    let now : StandsAt sc me i u.p z.core u.st u.a = stands-at sc at.sent c.time me i u.p z u.st u.a room.ticks stands in
+    stands-at sc at.sent c.time me i u.p z u.st u.a room.ticks stands
+
+-- after the quiet ticks before it
+pub arrival-had : (sc : Scenario) (me : Side) (i place : ℕ) (c : Coming) (s : Site) → (after_arrival sc me i place c s).core.had ≡ (pass_to (stamp_of (clock_of sc me i) c.time) s.core).had
+arrival-had sc me i place c s =
+    ap (λ (c : Core). c.had) (arrival-core sc me i place c s).0 ∙ (arrive-same sc.sizes me (pass_to (stamp_of (clock_of sc me i) c.time) s.core) c.from c.bytes).1
+
+own-arrival-step : (sc : Scenario) (name : NodeName) (n place : ℕ) (c : Coming) (s : Site) → IsLawful sc → EndsWithoutBreach sc → site_of name (first_run sc n) ≡ Some s → Underway sc name n s
+    → slice_get (due_of sc (first_run sc n)) 0 ≡ Some (record { side = kind_of name; node = index_of name; pending = Arrival place c })
+    → (first_run sc (suc n)).sites ≡ (happens sc (first_run sc n) (record { side = kind_of name; node = index_of name; pending = Arrival place c })).sites
+    → NodeAt sc name (suc n)
+own-arrival-step sc name n place c s lawful none there u first sites =
+    let me : Side = kind_of name in
+    let i : ℕ = index_of name in
+    let w : World = first_run sc n in
+    let d : Due = record { side = me; node = i; pending = Arrival place c } in
+    let z : Site = after_arrival sc me i place c s in
+    let now : StandsAt sc me i u.p z.core u.st u.a = arrival-stands sc name n place c s lawful none there u first in
     let stamp : ℕ = stamp_of (clock_of sc me i) c.time in
     let passed : Core = pass_to stamp s.core in
     let parts = arrival-core sc me i place c s in
     let core_is : z.core ≡ arrive sc.sizes me passed c.from c.bytes = parts.0 in
     let same = arrive-same sc.sizes me passed c.from c.bytes in
-    let had : z.core.had ≡ passed.had = ap (λ (c : Core). c.had) core_is ∙ same.1 in
+    let had : z.core.had ≡ passed.had = arrival-had sc me i place c s in
     let state : z.core.state ≡ s.core.state = ap (λ (c : Core). c.state) core_is ∙ same.0 in
     let later : z.core.had ≤ u.a.tick = now.next.later in
     let e : Event = event_of sc w.ports me i s.core (Arrival place c) in

@@ -1,5 +1,5 @@
 -- Record and replay.
-use Rattle.std.specs.Prelude.{ℕ, ◌≡◌, Bool, true, false, if◌then◌else◌, None, List, [], ◌∷◌, ◌++◌}
+use Rattle.std.specs.Prelude.{Ok, ℕ, ◌≡◌, Bool, true, false, if◌then◌else◌, None, List, [], ◌∷◌, ◌++◌}
 use Rattle.std.specs.List.{flat_map, list_any}
 use Rattle.rb_base.specs.declared.event.Event.{Event}
 use Rattle.rb_base.specs.declared.node.NodeName.{NodeName}
@@ -12,7 +12,10 @@ use Rattle.rb_rules.specs.Goodness.{Scenario, is_good}
 use Rattle.rb_rules.specs.Lawful.{IsLawful, kind_of}
 use Rattle.rb_rules.specs.Links.{same_node}
 use Rattle.rb_rules.specs.Rounds.{records_of}
-use Rattle.rb_log.specs.Writing.{given}
+use Rattle.rb_plan.specs.Timetable.{Timetable}
+use Rattle.rb_log.specs.Header.{header_of}
+use Rattle.rb_log.specs.LogText.{Log, log_in}
+use Rattle.rb_log.specs.Writing.{given, written}
 use Rattle.rb_report.specs.Report.{breach_text, convicted_text, delivery_text, end_text, epoch_text}
 use Rattle.rb_history.specs.Given.{AreGiven, index_of}
 use Rattle.rb_history.specs.Replays.{replay_text}
@@ -73,3 +76,11 @@ ReplayIsTheReport =
     (sc : Scenario) → IsLawful sc → EndsWithoutBreach sc → (name : NodeName) → IsGoodThroughout sc name
     → (events : List Event) → AreGiven sc name events
     → replay_text sc.sizes sc.plan name (flat_map given events) ≡ report_of_node name (records_of sc [])
+
+-- what the recorder writes of its events is a log, and what a replay tells of that log is this report
+abbrev pub ALogTellsTheReport : Type 0
+ALogTellsTheReport =
+    (sc : Scenario) → IsLawful sc → EndsWithoutBreach sc → (name : NodeName) → IsGoodThroughout sc name
+    → (events : List Event) → AreGiven sc name events → (t : Timetable) → t.sizes ≡ sc.sizes → t.plan ≡ sc.plan
+    → (log : Log) × ((log_in (header_of t name ++ written 0 events) ≡ Ok log)
+    × (replay_text log.timetable.sizes log.timetable.plan log.node log.events ≡ report_of_node name (records_of sc [])))

@@ -2,7 +2,7 @@
 //! function that does nothing.
 #![tactic(auto)]
 
-ghost use Rattle.rb_history.specs.Laws.{OneListIsGiven, ReplayIsTheReport};
+ghost use Rattle.rb_history.specs.Laws.{ALogTellsTheReport, OneListIsGiven, ReplayIsTheReport};
 
 /// In every lawful scenario each node is given one list of events: the run in which always the first due event is taken ends, and
 /// nothing is given after its end.
@@ -15,4 +15,10 @@ pub fn one_list_is_given()
 /// the end the number of frames.
 pub fn replay_is_the_report()
     ensures { ReplayIsTheReport }
+{}
+
+/// The same for its log: the header and what the writer gives of these events are a log that a reader takes, and a replay of what it says
+/// tells once more what the report tells of the node.
+pub fn a_log_tells_the_report()
+    ensures { ALogTellsTheReport }
 {}
