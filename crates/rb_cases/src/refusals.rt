@@ -1,6 +1,6 @@
 //! Documents that break a rule or two.
 use crate::tables::*;
-use crate::trial::{Case, try_cases};
+use crate::trial::{Case, answer_to, joined, try_cases};
 use rb_top::Status;
 use std::test::Fail;
 
@@ -130,4 +130,29 @@ fn documents_that_break_rules(rt: HostRuntime) -> Result<(), Fail> {
             },
         ],
     )
+}
+
+// As many say entries as there may be, and one more.
+#[test]
+fn too_many_say_entries(rt: HostRuntime) -> Result<(), Fail> {
+    let alloc = rt.alloc();
+    for (count, status, first) in [
+        (1024, Status::Done, "e 0 B0 0 0\n"),
+        (1025, Status::Refused, "refused 11 TooMany\n"),
+    ] {
+        let mut document = joined(alloc, &[ORDINARY, R2_FROM_SLOT_0, "say = [\n"])?;
+        for _ in 0..count {
+            document.extend_from_slice(
+                b"{ from = 'R2', to = 'B', frames = [0, 0], slots = [0, 0], stages = [2, 2], word = 1 },\n",
+            )?;
+        }
+        document.extend_from_slice(b"]\n")?;
+        let answer = answer_to(alloc, "run", document)?;
+        assert_eq!(rt; answer.status, status, "{count} entries");
+        assert!(rt;
+            answer.bytes.starts_with(first.as_bytes()),
+            "{count} entries"
+        );
+    }
+    Ok(())
 }
