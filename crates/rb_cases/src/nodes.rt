@@ -48,3 +48,20 @@ fn messages_of_any_length_from_anywhere(rt: HostRuntime) -> Result<(), Fail> {
     assert_eq!(rt; of_rmu, 10496);
     Ok(())
 }
+
+// The first ticks at which BIU 0 of four has something to do: the frame's first, its request, and the ends of two windows.
+#[test]
+fn ticks_that_are_not_quiet(rt: HostRuntime) -> Result<(), Fail> {
+    let shape = Shape::new(4, 3, 8).ok_or("no such bus")?;
+    let plan = Feasible::new(&shape, &USUAL).map_err(|_| "not feasible")?;
+    let mut node: Node<Biu> = Node::new(&plan, 0);
+    let mut found = vec![in rt.alloc()]?;
+    for _ in 0..30 {
+        if node.next_tick() == Some(node.had()) {
+            found.push(node.had())?;
+        }
+        let _act = node.tick(2);
+    }
+    assert_eq!(rt; found.as_slice(), [0, 6, 14, 29].as_slice());
+    Ok(())
+}

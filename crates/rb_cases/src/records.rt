@@ -1,7 +1,7 @@
 //! The records of a run: by any choice among events that are due, over many frames, and after a state was handed in.
 use crate::tables::*;
-use crate::trial::{joined, opened, records};
-use rb_base::Heard;
+use crate::trial::{joined, opened, records, taken};
+use rb_base::{Event, EventKind, Heard, NodeName};
 use rb_world::{FrameRecord, Ties, Turn};
 use std::test::Fail;
 
@@ -94,5 +94,32 @@ fn a_state_is_handed_in(rt: HostRuntime) -> Result<(), Fail> {
         assert!(rt; with_77(one) == other);
     }
     assert_eq!(rt; changed, 3);
+    Ok(())
+}
+
+// A tick, before which there were so many at which the node had nothing to do.
+fn tick(node: NodeName, quiet: u32, word: u32, wanted: bool) -> Event {
+    Event {
+        node,
+        quiet,
+        kind: EventKind::Tick { word, wanted },
+    }
+}
+
+// On the smallest bus both nodes have their first ticks, then B0 says its request at tick 6, and only then something comes to R0.
+#[test]
+fn the_first_events(rt: HostRuntime) -> Result<(), Fail> {
+    let alloc = rt.alloc();
+    let mut world = opened(alloc, SMALLEST.as_bytes())?;
+    assert_eq!(rt; world.due(), 2);
+    let (event, turn) = taken(alloc, &mut world, 0)?.ok_or("nothing due")?;
+    assert_eq!(rt; event, tick(NodeName::Biu(0), 0, 0, false));
+    assert_eq!(rt; turn, Turn::Quiet);
+    let (event, turn) = taken(alloc, &mut world, 0)?.ok_or("nothing due")?;
+    assert_eq!(rt; event, tick(NodeName::Rmu(0), 0, 0, false));
+    assert!(rt; matches!(turn, Turn::Frame(_)));
+    assert_eq!(rt; world.due(), 1);
+    let (event, _) = taken(alloc, &mut world, 0)?.ok_or("nothing due")?;
+    assert_eq!(rt; event, tick(NodeName::Biu(0), 5, 1, true));
     Ok(())
 }

@@ -1,4 +1,5 @@
 //! How a case is tried.
+use rb_base::Event;
 use rb_outside::{MemSink, MemSource, Sink, Source};
 use rb_port::{App, Apps};
 use rb_scenario::read;
@@ -158,6 +159,21 @@ pub(crate) fn records(
         }
     }
     Ok(records)
+}
+
+/// Takes event `i` of those that are due. It is told with the turn; None where fewer are due.
+pub(crate) fn taken(
+    alloc: Global,
+    world: &mut World,
+    i: usize,
+) -> Result<Option<(Event, Turn)>, AllocError> {
+    let apps = applications!(alloc);
+    if i < world.due() {
+        let event = world.event(&apps, i);
+        Ok(Some((event, world.take(&apps, i))))
+    } else {
+        Ok(None)
+    }
 }
 
 /// Tries each case.
