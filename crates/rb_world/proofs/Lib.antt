@@ -29,3 +29,4 @@ pub mod FirstStands
 pub mod Showing
 pub mod InTime
 pub mod Arrivals
+pub mod Asked

@@ -1,0 +1,6 @@
+pub mod Runs
+pub mod Alone
+pub mod Ends
+pub mod Comings
+pub mod Ticks
+pub mod Writing
