@@ -76,14 +76,12 @@ sized-remove (suc n) (x ∷ xs) a = (a.0, sized-remove n xs a.1)
 sized-said : (sc : Scenario) (me : Side) (i : ℕ) (span : Span) (j : ℕ) (says : List Say) → All (IsSayOf sc) says
     → AreSized (map (coming_said sc.plan.version (clock_of sc me i) j span) (filter (is_said me i j span) says))
 sized-said sc me i span j [] all = tt
-sized-said sc me i span j (s ∷ says) all = by (is_said me i j span s)
+sized-said sc me i span j (s ∷ says) all = by (sized-said sc me i span j says (All-tail (IsSayOf sc) s says all)) (is_said me i j span s)
   where
-    rest : AreSized (map (coming_said sc.plan.version (clock_of sc me i) j span) (filter (is_said me i j span) says))
-    rest = sized-said sc me i span j says (All-tail (IsSayOf sc) s says all)
-
-    by : (b : Bool) → AreSized (map (coming_said sc.plan.version (clock_of sc me i) j span) (cond b (s ∷ filter (is_said me i j span) says) (filter (is_said me i j span) says)))
-    by true = (content-sized sc.plan.version span.place s.content (All-head (IsSayOf sc) s says all).content, rest)
-    by false = rest
+    by : AreSized (map (coming_said sc.plan.version (clock_of sc me i) j span) (filter (is_said me i j span) says)) → (b : Bool)
+        → AreSized (map (coming_said sc.plan.version (clock_of sc me i) j span) (cond b (s ∷ filter (is_said me i j span) says) (filter (is_said me i j span) says)))
+    by rest true = (content-sized sc.plan.version span.place s.content (All-head (IsSayOf sc) s says all).content, rest)
+    by rest false = rest
 
 flat-sized : (f : ℕ → List Coming) (a n : ℕ) → ((k : ℕ) → AreSized (f k)) → AreSized (flat_map f (range_with_len a n))
 flat-sized f a zero all = tt
@@ -259,10 +257,10 @@ first-sound sc lawful me i s e =
 
 pub run-sound : (sc : Scenario) (n : ℕ) → IsLawful sc → AreSound (first_run sc n).sites
 run-sound sc zero lawful = first-sound sc lawful
-run-sound sc (suc n) lawful = by (length (due_of sc (first_run sc n))) refl
+run-sound sc (suc n) lawful = by (run-sound sc n lawful) (length (due_of sc (first_run sc n))) refl
   where
-    by : (k : ℕ) → length (due_of sc (first_run sc n)) ≡ k → AreSound (first_run sc (suc n)).sites
-    by zero e = subst (λ (w : World). AreSound w.sites) (sym (run-idle sc (first_run sc n) e)) (go-sound sc (first_run sc n) (run-sound sc n lawful))
-    by (suc k) e =
+    by : AreSound (first_run sc n).sites → (k : ℕ) → length (due_of sc (first_run sc n)) ≡ k → AreSound (first_run sc (suc n)).sites
+    by before zero e = subst (λ (w : World). AreSound w.sites) (sym (run-idle sc (first_run sc n) e)) (go-sound sc (first_run sc n) before)
+    by before (suc k) e =
         subst (λ (w : World). AreSound w.sites) (sym (run-busy sc (first_run sc n) (omega (arith, e))))
-        (take-sound sc (first_run sc n) 0 lawful (run-reached sc n) (run-sound sc n lawful))
+        (take-sound sc (first_run sc n) 0 lawful (run-reached sc n) before)

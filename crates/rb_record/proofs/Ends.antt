@@ -80,7 +80,7 @@ first-going sc = refl
 -- a call that ends the run gives the last record
 one-ends : (sc : Scenario) (before after : World) → IsReached sc after → IsNextTurn sc before after → after.book.ended ≡ true → EndsWith after
 one-ends sc before after reached (inl none) over = none-last after.turn none.0 (reached-ends sc after reached over)
-one-ends sc before after reached (inr one) over = record { before = before.book.given; last = one.0; given = one.1.1; turn = one.1.0 }
+one-ends sc before after reached (inr one) over = record { before = before.book.given; last = one.0; given = one.2; turn = one.1 }
 
 next-turn : (sc : Scenario) (w : World) → IsLawful sc → IsReached sc w → w.book.ended ≡ false → IsNextTurn sc w (first_step sc w)
 next-turn sc w lawful reached going = by (length (due_of sc w)) refl
@@ -98,11 +98,11 @@ next-turn sc w lawful reached going = by (length (due_of sc w)) refl
 
 pub over-ends : (sc : Scenario) (n : ℕ) → IsLawful sc → (first_run sc n).book.ended ≡ true → EndsWith (first_run sc n)
 over-ends sc zero lawful over = true-false (sym over ∙ first-going sc)
-over-ends sc (suc n) lawful over = by (first_run sc n).book.ended refl
+over-ends sc (suc n) lawful over = by (over-ends sc n lawful) (first_run sc n).book.ended refl
   where
-    by : (b : Bool) → (first_run sc n).book.ended ≡ b → EndsWith (first_run sc (suc n))
-    by true e = subst EndsWith (sym (over-stays sc n e)) (over-ends sc n lawful e)
-    by false e = one-ends sc (first_run sc n) (first_run sc (suc n)) (run-reached sc (suc n)) (next-turn sc (first_run sc n) lawful (run-reached sc n) e) over
+    by : ((first_run sc n).book.ended ≡ true → EndsWith (first_run sc n)) → (b : Bool) → (first_run sc n).book.ended ≡ b → EndsWith (first_run sc (suc n))
+    by before true e = subst EndsWith (sym (over-stays sc n e)) (before e)
+    by before false e = one-ends sc (first_run sc n) (first_run sc (suc n)) (run-reached sc (suc n)) (next-turn sc (first_run sc n) lawful (run-reached sc n) e) over
 
 -- nothing is handed in
 pending-hands : (sc : Scenario) (w : World) (me : Side) (i : ℕ) (s : Site) (p : Pending) → (with_pending sc w me i s p).hands ≡ w.hands
@@ -169,23 +169,28 @@ pub record IsLong (sc : Scenario) (n : ℕ) : Type 0 where
   pub more : ℕ
   pub over : (first_run sc (n + more)).book.ended ≡ true
 
+-- one more event was due
+pub busy-more : (sc : Scenario) (n : ℕ) → ((m : ℕ) → m < n → 1 ≤ length (due_of sc (first_run sc m))) → 1 ≤ length (due_of sc (first_run sc n))
+    → (m : ℕ) → m < suc n → 1 ≤ length (due_of sc (first_run sc m))
+busy-more sc n busy here m lt = elim (cases_lt m n) [
+  | inl below ↦ busy m below
+  | inr above ↦ let same : n ≡ m = omega (arith, lt, above) in subst (λ m. 1 ≤ length (due_of sc (first_run sc m))) same here
+]
+
 -- it is over within so many more steps, or some event is due in each of them
 on-for : (sc : Scenario) (fuel n : ℕ) → IsLawful sc → ((m : ℕ) → m < n → 1 ≤ length (due_of sc (first_run sc m)))
     → IsLong sc n ⊎ ((m : ℕ) → m < n + fuel → 1 ≤ length (due_of sc (first_run sc m)))
 on-for sc zero n lawful busy = inr (λ m lt. busy m (omega (arith, lt)))
-on-for sc (suc fuel) n lawful busy = by (length (due_of sc (first_run sc n))) refl
+on-for sc (suc fuel) n lawful busy = by (on-for sc fuel (suc n) lawful) (length (due_of sc (first_run sc n))) refl
   where
-    by : (k : ℕ) → length (due_of sc (first_run sc n)) ≡ k → IsLong sc n ⊎ ((m : ℕ) → m < n + suc fuel → 1 ≤ length (due_of sc (first_run sc m)))
-    by zero e = inl (record { more = 1; over = let one : n + 1 ≡ suc n = omega arith in subst (λ m. (first_run sc m).book.ended ≡ true) (sym one) (run-ends sc n lawful e) })
-    by (suc k) e =
-        let here : 1 ≤ length (due_of sc (first_run sc n)) = omega (arith, e) in
-        elim (on-for sc fuel (suc n) lawful (λ m lt. elim (cases_lt m n) [
-          | inl below ↦ busy m below
-          | inr above ↦ let same : n ≡ m = omega (arith, lt, above) in subst (λ m. 1 ≤ length (due_of sc (first_run sc m))) same here
-        ])) [
-          | inl long ↦ inl (record { more = suc long.more; over = let s : suc n + long.more ≡ n + suc long.more = omega arith in subst (λ m. (first_run sc m).book.ended ≡ true) s long.over })
-          | inr all ↦ inr (λ m lt. all m (omega (arith, lt)))
-        ]
+    more : IsLong sc (suc n) ⊎ ((m : ℕ) → m < suc n + fuel → 1 ≤ length (due_of sc (first_run sc m))) → IsLong sc n ⊎ ((m : ℕ) → m < n + suc fuel → 1 ≤ length (due_of sc (first_run sc m)))
+    more (inl long) = inl (record { more = suc long.more; over = let s : suc n + long.more ≡ n + suc long.more = omega arith in subst (λ m. (first_run sc m).book.ended ≡ true) s long.over })
+    more (inr all) = inr (λ m lt. all m (omega (arith, lt)))
+
+    by : (((m : ℕ) → m < suc n → 1 ≤ length (due_of sc (first_run sc m))) → IsLong sc (suc n) ⊎ ((m : ℕ) → m < suc n + fuel → 1 ≤ length (due_of sc (first_run sc m))))
+        → (k : ℕ) → length (due_of sc (first_run sc n)) ≡ k → IsLong sc n ⊎ ((m : ℕ) → m < n + suc fuel → 1 ≤ length (due_of sc (first_run sc m)))
+    by later zero e = inl (record { more = 1; over = let one : n + 1 ≡ suc n = omega arith in subst (λ m. (first_run sc m).book.ended ≡ true) (sym one) (run-ends sc n lawful e) })
+    by later (suc k) e = more (later (busy-more sc n busy (omega (arith, e))))
 
 pub is-long : (sc : Scenario) (n : ℕ) → IsLawful sc → ((m : ℕ) → m < n → 1 ≤ length (due_of sc (first_run sc m))) → IsLong sc n
 is-long sc n lawful busy = by (2 ^ 63) refl

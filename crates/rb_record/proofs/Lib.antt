@@ -4,3 +4,4 @@ pub mod Ends
 pub mod Comings
 pub mod Ticks
 pub mod Writing
+pub mod Finish

@@ -71,7 +71,7 @@ one-take sc w some = by (due_of sc w) refl some
   where
     by : (ds : List Due) → due_of sc w ≡ ds → 1 ≤ length ds → taken_by sc w (choice_in ds) ≡ 1
     by [] e some = absurd (omega (arith, some))
-    by (d ∷ ds) e some = ap (λ xs. elim (slice_get xs 0) as (λ _. ℕ) [ None ↦ 0 | Some d ↦ 1 ]) e
+    by (d ∷ ds) e some = ap (λ (xs : List Due). elim (slice_get xs 0) as (λ _. ℕ) [ None ↦ 0 | Some d ↦ 1 ]) e
 
 -- as long as some event was due, each step took one
 all-taken : (sc : Scenario) (n : ℕ) → ((m : ℕ) → m < n → 1 ≤ length (due_of sc (first_run sc m))) → n ≤ takes_from sc (first_world sc) (choices_of sc n)

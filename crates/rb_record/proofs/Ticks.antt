@@ -380,37 +380,38 @@ go-sites sc w = by w.book.ended
 -- the node has had all ticks that were recorded
 pub ticks-had : (sc : Scenario) (name : NodeName) (n : ℕ) (z : Site) → IsLawful sc → site_of name (first_run sc n) ≡ Some z → ticks_in (given_in sc name n) ≤ z.core.had
 ticks-had sc name zero z lawful at = omega arith
-ticks-had sc name (suc n) z lawful at = by (length (due_of sc w)) refl
+ticks-had sc name (suc n) z lawful at = by (ticks-had sc name n) (length (due_of sc (first_run sc n))) refl
   where
     w : World
     w = first_run sc n
 
     -- where no event is due
-    idle : length (due_of sc w) ≡ 0 → ticks_in (given_in sc name (suc n)) ≤ z.core.had
-    idle none =
+    idle : ((x : Site) → IsLawful sc → site_of name w ≡ Some x → ticks_in (given_in sc name n) ≤ x.core.had) → length (due_of sc w) ≡ 0 → ticks_in (given_in sc name (suc n)) ≤ z.core.had
+    idle had none =
         let sites : (first_run sc (suc n)).sites ≡ w.sites = ap (λ (x : World). x.sites) (run-idle sc w none) ∙ go-sites sc w in
-        let before = ticks-had sc name n z lawful (ap (λ (ss : Each Site). slice_get (of_kind (kind_of name) ss) (index_of name)) (sym sites) ∙ at) in
-        let nothing : given_next sc name w ≡ [] = none-given sc name w none in
+        let before = had z lawful (ap (λ (ss : Each Site). slice_get (of_kind (kind_of name) ss) (index_of name)) (sym sites) ∙ at) in
         let sum = ticks-append (given_in sc name n) (given_next sc name w) in
-        let zero-more : ticks_in (given_next sc name w) ≡ 0 = ap ticks_in nothing in
-        omega (arith, before, sum, zero-more)
+        let nothing : ticks_in (given_next sc name w) ≡ 0 = ap ticks_in (none-given sc name w none) in
+        omega (arith, before, sum, nothing)
 
-    one : (e : Event) → event_at sc w 0 ≡ Some e → 1 ≤ length (due_of sc w) → ticks_in (given_in sc name (suc n)) ≤ z.core.had
-    one e found some =
+    one : ((x : Site) → IsLawful sc → site_of name w ≡ Some x → ticks_in (given_in sc name n) ≤ x.core.had) → (e : Event) → event_at sc w 0 ≡ Some e → 1 ≤ length (due_of sc w)
+        → ticks_in (given_in sc name (suc n)) ≤ z.core.had
+    one had e found some =
         let is = is-event sc w e found in
         let was = taken-before sc w e name z lawful (run-reached sc n) (run-sound sc n lawful) is (ap (site_of name) (sym (run-busy sc w some)) ∙ at) in
-        let before = ticks-had sc name n was.0 lawful was.1.0 in
-        let had : z.core.had ≡ was.0.core.had + ticks_to name e = was.1.1 in
+        let before = had was.0 lawful was.1.0 in
+        let after : z.core.had ≡ was.0.core.had + ticks_to name e = was.1.1 in
         let few : ticks_in (given_next sc name w) ≤ ticks_to name e = subst (λ es. ticks_in es ≤ ticks_to name e) (sym (next-is sc name w (Some e) found)) (few-given sc name w e) in
         let sum = ticks-append (given_in sc name n) (given_next sc name w) in
-        omega (arith, before, had, few, sum)
+        omega (arith, before, after, few, sum)
 
-    by : (k : ℕ) → length (due_of sc w) ≡ k → ticks_in (given_in sc name (suc n)) ≤ z.core.had
-    by zero e = idle e
-    by (suc k) e =
+    by : ((x : Site) → IsLawful sc → site_of name w ≡ Some x → ticks_in (given_in sc name n) ≤ x.core.had) → (k : ℕ) → length (due_of sc w) ≡ k
+        → ticks_in (given_in sc name (suc n)) ≤ z.core.had
+    by had zero e = idle had e
+    by had (suc k) e =
         let some : 1 ≤ length (due_of sc w) = omega (arith, e) in
         let found = has-event sc w (run-reached sc n) some in
-        one found.0 found.1 some
+        one had found.0 found.1 some
 
 -- The writer may be told what comes next.
 

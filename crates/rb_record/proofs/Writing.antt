@@ -1,8 +1,7 @@
 -- What is written of a log while a run goes on.
 use Rattle.std.proofs.Common.{◌≡◌, ℕ, zero, suc, ◌+◌, ◌<◌, ◌≤◌, ◌&&◌, Bool, true, false, Option, Some, None, List, [], ◌∷◌, ◌++◌, append_assoc, length, refl, sym, ap, ◌∙◌, subst, arith, inl, inr}
-use Rattle.std.specs.Prelude.{if◌then◌else◌}
+use Rattle.std.specs.Prelude.{if◌then◌else◌, Result, Ok, Err, IsErr, MatchResult, OnErr, OnOk}
 use Rattle.std.specs.Io.KnownBytes.{Appends}
-use Rattle.std.proofs.lemmas.Bool.{cases_lt}
 use Rattle.std.proofs.lemmas.List.{append-nil}
 use Rattle.rb_base.specs.declared.event.Event.{Event}
 use Rattle.rb_base.specs.declared.node.NodeName.{NodeName}
@@ -18,7 +17,7 @@ use Rattle.rb_outside.specs.Bytes.{AppendsPart}
 use Rattle.rb_outside.proofs.Known.{appends_join, appends_none, part_join, part_none, part_of, part_widens}
 use Rattle.rb_world.specs.Worlds.{Kept, Stands}
 use Rattle.rb_record.specs.Recording.{IsRecorded, IsRecordedWhole, IsTold, WritesAll, WritesNext, WritesPart, WritesPartOf, log_text}
-use Rattle.rb_record.proofs.Ends.{all-given, whole-given}
+use Rattle.rb_record.proofs.Ends.{all-given, busy-more, whole-given}
 use Rattle.rb_record.proofs.Ticks.{next-is}
 
 -- One event.
@@ -55,14 +54,6 @@ part-one before after events e bytes held since one told text =
     subst (λ es. WritesPartOf before es held since) (sym one) (record { after = after; bytes = bytes; told = told; text = text })
 
 -- So far.
-
--- one more event was due
-busy-more : (sc : Scenario) (n : ℕ) → ((m : ℕ) → m < n → 1 ≤ length (due_of sc (first_run sc m))) → 1 ≤ length (due_of sc (first_run sc n))
-    → (m : ℕ) → m < suc n → 1 ≤ length (due_of sc (first_run sc m))
-busy-more sc n busy here m lt = elim (cases_lt m n) [
-  | inl below ↦ busy m below
-  | inr above ↦ let same : n ≡ m = omega (arith, lt, above) in subst (λ m. 1 ≤ length (due_of sc (first_run sc m))) same here
-]
 
 text-more : (sc : Scenario) (name : NodeName) (n : ℕ) (log after : Tally) (bytes more : List ℕ)
     → ((others : List Event) → log_text sc name (given_in sc name n ++ others) ≡ bytes ++ written log.waiting others) → IsTold log after (given_next sc name (first_run sc n)) more
@@ -153,4 +144,35 @@ end-part sc name k log bytes held mid since lawful is last text = record {
   given = whole-given sc name is.steps lawful is.none;
   text = subst (AppendsPart held since) (ap (λ xs. is.recorded.bytes ++ xs) last ∙ sym (end-text sc name k log held mid is))
       (part_join held mid since is.recorded.bytes bytes is.recorded.appended text);
+}
+
+-- Answers.
+
+pub match-err : {T E : Type 0} (P : T → Type 0) {Q : Type 0} (r : Result T E) → IsErr r → Q → MatchResult r P (λ _. Q)
+match-err P (Ok x) is q = absurd (cc)
+match-err P (Err e) is q = q
+
+pub match-both : {T E A B C D : Type 0} (r : Result T E) → OnOk r A → OnErr r B → (A → C) → (B → D) → MatchResult r (λ _. C) (λ _. D)
+match-both (Ok x) a b f h = f a
+match-both (Err e) a b f h = h b
+
+-- the same bus by another name
+pub recorded-for : (a b : Scenario) (name : NodeName) (n : ℕ) (k : Kept) (log : Tally) (held since : Option (List ℕ)) → a ≡ b → IsRecorded a name n k log held since
+    → IsRecorded b name n k log held since
+recorded-for a b name n k log held since same = subst (λ sc. IsRecorded sc name n k log held since) same
+
+pub part-for : (a b : Scenario) (name : NodeName) (held since : Option (List ℕ)) → a ≡ b → WritesPart a name held since → WritesPart b name held since
+part-for a b name held since same = subst (λ sc. WritesPart sc name held since) same
+
+pub on-err : {T E : Type 0} {Q : Type 0} (r : Result T E) → Q → OnErr r Q
+on-err (Ok x) q = tt
+on-err (Err e) q = q
+
+-- where no event is due any more, all is recorded
+pub recorded-whole : (sc : Scenario) (name : NodeName) (n due : ℕ) (k : Kept) (log : Tally) (held since : Option (List ℕ)) → IsRecorded sc name n k log held since
+    → ((w : World) → Stands k w → due ≡ length (due_of k.bus w)) → due ≡ 0 → IsRecordedWhole sc name k log held since
+recorded-whole sc name n due k log held since is many none = record {
+  steps = n;
+  recorded = is;
+  none = ap (λ sc2. length (due_of sc2 (first_run sc n))) (sym is.bus) ∙ sym (many (first_run sc n) is.stands) ∙ none;
 }

@@ -4,13 +4,13 @@ use Rattle.std.specs.Io.KnownBytes.{Appends}
 use Rattle.rb_base.specs.declared.event.Event.{Event}
 use Rattle.rb_base.specs.declared.node.NodeName.{NodeName}
 use Rattle.rb_rules.specs.Goodness.{Scenario}
-use Rattle.rb_rules.specs.WorldStep.{due_of}
+use Rattle.rb_rules.specs.WorldStep.{World, due_of}
 use Rattle.rb_history.specs.Given.{AreGiven, first_run, given_in}
 use Rattle.rb_log.specs.Header.{header_of}
 use Rattle.rb_log.specs.Laws.{ticks_in}
 use Rattle.rb_log.specs.Writing.{HasBytes, Tally, ticks_given, written}
 use Rattle.rb_outside.specs.Bytes.{AppendsPart}
-use Rattle.rb_world.specs.Worlds.{Kept, Stands}
+use Rattle.rb_world.specs.Worlds.{Kept, Stands, due_in}
 
 -- the log in which a node of the bus is given these events
 abbrev pub log_text : Scenario → NodeName → List Event → List ℕ
@@ -29,6 +29,11 @@ pub record WritesPart (sc : Scenario) (name : NodeName) (held since : Option (Li
   pub text : AppendsPart held since (log_text sc name events)
 
 -- While the run goes on.
+
+-- some event is due, by what is kept, and so in each world for which that stands
+pub record HasDue (k : Kept) : Type 0 where
+  pub kept : 0 < due_in k
+  pub world : (w : World) → Stands k w → 1 ≤ length (due_of k.bus w)
 
 -- a writer that was given so many ticks may be told these events: a log has at most 2^31 ticks, and what arrives has bytes
 abbrev pub MayTell : ℕ → List Event → Type 0

@@ -1,15 +1,14 @@
 //! Taking a run to its end, and writing what one node is given in it.
-ghost use Rattle.std.specs.Prelude.{◌≡◌, ◌<◌, ℕ, List, Option, [], Some, IfOk, MatchResult, OnErr, OnOk, ◌&&◌};
+ghost use Rattle.std.specs.Prelude.{◌≡◌, ◌+◌, ◌&&◌, ℕ, List, Option, IfOk, MatchResult, OnErr, OnOk};
 ghost use Rattle.rb_base.specs.declared.event.Event.{Event};
-ghost use Rattle.rb_history.specs.Given.{first_run, given_next, is_before_end, site_of};
+ghost use Rattle.rb_history.specs.Given.{given_next, is_before_end, site_of};
 ghost use Rattle.rb_outside.specs.Causes.{HasCause};
 ghost use Rattle.rb_record.specs.Endings.{ending_of};
-ghost use Rattle.rb_record.specs.Recording.{IsRecorded, MayTell, WritesAll, WritesNext, WritesPart, WritesPartOf};
-ghost use Rattle.rb_rules.specs.Goodness.{Scenario};
+ghost use Rattle.rb_record.specs.Recording.{HasDue, IsOver, IsRecorded, IsRecordedWhole, MayTell, WritesAll, WritesNext, WritesPart, WritesPartOf};
 ghost use Rattle.rb_rules.specs.Lawful.{IsNodeOf};
 ghost use Rattle.rb_rules.specs.Links.{same_node};
-ghost use Rattle.rb_rules.specs.WorldStep.{World as RunWorld, due_of, event_at, first_world};
-ghost use Rattle.rb_world.specs.Worlds.{Stands, due_in};
+ghost use Rattle.rb_rules.specs.WorldStep.{World as RunWorld, event_at, first_world};
+ghost use Rattle.rb_world.specs.Worlds.{Stands};
 
 use crate::ending::Ending;
 use rb_base::NodeName;
@@ -18,10 +17,24 @@ use rb_outside::{Failed, Sink, write_all};
 use rb_port::Apps;
 use rb_world::{Ties, Turn, World};
 
+// Writes the header, and gives a writer of what follows it.
+fn begin<K: Sink>(world: &World, node: NodeName, output: &mut K) -> Result<LogWriter, Failed>
+    requires begin { Stands world.now (first_world world.now.bus) }
+    requires node { IsNodeOf world.now.bus.sizes node }
+    ensures recorded { MatchResult result
+        (λ log. IsRecorded world.now.bus node 0 world.now log (K.held output.old) (K.held output.new))
+        (λ _. WritesPart world.now.bus node (K.held output.old) (K.held output.new)) }
+    ensures cause { HasCause (K.faults output.old) (K.faults output.new) result }
+{
+    let header = header(world.plan(), node);
+    write_all(output, header.as_slice())?;
+    Ok(LogWriter::new())
+}
+
 // Whether the event that is due first is one that the node is given in the run: it is the node's, and comes no later than the
 // node's first tick of the frame after the last.
 fn is_given(world: &World, node: NodeName) -> bool
-    requires due { 0 < due_in world.now }
+    requires due { HasDue world.now }
     requires node { IsNodeOf world.now.bus.sizes node }
     ensures { (w : RunWorld) (e : Event) → Stands world.now w → event_at world.now.bus w 0 ≡ Some e
         → result ≡ (same_node e.node node && is_before_end world.now.bus (site_of node w)) }
@@ -40,10 +53,10 @@ fn write_next<K: Sink>(
     log: &mut LogWriter,
     output: &mut K,
 ) -> Result<(), Failed>
-    requires due { 0 < due_in world.now }
+    requires due { HasDue world.now }
     requires node { IsNodeOf world.now.bus.sizes node }
-    requires may { (w : RunWorld) × Stands world.now w × MayTell log.old (given_next world.now.bus node w) }
-    ensures next { (w : RunWorld) → Stands world.now w → MayTell log.old (given_next world.now.bus node w)
+    requires may { (w : RunWorld) × Stands world.now w × MayTell log.old.ticks (given_next world.now.bus node w) }
+    ensures next { (w : RunWorld) → Stands world.now w → MayTell log.old.ticks (given_next world.now.bus node w)
         → MatchResult result
         (λ _. WritesNext log.old log.new (given_next world.now.bus node w) (K.held output.old) (K.held output.new))
         (λ _. WritesPartOf log.old (given_next world.now.bus node w) (K.held output.old) (K.held output.new)) }
@@ -65,7 +78,7 @@ fn record_next<K: Sink>(
     log: &mut LogWriter,
     output: &mut K,
 ) -> Result<(), Failed>
-    requires due { 0 < due_in world.old }
+    requires due { HasDue world.old }
     requires node { IsNodeOf world.old.bus.sizes node }
     requires recorded { (n : ℕ) × (held : Option (List ℕ)) × IsRecorded world.old.bus node n world.old log.old held (K.held output.old) }
     ensures recorded { (n : ℕ) (held : Option (List ℕ)) → IsRecorded world.old.bus node n world.old log.old held (K.held output.old)
@@ -108,7 +121,7 @@ fn record_all<K: Sink>(
 
 // How the run ends, where no event is due any more.
 fn ending(world: &mut World, apps: &Apps) -> Ending
-    requires { (n : ℕ) × IsAtEnd world.old n }
+    requires { (n : ℕ) × IsOver world.old.bus n world.old }
     ensures ending { result ≡ ending_of world.old.bus }
     ensures bus { world.new.bus ≡ world.old.bus }
 {
@@ -139,6 +152,7 @@ pub fn record<K: Sink>(
 {
     let mut log = begin(world, node, output)?;
     record_all(world, apps, node, &mut log, output)?;
-    write_end(..)?;
+    let end = log.end();
+    write_all(output, end.as_slice())?;
     Ok(ending(world, apps))
 }
