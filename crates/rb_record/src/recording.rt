@@ -3,18 +3,18 @@ ghost use Rattle.std.specs.Prelude.{◌≡◌, ◌+◌, ◌&&◌, ℕ, List, Opt
 ghost use Rattle.rb_base.specs.declared.event.Event.{Event};
 ghost use Rattle.rb_history.specs.Given.{given_next, is_before_end, site_of};
 ghost use Rattle.rb_outside.specs.Causes.{HasCause};
-ghost use Rattle.rb_record.specs.Endings.{ending_of};
 ghost use Rattle.rb_record.specs.Recording.{HasDue, IsOver, IsRecorded, IsRecordedWhole, MayTell, WritesAll, WritesNext, WritesPart, WritesPartOf};
 ghost use Rattle.rb_rules.specs.Lawful.{IsNodeOf};
 ghost use Rattle.rb_rules.specs.Links.{same_node};
 ghost use Rattle.rb_rules.specs.WorldStep.{World as RunWorld, event_at, first_world};
+ghost use Rattle.rb_run.specs.Runs.{EndsWith};
 ghost use Rattle.rb_world.specs.Worlds.{Stands};
 
-use crate::ending::Ending;
 use rb_base::NodeName;
 use rb_log::{LogWriter, header};
 use rb_outside::{Failed, Sink, write_all};
 use rb_port::Apps;
+use rb_run::Ending;
 use rb_world::{Ties, Turn, World};
 
 // Writes the header, and gives a writer of what follows it.
@@ -122,7 +122,7 @@ fn record_all<K: Sink>(
 // How the run ends, where no event is due any more.
 fn ending(world: &mut World, apps: &Apps) -> Ending
     requires { (n : ℕ) × IsOver world.old.bus n world.old }
-    ensures ending { result ≡ ending_of world.old.bus }
+    ensures ending { EndsWith world.old.bus result }
     ensures bus { world.new.bus ≡ world.old.bus }
 {
     match world.next(apps, Ties::First) {
@@ -146,7 +146,7 @@ pub fn record<K: Sink>(
     requires node { IsNodeOf world.old.bus.sizes node }
     ensures all { OnOk result (WritesAll world.old.bus node (K.held output.old) (K.held output.new)) }
     ensures part { OnErr result (WritesPart world.old.bus node (K.held output.old) (K.held output.new)) }
-    ensures ending { IfOk result (λ ending. ending ≡ ending_of world.old.bus) }
+    ensures ending { IfOk result (EndsWith world.old.bus) }
     ensures cause { HasCause (K.faults output.old) (K.faults output.new) result }
     ensures bus { world.new.bus ≡ world.old.bus }
 {

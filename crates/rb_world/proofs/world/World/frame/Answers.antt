@@ -11,14 +11,14 @@ use Rattle.rb_world.proofs.world.World.frame.Goals as goal
 
 pub index-requires : goal.index-requires
 index-requires c =
-    let k : Kept = record { bus = c.self.inside.bus; nodes = record { bius = c.self.inside.bius.items; rmus = c.self.inside.rmus.items }; scene = c.self.inside.scene; last = c.self.inside.last } in
+    let k : Kept = record { bus = c.self.inside.bus; nodes = record { bius = c.self.inside.bius.items; rmus = c.self.inside.rmus.items }; scene = c.self.inside.scene; seeding = c.self.inside.seeding; last = c.self.inside.last } in
     let node : IsNodeOf k.bus.sizes c.args.node = subst (λ (k : Kept). IsNodeOf k.bus.sizes c.args.node) (sym c.self.view_is) c.requires.node in
     let within = node-within k c.self.invariant.0 c.args.node Biu c.in-Biu.i c.self.invariant.1 node c.in-Biu.is in
     omega (arith, within, c.from.ensures)
 
 pub index-requires-in-Rmu : goal.index-requires-in-Rmu
 index-requires-in-Rmu c =
-    let k : Kept = record { bus = c.self.inside.bus; nodes = record { bius = c.self.inside.bius.items; rmus = c.self.inside.rmus.items }; scene = c.self.inside.scene; last = c.self.inside.last } in
+    let k : Kept = record { bus = c.self.inside.bus; nodes = record { bius = c.self.inside.bius.items; rmus = c.self.inside.rmus.items }; scene = c.self.inside.scene; seeding = c.self.inside.seeding; last = c.self.inside.last } in
     let node : IsNodeOf k.bus.sizes c.args.node = subst (λ (k : Kept). IsNodeOf k.bus.sizes c.args.node) (sym c.self.view_is) c.requires.node in
     let within = node-within k c.self.invariant.0 c.args.node Rmu c.in-Rmu.i c.self.invariant.1 node c.in-Rmu.is in
     omega (arith, within, c.from-in-Rmu.ensures)
@@ -26,7 +26,7 @@ index-requires-in-Rmu c =
 pub returns-in-Biu : goal.returns-in-Biu
 returns-in-Biu c = record {
   world = λ w stands s there.
-      let k : Kept = record { bus = c.self.inside.bus; nodes = record { bius = c.self.inside.bius.items; rmus = c.self.inside.rmus.items }; scene = c.self.inside.scene; last = c.self.inside.last } in
+      let k : Kept = record { bus = c.self.inside.bus; nodes = record { bius = c.self.inside.bius.items; rmus = c.self.inside.rmus.items }; scene = c.self.inside.scene; seeding = c.self.inside.seeding; last = c.self.inside.last } in
       let node : IsNodeOf k.bus.sizes c.args.node = subst (λ (k : Kept). IsNodeOf k.bus.sizes c.args.node) (sym c.self.view_is) c.requires.node in
       let is : Stands k w = subst (λ (k : Kept). Stands k w) (sym c.self.view_is) stands in
       let site_is : c.index.result.now ≡ get_or c.self.inside.bius.items c.in-Biu.i c.index.result.now =
@@ -39,7 +39,7 @@ returns-in-Biu c = record {
 pub returns-in-Rmu : goal.returns-in-Rmu
 returns-in-Rmu c = record {
   world = λ w stands s there.
-      let k : Kept = record { bus = c.self.inside.bus; nodes = record { bius = c.self.inside.bius.items; rmus = c.self.inside.rmus.items }; scene = c.self.inside.scene; last = c.self.inside.last } in
+      let k : Kept = record { bus = c.self.inside.bus; nodes = record { bius = c.self.inside.bius.items; rmus = c.self.inside.rmus.items }; scene = c.self.inside.scene; seeding = c.self.inside.seeding; last = c.self.inside.last } in
       let node : IsNodeOf k.bus.sizes c.args.node = subst (λ (k : Kept). IsNodeOf k.bus.sizes c.args.node) (sym c.self.view_is) c.requires.node in
       let is : Stands k w = subst (λ (k : Kept). Stands k w) (sym c.self.view_is) stands in
       let site_is : c.index-in-Rmu.result.now ≡ get_or c.self.inside.rmus.items c.in-Rmu.i c.index-in-Rmu.result.now =
