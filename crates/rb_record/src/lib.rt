@@ -2,6 +2,8 @@
 #![tactic(auto)]
 
 mod recording;
+#[cfg(test)]
+mod tests;
 
 pub use rb_run::Ending;
 pub use recording::record;

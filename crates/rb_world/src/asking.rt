@@ -1,5 +1,5 @@
 //! What may be asked of a run.
-ghost use Rattle.std.specs.Prelude.{◌≡◌, ◌<◌, Some, option_map, slice_get};
+ghost use Rattle.std.specs.Prelude.{◌≡◌, ◌<◌, ◌↔◌, IsTrue, Some, option_map, slice_get};
 ghost use Rattle.rb_base.specs.declared.event.Event.{Event};
 ghost use Rattle.rb_rules.specs.Book.{of_kind};
 ghost use Rattle.rb_rules.specs.Lawful.{IsNodeOf, kind_of};
@@ -24,6 +24,16 @@ impl World {
         ensures { result ≡ self.now.bus.frames }
     {
         self.bus.frames()
+    }
+
+    /// Whether the node is one of the bus.
+    pub fn has_node(&self, node: NodeName) -> bool
+        ensures { IsTrue result ↔ IsNodeOf self.now.bus.sizes node }
+    {
+        match node {
+            NodeName::Biu(i) => i < self.bus.shape().biu(),
+            NodeName::Rmu(i) => i < self.bus.shape().rmu(),
+        }
     }
 
     /// The node at which the i-th of the events that are due happens, counted from 0.
