@@ -1,4 +1,0 @@
-pub mod Carried
-pub mod Writing
-pub mod Served
-pub mod Completeness

@@ -1,5 +1,2 @@
 pub mod Words
 pub mod CheckText
-pub mod Carrying
-pub mod RunText
-pub mod Answers
