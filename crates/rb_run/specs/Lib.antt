@@ -1,0 +1,4 @@
+pub mod Turns
+pub mod Reports
+pub mod Tallies
+pub mod Runs

@@ -1,0 +1,145 @@
+//! The report of a run, written a line at a time.
+ghost use Rattle.std.specs.Prelude.{◌≡◌, IfOk, OnErr, OnOk, Some};
+ghost use Rattle.std.specs.Io.KnownBytes.{Appends};
+ghost use Rattle.std.specs.List.{flat_map};
+ghost use Rattle.rb_book.specs.Records.{record_of};
+ghost use Rattle.rb_outside.specs.Bytes.{AppendsPart};
+ghost use Rattle.rb_outside.specs.Causes.{HasCause};
+ghost use Rattle.rb_report.specs.Report.{convicted_text, epoch_text, port_text};
+ghost use Rattle.rb_report.specs.Texts.{block_text, deliveries_text};
+ghost use Rattle.rb_run.specs.Reports.{newest_with, turn_text};
+ghost use Rattle.rb_run.specs.Runs.{EndsWith, HasGivenNothing, WritesAll, WritesPart};
+
+use crate::ending::{Ending, ending_at};
+use arrayvec::ArrayString;
+use rb_book::{FrameRecord, NodeLine, PortLine, SlotRecord, Turn};
+use rb_outside::{Failed, Sink, write_all};
+use rb_port::Apps;
+use rb_report::{breach_line, convicted_line, delivery_line, end_line, epoch_line, port_line};
+use rb_world::{Drive, World};
+
+// Writes the line.
+fn write_line<K: Sink>(output: &mut K, line: &ArrayString<96>) -> Result<(), Failed>
+    ensures all { OnOk result (Appends (K.held output.old) (K.held output.new) line.now.bytes) }
+    ensures part { OnErr result (AppendsPart (K.held output.old) (K.held output.new) line.now.bytes) }
+    ensures cause { HasCause (K.faults output.old) (K.faults output.new) result }
+{
+    write_all(output, line.as_str().as_bytes())
+}
+
+// Writes the first tick of each node.
+fn write_epochs<K: Sink>(frame: u32, nodes: &[NodeLine], output: &mut K) -> Result<(), Failed>
+    ensures all { OnOk result (Appends (K.held output.old) (K.held output.new) (flat_map (λ n. epoch_text frame n.node n.tick (Some n.time)) nodes.now)) }
+    ensures part { OnErr result (AppendsPart (K.held output.old) (K.held output.new) (flat_map (λ n. epoch_text frame n.node n.tick (Some n.time)) nodes.now)) }
+    ensures cause { HasCause (K.faults output.old) (K.faults output.new) result }
+{
+    for node in nodes {
+        write_line(output, &epoch_line(frame, node.node, node.tick, Some(node.time)))?;
+    }
+    Ok(())
+}
+
+// Writes whom each node holds convicted.
+fn write_convicted<K: Sink>(frame: u32, nodes: &[NodeLine], output: &mut K) -> Result<(), Failed>
+    ensures all { OnOk result (Appends (K.held output.old) (K.held output.new) (flat_map (λ n. convicted_text frame n.node n.biu n.rmu) nodes.now)) }
+    ensures part { OnErr result (AppendsPart (K.held output.old) (K.held output.new) (flat_map (λ n. convicted_text frame n.node n.biu n.rmu) nodes.now)) }
+    ensures cause { HasCause (K.faults output.old) (K.faults output.new) result }
+{
+    for node in nodes {
+        write_line(output, &convicted_line(frame, node.node, node.biu, node.rmu))?;
+    }
+    Ok(())
+}
+
+// Writes each port.
+fn write_ports<K: Sink>(frame: u32, ports: &[PortLine], output: &mut K) -> Result<(), Failed>
+    ensures all { OnOk result (Appends (K.held output.old) (K.held output.new) (flat_map (λ p. port_text frame p.biu p.state p.losses) ports.now)) }
+    ensures part { OnErr result (AppendsPart (K.held output.old) (K.held output.new) (flat_map (λ p. port_text frame p.biu p.state p.losses) ports.now)) }
+    ensures cause { HasCause (K.faults output.old) (K.faults output.new) result }
+{
+    for port in ports {
+        write_line(output, &port_line(frame, port.biu, port.state, port.losses))?;
+    }
+    Ok(())
+}
+
+// Writes the block of a frame.
+#[tactic(auto, using(rb_outside::proofs::Known::writes_in_turn))]
+fn write_block<K: Sink>(block: &FrameRecord, output: &mut K) -> Result<(), Failed>
+    ensures all { OnOk result (Appends (K.held output.old) (K.held output.new) (block_text block.now.frame block.now.nodes.items block.now.ports.items)) }
+    ensures part { OnErr result (AppendsPart (K.held output.old) (K.held output.new) (block_text block.now.frame block.now.nodes.items block.now.ports.items)) }
+    ensures cause { HasCause (K.faults output.old) (K.faults output.new) result }
+{
+    write_epochs(block.frame, block.nodes.as_slice(), output)?;
+    write_convicted(block.frame, block.nodes.as_slice(), output)?;
+    write_ports(block.frame, block.ports.as_slice(), output)
+}
+
+// Writes what was delivered in a slot.
+fn write_deliveries<K: Sink>(slot: &SlotRecord, output: &mut K) -> Result<(), Failed>
+    ensures all { OnOk result (Appends (K.held output.old) (K.held output.new) (deliveries_text slot.now.frame slot.now.slot slot.now.lines.items)) }
+    ensures part { OnErr result (AppendsPart (K.held output.old) (K.held output.new) (deliveries_text slot.now.frame slot.now.slot slot.now.lines.items)) }
+    ensures cause { HasCause (K.faults output.old) (K.faults output.new) result }
+{
+    for line in slot.lines.as_slice() {
+        write_line(
+            output,
+            &delivery_line(slot.frame, slot.slot, line.receiver, line.sender, line.value),
+        )?;
+    }
+    Ok(())
+}
+
+// Writes what a turn says, the newest block before it being that of frame `newest`.
+fn write_turn<K: Sink>(turn: &Turn, newest: u32, output: &mut K) -> Result<(), Failed>
+    ensures all { OnOk result (Appends (K.held output.old) (K.held output.new) (turn_text newest (record_of turn.now))) }
+    ensures part { OnErr result (AppendsPart (K.held output.old) (K.held output.new) (turn_text newest (record_of turn.now))) }
+    ensures cause { HasCause (K.faults output.old) (K.faults output.new) result }
+{
+    match turn {
+        Turn::Quiet => Ok(()),
+        Turn::Frame(block) => write_block(block, output),
+        Turn::Slot(slot) => write_deliveries(slot, output),
+        Turn::Ended => write_line(output, &end_line(newest)),
+        Turn::Breach(place, cause) => write_line(output, &breach_line(*place, *cause)),
+    }
+}
+
+// The number of the newest block after a turn.
+fn newest_block(newest: u32, turn: &Turn) -> u32
+    ensures { result ≡ newest_with newest (record_of turn.now) }
+{
+    match turn {
+        Turn::Frame(block) => block.frame,
+        _ => newest,
+    }
+}
+
+/// Takes a run from its begin to its end, and writes its report as the drive gives the turns: a line at a time, each write asking for the
+/// rest of one line. `Failed` comes only where a write failed; a first part of the report has then been written. The world must be as
+/// `World::open` gives it.
+pub fn write_run<K: Sink, D: Drive>(
+    world: &mut World,
+    apps: &Apps,
+    drive: &mut D,
+    output: &mut K,
+) -> Result<Ending, Failed>
+    requires { HasGivenNothing world.old }
+    ensures all { OnOk result (WritesAll world.old.bus (D.is_plain drive.old) (D.told drive.old) (D.told drive.new) (K.held output.old) (K.held output.new)) }
+    ensures part { OnErr result (WritesPart world.old.bus (D.is_plain drive.old) (D.told drive.old) (D.told drive.new) (K.held output.old) (K.held output.new)) }
+    ensures ending { IfOk result (EndsWith world.old.bus) }
+    ensures cause { HasCause (K.faults output.old) (K.faults output.new) result }
+    ensures bus { world.new.bus ≡ world.old.bus }
+    ensures stays { D.is_plain drive.new ≡ D.is_plain drive.old }
+{
+    let mut newest = 0;
+    for passed in 0..u32::MAX {
+        let turn = drive.next(world, apps);
+        write_turn(&turn, newest, output)?;
+        if let Some(ending) = ending_at(&turn) {
+            return Ok(ending);
+        }
+        newest = newest_block(newest, &turn);
+    }
+    unreachable!()
+}
