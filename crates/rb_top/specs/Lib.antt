@@ -1,2 +1,9 @@
 pub mod Words
+pub mod Statuses
+pub mod Inputs
 pub mod CheckText
+pub mod Texts
+pub mod Answers
+pub mod Promise
+pub mod Reading
+pub mod Serving

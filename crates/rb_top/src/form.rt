@@ -23,7 +23,7 @@ const MOST_FRAMES: u64 = 4096;
 
 // The number that the text is, in decimal without sign and without leading zero.
 fn number_in(text: &str) -> Option<u64>
-    ensures some { IfSome result (λ n. text.now ≡ decimal n) }
+    ensures some { IfSome result (λ n. (n < 2 ^ 64) × (text.now ≡ decimal n)) }
     ensures none { IfNone result ((n : ℕ) → n < 2 ^ 64 → text.now ≢ decimal n) }
 {
     let number = match text.parse::<u64>() {

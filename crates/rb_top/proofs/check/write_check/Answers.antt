@@ -1,0 +1,20 @@
+use Rattle.std.proofs.Common.{rules, arith, []}
+use Rattle.rb_top.specs.CheckText.{text_after}
+use Rattle.rb_top.proofs.Writing.{on_err, owes_none, owes_pieces, owes_pieces_alone, owes_tail, part_of_pieces}
+use Rattle.rb_top.proofs.check.write_check.Goals as goal
+
+pub loop-before-init : goal.loop-before-init
+loop-before-init g c = record { owes = owes_pieces_alone _ (text_after c.args.plan.now.sizes c.args.plan.now.plan) 7; later = search rules }
+
+pub loop-before-preserved : goal.loop-before-preserved
+loop-before-preserved g c = record {
+  owes = owes_pieces _ _ _ _ [] (text_after c.args.plan.now.sizes c.args.plan.now.plan) c.loop-before.before 7 (omega arith) c.loop-before.invariant.owes (search rules);
+  later = search rules;
+}
+
+pub returns-in_err-write_line-clause-part : goal.returns-in_err-write_line-clause-part
+returns-in_err-write_line-clause-part g c =
+    on_err _ (part_of_pieces _ _ _ _ [] (text_after c.args.plan.now.sizes c.args.plan.now.plan) c.loop-before.before 7 (omega arith) c.loop-before.invariant.owes (search rules))
+
+pub returns-clause-all : goal.returns-clause-all
+returns-clause-all g c = owes_none _ _ _ (owes_tail _ _ _ [] (text_after c.args.plan.now.sizes c.args.plan.now.plan) c.loop-before.before 7 (omega arith) c.loop-before.invariant.owes)

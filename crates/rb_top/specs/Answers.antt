@@ -1,0 +1,169 @@
+-- When each answer of the top call comes, and what it leaves written.
+use Rattle.std.specs.Prelude.{⊤, ℕ, ◌≡◌, ◌≤◌, ◌⊎◌, Bool, List, [], length, String, Option, Some, None}
+use Rattle.std.specs.declared.alloc.Global.{Global}
+use Rattle.std.specs.Io.KnownBytes.{Appends}
+use Rattle.rb_outside.specs.Bytes.{AppendsPart}
+use Rattle.rb_outside.specs.Causes.{Rose}
+use Rattle.rb_rules.specs.Goodness.{Scenario}
+use Rattle.rb_rules.specs.Lawful.{IsLawful}
+use Rattle.rb_gen.specs.Generated.{generated}
+use Rattle.rb_book.specs.declared.turn.Turn.{Turn}
+use Rattle.rb_run.specs.Runs.{EndsWith}
+use Rattle.rb_run.specs.Turns.{AreAll, AreGiven, records_in, text_of}
+use Rattle.rb_run.specs.declared.ending.Ending.{Ending}
+use Rattle.rb_run.specs.declared.ending.Ending.TheVariants as ending
+use Rattle.rb_top.specs.declared.form.Form.{Form}
+use Rattle.rb_top.specs.declared.form.Form.TheVariants.{Run, Check, Gen, Stress}
+use Rattle.rb_top.specs.declared.status.Status.{Status}
+use Rattle.rb_top.specs.declared.status.Status.TheVariants as answer
+use Rattle.rb_top.specs.CheckText.{check_text}
+use Rattle.rb_top.specs.Texts.{generated_text, summary_with}
+use Rattle.rb_top.specs.Inputs.{IsRead, IsRefusedWith, IsTextOf, limit_of}
+use Rattle.rb_top.specs.Statuses.{MayRefuse, RunsNothing, WritesNothing}
+use Rattle.rb_top.specs.Words.{AskFor}
+
+-- The end.
+
+abbrev pub status_of : Ending → Status
+status_of ending.Ended = answer.Done
+status_of ending.Breach = answer.Breach
+
+-- the run of a scenario ends so: Breach exactly where its last record is one, else Done
+pub record EndsAs (sc : Scenario) (status : Status) : Type 0 where
+  pub ending : Ending
+  pub ends : EndsWith sc ending
+  pub is : status ≡ status_of ending
+
+-- so the form ends on its input
+abbrev pub IsEnd : Form → List ℕ → Status → Type 0
+IsEnd Run input status = (sc : Scenario) × IsTextOf input sc × EndsAs sc status
+IsEnd Check input status = (sc : Scenario) × IsTextOf input sc × (status ≡ answer.Done)
+IsEnd (Gen seed frames) input status = status ≡ answer.Done
+IsEnd (Stress seed frames) input status = EndsAs (generated seed frames) status
+
+-- What is due.
+
+-- `run` is due the report of the turns that the drive gave: all turns of the scenario that the input says
+pub record IsReport (input : List ℕ) (is_plain : Bool) (told told' : Option (List Turn)) (status : Status) (text : List ℕ) : Type 0 where
+  pub scenario : Scenario
+  pub turns : List Turn
+  pub says : IsTextOf input scenario
+  pub lawful : IsLawful scenario
+  pub given : AreGiven scenario is_plain told told' turns
+  pub all : AreAll scenario turns
+  pub ends : EndsAs scenario status
+  pub text_is : text ≡ text_of turns
+
+-- `stress` is due the summary of the turns that the drive gave: all turns of the generated scenario. With a breach that is nothing
+pub record IsSummary (seed frames : ℕ) (is_plain : Bool) (told told' : Option (List Turn)) (status : Status) (text : List ℕ) : Type 0 where
+  pub turns : List Turn
+  pub given : AreGiven (generated seed frames) is_plain told told' turns
+  pub all : AreAll (generated seed frames) turns
+  pub ends : EndsAs (generated seed frames) status
+  pub text_is : text ≡ summary_with ends.ending (records_in turns)
+
+-- `check` is due both sides of each inequality, for the scenario that the input says
+pub record IsSides (input text : List ℕ) : Type 0 where
+  pub scenario : Scenario
+  pub says : IsTextOf input scenario
+  pub text_is : text ≡ check_text scenario.sizes scenario.plan
+
+-- a form without a run ends as done, and the drive gave nothing
+pub record IsAlone (told told' : Option (List Turn)) (status : Status) : Type 0 where
+  pub done : status ≡ answer.Done
+  pub silent : told' ≡ told
+
+-- the form's text for its input, where it ends so
+abbrev pub IsDue : Form → List ℕ → Bool → Option (List Turn) → Option (List Turn) → Status → List ℕ → Type 0
+IsDue Run input is_plain told told' status text = IsReport input is_plain told told' status text
+IsDue Check input is_plain told told' status text = IsSides input text × IsAlone told told' status
+IsDue (Gen seed frames) input is_plain told told' status text = (text ≡ generated_text seed frames) × IsAlone told told' status
+IsDue (Stress seed frames) input is_plain told told' status text = IsSummary seed frames is_plain told told' status text
+
+-- of a run that goes on, the report of the turns that the drive gave so far is due
+pub record IsReportSoFar (input : List ℕ) (is_plain : Bool) (told told' : Option (List Turn)) (text : List ℕ) : Type 0 where
+  pub scenario : Scenario
+  pub turns : List Turn
+  pub says : IsTextOf input scenario
+  pub given : AreGiven scenario is_plain told told' turns
+  pub text_is : text ≡ text_of turns
+
+-- the text that was due when a write failed: the line of a refusal, before anything was asked of the drive, or the form's text as far
+-- as it was known
+abbrev pub IsDueSoFar : Form → List ℕ → Bool → Option (List Turn) → Option (List Turn) → List ℕ → Type 0
+IsDueSoFar Run input is_plain told told' text = IsReportSoFar input is_plain told told' text
+IsDueSoFar Check input is_plain told told' text = IsDue Check input is_plain told told' answer.Done text
+IsDueSoFar (Gen seed frames) input is_plain told told' text = IsDue (Gen seed frames) input is_plain told told' answer.Done text
+IsDueSoFar (Stress seed frames) input is_plain told told' text = IsDue (Stress seed frames) input is_plain told told' answer.Done text
+
+-- Answers.
+
+-- Usage comes exactly where the words ask for none of the forms
+pub record UsageExactly (status : Status) (words : List (String Global)) : Type 0 where
+  pub unknown : status ≡ answer.Usage → (form : Form) → ¬ AskFor words form
+  pub refused : ((form : Form) → ¬ AskFor words form) → status ≡ answer.Usage
+  pub known : ¬ (status ≡ answer.Usage) → (form : Form) × AskFor words form
+
+-- the source, the sink and the drive are as they were, where the answer or the form leaves them so
+pub record Untouched {S K D : Type 0} (words : List (String Global)) (status : Status) (source source' : S) (sink sink' : K) (drive drive' : D) : Type 0 where
+  pub unread : status ≡ answer.Usage → source' ≡ source
+  pub without_input : (form : Form) → AskFor words form → limit_of form ≡ None → source' ≡ source
+  pub unwritten : WritesNothing status → sink' ≡ sink
+  pub stress_with_breach : (seed frames : ℕ) → AskFor words (Stress seed frames) → status ≡ answer.Breach → sink' ≡ sink
+  pub not_driven : RunsNothing status → drive' ≡ drive
+
+-- the form has ended: its input has been read, and its text is written
+pub record Ends (form : Form) (status : Status) (left left' : Option (List ℕ)) (held held' : Option (List ℕ)) (is_plain : Bool) (told told' : Option (List Turn)) : Type 0 where
+  pub input : List ℕ
+  pub text : List ℕ
+  pub read : IsRead form left left' input
+  pub due : IsDue form input is_plain told told' status text
+  pub written : Appends held held' text
+
+-- the input has been read and is refused, and the one line of the refusal is written
+pub record Refuses (form : Form) (left left' held held' : Option (List ℕ)) : Type 0 where
+  pub input : List ℕ
+  pub line : List ℕ
+  pub read : IsRead form left left' input
+  pub refused : IsRefusedWith form input line
+  pub written : Appends held held' line
+
+-- the input is refused with this line, and the drive gave nothing
+pub record IsRefusedAlone (form : Form) (input : List ℕ) (told told' : Option (List Turn)) (line : List ℕ) : Type 0 where
+  pub refused : IsRefusedWith form input line
+  pub silent : told' ≡ told
+
+-- a write failed: the count of the sink's faults rose, and of the text that was due the first bytes are written
+pub record FailsToWrite (form : Form) (left left' held held' : Option (List ℕ)) (faults faults' : ℕ) (is_plain : Bool) (told told' : Option (List Turn)) : Type 0 where
+  pub rose : Rose faults faults'
+  pub input : List ℕ
+  pub text : List ℕ
+  pub read : IsRead form left left' input
+  pub due : IsRefusedAlone form input told told' text ⊎ IsDueSoFar form input is_plain told told' text
+  pub written : AppendsPart held held' text
+
+-- Completeness.
+
+-- the source tells that this input is left, within the limit
+abbrev pub IsLeft : Option ℕ → Option (List ℕ) → List ℕ → Type 0
+IsLeft None left input = input ≡ []
+IsLeft (Some limit) left input = left ≡ Some input
+
+-- and it is within the limit
+abbrev pub IsWithin : Option ℕ → List ℕ → Type 0
+IsWithin None input = ⊤
+IsWithin (Some limit) input = length input ≤ limit
+
+-- nothing fails: the input is within the limit, and no count of faults rises
+pub record NothingFails (form : Form) (input : List ℕ) (reads reads' writes writes' : ℕ) : Type 0 where
+  pub within : IsWithin (limit_of form) input
+  pub no_read : ¬ Rose reads reads'
+  pub no_write : ¬ Rose writes writes'
+
+-- the answers that must come of a form, where the source tells its input. Want of memory alone may come in their place
+pub record Completes (form : Form) (status : Status) (left : Option (List ℕ)) (reads reads' writes writes' : ℕ) : Type 0 where
+  pub ended : (input : List ℕ) (end : Status) → IsLeft (limit_of form) left input → IsEnd form input end
+      → NothingFails form input reads reads' writes writes' → (status ≡ end) ⊎ (status ≡ answer.OutOfMemory)
+  pub refused : (input line : List ℕ) → IsLeft (limit_of form) left input → IsRefusedWith form input line → MayRefuse status
+  pub refused_at_once : (input line : List ℕ) → IsLeft (limit_of form) left input → IsRefusedWith form input line
+      → NothingFails form input reads reads' writes writes' → (status ≡ answer.Refused) ⊎ (status ≡ answer.OutOfMemory)

@@ -1,0 +1,33 @@
+//! The text of a check.
+ghost use Rattle.std.specs.Prelude.{◌≡◌, ◌<◌, ◌≤◌, ◌+◌, OnOk, OnErr};
+ghost use Rattle.std.specs.Io.KnownBytes.{Appends};
+ghost use Rattle.rb_outside.specs.Bytes.{AppendsPart};
+ghost use Rattle.rb_outside.specs.Causes.{HasCause};
+ghost use Rattle.rb_top.specs.CheckText.{check_text, text_after};
+
+use crate::lines::write_line;
+use arrayvec::ArrayString;
+use rb_outside::{Failed, Sink};
+use rb_plan::{Feasible, sides};
+use rb_report::side_line;
+
+// The line of the inequality that comes after so many.
+fn line_after(plan: &Feasible, before: u8) -> ArrayString<96>
+    requires { before < 7 }
+    ensures { result.bytes ≡ text_after plan.now.sizes plan.now.plan before }
+{
+    let (left, right) = sides(plan.shape(), plan.plan(), before + 1);
+    side_line(before + 1, left, right)
+}
+
+/// Writes both sides of the seven inequalities, a line each.
+pub(crate) fn write_check<K: Sink>(plan: &Feasible, output: &mut K) -> Result<(), Failed>
+    ensures all { OnOk result (Appends (K.held output.old) (K.held output.new) (check_text plan.now.sizes plan.now.plan)) }
+    ensures part { OnErr result (AppendsPart (K.held output.old) (K.held output.new) (check_text plan.now.sizes plan.now.plan)) }
+    ensures cause { HasCause (K.faults output.old) (K.faults output.new) result }
+{
+    for before in 0..7u8 {
+        write_line(output, &line_after(plan, before))?;
+    }
+    Ok(())
+}

@@ -1,0 +1,73 @@
+//! Runs that are told to their end: as a report, or as four numbers.
+ghost use Rattle.std.specs.Prelude.{◌≡◌, ◌++◌, OnOk, OnErr};
+ghost use Rattle.std.specs.Io.KnownBytes.{Appends};
+ghost use Rattle.rb_outside.specs.Bytes.{AppendsPart};
+ghost use Rattle.rb_outside.specs.Causes.{HasCause, Rose};
+ghost use Rattle.rb_rules.specs.Lawful.{IsLawful};
+ghost use Rattle.rb_scenario.specs.Acceptance.{as_scenario};
+ghost use Rattle.rb_run.specs.Runs.{WritesPart};
+ghost use Rattle.rb_gen.specs.Generated.{generated};
+ghost use Rattle.rb_top.specs.Answers.{IsSummary, status_of};
+ghost use Rattle.rb_top.specs.Serving.{IsOfRun, IsReported};
+ghost use Rattle.rb_top.specs.Statuses.{HasEnded};
+ghost use Rattle.rb_top.specs.Texts.{summary_of};
+
+use crate::lines::write_line;
+use crate::status::Status;
+use rb_base::OutOfMemory;
+use rb_outside::{Failed, Sink};
+use rb_port::Apps;
+use rb_report::summary_line;
+use rb_run::{Ending, Totals, tally, write_run};
+use rb_scenario::Scenario;
+use rb_world::{Drive, World};
+use std::alloc::Global;
+
+// The answer where a run ends so and all is written.
+fn status_of(ending: Ending) -> Status
+    ensures { result ≡ status_of ending }
+{
+    match ending {
+        Ending::Ended => Status::Done,
+        Ending::Breach => Status::Breach,
+    }
+}
+
+/// Opens the run of a scenario and writes its report.
+pub(crate) fn report<K: Sink, D: Drive>(
+    alloc: Global,
+    scenario: Scenario,
+    output: &mut K,
+    apps: &Apps,
+    drive: &mut D,
+) -> Status
+    requires { IsLawful (as_scenario scenario) }
+    ensures ended { HasEnded result
+        → IsReported (as_scenario scenario) result (D.is_plain drive.old) (D.told drive.old) (D.told drive.new) (K.held output.old) (K.held output.new) }
+    ensures part { result ≡ Status.WriteFault
+        → WritesPart (as_scenario scenario) (D.is_plain drive.old) (D.told drive.old) (D.told drive.new) (K.held output.old) (K.held output.new) }
+    ensures cause { result ≡ Status.WriteFault → Rose (K.faults output.old) (K.faults output.new) }
+    ensures unopened { result ≡ Status.OutOfMemory → (output.new ≡ output.old) × (drive.new ≡ drive.old) }
+    ensures one_of { IsOfRun result }
+{
+    let mut world = match World::open(alloc, scenario) {
+        Ok(world) => world,
+        Err(OutOfMemory) => return Status::OutOfMemory,
+    };
+    match write_run(&mut world, apps, drive, output) {
+        Ok(ending) => status_of(ending),
+        Err(Failed) => Status::WriteFault,
+    }
+}
+
+// Writes the four numbers of a run, a line each.
+fn write_summary<K: Sink>(totals: &Totals, output: &mut K) -> Result<(), Failed>
+    ensures all { OnOk result (Appends (K.held output.old) (K.held output.new) (summary_of totals.now)) }
+    ensures part { OnErr result (AppendsPart (K.held output.old) (K.held output.new) (summary_of totals.now)) }
+    ensures cause { HasCause (K.faults output.old) (K.faults output.new) result }
+{
+    write_line(output, &summary_line(0, u64::from(totals.frames)))?;
+    write_line(output, &summary_line(1, totals.deliveries))?;
+    write_line(output, &summary_line(2, u64::from(totals.convicted)))?;
+    write_line(output, &summary_line(3, totals.spread))
+}
