@@ -1,9 +1,22 @@
 -- The report of a run, turn by turn.
 use Rattle.std.specs.Prelude.{ℕ, Option, Some, None, List, [], ◌∷◌}
+use Rattle.std.specs.List.{flat_map}
+use Rattle.rb_rules.specs.declared.record.NodeLine.{NodeLine}
+use Rattle.rb_rules.specs.declared.record.PortLine.{PortLine}
 use Rattle.rb_rules.specs.Book.{Record}
 use Rattle.rb_rules.specs.Book.Record.{Frame, Slot, Ended, Breach}
-use Rattle.rb_report.specs.Report.{breach_text, end_text}
+use Rattle.rb_report.specs.Report.{breach_text, convicted_text, end_text, epoch_text, port_text}
 use Rattle.rb_report.specs.Texts.{block_text, deliveries_text}
+
+-- the parts of a frame's block, each a line a node or a port
+abbrev pub epochs_text : ℕ → List NodeLine → List ℕ
+epochs_text frame nodes = flat_map (λ n. epoch_text frame n.node n.tick (Some n.time)) nodes
+
+abbrev pub convictions_text : ℕ → List NodeLine → List ℕ
+convictions_text frame nodes = flat_map (λ n. convicted_text frame n.node n.biu n.rmu) nodes
+
+abbrev pub ports_text : ℕ → List PortLine → List ℕ
+ports_text frame ports = flat_map (λ p. port_text frame p.biu p.state p.losses) ports
 
 -- the text of a turn that is this record, the newest block before it being that of frame `newest`
 abbrev pub turn_text : ℕ → Option Record → List ℕ

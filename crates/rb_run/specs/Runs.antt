@@ -52,4 +52,4 @@ pub record TalliesAll (sc : Scenario) (is_plain : Bool) (told since : Option (Li
   pub turns : List Turn
   pub given : AreGiven sc is_plain told since turns
   pub all : AreAll sc turns
-  pub totals : totals ≡ totals_of turns
+  pub are : totals ≡ totals_of turns

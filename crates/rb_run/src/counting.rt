@@ -1,5 +1,6 @@
 //! The numbers of a run, counted as it goes on.
 ghost use Rattle.std.specs.Prelude.{◌≡◌, ◌+◌, ◌^◌, ◌<◌, length, max};
+ghost use Rattle.rb_base.specs.Nodes.{size};
 ghost use Rattle.rb_book.specs.Records.{record_of};
 ghost use Rattle.rb_run.specs.Runs.{EndsWith, HasGivenNothing, TalliesAll};
 ghost use Rattle.rb_run.specs.Tallies.{convicted_in_first, counted, differences_in, greatest};
@@ -12,7 +13,9 @@ use rb_port::Apps;
 use rb_world::{Drive, World};
 
 // How many nodes a line says are convicted.
-fn convicted_by(line: &NodeLine) -> u8 {
+fn convicted_by(line: &NodeLine) -> u8
+    ensures { result ≡ size line.now.biu + size line.now.rmu }
+{
     NodeSet::<Biu>::from_bits(line.biu).count() + NodeSet::<Rmu>::from_bits(line.rmu).count()
 }
 
@@ -30,13 +33,16 @@ fn convicted(nodes: &[NodeLine]) -> u8
 fn spread(nodes: &[NodeLine]) -> u64
     ensures { result ≡ greatest (differences_in nodes.now) }
 {
-    let mut latest = 0;
-    let mut earliest = u64::MAX;
+    let Some(first) = nodes.first() else {
+        return 0;
+    };
+    let mut latest = first.time;
+    let mut earliest = first.time;
     for node in nodes {
-        latest = node.time.max(latest);
-        earliest = node.time.min(earliest);
+        latest = latest.max(node.time);
+        earliest = earliest.min(node.time);
     }
-    latest.saturating_sub(earliest)
+    latest - earliest
 }
 
 // Counts what a turn says.

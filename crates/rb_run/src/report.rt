@@ -1,13 +1,11 @@
 //! The report of a run, written a line at a time.
-ghost use Rattle.std.specs.Prelude.{◌≡◌, IfOk, OnErr, OnOk, Some};
+ghost use Rattle.std.specs.Prelude.{◌≡◌, IfOk, OnErr, OnOk};
 ghost use Rattle.std.specs.Io.KnownBytes.{Appends};
-ghost use Rattle.std.specs.List.{flat_map};
 ghost use Rattle.rb_book.specs.Records.{record_of};
 ghost use Rattle.rb_outside.specs.Bytes.{AppendsPart};
 ghost use Rattle.rb_outside.specs.Causes.{HasCause};
-ghost use Rattle.rb_report.specs.Report.{convicted_text, epoch_text, port_text};
 ghost use Rattle.rb_report.specs.Texts.{block_text, deliveries_text};
-ghost use Rattle.rb_run.specs.Reports.{newest_with, turn_text};
+ghost use Rattle.rb_run.specs.Reports.{convictions_text, epochs_text, newest_with, ports_text, turn_text};
 ghost use Rattle.rb_run.specs.Runs.{EndsWith, HasGivenNothing, WritesAll, WritesPart};
 
 use crate::ending::{Ending, ending_at};
@@ -29,8 +27,8 @@ fn write_line<K: Sink>(output: &mut K, line: &ArrayString<96>) -> Result<(), Fai
 
 // Writes the first tick of each node.
 fn write_epochs<K: Sink>(frame: u32, nodes: &[NodeLine], output: &mut K) -> Result<(), Failed>
-    ensures all { OnOk result (Appends (K.held output.old) (K.held output.new) (flat_map (λ n. epoch_text frame n.node n.tick (Some n.time)) nodes.now)) }
-    ensures part { OnErr result (AppendsPart (K.held output.old) (K.held output.new) (flat_map (λ n. epoch_text frame n.node n.tick (Some n.time)) nodes.now)) }
+    ensures all { OnOk result (Appends (K.held output.old) (K.held output.new) (epochs_text frame nodes.now)) }
+    ensures part { OnErr result (AppendsPart (K.held output.old) (K.held output.new) (epochs_text frame nodes.now)) }
     ensures cause { HasCause (K.faults output.old) (K.faults output.new) result }
 {
     for node in nodes {
@@ -41,8 +39,8 @@ fn write_epochs<K: Sink>(frame: u32, nodes: &[NodeLine], output: &mut K) -> Resu
 
 // Writes whom each node holds convicted.
 fn write_convicted<K: Sink>(frame: u32, nodes: &[NodeLine], output: &mut K) -> Result<(), Failed>
-    ensures all { OnOk result (Appends (K.held output.old) (K.held output.new) (flat_map (λ n. convicted_text frame n.node n.biu n.rmu) nodes.now)) }
-    ensures part { OnErr result (AppendsPart (K.held output.old) (K.held output.new) (flat_map (λ n. convicted_text frame n.node n.biu n.rmu) nodes.now)) }
+    ensures all { OnOk result (Appends (K.held output.old) (K.held output.new) (convictions_text frame nodes.now)) }
+    ensures part { OnErr result (AppendsPart (K.held output.old) (K.held output.new) (convictions_text frame nodes.now)) }
     ensures cause { HasCause (K.faults output.old) (K.faults output.new) result }
 {
     for node in nodes {
@@ -53,8 +51,8 @@ fn write_convicted<K: Sink>(frame: u32, nodes: &[NodeLine], output: &mut K) -> R
 
 // Writes each port.
 fn write_ports<K: Sink>(frame: u32, ports: &[PortLine], output: &mut K) -> Result<(), Failed>
-    ensures all { OnOk result (Appends (K.held output.old) (K.held output.new) (flat_map (λ p. port_text frame p.biu p.state p.losses) ports.now)) }
-    ensures part { OnErr result (AppendsPart (K.held output.old) (K.held output.new) (flat_map (λ p. port_text frame p.biu p.state p.losses) ports.now)) }
+    ensures all { OnOk result (Appends (K.held output.old) (K.held output.new) (ports_text frame ports.now)) }
+    ensures part { OnErr result (AppendsPart (K.held output.old) (K.held output.new) (ports_text frame ports.now)) }
     ensures cause { HasCause (K.faults output.old) (K.faults output.new) result }
 {
     for port in ports {

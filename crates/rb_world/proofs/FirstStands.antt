@@ -30,6 +30,7 @@ use Rattle.rb_traffic.specs.Arriving.{AreRunning}
 use Rattle.rb_world.specs.Buses.{HasRoom, HaveRooms}
 use Rattle.rb_world.specs.declared.last.Last.TheVariants as last
 use Rattle.rb_world.specs.declared.scene.Scene.{Scene}
+use Rattle.rb_world.specs.declared.ties.Seeding.{Seeding}
 use Rattle.rb_world.specs.Openings.{HaveBegun, MayBegin, before_all, with_begun}
 use Rattle.rb_world.specs.Worlds.{AreNodes, HoldsPorts, IsNode, Stands, Surrounds, running_of}
 use Rattle.rb_world.proofs.Beginning.{apart}
@@ -237,11 +238,11 @@ begun-nodes sc me kept scene w is = record {
       subst (IsNode sc me i k) (some-is (proceed sc me i (fresh_site sc.sizes me)) s (sym (get-made sc.sizes (λ me i. proceed sc me i (fresh_site sc.sizes me)) me i within) ∙ there)) (is.begun i k within here);
 }
 
-pub first-stands : (sc : Scenario) (bius rmus : List KeptSite) (between scene : Scene) → IsLawful sc → HaveBegun sc Biu sc.sizes.bius bius between (before_all sc)
+pub first-stands : (sc : Scenario) (bius rmus : List KeptSite) (between scene : Scene) (draws : Seeding) → IsLawful sc → HaveBegun sc Biu sc.sizes.bius bius between (before_all sc)
     → HaveBegun sc Rmu sc.sizes.rmus rmus scene (with_begun sc Biu sc.sizes.bius (before_all sc))
-    → Stands (record { bus = sc; nodes = record { bius = bius; rmus = rmus }; scene = scene; last = last.Quiet }) (first_world sc)
+    → Stands (record { bus = sc; nodes = record { bius = bius; rmus = rmus }; scene = scene; seeding = draws; last = last.Quiet }) (first_world sc)
 unfolding first_world
-first-stands sc bius rmus between scene lawful one two = record {
+first-stands sc bius rmus between scene draws lawful one two = record {
   lawful = lawful;
   reached = record { choices = []; is = refl };
   nodes = nodes;
@@ -258,11 +259,11 @@ first-stands sc bius rmus between scene lawful one two = record {
 pub rmus-next : (sc : Scenario) (kept : List KeptSite) (scene : Scene) (n : ℕ) → IsLawful sc → HaveBegun sc Biu n kept scene (before_all sc) → (w : World) × MayBegin sc Rmu scene w
 rmus-next sc kept scene n lawful is = (with_begun sc Biu n (before_all sc), rmus-may sc kept scene n lawful is)
 
-pub opened : (sc : Scenario) (bius rmus : List KeptSite) (between scene : Scene) (n m : ℕ) → IsLawful sc → n ≡ sc.sizes.bius → m ≡ sc.sizes.rmus
+pub opened : (sc : Scenario) (bius rmus : List KeptSite) (between scene : Scene) (draws : Seeding) (n m : ℕ) → IsLawful sc → n ≡ sc.sizes.bius → m ≡ sc.sizes.rmus
     → HaveBegun sc Biu n bius between (before_all sc) → ((w : World) → MayBegin sc Rmu between w → HaveBegun sc Rmu m rmus scene w)
-    → Stands (record { bus = sc; nodes = record { bius = bius; rmus = rmus }; scene = scene; last = last.Quiet }) (first_world sc)
-opened sc bius rmus between scene n m lawful all_bius all_rmus one two =
+    → Stands (record { bus = sc; nodes = record { bius = bius; rmus = rmus }; scene = scene; seeding = draws; last = last.Quiet }) (first_world sc)
+opened sc bius rmus between scene draws n m lawful all_bius all_rmus one two =
     let first : HaveBegun sc Biu sc.sizes.bius bius between (before_all sc) = subst (λ n. HaveBegun sc Biu n bius between (before_all sc)) all_bius one in
     let w : World = with_begun sc Biu sc.sizes.bius (before_all sc) in
-    first-stands sc bius rmus between scene lawful first
+    first-stands sc bius rmus between scene draws lawful first
     (subst (λ m. HaveBegun sc Rmu m rmus scene w) all_rmus (two w (rmus-may sc bius between sc.sizes.bius lawful first)))

@@ -26,6 +26,6 @@ pub ended-gives : (k : Kept) (w : World) (turn : Turn) → Stands k w → w.book
 ended-gives k w turn is ended same = subst (Gives k turn) (sym (ended-stays k.bus w ended)) (record { stands = is; turn_is = same })
 
 pub going-gives : (k : Kept) (w : World) (book : Ledger) (turn : Turn) (last : Last) → Stands k w → w.book.ended ≡ false → Settles k.bus ByItself w book turn
-    → last ≡ last_of (record_of turn) → Gives (record { bus = k.bus; nodes = k.nodes; scene = record k.scene { book = book }; last = last }) turn (go_on k.bus w)
+    → last ≡ last_of (record_of turn) → Gives (record { bus = k.bus; nodes = k.nodes; scene = record k.scene { book = book }; seeding = k.seeding; last = last }) turn (go_on k.bus w)
 going-gives k w book turn last is going settles kept =
-    gives k.bus ByItself w w (go_on k.bus w) GoOn k.nodes k.scene book turn last is.lawful is.reached refl (going-settles k.bus w going) is.nodes is.scene settles kept
+    gives k.bus ByItself w w (go_on k.bus w) GoOn k.nodes k.scene k.seeding book turn last is.lawful is.reached refl (going-settles k.bus w going) is.nodes is.scene settles kept

@@ -1,46 +1,59 @@
--- Once a run has ended, the last turn is its last record.
-use Rattle.std.proofs.Common.{◌≡◌, ℕ, zero, suc, ◌==◌, ◌&&◌, ◌||◌, Bool, true, false, Option, Some, None, List, [], ◌∷◌, ◌++◌, flat_map, fold, length, slice_get, if◌then◌else◌, refl, sym, ap, ◌∙◌, subst}
+-- Once a run has ended, the last turn is its last record, and the last turn is always the record that was given last.
+use Rattle.std.proofs.Common.{◌≡◌, ℕ, zero, suc, ◌==◌, ◌&&◌, ◌||◌, nat_lt, Bool, true, false, Option, Some, None, List, [], ◌∷◌, ◌++◌, flat_map, fold, length, slice_get, if◌then◌else◌, inl, inr, refl, sym, ap, ◌∙◌, subst}
+use Rattle.std.proofs.lemmas.List.{append-nil}
 use Rattle.rb_base.specs.Nodes.Side.{Biu}
-use Rattle.rb_base.specs.Sizes.{Sizes}
+use Rattle.rb_base.specs.Sizes.{Sizes, sync_slot_of}
 use Rattle.rb_base.specs.declared.values.Place.{Place}
 use Rattle.rb_rules.specs.declared.cause.Cause.{Cause}
 use Rattle.rb_rules.specs.Book.{Begun, Book, Each, Milestone, Record, Row, after_verdict, frame_records, judged_of, in_order, with_end, with_frame, with_stage}
 use Rattle.rb_rules.specs.Book.Milestone.{Begin, Stage, End}
-use Rattle.rb_rules.specs.Book.Record.{Ended, Breach}
+use Rattle.rb_rules.specs.Book.Record.{Slot, Ended, Breach}
 use Rattle.rb_rules.specs.Goodness.{Scenario, is_good}
 use Rattle.rb_rules.specs.Judging.{JudgedStage, verdict_of}
 use Rattle.rb_rules.specs.Ports.{with_state}
 use Rattle.rb_rules.specs.WorldStep.{Choice, Due, Site, Way, World, book_with, choose, comes_so, due_at, due_of, first_world, frame_in, go_on, hand, happens, is_complete, least, needs_no_event, record_since, settle, settle_next, take, take_if_due, times_of}
 use Rattle.rb_rules.specs.WorldStep.Choice.{Take, GoOn, Hand}
 use Rattle.rb_rules.specs.WorldStep.Way.{ByAnEvent, ByItself}
-use Rattle.rb_order.proofs.WorldBooks.{happens-book, last-one, settle_rest}
+use Rattle.rb_order.proofs.WorldBooks.{IsTurn, go-on-turn, happens-book, last-one, none-past, settle_rest, take-turn}
 use Rattle.rb_world.specs.Nexts.{is_last}
 use Rattle.rb_world.specs.Worlds.{IsReached}
 
 not-both : {P : Type 0} (b : Bool) → b ≡ true → b ≡ false → P
 not-both b t f = absurd (cc)
 
--- if a book with these records has ended, the next one is the last of a run
+-- a book with one record more than these has ended exactly where that is the last of a run, and one with no more has not
 abbrev Ends : List Record → Book → Type 0
-Ends given x = x.ended ≡ true → is_last (slice_get x.given (length given)) ≡ true
+Ends given x = x.ended ≡ is_last (slice_get x.given (length given))
 
-one-last : (given : List Record) (r : Record) → is_last (Some r) ≡ true → is_last (slice_get (given ++ r ∷ []) (length given)) ≡ true
-one-last given r last = ap is_last (last-one given (given ++ r ∷ []) r refl) ∙ last
+one-last : (given : List Record) (r : Record) → is_last (slice_get (given ++ r ∷ []) (length given)) ≡ is_last (Some r)
+one-last given r = ap is_last (last-one given (given ++ r ∷ []) r refl)
+
+none-last : (given : List Record) → is_last (slice_get (given ++ []) (length given)) ≡ false
+none-last given = ap is_last (none-past given (given ++ []) (append-nil given))
 
 guarded-ends : (b x : Book) (e : Bool) → e ≡ false → Ends b.given x → Ends b.given (elim e as (λ _. Book) [ true ↦ b | false ↦ x ])
 guarded-ends b x true running h = not-both true refl running
 guarded-ends b x false running h = h
 
+if-ends : (given : List Record) (r : Record) (b : Bool) → is_last (Some r) ≡ false → false ≡ is_last (slice_get (given ++ (if b then r ∷ [] else [])) (length given))
+if-ends given r true e = sym (one-last given r ∙ e)
+if-ends given r false e = sym (none-last given)
+
 judged-ends : (sizes : Sizes) (place : Place) (rows : Each (Option Row)) (stages : List JudgedStage) (b : Book) (v : Option Cause)
     → Ends b.given (after_verdict sizes place rows stages b v)
-judged-ends sizes place rows stages b None = λ e. not-both false e refl
-judged-ends sizes place rows stages b (Some cause) = λ e. one-last b.given (Breach place cause) refl
+judged-ends sizes place rows stages b None =
+    if-ends b.given (Slot place.frame place.slot b.lines) ((place.stage == 3) && nat_lt place.slot (sync_slot_of sizes)) refl
+judged-ends sizes place rows stages b (Some cause) = sym (one-last b.given (Breach place cause))
 
 stage-ends : (sc : Scenario) (place : Place) (rows : Each (Option Row)) (b : Book) → b.ended ≡ false → Ends b.given (with_stage sc place rows b)
 unfolding with_stage
 stage-ends sc place rows b running =
     let stages : List JudgedStage = judged_of sc place rows ∷ b.stages in
     guarded-ends b (after_verdict sc.sizes place rows stages b (verdict_of stages)) b.ended running (judged-ends sc.sizes place rows stages b (verdict_of stages))
+
+begun-ends : (given : List Record) (frame : ℕ) (begun : List Begun) → false ≡ is_last (slice_get (given ++ frame_records frame begun) (length given))
+begun-ends given frame [] = sym (none-last given)
+begun-ends given frame (b ∷ bs) = sym (one-last given _)
 
 frame-ends : (sc : Scenario) (frame : ℕ) (begun : List Begun) (b : Book) → b.ended ≡ false → Ends b.given (with_frame sc frame begun b)
 unfolding with_frame
@@ -51,10 +64,10 @@ frame-ends sc frame begun b running =
       lines = [];
       given = b.given ++ frame_records frame begun;
       ended = false;
-    }) b.ended running (λ e. not-both false e refl)
+    }) b.ended running (begun-ends b.given frame begun)
 
 end-ends : (b : Book) → b.ended ≡ false → Ends b.given (with_end b)
-end-ends b running = guarded-ends b (record b { given = b.given ++ Ended ∷ []; ended = true }) b.ended running (λ e. one-last b.given Ended refl)
+end-ends b running = guarded-ends b (record b { given = b.given ++ Ended ∷ []; ended = true }) b.ended running (sym (one-last b.given Ended))
 
 book-ends : (sc : Scenario) (sites : Each Site) (b : Book) (m : Milestone) → b.ended ≡ false → Ends b.given (book_with sc sites b m)
 book-ends sc sites b (Begin frame) running = frame-ends sc frame _ b running
@@ -66,25 +79,26 @@ next-ends sc way w going = by (comes_so sc way w.book.upcoming && is_complete sc
   where
     by : (b : Bool) → Ends w.book.given (elim b as (λ _. World) [ true ↦ record w { book = book_with sc w.sites w.book w.book.upcoming } | false ↦ w ]).book
     by true = book-ends sc w.sites w.book w.book.upcoming going
-    by false = λ e. not-both w.book.ended e going
+    by false = going ∙ sym (ap is_last (none-past w.book.given w.book.given refl))
 
--- where the run has ended, the last turn is its last record
+-- the run has ended exactly where the last turn is the last record of a run
 abbrev pub EndsWell : World → Type 0
-EndsWell w = w.book.ended ≡ true → is_last w.turn ≡ true
+EndsWell w = w.book.ended ≡ is_last w.turn
 
 settle-ends : (sc : Scenario) (way : Way) (n : ℕ) (w : World) → w.book.ended ≡ false → EndsWell (settle sc way n w)
-settle-ends sc way zero w going = λ e. not-both w.book.ended e going
+settle-ends sc way zero w going = going
 settle-ends sc way (suc n) w going =
     let next : World = settle_next sc way w in
     one next (record_since w next) (next-ends sc way w going) (settle-ends sc way n next)
   where
-    not-ended : (b : Bool) → (b ≡ true → false ≡ true) → b ≡ false
-    not-ended true h = sym (h refl)
-    not-ended false h = refl
-
-    one : (next : World) (o : Option Record) → (next.book.ended ≡ true → is_last o ≡ true) → (next.book.ended ≡ false → EndsWell (settle sc way n next)) → EndsWell (settle_rest sc way n next o)
-    one next None ends more = more (not-ended next.book.ended ends)
+    one : (next : World) (o : Option Record) → next.book.ended ≡ is_last o → (next.book.ended ≡ false → EndsWell (settle sc way n next)) → EndsWell (settle_rest sc way n next o)
+    one next None ends more = more ends
     one next (Some r) ends more = ends
+
+-- a run that has ended stays
+stays : (sc : Scenario) (w : World) → w.book.ended ≡ true → go_on sc w ≡ w
+unfolding go_on
+stays sc w e = ap (λ b. elim b as (λ _. World) [ true ↦ w | false ↦ settle sc ByItself 2 w ]) e
 
 go-on-ends : (sc : Scenario) (w : World) → EndsWell w → EndsWell (go_on sc w)
 unfolding go_on
@@ -140,7 +154,72 @@ all-end sc w (c ∷ cs) well = all-end sc (choose sc w c) cs (choose-ends sc w c
 
 first-ends : (sc : Scenario) → EndsWell (first_world sc)
 unfolding first_world
-first-ends sc = λ e. not-both false e refl
+first-ends sc = refl
 
-pub reached-ends : (sc : Scenario) (w : World) → IsReached sc w → EndsWell w
-reached-ends sc w reached = subst EndsWell (sym reached.is) (all-end sc (first_world sc) reached.choices (first-ends sc))
+pub reached-ended : (sc : Scenario) (w : World) → IsReached sc w → EndsWell w
+reached-ended sc w reached = subst EndsWell (sym reached.is) (all-end sc (first_world sc) reached.choices (first-ends sc))
+
+pub reached-ends : (sc : Scenario) (w : World) → IsReached sc w → w.book.ended ≡ true → is_last w.turn ≡ true
+reached-ends sc w reached e = sym (reached-ended sc w reached) ∙ e
+
+-- What was given last.
+
+-- the last turn, if it is a record, is the record that was given last
+abbrev pub GaveLast : World → Type 0
+GaveLast w = (r : Record) → w.turn ≡ Some r → (others : List Record) × (w.book.given ≡ others ++ r ∷ [])
+
+some-same : (a b : Record) → Some a ≡ Some b → a ≡ b
+some-same a b e = cc
+
+turn-gave : (before : List Record) (w : World) → IsTurn before w → GaveLast w
+turn-gave before w (inl none) = λ r some. absurd (let never : None ≡ Some r = sym none.1 ∙ some in cc)
+turn-gave before w (inr one) = λ r some. (before, one.1.0 ∙ ap (λ x. before ++ x ∷ []) (some-same one.0 r (sym one.1.1 ∙ some)))
+
+go-on-gave : (sc : Scenario) (w : World) → GaveLast w → GaveLast (go_on sc w)
+go-on-gave sc w gave = by w.book.ended refl
+  where
+    by : (b : Bool) → w.book.ended ≡ b → GaveLast (go_on sc w)
+    by true e = subst GaveLast (sym (stays sc w e)) gave
+    by false e = turn-gave w.book.given (go_on sc w) (go-on-turn sc w e)
+
+take-gave : (sc : Scenario) (w : World) (i : ℕ) → GaveLast w → GaveLast (take sc w i)
+unfolding take
+take-gave sc w i gave = by (slice_get (due_of sc w) i)
+  where
+    by : (o : Option Due) → GaveLast (take_if_due sc w o)
+    by None = gave
+    by (Some d) = turn-gave w.book.given (take_if_due sc w (Some d)) (take-turn sc w d)
+
+hand-gave : (sc : Scenario) (w : World) (biu state : ℕ) → GaveLast w → GaveLast (hand sc w biu state)
+unfolding hand
+hand-gave sc w biu state gave = by (frame_in w.turn)
+  where
+    inner : (x : World) (b : Bool) → GaveLast x → GaveLast (elim b as (λ _. World) [ true ↦ x | false ↦ w ])
+    inner x true h = h
+    inner x false h = gave
+
+    by : (o : Option ℕ) → GaveLast (elim o as (λ _. World) [
+      | None ↦ w
+      | Some frame ↦ elim (is_good sc Biu biu frame 0) [
+        | true ↦ record w { ports = with_state biu state w.ports; hands = w.hands ++ record { frame = frame; biu = biu; state = state } ∷ [] }
+        | false ↦ w
+      ]
+    ])
+    by None = gave
+    by (Some frame) = inner (record w { ports = with_state biu state w.ports; hands = w.hands ++ record { frame = frame; biu = biu; state = state } ∷ [] }) (is_good sc Biu biu frame 0) gave
+
+choose-gave : (sc : Scenario) (w : World) (c : Choice) → GaveLast w → GaveLast (choose sc w c)
+choose-gave sc w (Take i) gave = take-gave sc w i gave
+choose-gave sc w GoOn gave = go-on-gave sc w gave
+choose-gave sc w (Hand biu state) gave = hand-gave sc w biu state gave
+
+all-gave : (sc : Scenario) (w : World) (cs : List Choice) → GaveLast w → GaveLast (fold (choose sc) w cs)
+all-gave sc w [] gave = gave
+all-gave sc w (c ∷ cs) gave = all-gave sc (choose sc w c) cs (choose-gave sc w c gave)
+
+first-gave : (sc : Scenario) → GaveLast (first_world sc)
+unfolding first_world
+first-gave sc = λ r some. absurd (cc)
+
+pub reached-gave : (sc : Scenario) (w : World) → IsReached sc w → GaveLast w
+reached-gave sc w reached = subst GaveLast (sym reached.is) (all-gave sc (first_world sc) reached.choices (first-gave sc))

@@ -14,6 +14,7 @@ pub mod LastTurn
 pub mod GoingOn
 pub mod Steps
 pub mod NextRecord
+pub mod Numbered
 pub mod Handed
 pub mod Seeing
 pub mod Entering

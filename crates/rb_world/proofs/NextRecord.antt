@@ -110,28 +110,12 @@ not-so-many n ties s0 s1 before mid w stands is = few-steps before.bus ties n (r
 
 -- The draws.
 
-pub with-seeding : (k : Kept) (w : World) (s : Seeding) → Stands k w → Stands (record k { scene = record k.scene { seeding = s } }) w
-with-seeding k w s is =
-    let around : Surrounds k.bus k.scene w = is.scene in
-    record {
-      lawful = is.lawful;
-      reached = is.reached;
-      nodes = is.nodes;
-      scene = record { counts = around.counts; lanes = around.lanes; rooms = around.rooms; book = around.book; ports = around.ports; running = by; within = inside };
-      last = is.last;
-    }
-  where
-    by : (me : Side) → AreRunning me (running_of me (record k.scene { seeding = s })) w.sites
-    by Biu = is.scene.running Biu
-    by Rmu = is.scene.running Rmu
+pub with-seeding : (k : Kept) (w : World) (s : Seeding) → Stands k w → Stands (record k { seeding = s }) w
+with-seeding k w s is = record { lawful = is.lawful; reached = is.reached; nodes = is.nodes; scene = is.scene; last = is.last }
 
-    inside : (me : Side) (i : ℕ) → has (running_of me (record k.scene { seeding = s })) i ≡ true → i < count_of me k.bus.sizes
-    inside Biu = is.scene.within Biu
-    inside Rmu = is.scene.within Rmu
-
-pub goes-on : (ties : Ties) (b after : Seeding) (before mid : Kept) (turn : Turn) (w : World) → b ≡ begun_with ties before.scene.seeding → after.seed ≡ b.seed
+pub goes-on : (ties : Ties) (b after : Seeding) (before mid : Kept) (turn : Turn) (w : World) → b ≡ begun_with ties before.seeding → after.seed ≡ b.seed
     → RunsOn ties b.draws.state after.draws.state before mid turn w
-    → GoesToNext ties before (record mid { scene = record mid.scene { seeding = after } }) turn w
+    → GoesToNext ties before (record mid { seeding = after }) turn w
 goes-on ties b after before mid turn w is seed runs = record {
   next = runs.next;
   is = subst (λ (x : Seeding). IsNext before.bus ties (record { world = w; draws = x.draws.state }) (record { world = runs.next; draws = after.draws.state })) is runs.is;

@@ -47,7 +47,7 @@ go-on-gives sc w lawful reached none = by w.book.ended (needs_no_event sc w.book
 
 -- Places.
 
-place-below : (ties : Ties) (state n : ℕ) → 1 ≤ n → place_among ties state n < n
+pub place-below : (ties : Ties) (state n : ℕ) → 1 ≤ n → place_among ties state n < n
 place-below First state n some = omega (arith, some)
 place-below Last state n some = omega (arith, some)
 place-below (Seeded seed) state n some = mod_below (number_of state) n some

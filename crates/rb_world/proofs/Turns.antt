@@ -22,6 +22,7 @@ use Rattle.rb_site.specs.Sites.{Kept as KeptSite}
 use Rattle.rb_traffic.specs.Arriving.{AreRunning}
 use Rattle.rb_world.specs.declared.last.Last.{Last}
 use Rattle.rb_world.specs.declared.scene.Scene.{Scene}
+use Rattle.rb_world.specs.declared.ties.Seeding.{Seeding}
 use Rattle.rb_world.specs.Steps.{Happens}
 use Rattle.rb_world.specs.Turning.{Gives}
 use Rattle.rb_world.specs.Worlds.{AreNodes, HoldsPorts, IsReached, Surrounds, last_of, running_of}
@@ -57,12 +58,12 @@ surrounds-settled sc way v scene book turn is settles =
     running Rmu = subst (AreRunning Rmu scene.running_rmu) (sym (settle-sites sc way 2 v)) (is.running Rmu)
 
 -- A choice that settles what is due in this way, the nodes being these before
-pub gives : (sc : Scenario) (way : Way) (w v z : World) (c : Choice) (nodes : Each KeptSite) (scene : Scene) (book : Ledger) (turn : Turn) (last : Last) → IsLawful sc
+pub gives : (sc : Scenario) (way : Way) (w v z : World) (c : Choice) (nodes : Each KeptSite) (scene : Scene) (draws : Seeding) (book : Ledger) (turn : Turn) (last : Last) → IsLawful sc
     → IsReached sc w → z ≡ choose sc w c → z ≡ settle sc way 2 v → ((me : Side) → AreNodes sc me (of_kind me nodes) (of_kind me v.sites)) → Surrounds sc scene v
     → Settles sc way v book turn → last ≡ last_of (record_of turn)
-    → Gives (record { bus = sc; nodes = nodes; scene = record scene { book = book }; last = last }) turn z
-gives sc way w v z c nodes scene book turn last lawful reached chosen settled are is settles kept =
-    subst (λ x. Gives (record { bus = sc; nodes = nodes; scene = record scene { book = book }; last = last }) turn x) (sym settled) (record {
+    → Gives (record { bus = sc; nodes = nodes; scene = record scene { book = book }; seeding = draws; last = last }) turn z
+gives sc way w v z c nodes scene draws book turn last lawful reached chosen settled are is settles kept =
+    subst (λ x. Gives (record { bus = sc; nodes = nodes; scene = record scene { book = book }; seeding = draws; last = last }) turn x) (sym settled) (record {
       stands = record {
         lawful = lawful;
         reached = subst (IsReached sc) (sym chosen ∙ settled) (reached-more sc w c reached);
@@ -74,12 +75,12 @@ gives sc way w v z c nodes scene book turn last lawful reached chosen settled ar
     })
 
 -- so with a due event that has happened
-pub taken : (sc : Scenario) (w : World) (i : ℕ) (d : Due) (nodes : Each KeptSite) (scene : Scene) (book : Ledger) (turn : Turn) (last : Last) → IsLawful sc
+pub taken : (sc : Scenario) (w : World) (i : ℕ) (d : Due) (nodes : Each KeptSite) (scene : Scene) (draws : Seeding) (book : Ledger) (turn : Turn) (last : Last) → IsLawful sc
     → IsReached sc w → slice_get (due_of sc w) i ≡ Some d → Happens sc nodes scene w d → Settles sc Way.ByAnEvent (happens sc w d) book turn
-    → last ≡ last_of (record_of turn) → Gives (record { bus = sc; nodes = nodes; scene = record scene { book = book }; last = last }) turn (take sc w i)
+    → last ≡ last_of (record_of turn) → Gives (record { bus = sc; nodes = nodes; scene = record scene { book = book }; seeding = draws; last = last }) turn (take sc w i)
 unfolding take
-taken sc w i d nodes scene book turn last lawful reached found happened settles kept =
-    gives sc Way.ByAnEvent w (happens sc w d) (take sc w i) (Take i) nodes scene book turn last lawful reached refl (ap (take_if_due sc w) found) happened.nodes
+taken sc w i d nodes scene draws book turn last lawful reached found happened settles kept =
+    gives sc Way.ByAnEvent w (happens sc w d) (take sc w i) (Take i) nodes scene draws book turn last lawful reached refl (ap (take_if_due sc w) found) happened.nodes
     happened.surrounds settles kept
 
 -- what may be taken is due now, where anything may be taken

@@ -3,6 +3,7 @@ pub mod Worlds
 pub mod Turning
 pub mod Steps
 pub mod Nexts
+pub mod Numbering
 pub mod Driving
 pub mod Openings
 pub mod Showing

@@ -64,10 +64,10 @@ pub record IsNext (sc : Scenario) (ties : Ties) (before after : Standing) : Type
 -- what is kept stands afterwards for the world of the next record, and that is the turn that is given. The draws go on
 pub record GoesToNext (ties : Ties) (before after : Kept) (turn : Turn) (w : World) : Type 0 where
   pub next : World
-  pub is : IsNext before.bus ties (record { world = w; draws = (begun_with ties before.scene.seeding).draws.state })
-      (record { world = next; draws = after.scene.seeding.draws.state })
+  pub is : IsNext before.bus ties (record { world = w; draws = (begun_with ties before.seeding).draws.state })
+      (record { world = next; draws = after.seeding.draws.state })
   pub gives : Gives after turn next
-  pub seed : after.scene.seeding.seed ≡ (begun_with ties before.scene.seeding).seed
+  pub seed : after.seeding.seed ≡ (begun_with ties before.seeding).seed
 
 -- one step, the draws being in these states before and after
 pub record TakesStep (ties : Ties) (state state_after : ℕ) (before after : Kept) (turn : Turn) (w : World) : Type 0 where

@@ -20,13 +20,15 @@ use Rattle.rb_traffic.specs.Arriving.{AreRunning}
 use Rattle.rb_world.specs.declared.last.Last.{Last}
 use Rattle.rb_world.specs.declared.last.Last.TheVariants as last
 use Rattle.rb_world.specs.declared.scene.Scene.{Scene}
+use Rattle.rb_world.specs.declared.ties.Seeding.{Seeding}
 use Rattle.rb_world.specs.Buses.{HaveRooms}
 
--- what is kept of a run: the bus, the nodes, what surrounds them, and which turn came last
+-- what is kept of a run: the bus, the nodes, what surrounds them, the draws among events that are due, and which turn came last
 pub record Kept : Type 0 where
   pub bus : Scenario
   pub nodes : Each KeptSite
   pub scene : Scene
+  pub seeding : Seeding
   pub last : Last
 
 -- Nodes.

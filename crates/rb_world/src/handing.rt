@@ -45,7 +45,7 @@ impl World {
     pub fn hand(&mut self, biu: u8, state: u64)
         ensures world { (w : RunWorld) → Stands self.old w → Stands self.new (hand self.old.bus w biu state) }
         ensures bus { self.new.bus ≡ self.old.bus }
-        ensures seeding { self.new.scene.seeding ≡ self.old.scene.seeding }
+        ensures seeding { self.new.seeding ≡ self.old.seeding }
     {
         let Last::Frame(frame) = self.last else {
             return;

@@ -4,6 +4,7 @@ ghost use Rattle.rb_rules.specs.Book.{Record};
 ghost use Rattle.rb_rules.specs.WorldStep.{World as RunWorld, go_on};
 ghost use Rattle.rb_book.specs.Records.{record_of};
 ghost use Rattle.rb_world.specs.Nexts.{GoesToNext, RunsOn, TakesStep, is_last};
+ghost use Rattle.rb_world.specs.Numbering.{GoesInRounds};
 ghost use Rattle.rb_world.specs.Turning.{Gives};
 ghost use Rattle.rb_world.specs.Worlds.{Stands, last_of};
 
@@ -73,10 +74,11 @@ impl World {
         ensures world { (w : RunWorld) → Stands self.old w → GoesToNext ties self.old self.new result w }
         ensures record { is_some (record_of result) ≡ true }
         ensures bus { self.new.bus ≡ self.old.bus }
+        ensures rounds { (w : RunWorld) → Stands self.old w → GoesInRounds self.old self.new result w }
     {
-        let mut seeding = self.scene.seeding.begin(ties);
+        let mut seeding = self.seeding.begin(ties);
         let turn = self.run_on(apps, ties, &mut seeding.draws);
-        self.scene.seeding = seeding;
+        self.seeding = seeding;
         turn
     }
 }

@@ -74,7 +74,6 @@ fn open_scene(alloc: Global, bus: &Bus) -> Result<Scene, OutOfMemory>
         ports,
         running_biu: NodeSet::first(bus.shape().biu()),
         running_rmu: NodeSet::first(bus.shape().rmu()),
-        seeding: Seeding::new(0),
     })
 }
 
@@ -130,6 +129,7 @@ impl World {
             bius,
             rmus,
             scene,
+            seeding: Seeding::new(0),
             last: Last::Quiet,
         })
     }

@@ -5,13 +5,12 @@ ghost use Rattle.rb_rules.specs.Lawful.{kind_of};
 ghost use Rattle.rb_traffic.specs.Arriving.{number_of};
 ghost use Rattle.rb_world.specs.Worlds.{running_of};
 
-use crate::ties::Seeding;
 use rb_agenda::Agenda;
 use rb_base::{Biu, NodeName, NodeSet, Rmu};
 use rb_book::Book;
 use rb_port::Port;
 
-/// What is pending at the nodes, what they told, the ports of the BIUs, which nodes run, and the draws among events that are due.
+/// What is pending at the nodes, what they told, the ports of the BIUs, and which nodes run.
 #[derive(Drop)]
 pub struct Scene {
     pub agenda: Agenda,
@@ -19,7 +18,6 @@ pub struct Scene {
     pub ports: Vec<Port>,
     pub running_biu: NodeSet<Biu>,
     pub running_rmu: NodeSet<Rmu>,
-    pub seeding: Seeding,
 }
 
 impl Scene {

@@ -4,6 +4,7 @@ ghost use Rattle.rb_base.specs.Nodes.{side_of};
 ghost use Rattle.rb_rules.specs.Links.{name_of};
 ghost use Rattle.rb_site.specs.Sites.{number_of};
 ghost use Rattle.rb_rules.specs.WorldStep.{Due, Site as WorldSite, World as RunWorld, take};
+ghost use Rattle.rb_world.specs.Numbering.{TakesInRounds};
 ghost use Rattle.rb_world.specs.Steps.{Happens, MayHappen, MayTick, Ticks, act_at};
 ghost use Rattle.rb_world.specs.Turning.{Gives};
 ghost use Rattle.rb_world.specs.Worlds.{Stands, due_in, last_of};
@@ -92,6 +93,8 @@ impl World {
         requires below { i < due_in self.old }
         ensures world { (w : RunWorld) → Stands self.old w → Gives self.new result (take self.old.bus w i) }
         ensures bus { self.new.bus ≡ self.old.bus }
+        ensures seeding { self.new.seeding ≡ self.old.seeding }
+        ensures rounds { (w : RunWorld) → Stands self.old w → TakesInRounds self.old.bus w (take self.old.bus w i) (record_of result) }
     {
         let time = self.scene.agenda.first_time();
         let (node, event) = self.scene.agenda.take(i);

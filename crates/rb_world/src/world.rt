@@ -2,6 +2,7 @@
 use crate::bus::Bus;
 use crate::last::Last;
 use crate::scene::Scene;
+use crate::ties::Seeding;
 use rb_base::{Biu, Rmu};
 use rb_site::Site;
 use std::marker::Model;
@@ -14,6 +15,7 @@ pub struct World {
     pub(crate) bius: Vec<Site<Biu>>,
     pub(crate) rmus: Vec<Site<Rmu>>,
     pub(crate) scene: Scene,
+    pub(crate) seeding: Seeding,
     pub(crate) last: Last,
 }
 
@@ -23,8 +25,8 @@ impl Model for World {
 
     ghost Value = { Kept };
 
-    ghost view = { λ w. record { bus = w.bus; nodes = record { bius = w.bius.items; rmus = w.rmus.items }; scene = w.scene; last = w.last } };
+    ghost view = { λ w. record { bus = w.bus; nodes = record { bius = w.bius.items; rmus = w.rmus.items }; scene = w.scene; seeding = w.seeding; last = w.last } };
 
     ghost invariant = { λ w. (run : RunWorld)
-        × Stands (record { bus = w.bus; nodes = record { bius = w.bius.items; rmus = w.rmus.items }; scene = w.scene; last = w.last }) run };
+        × Stands (record { bus = w.bus; nodes = record { bius = w.bius.items; rmus = w.rmus.items }; scene = w.scene; seeding = w.seeding; last = w.last }) run };
 }

@@ -9,7 +9,7 @@ use Rattle.rb_world.proofs.world.World.event.Goals as goal
 
 pub show-requires : goal.show-requires
 show-requires g c =
-    let k : Kept = record { bus = c.self.inside.bus; nodes = record { bius = c.self.inside.bius.items; rmus = c.self.inside.rmus.items }; scene = c.self.inside.scene; last = c.self.inside.last } in
+    let k : Kept = record { bus = c.self.inside.bus; nodes = record { bius = c.self.inside.bius.items; rmus = c.self.inside.rmus.items }; scene = c.self.inside.scene; seeding = c.self.inside.seeding; last = c.self.inside.last } in
     let below : c.args.i < due_in k = subst (λ (k : Kept). c.args.i < due_in k) (sym c.self.view_is) c.requires.below in
     let w : RunWorld = c.self.invariant.0 in
     let is : Stands k w = c.self.invariant.1 in
@@ -29,7 +29,7 @@ show-requires g c =
 
 pub index-requires-in-Rmu : goal.index-requires-in-Rmu
 index-requires-in-Rmu g c =
-    let k : Kept = record { bus = c.self.inside.bus; nodes = record { bius = c.self.inside.bius.items; rmus = c.self.inside.rmus.items }; scene = c.self.inside.scene; last = c.self.inside.last } in
+    let k : Kept = record { bus = c.self.inside.bus; nodes = record { bius = c.self.inside.bius.items; rmus = c.self.inside.rmus.items }; scene = c.self.inside.scene; seeding = c.self.inside.seeding; last = c.self.inside.last } in
     let below : c.args.i < due_in k = subst (λ (k : Kept). c.args.i < due_in k) (sym c.self.view_is) c.requires.below in
     let w : RunWorld = c.self.invariant.0 in
     let is : Stands k w = c.self.invariant.1 in
@@ -39,7 +39,7 @@ index-requires-in-Rmu g c =
 
 pub show-requires-in-Rmu : goal.show-requires-in-Rmu
 show-requires-in-Rmu g c =
-    let k : Kept = record { bus = c.self.inside.bus; nodes = record { bius = c.self.inside.bius.items; rmus = c.self.inside.rmus.items }; scene = c.self.inside.scene; last = c.self.inside.last } in
+    let k : Kept = record { bus = c.self.inside.bus; nodes = record { bius = c.self.inside.bius.items; rmus = c.self.inside.rmus.items }; scene = c.self.inside.scene; seeding = c.self.inside.seeding; last = c.self.inside.last } in
     let below : c.args.i < due_in k = subst (λ (k : Kept). c.args.i < due_in k) (sym c.self.view_is) c.requires.below in
     let w : RunWorld = c.self.invariant.0 in
     let is : Stands k w = c.self.invariant.1 in
@@ -60,7 +60,7 @@ show-requires-in-Rmu g c =
 pub returns-in-Biu : goal.returns-in-Biu
 returns-in-Biu g c = record {
   world = λ w stands.
-      let k : Kept = record { bus = c.self.inside.bus; nodes = record { bius = c.self.inside.bius.items; rmus = c.self.inside.rmus.items }; scene = c.self.inside.scene; last = c.self.inside.last } in
+      let k : Kept = record { bus = c.self.inside.bus; nodes = record { bius = c.self.inside.bius.items; rmus = c.self.inside.rmus.items }; scene = c.self.inside.scene; seeding = c.self.inside.seeding; last = c.self.inside.last } in
       let below : c.args.i < due_in k = subst (λ (k : Kept). c.args.i < due_in k) (sym c.self.view_is) c.requires.below in
       let is : Stands k w = subst (λ (k : Kept). Stands k w) (sym c.self.view_is) stands in
       let r = show-ready k w c.args.i c.locate-node.result.1 Biu c.in-Biu.k c.locate-node.result.0 c.event_at-pending.result.now is below c.locate-node.ensures.stands
@@ -76,7 +76,7 @@ returns-in-Biu g c = record {
 pub returns-in-Rmu : goal.returns-in-Rmu
 returns-in-Rmu g c = record {
   world = λ w stands.
-      let k : Kept = record { bus = c.self.inside.bus; nodes = record { bius = c.self.inside.bius.items; rmus = c.self.inside.rmus.items }; scene = c.self.inside.scene; last = c.self.inside.last } in
+      let k : Kept = record { bus = c.self.inside.bus; nodes = record { bius = c.self.inside.bius.items; rmus = c.self.inside.rmus.items }; scene = c.self.inside.scene; seeding = c.self.inside.seeding; last = c.self.inside.last } in
       let below : c.args.i < due_in k = subst (λ (k : Kept). c.args.i < due_in k) (sym c.self.view_is) c.requires.below in
       let is : Stands k w = subst (λ (k : Kept). Stands k w) (sym c.self.view_is) stands in
       let r = show-ready k w c.args.i c.locate-node.result.1 Rmu c.in-Rmu.k c.locate-node.result.0 c.event_at-pending.result.now is below c.locate-node.ensures.stands

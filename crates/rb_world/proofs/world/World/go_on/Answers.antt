@@ -8,14 +8,14 @@ use Rattle.rb_world.proofs.world.World.go_on.Goals as goal
 
 pub returns-then-has_ended-clause-world : goal.returns-then-has_ended-clause-world
 returns-then-has_ended-clause-world c =
-    let k : Kept = record { bus = c.self.inside.bus; nodes = record { bius = c.self.inside.bius.items; rmus = c.self.inside.rmus.items }; scene = c.self.inside.scene; last = c.self.inside.last } in
+    let k : Kept = record { bus = c.self.inside.bus; nodes = record { bius = c.self.inside.bius.items; rmus = c.self.inside.rmus.items }; scene = c.self.inside.scene; seeding = c.self.inside.seeding; last = c.self.inside.last } in
     subst (λ k. (w : RunWorld) → Stands k w → Gives k c.last_turn.result (go_on k.bus w)) c.self.view_is (λ w is.
     let ended : w.book.ended ≡ true = sym (c.has_ended.ensures k.bus w is.scene.book) ∙ c.if-has_ended.true in
     ended-gives k w c.last_turn.result is ended (c.last_turn.ensures w.turn is.last (reached-ends k.bus w is.reached ended)))
 
 pub invariant_of-self : goal.invariant_of-self
 invariant_of-self c =
-    let k : Kept = record { bus = c.self.inside.bus; nodes = record { bius = c.self.inside.bius.items; rmus = c.self.inside.rmus.items }; scene = c.self.inside.scene; last = c.self.inside.last } in
+    let k : Kept = record { bus = c.self.inside.bus; nodes = record { bius = c.self.inside.bius.items; rmus = c.self.inside.rmus.items }; scene = c.self.inside.scene; seeding = c.self.inside.seeding; last = c.self.inside.last } in
     let w : RunWorld = c.self.invariant.0 in
     let is : Stands k w = c.self.invariant.1 in
     let going : w.book.ended ≡ false = sym (c.has_ended.ensures k.bus w is.scene.book) ∙ c.if-has_ended.false in (
@@ -26,7 +26,7 @@ invariant_of-self c =
 
 pub returns-clause-world : goal.returns-clause-world
 returns-clause-world c =
-    let k : Kept = record { bus = c.self.inside.bus; nodes = record { bius = c.self.inside.bius.items; rmus = c.self.inside.rmus.items }; scene = c.self.inside.scene; last = c.self.inside.last } in
+    let k : Kept = record { bus = c.self.inside.bus; nodes = record { bius = c.self.inside.bius.items; rmus = c.self.inside.rmus.items }; scene = c.self.inside.scene; seeding = c.self.inside.seeding; last = c.self.inside.last } in
     let after : Kept = record k { scene = record k.scene { book = c.settle-turn.new.self }; last = c.last_of-self-inside.result } in
     subst (λ (x : Kept). (w : RunWorld) → Stands x w → Gives after c.settle-turn.result (go_on x.bus w)) c.self.view_is (λ w is.
     let going : w.book.ended ≡ false = sym (c.has_ended.ensures k.bus w is.scene.book) ∙ c.if-has_ended.false in

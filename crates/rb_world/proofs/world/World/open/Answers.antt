@@ -23,7 +23,7 @@ pub invariant_of-result : goal.invariant_of-result
 invariant_of-result c =
     let lawful = subst IsLawful (sym c.in_ok-bus.ensures) c.requires in (
       first_world c.in_ok-bus.bus,
-      opened c.in_ok-bus.bus c.begin_all.new.sites.items c.begin_all-2.new.sites.items c.begin_all.new.scene c.begin_all-2.new.scene c.biu-2.result c.rmu-2.result lawful
+      opened c.in_ok-bus.bus c.begin_all.new.sites.items c.begin_all-2.new.sites.items c.begin_all.new.scene c.begin_all-2.new.scene c.new-2.result c.biu-2.result c.rmu-2.result lawful
           (c.biu-2.ensures.value ∙ ap (λ (s : Sizes). s.bius) c.shape-3.ensures) (c.rmu-2.ensures.value ∙ ap (λ (s : Sizes). s.rmus) c.shape-4.ensures)
           (c.begin_all.ensures (before_all c.in_ok-bus.bus) (bius-may c.in_ok-bus.bus c.in_ok-scene.scene lawful c.in_ok-scene.ensures)) c.begin_all-2.ensures,
     )
@@ -35,8 +35,9 @@ returns-clause-stands c =
       bus = c.in_ok-bus.bus;
       nodes = record { bius = c.begin_all.new.sites.items; rmus = c.begin_all-2.new.sites.items };
       scene = c.begin_all-2.new.scene;
+      seeding = c.new-2.result;
       last = last.Quiet;
     }) (first_world sc)) c.in_ok-bus.ensures
-    (opened c.in_ok-bus.bus c.begin_all.new.sites.items c.begin_all-2.new.sites.items c.begin_all.new.scene c.begin_all-2.new.scene c.biu-2.result c.rmu-2.result lawful
+    (opened c.in_ok-bus.bus c.begin_all.new.sites.items c.begin_all-2.new.sites.items c.begin_all.new.scene c.begin_all-2.new.scene c.new-2.result c.biu-2.result c.rmu-2.result lawful
     (c.biu-2.ensures.value ∙ ap (λ (s : Sizes). s.bius) c.shape-3.ensures) (c.rmu-2.ensures.value ∙ ap (λ (s : Sizes). s.rmus) c.shape-4.ensures)
     (c.begin_all.ensures (before_all c.in_ok-bus.bus) (bius-may c.in_ok-bus.bus c.in_ok-scene.scene lawful c.in_ok-scene.ensures)) c.begin_all-2.ensures)

@@ -1,0 +1,50 @@
+-- The text of one turn more.
+use Rattle.std.proofs.Common.{◌≡◌, ℕ, List, [], ◌∷◌, ◌++◌, Option, Some, None, refl, sym, ap, ◌∙◌, append_assoc, filter_map, Result, Ok, Err, OnErr}
+use Rattle.std.proofs.lemmas.List.{append-nil}
+use Rattle.std.proofs.lemmas.List.Elements.{filter_map-append}
+use Rattle.std.specs.List.{cons_option}
+use Rattle.std.specs.Option.{option_to_list}
+use Rattle.rb_rules.specs.Book.{Record}
+use Rattle.rb_rules.specs.Book.Record.{Frame, Slot, Ended, Breach}
+use Rattle.rb_book.specs.Records.{record_of}
+use Rattle.rb_book.specs.declared.turn.Turn.{Turn}
+use Rattle.rb_report.specs.Report.{breach_text, end_text}
+use Rattle.rb_report.specs.Texts.{block_text, deliveries_text, text_after}
+use Rattle.rb_run.specs.Reports.{newest_after, newest_with, turn_text}
+use Rattle.rb_run.specs.Turns.{records_in, text_of}
+
+one-item : {X : Type 0} (o : Option X) → cons_option o [] ≡ option_to_list o
+one-item None = refl
+one-item (Some x) = refl
+
+pub records-more : (turns : List Turn) (t : Turn) → records_in (turns ++ t ∷ []) ≡ records_in turns ++ option_to_list (record_of t)
+records-more turns t = filter_map-append record_of turns (t ∷ []) ∙ ap (λ rs. records_in turns ++ rs) (one-item (record_of t))
+
+text-with : (n : ℕ) (rs : List Record) (o : Option Record) → text_after n (rs ++ option_to_list o) ≡ text_after n rs ++ turn_text (newest_after n rs) o
+text-with n [] None = refl
+text-with n [] (Some (Frame frame nodes ports)) = append-nil (block_text frame nodes ports)
+text-with n [] (Some (Slot frame slot lines)) = append-nil (deliveries_text frame slot lines)
+text-with n [] (Some Ended) = append-nil (end_text n)
+text-with n [] (Some (Breach place cause)) = append-nil (breach_text place cause)
+text-with n (Frame frame nodes ports ∷ rs) o = ap (λ t. block_text frame nodes ports ++ t) (text-with frame rs o) ∙ sym (append_assoc (block_text frame nodes ports) _ _)
+text-with n (Slot frame slot lines ∷ rs) o = ap (λ t. deliveries_text frame slot lines ++ t) (text-with n rs o) ∙ sym (append_assoc (deliveries_text frame slot lines) _ _)
+text-with n (Ended ∷ rs) o = ap (λ t. end_text n ++ t) (text-with n rs o) ∙ sym (append_assoc (end_text n) _ _)
+text-with n (Breach place cause ∷ rs) o = ap (λ t. breach_text place cause ++ t) (text-with n rs o) ∙ sym (append_assoc (breach_text place cause) _ _)
+
+-- the text of some turns and one more
+pub text-more : (turns : List Turn) (t : Turn) → text_of (turns ++ t ∷ []) ≡ text_of turns ++ turn_text (newest_after 0 (records_in turns)) (record_of t)
+text-more turns t = ap (text_after 0) (records-more turns t) ∙ text-with 0 (records_in turns) (record_of t)
+
+newest-with : (n : ℕ) (rs : List Record) (o : Option Record) → newest_after n (rs ++ option_to_list o) ≡ newest_with (newest_after n rs) o
+newest-with n [] None = refl
+newest-with n [] (Some r) = refl
+newest-with n (r ∷ rs) o = newest-with (newest_with n (Some r)) rs o
+
+-- the number of the newest block after it
+pub newest-more : (turns : List Turn) (t : Turn) → newest_after 0 (records_in (turns ++ t ∷ [])) ≡ newest_with (newest_after 0 (records_in turns)) (record_of t)
+newest-more turns t = ap (newest_after 0) (records-more turns t) ∙ newest-with 0 (records_in turns) (record_of t)
+
+-- what holds anyway holds of an error
+pub on-err : {T E P : Type 0} (r : Result T E) → P → OnErr r P
+on-err (Ok x) p = tt
+on-err (Err e) p = p
