@@ -1,12 +1,14 @@
 -- What comes of serving a form, and of a run that is opened for one.
 use Rattle.std.specs.Prelude.{⊤, ℕ, ◌≡◌, Bool, List, Option}
+use Rattle.std.specs.Io.KnownBytes.{Appends}
+use Rattle.rb_outside.specs.Bytes.{AppendsPart}
 use Rattle.rb_rules.specs.Goodness.{Scenario}
 use Rattle.rb_book.specs.declared.turn.Turn.{Turn}
 use Rattle.rb_run.specs.Runs.{WritesAll}
 use Rattle.rb_top.specs.declared.form.Form.{Form}
 use Rattle.rb_top.specs.declared.status.Status.{Status}
 use Rattle.rb_top.specs.declared.status.Status.TheVariants as answer
-use Rattle.rb_top.specs.Answers.{Ends, EndsAs, FailsToWrite, Refuses}
+use Rattle.rb_top.specs.Answers.{Ends, EndsAs, FailsToWrite, IsSummary, Refuses}
 use Rattle.rb_top.specs.Inputs.{IsUnread}
 use Rattle.rb_top.specs.Statuses.{HasEnded}
 
@@ -22,6 +24,18 @@ pub record Answers (form : Form) (status : Status) (left left' : Option (List �
 pub record IsReported (sc : Scenario) (status : Status) (is_plain : Bool) (told told' : Option (List Turn)) (held held' : Option (List ℕ)) : Type 0 where
   pub ends : EndsAs sc status
   pub written : WritesAll sc is_plain told told' held held'
+
+-- a generated run was opened, the drive gave all its turns, and what is due of them was written
+pub record IsSummed (seed frames : ℕ) (status : Status) (is_plain : Bool) (told told' : Option (List Turn)) (held held' : Option (List ℕ)) : Type 0 where
+  pub text : List ℕ
+  pub due : IsSummary seed frames is_plain told told' status text
+  pub written : Appends held held' text
+
+-- or its first bytes were, the run having ended without a breach
+pub record FailsToSum (seed frames : ℕ) (is_plain : Bool) (told told' : Option (List Turn)) (held held' : Option (List ℕ)) : Type 0 where
+  pub text : List ℕ
+  pub due : IsSummary seed frames is_plain told told' answer.Done text
+  pub written : AppendsPart held held' text
 
 -- an answer of a run that is to be opened
 abbrev pub IsOfRun : Status → Type 0
