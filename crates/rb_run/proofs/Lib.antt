@@ -1,0 +1,10 @@
+pub mod Lines
+pub mod Texts
+pub mod Numbers
+pub mod Spreads
+pub mod Bounds
+pub mod UnderWay
+pub mod Opened
+pub mod Reported
+pub mod Counted
+pub mod Plain

@@ -4,10 +4,13 @@ use Rattle.std.proofs.lemmas.List.{append-nil}
 use Rattle.std.proofs.lemmas.List.Elements.{filter_map-append}
 use Rattle.std.specs.List.{cons_option}
 use Rattle.std.specs.Option.{option_to_list}
+use Rattle.std.specs.Io.KnownBytes.{Appends}
 use Rattle.rb_rules.specs.Book.{Record}
 use Rattle.rb_rules.specs.Book.Record.{Frame, Slot, Ended, Breach}
 use Rattle.rb_book.specs.Records.{record_of}
 use Rattle.rb_book.specs.declared.turn.Turn.{Turn}
+use Rattle.rb_outside.specs.Bytes.{AppendsPart}
+use Rattle.rb_outside.proofs.Known.{part_join}
 use Rattle.rb_report.specs.Report.{breach_text, end_text}
 use Rattle.rb_report.specs.Texts.{block_text, deliveries_text, text_after}
 use Rattle.rb_run.specs.Reports.{newest_after, newest_with, turn_text}
@@ -48,3 +51,8 @@ newest-more turns t = ap (newest_after 0) (records-more turns t) ∙ newest-with
 pub on-err : {T E P : Type 0} (r : Result T E) → P → OnErr r P
 on-err (Ok x) p = tt
 on-err (Err e) p = p
+
+-- the last of two parts was not written whole
+pub part-last : {T E : Type 0} (r : Result T E) (a b c : Option (List ℕ)) (xs ys : List ℕ) → Appends a b xs → OnErr r (AppendsPart b c ys) → OnErr r (AppendsPart a c (xs ++ ys))
+part-last (Ok x) a b c xs ys before now = tt
+part-last (Err e) a b c xs ys before now = part_join a b c xs ys before now

@@ -1,5 +1,5 @@
 -- A run of which some turns have been given.
-use Rattle.std.proofs.Common.{◌≡◌, ⊤, ℕ, ◌+◌, ◌^◌, ◌<◌, Bool, true, false, Option, Some, None, List, [], ◌∷◌, ◌++◌, length, map, refl, sym, ap, ◌∙◌, subst, append_assoc, arith, slice_get, length-append}
+use Rattle.std.proofs.Common.{◌≡◌, ℕ, ◌+◌, ◌^◌, ◌<◌, Bool, true, false, Option, Some, None, List, [], ◌∷◌, ◌++◌, length, map, refl, sym, ap, ◌∙◌, subst, append_assoc, arith, slice_get, length-append}
 use Rattle.std.proofs.lemmas.List.{append-nil, length-map, map-append}
 use Rattle.std.specs.List.{last_or}
 use Rattle.rb_rules.specs.Book.{Record}
@@ -33,8 +33,8 @@ pub record IsUnderWay (sc : Scenario) (is_plain : Bool) (told since : Option (Li
   pub hands : world.hands ≡ []
   pub alike : map bare turns ≡ map (λ r. bare (turn_of r)) world.book.given
   pub plain : is_plain ≡ true → turns ≡ map turn_of world.book.given
-  pub told : TellsAll told since turns
-  pub over : world.book.ended ≡ over
+  pub tells : TellsAll told since turns
+  pub ended : world.book.ended ≡ over
 
 -- Turns and records.
 
@@ -63,7 +63,7 @@ alike-ends : (t u : Turn) → bare t ≡ bare u → end_at (record_of t) ≡ end
 alike-ends t u same = sym (bare-ends t) ∙ ap (λ x. end_at (record_of x)) same ∙ bare-ends u
 
 -- a run ends with the turns that are the last of one
-pub ends-last : (o : Option Record) (e : Ending) → end_at o ≡ Some e → is_last o ≡ true
+ends-last : (o : Option Record) (e : Ending) → end_at o ≡ Some e → is_last o ≡ true
 ends-last None e is = absurd (cc)
 ends-last (Some (Record.Frame frame nodes ports)) e is = absurd (cc)
 ends-last (Some (Record.Slot frame slot lines)) e is = absurd (cc)
@@ -120,8 +120,8 @@ begins k is_plain told begun = record {
   hands = begun.hands;
   alike = ap (map (λ r. bare (turn_of r))) (sym begun.given);
   plain = λ _. ap (map turn_of) (sym begun.given);
-  told = tells-none told;
-  over = not-over k begun;
+  tells = tells-none told;
+  ended = not-over k begun;
 }
 
 -- One turn more.
@@ -136,7 +136,7 @@ pub goes : (sc : Scenario) (is_plain now : Bool) (told mid since : Option (List 
 goes sc is_plain now told mid since k after turns t is stays plain alike bus tells =
     let a : GoesAlike k after t is.world = alike is.world is.stands in
     let r : GoesInRounds k after a.turn is.world = alike-in-rounds k after t is.world is.stands a in
-    let one : IsNextRecord k.bus is.world r.next r.given = r.rounds.going is.over in
+    let one : IsNextRecord k.bus is.world r.next r.given = r.rounds.going is.ended in
     let same : bare t ≡ bare (turn_of r.given) = a.alike ∙ ap bare (turn-is a.turn r.given r.turn_is) in
     record {
       world = r.next;
@@ -151,14 +151,14 @@ goes sc is_plain now told mid since k after turns t is stays plain alike bus tel
       plain = λ yes.
           let p : GoesInRounds k after t is.world = next-in-rounds First k after t is.world is.stands (plain (stays ∙ yes) is.world is.stands) in
           let this : p.given ≡ r.given =
-          same-record (records_of k.bus is.world.hands) (length is.world.book.given) p.given r.given (p.rounds.going is.over).is_next one.is_next in
+          same-record (records_of k.bus is.world.hands) (length is.world.book.given) p.given r.given (p.rounds.going is.ended).is_next one.is_next in
           let turn : t ≡ turn_of r.given = turn-is t p.given p.turn_is ∙ ap turn_of this in
           ap (λ xs. xs ++ t ∷ []) (is.plain yes)
           ∙ ap (λ x. map turn_of is.world.book.given ++ x ∷ []) turn
           ∙ sym (map-append turn_of is.world.book.given (r.given ∷ []))
           ∙ ap (map turn_of) (sym one.added);
-      told = tells-more told mid since turns t is.told tells;
-      over = r.rounds.ended ∙ ap is_last (sym r.turn_is) ∙ sym (alike-last t a.turn a.alike);
+      tells = tells-more told mid since turns t is.tells tells;
+      ended = r.rounds.ended ∙ ap is_last (sym r.turn_is) ∙ sym (alike-last t a.turn a.alike);
     }
 
 -- What is known of it.
@@ -180,7 +180,7 @@ are-given sc is_plain told since k turns over is = record {
   first = first-given sc is_plain told since k turns over is;
   alike = is.alike;
   plain = is.plain;
-  told = is.told;
+  told = is.tells;
 }
 
 many-given : (sc : Scenario) (is_plain : Bool) (told since : Option (List Turn)) (k : Kept) (turns : List Turn) (over : Bool) → (is : IsUnderWay sc is_plain told since k turns over)
@@ -203,7 +203,7 @@ whole-given : (sc : Scenario) (is_plain : Bool) (told since : Option (List Turn)
 whole-given sc is_plain told since k turns is =
     let reached = is.stands.reached in
     let whole : is.world.book.given ≡ records_of k.bus is.world.hands =
-    subst (λ (w : World). w.book.ended ≡ true → w.book.given ≡ records_of k.bus w.hands) (sym reached.is) ((events-hold k.bus is.stands.lawful).whole reached.choices) is.over in
+    subst (λ (w : World). w.book.ended ≡ true → w.book.given ≡ records_of k.bus w.hands) (sym reached.is) ((events-hold k.bus is.stands.lawful).whole reached.choices) is.ended in
     whole ∙ ap (records_of k.bus) is.hands ∙ ap (λ (s : Scenario). records_of s []) is.bus
 
 -- at the end all were given
@@ -221,13 +221,19 @@ last-map f [] None p y none some e = absurd (let never : None ≡ Some y = sym (
 last-map f [] (Some x) p y none some e = (x, (refl, let both : Some (f x) ≡ Some y = sym (some x refl) ∙ e in cc))
 last-map f (x ∷ xs) o p y none some e = last-map f xs (Some x) (Some (f x)) y (λ e. absurd (cc)) (λ z e. let same : x ≡ z = cc in ap (λ v. Some (f v)) same) e
 
--- and the run ends as the last of them says
+-- where the last of them ends the run, it has ended
+pub finished : (sc : Scenario) (is_plain : Bool) (told since : Option (List Turn)) (k : Kept) (turns : List Turn) (t : Turn) (e : Ending)
+    → IsUnderWay sc is_plain told since k turns (is_last (record_of t)) → end_at (record_of t) ≡ Some e → IsUnderWay sc is_plain told since k turns true
+finished sc is_plain told since k turns t e is ends = subst (λ over. IsUnderWay sc is_plain told since k turns over) (ends-last (record_of t) e ends) is
+
+-- and it ends as that turn says
 pub ends-so : (sc : Scenario) (is_plain : Bool) (told since : Option (List Turn)) (k : Kept) (turns : List Turn) (t : Turn) (e : Ending)
-    → IsUnderWay sc is_plain told since k (turns ++ t ∷ []) true → end_at (record_of t) ≡ Some e → EndsWith sc e
-ends-so sc is_plain told since k turns t e is ends =
+    → IsUnderWay sc is_plain told since k (turns ++ t ∷ []) (is_last (record_of t)) → end_at (record_of t) ≡ Some e → EndsWith sc e
+ends-so sc is_plain told since k turns t e going ends =
+    let is : IsUnderWay sc is_plain told since k (turns ++ t ∷ []) true = finished sc is_plain told since k (turns ++ t ∷ []) t e going ends in
     let last : last_or None (map (λ r. bare (turn_of r)) is.world.book.given) ≡ Some (bare t) =
     ap (last_or None) (sym is.alike ∙ map-append bare turns (t ∷ [])) ∙ last-append None (map bare turns) (bare t) in
-    let r = last-map (λ r. bare (turn_of r)) is.world.book.given None None (bare t) (λ e. e) (λ x e. absurd (cc)) last in
+    let r = last-map (λ r. bare (turn_of r)) is.world.book.given None None (bare t) (λ e. refl) (λ x e. absurd (cc)) last in
     ap (λ rs. end_at (last_or None rs)) (sym (whole-given sc is_plain told since k (turns ++ t ∷ []) is))
     ∙ ap end_at r.1.0
     ∙ ap end_at (sym (record-is r.0))

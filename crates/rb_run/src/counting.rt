@@ -1,5 +1,5 @@
 //! The numbers of a run, counted as it goes on.
-ghost use Rattle.std.specs.Prelude.{◌≡◌, ◌+◌, ◌^◌, ◌<◌, length, max};
+ghost use Rattle.std.specs.Prelude.{◌≡◌, ◌+◌, ◌^◌, ◌<◌, ◌≤◌};
 ghost use Rattle.rb_base.specs.Nodes.{size};
 ghost use Rattle.rb_book.specs.Records.{record_of};
 ghost use Rattle.rb_run.specs.Runs.{EndsWith, HasGivenNothing, TalliesAll};
@@ -48,7 +48,8 @@ fn spread(nodes: &[NodeLine]) -> u64
 // Counts what a turn says.
 fn count(totals: &Totals, turn: &Turn) -> Totals
     requires { totals.now.deliveries + 16 < 2 ^ 64 }
-    ensures { result ≡ counted totals.now (record_of turn.now) }
+    ensures counted { result ≡ counted totals.now (record_of turn.now) }
+    ensures few { result.deliveries ≤ totals.now.deliveries + 16 }
 {
     match turn {
         Turn::Frame(block) => Totals {

@@ -4,6 +4,8 @@
 mod counting;
 pub mod ending;
 mod report;
+#[cfg(test)]
+mod tests;
 pub mod totals;
 
 pub use counting::tally;

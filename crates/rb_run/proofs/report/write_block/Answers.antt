@@ -1,5 +1,9 @@
 use Rattle.std.proofs.Common.{rules}
+use Rattle.rb_outside.proofs.Known.{appends_join}
+use Rattle.rb_run.proofs.Texts.{part-last}
 use Rattle.rb_run.proofs.report.write_block.Goals as goal
 
 pub returns-clause-part : goal.returns-clause-part
-returns-clause-part g c = let a = c.write_epochs.ensures in let b = c.in_ok-write_epochs.ensures in let d = c.write_ports.ensures.part in let e = c.as_slice.ensures.value in ?
+returns-clause-part g c =
+    part-last _ _ _ _ _ _ (appends_join _ _ _ _ _ (rw c.as_slice.ensures.value at c.in_ok-write_epochs.ensures.all) (rw c.as_slice-2.ensures.value at c.in_ok-write_convicted.ensures.all))
+    (rw c.as_slice-3.ensures.value at c.write_ports.ensures.part)

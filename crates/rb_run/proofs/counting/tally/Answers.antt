@@ -1,0 +1,53 @@
+use Rattle.std.proofs.Common.{◌≡◌, None, Some, refl, sym, ◌∙◌, rules, arith}
+use Rattle.rb_book.specs.Records.{record_of}
+use Rattle.rb_run.specs.Runs.{end_at}
+use Rattle.rb_run.proofs.Counted.{all-counted, none-counted, one-counted}
+use Rattle.rb_run.proofs.UnderWay.{ends-so, few-turns, goes}
+use Rattle.rb_run.proofs.counting.tally.Goals as goal
+
+pub loop-passed-init : goal.loop-passed-init
+loop-passed-init g c = record {
+  counted = none-counted c.args.world.now (g.D.Drive.is_plain c.args.drive.now) (g.D.Drive.told c.args.drive.now) _ refl c.requires;
+  few = omega arith;
+  bus = refl;
+  stays = refl;
+}
+
+pub returns-in-Some-clause-totals : goal.returns-in-Some-clause-totals
+returns-in-Some-clause-totals g c =
+    let is = c.loop-passed.invariant.counted in
+    let ends : end_at (record_of c.next-turn.result) ≡ Some c.in-Some.ending = sym c.ending_at.ensures ∙ c.in-Some.is in
+    all-counted _ _ _ _ _ _ _ _ _ _ c.next-turn.result c.in-Some.ending is (goes c.args.world.now.bus (g.D.Drive.is_plain c.args.drive.now) (g.D.Drive.is_plain c.loop-passed.drive) (g.D.Drive.told c.args.drive.now) (g.D.Drive.told c.loop-passed.drive)
+      (g.D.Drive.told c.next-turn.new.self) c.loop-passed.world c.next-turn.new.world is.turns c.next-turn.result is.given c.loop-passed.invariant.stays
+      c.next-turn.ensures.plain c.next-turn.ensures.alike c.next-turn.ensures.bus c.next-turn.ensures.told) c.count-totals.ensures.counted ends
+
+pub returns-in-Some-clause-ending : goal.returns-in-Some-clause-ending
+returns-in-Some-clause-ending g c =
+    let is = c.loop-passed.invariant.counted in
+    let ends : end_at (record_of c.next-turn.result) ≡ Some c.in-Some.ending = sym c.ending_at.ensures ∙ c.in-Some.is in
+    ends-so _ _ _ _ _ is.turns c.next-turn.result c.in-Some.ending (goes c.args.world.now.bus (g.D.Drive.is_plain c.args.drive.now) (g.D.Drive.is_plain c.loop-passed.drive) (g.D.Drive.told c.args.drive.now) (g.D.Drive.told c.loop-passed.drive)
+      (g.D.Drive.told c.next-turn.new.self) c.loop-passed.world c.next-turn.new.world is.turns c.next-turn.result is.given c.loop-passed.invariant.stays
+      c.next-turn.ensures.plain c.next-turn.ensures.alike c.next-turn.ensures.bus c.next-turn.ensures.told) ends
+
+pub loop-passed-preserved : goal.loop-passed-preserved
+loop-passed-preserved g c =
+    let is = c.loop-passed.invariant.counted in
+    let going : end_at (record_of c.next-turn.result) ≡ None = sym c.ending_at.ensures ∙ c.in_default.is in
+    let more = c.count-totals.ensures.few in
+    let few = c.loop-passed.invariant.few in
+    record {
+      counted = one-counted _ _ _ _ _ _ _ _ _ _ c.next-turn.result is (goes c.args.world.now.bus (g.D.Drive.is_plain c.args.drive.now) (g.D.Drive.is_plain c.loop-passed.drive) (g.D.Drive.told c.args.drive.now) (g.D.Drive.told c.loop-passed.drive)
+      (g.D.Drive.told c.next-turn.new.self) c.loop-passed.world c.next-turn.new.world is.turns c.next-turn.result is.given c.loop-passed.invariant.stays
+      c.next-turn.ensures.plain c.next-turn.ensures.alike c.next-turn.ensures.bus c.next-turn.ensures.told) c.count-totals.ensures.counted going;
+      few = omega (arith, more, few);
+      bus = c.next-turn.ensures.bus ∙ c.loop-passed.invariant.bus;
+      stays = c.next-turn.ensures.stays ∙ c.loop-passed.invariant.stays;
+    }
+
+pub unreachable-requires : goal.unreachable-requires
+unreachable-requires g c =
+    let is = c.loop-passed.invariant.counted in
+    let few = few-turns _ _ _ _ _ is.turns _ is.given in
+    let many = is.many in
+    let past = c.loop-passed-test.false in
+    absurd (omega (arith, few, many, past))
