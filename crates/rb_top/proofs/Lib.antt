@@ -1,3 +1,4 @@
 pub mod Writing
 pub mod Rest
-pub mod Serving
+pub mod FormAnswers
+pub mod Summing

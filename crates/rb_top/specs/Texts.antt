@@ -12,9 +12,9 @@ use Rattle.rb_run.specs.declared.ending.Ending.TheVariants.{Ended, Breach}
 use Rattle.rb_run.specs.declared.totals.Totals.{Totals}
 
 -- the four numbers of a run, a line each
-abbrev pub summary_of : Totals → List ℕ
+unfoldable pub summary_of : Totals → List ℕ
 summary_of totals =
-    summary_text 0 totals.frames ++ summary_text 1 totals.deliveries ++ summary_text 2 totals.convicted ++ summary_text 3 totals.spread
+    summary_text 0 totals.frames ++ (summary_text 1 totals.deliveries ++ (summary_text 2 totals.convicted ++ summary_text 3 totals.spread))
 
 -- the summary of these records where they end so: none with a breach
 abbrev pub summary_with : Ending → List Record → List ℕ
@@ -22,5 +22,5 @@ summary_with Ended records = summary_of (tally_of records)
 summary_with Breach records = []
 
 -- the text of the generated scenario: its lines, one after another
-abbrev pub generated_text : ℕ → ℕ → List ℕ
+unfoldable pub generated_text : ℕ → ℕ → List ℕ
 generated_text seed frames = flat_map (λ line. line) (lines_of (generated seed frames))

@@ -7,6 +7,9 @@ mod generating;
 mod lines;
 mod reading;
 mod running;
+mod serving;
 pub mod status;
+pub mod top;
 
 pub use status::Status;
+pub use top::run_robus;

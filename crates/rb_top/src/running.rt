@@ -1,20 +1,22 @@
 //! Runs that are told to their end: as a report, or as four numbers.
-ghost use Rattle.std.specs.Prelude.{◌≡◌, ◌++◌, OnOk, OnErr};
+ghost use Rattle.std.specs.Prelude.{◌≡◌, ◌≤◌, OnOk, OnErr};
 ghost use Rattle.std.specs.Io.KnownBytes.{Appends};
 ghost use Rattle.rb_outside.specs.Bytes.{AppendsPart};
 ghost use Rattle.rb_outside.specs.Causes.{HasCause, Rose};
 ghost use Rattle.rb_rules.specs.Lawful.{IsLawful};
+ghost use Rattle.rb_report.specs.Report.{summary_text};
 ghost use Rattle.rb_scenario.specs.Acceptance.{as_scenario};
 ghost use Rattle.rb_run.specs.Runs.{WritesPart};
-ghost use Rattle.rb_gen.specs.Generated.{generated};
-ghost use Rattle.rb_top.specs.Answers.{IsSummary, status_of};
-ghost use Rattle.rb_top.specs.Serving.{IsOfRun, IsReported};
+ghost use Rattle.rb_top.specs.Answers.{status_of};
+ghost use Rattle.rb_top.specs.Serving.{FailsToSum, IsOfRun, IsReported, IsSummed};
 ghost use Rattle.rb_top.specs.Statuses.{HasEnded};
 ghost use Rattle.rb_top.specs.Texts.{summary_of};
+ghost use Rattle.rb_top.specs.Words.{AreNumbers};
 
 use crate::lines::write_line;
 use crate::status::Status;
 use rb_base::OutOfMemory;
+use rb_gen::generate;
 use rb_outside::{Failed, Sink};
 use rb_port::Apps;
 use rb_report::summary_line;
@@ -60,14 +62,61 @@ pub(crate) fn report<K: Sink, D: Drive>(
     }
 }
 
+// Writes one of the four numbers of a run.
+fn write_number<K: Sink>(which: u8, value: u64, output: &mut K) -> Result<(), Failed>
+    requires { which ≤ 3 }
+    ensures all { OnOk result (Appends (K.held output.old) (K.held output.new) (summary_text which value)) }
+    ensures part { OnErr result (AppendsPart (K.held output.old) (K.held output.new) (summary_text which value)) }
+    ensures cause { HasCause (K.faults output.old) (K.faults output.new) result }
+{
+    write_line(output, &summary_line(which, value))
+}
+
 // Writes the four numbers of a run, a line each.
 fn write_summary<K: Sink>(totals: &Totals, output: &mut K) -> Result<(), Failed>
     ensures all { OnOk result (Appends (K.held output.old) (K.held output.new) (summary_of totals.now)) }
     ensures part { OnErr result (AppendsPart (K.held output.old) (K.held output.new) (summary_of totals.now)) }
     ensures cause { HasCause (K.faults output.old) (K.faults output.new) result }
 {
-    write_line(output, &summary_line(0, u64::from(totals.frames)))?;
-    write_line(output, &summary_line(1, totals.deliveries))?;
-    write_line(output, &summary_line(2, u64::from(totals.convicted)))?;
-    write_line(output, &summary_line(3, totals.spread))
+    write_number(0, totals.frames as u64, output)?;
+    write_number(1, totals.deliveries, output)?;
+    write_number(2, totals.convicted as u64, output)?;
+    write_number(3, totals.spread, output)
+}
+
+/// Opens the generated run of a seed and a number of frames, and writes its four numbers, or nothing where it ends with a breach.
+pub(crate) fn stress<K: Sink, D: Drive>(
+    alloc: Global,
+    seed: u64,
+    frames: u32,
+    output: &mut K,
+    apps: &Apps,
+    drive: &mut D,
+) -> Status
+    requires { AreNumbers seed frames }
+    ensures ended { HasEnded result
+        → IsSummed seed frames result (D.is_plain drive.old) (D.told drive.old) (D.told drive.new) (K.held output.old) (K.held output.new) }
+    ensures part { result ≡ Status.WriteFault
+        → FailsToSum seed frames (D.is_plain drive.old) (D.told drive.old) (D.told drive.new) (K.held output.old) (K.held output.new) }
+    ensures cause { result ≡ Status.WriteFault → Rose (K.faults output.old) (K.faults output.new) }
+    ensures unopened { result ≡ Status.OutOfMemory → (output.new ≡ output.old) × (drive.new ≡ drive.old) }
+    ensures breach { result ≡ Status.Breach → output.new ≡ output.old }
+    ensures one_of { IsOfRun result }
+{
+    let scenario = match generate(alloc, seed, frames) {
+        Ok(scenario) => scenario,
+        Err(OutOfMemory) => return Status::OutOfMemory,
+    };
+    let mut world = match World::open(alloc, scenario) {
+        Ok(world) => world,
+        Err(OutOfMemory) => return Status::OutOfMemory,
+    };
+    let (ending, totals) = tally(&mut world, apps, drive);
+    match ending {
+        Ending::Ended => match write_summary(&totals, output) {
+            Ok(()) => Status::Done,
+            Err(Failed) => Status::WriteFault,
+        },
+        Ending::Breach => Status::Breach,
+    }
 }

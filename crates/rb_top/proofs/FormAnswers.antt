@@ -1,5 +1,5 @@
 -- The answers for a form, from what came of its input and of its run.
-use Rattle.std.proofs.Common.{◌≡◌, ℕ, ◌≤◌, Bool, List, Option, inl, inr, refl, sym, subst}
+use Rattle.std.proofs.Common.{◌≡◌, ℕ, ◌≤◌, ◌⊎◌, Bool, List, [], Option, inl, inr, refl, sym, subst}
 use Rattle.std.specs.Io.KnownBytes.{Appends}
 use Rattle.rb_outside.specs.Bytes.{AppendsPart, ReadsToEnd}
 use Rattle.rb_outside.specs.Causes.{Rose}
@@ -18,7 +18,7 @@ use Rattle.rb_top.specs.CheckText.{check_text}
 use Rattle.rb_top.specs.Inputs.{BreaksRule, IsNeverUnread, IsRead, IsRefusedWith, IsTextOf, IsUnread, IsUnreadOver, scenario_limit}
 use Rattle.rb_top.specs.Reading.{ReadsNone, ReadsScenario}
 use Rattle.rb_top.specs.Serving.{Answers, FailsToSum, IsOfRun, IsOfText, IsReported, IsSummed}
-use Rattle.rb_top.specs.Statuses.{HasEnded, MayRefuse}
+use Rattle.rb_top.specs.Statuses.{HasEnded, MayRefuse, RunsNothing, WritesNothing}
 use Rattle.rb_top.specs.Texts.{generated_text}
 
 -- a form that reads a scenario
@@ -76,6 +76,28 @@ pub record Reports (accepted : Accepted) (status : Status) (held held' : Option 
   pub cause : status ≡ WriteFault → Rose writes writes'
   pub one_of : IsOfRun status
 
+-- where such a run wrote nothing it was not opened
+pub is_memory : (status : Status) → IsOfRun status → WritesNothing status → status ≡ OutOfMemory
+is_memory Done one_of h = absurd h
+is_memory Breach one_of h = absurd h
+is_memory Usage one_of h = absurd one_of
+is_memory Refused one_of h = absurd h
+is_memory TooLong one_of h = absurd one_of
+is_memory ReadFault one_of h = absurd one_of
+is_memory WriteFault one_of h = absurd h
+is_memory OutOfMemory one_of h = refl
+
+-- so where nothing was asked of the drive
+pub is_memory_only : (status : Status) → IsOfRun status → RunsNothing status → status ≡ OutOfMemory
+is_memory_only Done one_of h = absurd h
+is_memory_only Breach one_of h = absurd h
+is_memory_only Usage one_of h = absurd one_of
+is_memory_only Refused one_of h = absurd one_of
+is_memory_only TooLong one_of h = absurd one_of
+is_memory_only ReadFault one_of h = absurd one_of
+is_memory_only WriteFault one_of h = absurd h
+is_memory_only OutOfMemory one_of h = refl
+
 no_run : (status : Status) (s : Status) → (IsOfRun s → ⊥) → IsOfRun status → ¬ (status ≡ s)
 no_run status s never one_of e = let P : Status → Type 0 = λ x. IsOfRun x in never (subst P e one_of)
 
@@ -115,6 +137,15 @@ pub record Writes (text : List ℕ) (status : Status) (held held' : Option (List
   pub part : status ≡ WriteFault → AppendsPart held held' text
   pub cause : status ≡ WriteFault → Rose writes writes'
   pub one_of : IsOfText status
+
+pub of_two : (status : Status) → (status ≡ Done) ⊎ (status ≡ WriteFault) → IsOfText status
+of_two status (inl e) = let P : Status → Type 0 = λ s. IsOfText s in subst P (sym e) tt
+of_two status (inr e) = let P : Status → Type 0 = λ s. IsOfText s in subst P (sym e) tt
+
+-- nothing else is answered
+pub not_two : (status : Status) → (status ≡ Done) ⊎ (status ≡ WriteFault) → WritesNothing status → ⊥
+not_two status (inl e) h = let P : Status → Type 0 = λ s. WritesNothing s in subst P e h
+not_two status (inr e) h = let P : Status → Type 0 = λ s. WritesNothing s in subst P e h
 
 only_done : (status : Status) → IsOfText status → HasEnded status → status ≡ Done
 only_done Done one_of h = refl
