@@ -2,3 +2,6 @@ pub mod Writing
 pub mod Rest
 pub mod FormAnswers
 pub mod Summing
+pub mod OneForm
+pub mod Promised
+pub mod Completeness

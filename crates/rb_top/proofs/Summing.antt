@@ -4,6 +4,7 @@ use Rattle.std.specs.Io.KnownBytes.{Appends}
 use Rattle.rb_outside.specs.Bytes.{AppendsPart}
 use Rattle.rb_outside.proofs.Known.{appends_none}
 use Rattle.rb_rules.specs.Goodness.{Scenario}
+use Rattle.rb_rules.specs.Lawful.{IsLawful}
 use Rattle.rb_gen.specs.Generated.{generated}
 use Rattle.rb_book.specs.declared.turn.Turn.{Turn}
 use Rattle.rb_run.specs.Runs.{EndsWith, TalliesAll}
@@ -18,6 +19,7 @@ use Rattle.rb_top.specs.Texts.{summary_of}
 -- the generated run has been told
 pub record IsToldOf (seed frames : ℕ) (sc : Scenario) (ended : Ending) (is_plain : Bool) (told told' : Option (List Turn)) (totals : Totals) : Type 0 where
   pub generates : sc ≡ generated seed frames
+  pub lawful : IsLawful sc
   pub tallies : TalliesAll sc is_plain told told' totals
   pub ends : EndsWith sc ended
 
@@ -30,6 +32,7 @@ due seed frames sc ended is_plain told told' totals is t =
     let R : Ending → Type 0 = λ e. EndsWith (generated seed frames) e in
     record {
       turns = all.turns;
+      lawful = subst IsLawful t.generates t.lawful;
       given = all.given;
       all = all.all;
       ends = record { ending = ending.Ended; ends = subst R is (subst Q t.generates t.ends); is = refl };
@@ -60,6 +63,7 @@ not_summed seed frames sc ended is_plain told told' totals held is t =
       text = [];
       due = record {
         turns = all.turns;
+        lawful = subst IsLawful t.generates t.lawful;
         given = all.given;
         all = all.all;
         ends = record { ending = ending.Breach; ends = subst R is (subst Q t.generates t.ends); is = refl };

@@ -57,6 +57,7 @@ pub record IsReport (input : List ℕ) (is_plain : Bool) (told told' : Option (L
 -- `stress` is due the summary of the turns that the drive gave: all turns of the generated scenario. With a breach that is nothing
 pub record IsSummary (seed frames : ℕ) (is_plain : Bool) (told told' : Option (List Turn)) (status : Status) (text : List ℕ) : Type 0 where
   pub turns : List Turn
+  pub lawful : IsLawful (generated seed frames)
   pub given : AreGiven (generated seed frames) is_plain told told' turns
   pub all : AreAll (generated seed frames) turns
   pub ends : EndsAs (generated seed frames) status

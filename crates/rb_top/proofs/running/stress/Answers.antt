@@ -1,4 +1,5 @@
-use Rattle.std.proofs.Common.{◌∙◌}
+use Rattle.std.proofs.Common.{◌∙◌, subst, sym}
+use Rattle.rb_rules.specs.Lawful.{IsLawful}
 use Rattle.rb_scenario.specs.Acceptance.{as_scenario}
 use Rattle.rb_run.proofs.Opened.{just-opened}
 use Rattle.rb_top.proofs.Summing.{not_summed, summed, summed_in_part}
@@ -12,6 +13,7 @@ returns-in-Ok-write_summary-clause-ended g c h =
     summed c.args.seed c.args.frames c.in-Ok-open.world.bus c.tally-ending.result.0 _ _ _ c.tally-ending.result.1 _ _ c.in-Ended.is
     (record {
       generates = c.in-Ok-open.ensures.bus ∙ c.in-Ok.ensures.scenario;
+      lawful = subst IsLawful (sym c.in-Ok-open.ensures.bus) c.in-Ok.ensures.lawful;
       tallies = c.tally-ending.ensures.totals;
       ends = c.tally-ending.ensures.ending;
     })
@@ -22,6 +24,7 @@ returns-in-Ended-clause-part g c h =
     summed_in_part c.args.seed c.args.frames c.in-Ok-open.world.bus c.tally-ending.result.0 _ _ _ c.tally-ending.result.1 _ _ c.in-Ended.is
     (record {
       generates = c.in-Ok-open.ensures.bus ∙ c.in-Ok.ensures.scenario;
+      lawful = subst IsLawful (sym c.in-Ok-open.ensures.bus) c.in-Ok.ensures.lawful;
       tallies = c.tally-ending.ensures.totals;
       ends = c.tally-ending.ensures.ending;
     })
@@ -32,6 +35,7 @@ returns-clause-ended g c h =
     not_summed c.args.seed c.args.frames c.in-Ok-open.world.bus c.tally-ending.result.0 _ _ _ c.tally-ending.result.1 _ c.in-Breach.is
     (record {
       generates = c.in-Ok-open.ensures.bus ∙ c.in-Ok.ensures.scenario;
+      lawful = subst IsLawful (sym c.in-Ok-open.ensures.bus) c.in-Ok.ensures.lawful;
       tallies = c.tally-ending.ensures.totals;
       ends = c.tally-ending.ensures.ending;
     })
