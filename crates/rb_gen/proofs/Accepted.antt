@@ -196,11 +196,10 @@ table_breaks_no_rule drawn frames some most =
     (ap broken_by (same_scenario drawn frames) ∙ unbroken drawn frames))))
 
 -- the table of a scenario's text says the scenario
-pub said_by_its_table : (a : Read) (drawn : List ℕ) (frames : ℕ) → as_scenario a ≡ scenario_of drawn frames → a.built ≡ false → 1 ≤ frames → frames ≤ 4096
+pub said_by_its_table : (a : Read) (drawn : List ℕ) (frames : ℕ) → as_scenario a ≡ scenario_of drawn frames → 1 ≤ frames → frames ≤ 4096
     → Says (table_of (as_scenario a)) a
 unfolding table_of
-said_by_its_table a drawn frames is built some most = record {
+said_by_its_table a drawn frames is some most = record {
   unbroken = subst (λ sc. first_broken (table_of sc) ≡ None) (sym is) (table_breaks_no_rule drawn frames some most);
   scenario = is ∙ sym (ap (λ sc. scenario_said (table_of sc)) is ∙ same_scenario drawn frames);
-  served = built;
 }

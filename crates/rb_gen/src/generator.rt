@@ -232,6 +232,5 @@ pub fn generate(alloc: Global, seed: u64, frames: u32) -> Result<Scenario, OutOf
         biu_onset,
         rmu_onset,
         says: SayList::new(says),
-        built: false,
     })
 }

@@ -1,5 +1,5 @@
 -- The lines of a report, as bytes.
-use Rattle.std.specs.Prelude.{ℕ, ℤ, ◌≡◌, ◌-◌, ◌/◌, ◌%◌, ◌≤◌, Bool, true, false, List, [], ◌∷◌, ◌++◌, length, slice_index_or, Option, Some, None, is_some, codes, if◌then◌else◌}
+use Rattle.std.specs.Prelude.{ℕ, ℤ, ◌≡◌, ◌≢◌, ◌-◌, ◌/◌, ◌%◌, ◌≤◌, Bool, true, false, List, [], ◌∷◌, ◌++◌, length, slice_index_or, Option, Some, None, is_some, codes, if◌then◌else◌}
 use Rattle.std.specs.Char.{digit_char}
 use Rattle.std.specs.Fmt.{decimal, signed_decimal}
 use Rattle.std.specs.List.{flat_map}
@@ -82,6 +82,10 @@ rule name = record { name = name; has_number = false }
 abbrev pub rule_with_number : List ℕ → Refusal
 rule_with_number name = record { name = name; has_number = true }
 
+-- no rule has the code in this place
+abbrev pub no_rule : Refusal
+no_rule = rule []
+
 -- the refusals of a scenario, by code from 1
 abbrev pub scenario_refusals : List Refusal
 scenario_refusals =
@@ -97,7 +101,7 @@ scenario_refusals =
     ∷ rule (codes "SayOfGood")
     ∷ rule (codes "TooMany")
     ∷ rule (codes "NoSuchNode")
-    ∷ rule (codes "NotBuilt")
+    ∷ no_rule
     ∷ rule (codes "NoSuchMember")
     ∷ []
 
@@ -123,6 +127,7 @@ refusal_of of_log code = slice_index_or (refusals of_log) (code - 1) (rule [])
 pub record IsRefusal (code : ℕ) (detail : Option ℕ) (of_log : Bool) : Type 0 where
   pub least : 1 ≤ code
   pub most : code ≤ length (refusals of_log)
+  pub used : code ≢ 13
   pub number : is_some detail ≡ (refusal_of of_log code).has_number
 
 -- refused CODE NAME, and the number where there is one

@@ -1,5 +1,5 @@
 //! The names that stand in lines.
-ghost use Rattle.std.specs.Prelude.{◌≡◌, ◌≤◌, true, false, [], length, slice_index_or};
+ghost use Rattle.std.specs.Prelude.{◌≡◌, ◌≢◌, ◌≤◌, true, false, [], length, slice_index_or};
 ghost use Rattle.rb_report.specs.Report.{cause_text, log_refusals, refusal_of, refusals, scenario_refusals, summaries};
 
 use rb_rules::Cause;
@@ -32,6 +32,7 @@ pub(crate) fn summary_name(which: u8) -> &'static str
 pub(crate) fn refusal_name(code: u8, of_log: bool) -> &'static str
     requires least { 1 ≤ code }
     requires most { code ≤ length (refusals of_log) }
+    requires used { code ≢ 13 }
     ensures name { result.now ≡ (refusal_of of_log code).name }
     ensures short { length result.now ≤ 12 }
 {
@@ -45,6 +46,7 @@ pub(crate) fn refusal_name(code: u8, of_log: bool) -> &'static str
 fn scenario_refusal(code: u8) -> &'static str
     requires least { 1 ≤ code }
     requires most { code ≤ length scenario_refusals }
+    requires used { code ≢ 13 }
     ensures name { result.now ≡ (refusal_of false code).name }
     ensures short { length result.now ≤ 12 }
 {
@@ -61,7 +63,6 @@ fn scenario_refusal(code: u8) -> &'static str
         10 => "SayOfGood",
         11 => "TooMany",
         12 => "NoSuchNode",
-        13 => "NotBuilt",
         _ => "NoSuchMember",
     }
 }

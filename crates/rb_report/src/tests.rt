@@ -33,7 +33,6 @@ fn lines(rt: HostRuntime) {
             ),
             "breach 0 6 2 TwoSided\n",
         ),
-        (refused_line(13, None, false), "refused 13 NotBuilt\n"),
         (refused_line(14, None, false), "refused 14 NoSuchMember\n"),
         (refused_line(6, Some(7), false), "refused 6 PlanFails 7\n"),
         (

@@ -1,12 +1,10 @@
 -- Which documents are accepted, and why one is refused: by the first rule that is broken anywhere.
-use Rattle.std.specs.Prelude.{ℕ, ◌≡◌, ◌⊎◌, Bool, true, false, not, ◌&&◌, ◌==◌, List, take, Option, Some, None, is_none, length, IsUtf8, ⊤, codes}
-use Rattle.std.specs.List.{list_all, list_any}
+use Rattle.std.specs.Prelude.{ℕ, ◌≡◌, ◌⊎◌, Bool, true, false, not, List, Option, Some, None, length, IsUtf8, ⊤}
 use Rattle.toml.specs.Data.{Members}
 use Rattle.toml.specs.Parse.{parse_document}
 use Rattle.rb_rules.specs.Goodness.{Scenario}
 use Rattle.rb_rules.specs.Plan.{first_failing}
 use Rattle.rb_document.specs.Forms.{has_unknown_key, has_wrong_form, lacks_key}
-use Rattle.rb_document.specs.Walk.{has_key}
 use Rattle.rb_entries.specs.declared.refusal.Refusal.{Refusal}
 use Rattle.rb_entries.specs.declared.refusal.Refusal.TheVariants.{NotToml, MissingKey, UnknownKey, WrongType, OutOfRange, PlanFails, ClockBounds, DelayBounds, StartApart, SayOfGood, TooMany, NoSuchNode, OutOfMemory}
 use Rattle.rb_scenario.specs.declared.scenario.Scenario.{Scenario as Accepted}
@@ -42,21 +40,6 @@ first_broken t =
     (or_else (is_in_range t) OutOfRange
     (broken_by (scenario_of t)))))
 
--- the onset, if there is one, is at the start
-abbrev pub is_from_start : Option (ℕ × ℕ) → Bool
-is_from_start None = true
-is_from_start (Some onset) = (onset.0 == 0) && (onset.1 == 0)
-
--- only RMUs are faulty, from the start on, and one of them is not
-abbrev pub are_faults_served : ℕ → List (Option (ℕ × ℕ)) → List (Option (ℕ × ℕ)) → Bool
-are_faults_served rmus biu rmu = list_all is_none biu && list_all is_from_start rmu && list_any is_none (take rmus rmu)
-
--- `run` serves the scenario: nobody's request was asked for, every application is the first, nothing is said, and there is one frame
-abbrev pub is_served : Bool → Scenario → Bool
-is_served has_requests sc =
-    not has_requests && (sc.frames == 1) && (length sc.says == 0) && list_all (λ app. app == 0) sc.apps
-    && are_faults_served sc.sizes.rmus sc.biu_onsets sc.rmu_onsets
-
 -- the scenario is refused: for want of memory, or by the first rule that it breaks
 abbrev pub IsBrokenBy : Scenario → Refusal → Type 0
 IsBrokenBy sc why = (why ≡ OutOfMemory) ⊎ (broken_by sc ≡ Some why)
@@ -85,7 +68,6 @@ as_scenario a = record {
 pub record Says (document : Members) (a : Accepted) : Type 0 where
   pub unbroken : first_broken document ≡ None
   pub scenario : as_scenario a ≡ scenario_of document
-  pub served : a.built ≡ is_served (has_key (codes "requests") document) (scenario_of document)
 
 -- the bytes are the text of a document that says the scenario
 pub record IsAccepted (bytes : List ℕ) (a : Accepted) : Type 0 where

@@ -1,8 +1,7 @@
 //! Reading a document.
-ghost use Rattle.std.specs.Prelude.{◌≡◌, ◌⊎◌, Some, None, true, codes, IfErr, IfOk};
+ghost use Rattle.std.specs.Prelude.{◌≡◌, ◌⊎◌, Some, None, true, IfErr, IfOk};
 ghost use Rattle.toml.specs.View.{table_view};
-ghost use Rattle.rb_document.specs.Walk.{has_key};
-ghost use Rattle.rb_scenario.specs.Acceptance.{IsAccepted, IsBrokenBy, IsRefused, Says, broken_by, first_broken, is_served, as_scenario};
+ghost use Rattle.rb_scenario.specs.Acceptance.{IsAccepted, IsBrokenBy, IsRefused, Says, broken_by, first_broken, as_scenario};
 ghost use Rattle.rb_entries.specs.Bus.{IsBus, bus_of};
 ghost use Rattle.rb_rules.specs.Lawful.{IsLawful};
 ghost use Rattle.rb_scenario.specs.Reading.{fits_bus, scenario_of, scenario_on};
@@ -11,9 +10,7 @@ use crate::hosts::{apps_of, requests_of, words_of};
 use crate::reading::{delays_of, fits_bus, sayings_of};
 use crate::rules::{are_few, start_together};
 use crate::scenario::{ClockList, SayList, Scenario};
-use crate::served::is_served;
 use rb_base::{Biu, OutOfMemory, Rmu};
-use rb_document::walk::has_key;
 use rb_document::{has_unknown_key, has_wrong_form, lacks_key};
 use rb_entries::bus::{Bus, bus_in};
 use rb_entries::clocks::clocks_of;
@@ -29,8 +26,6 @@ pub(crate) fn scenario_on(alloc: Global, bus: &Bus, table: &Table) -> Result<Sce
     requires bus { IsBus bus.now }
     requires fits { fits_bus bus.now (table_view table.now) ≡ true }
     ensures scenario { IfOk result (λ s. as_scenario s ≡ scenario_on bus.now (table_view table.now)) }
-    ensures served { IfOk result (λ s. s.built
-        ≡ is_served (has_key (codes "requests") (table_view table.now)) (scenario_on bus.now (table_view table.now))) }
     ensures unbroken { IfOk result (λ _. broken_by (scenario_on bus.now (table_view table.now)) ≡ None) }
     ensures refused { IfErr result (IsBrokenBy (scenario_on bus.now (table_view table.now))) }
 {
@@ -62,28 +57,17 @@ pub(crate) fn scenario_on(alloc: Global, bus: &Bus, table: &Table) -> Result<Sce
         Ok(delays) => delays,
         Err(OutOfMemory) => return Err(Refusal::OutOfMemory),
     };
-    let apps = apps_of(table);
-    let built = is_served(
-        has_key(table, "requests"),
-        bus.frames,
-        says.len(),
-        &apps,
-        bus.shape.rmu(),
-        &biu_onset,
-        &rmu_onset,
-    );
     Ok(Scenario {
         plan,
         frames: bus.frames,
         requests: requests_of(bus.shape.biu(), table),
         words: words_of(bus.shape.biu(), table),
-        apps,
+        apps: apps_of(table),
         clocks: ClockList::new(clocks),
         delays,
         biu_onset,
         rmu_onset,
         says: SayList::new(says),
-        built,
     })
 }
 

@@ -6,7 +6,6 @@ mod hosts;
 mod reading;
 mod rules;
 pub mod scenario;
-mod served;
 
 pub use document::read;
 pub use rb_entries::Refusal;

@@ -110,6 +110,4 @@ pub struct Scenario {
     pub rmu_onset: [Option<(u32, u16)>; 16],
     /// What nodes that are not good say.
     pub says: SayList,
-    /// Whether `run` serves the scenario.
-    pub built: bool,
 }

@@ -271,7 +271,7 @@ fn too_many_entries_are_refused(rt: HostRuntime) -> Result<(), Fail> {
 }
 
 #[test]
-fn served_documents_are_accepted(rt: HostRuntime) -> Result<(), Fail> {
+fn documents_without_faults_are_accepted(rt: HostRuntime) -> Result<(), Fail> {
     let alloc = rt.alloc();
     for text in [
         "biu = 1\nrmu = 1\nslots = 1\nframes = 1\nwords = [7]\n",
@@ -282,7 +282,6 @@ fn served_documents_are_accepted(rt: HostRuntime) -> Result<(), Fail> {
         "biu = 4\nrmu = 3\nslots = 8\nframes = 1\nwords = [10, 20, 30, 40]\nfault = []\n",
     ] {
         let scenario = read(alloc, text.as_bytes()).map_err(|_| "refused")?;
-        assert!(rt; scenario.built, "{text:?}");
         assert_eq!(rt; scenario.frames, 1, "{text:?}");
         assert_eq!(rt; scenario.says.len(), 0, "{text:?}");
     }
@@ -295,7 +294,6 @@ fn all_keys_are_read(rt: HostRuntime) -> Result<(), Fail> {
     let text =
         "biu = 4\nrmu = 3\nslots = 8\nframes = 1\nwords = [10, 20, 30, 40]\nversion = 2\nbus = 5\nprobation = 4096\n[[link]]\nfrom = \"B0\"\nto = \"R\"\ndelay = 5000\nframes = [0, 0]\nslots = [0, 19]\nstages = [1, 3]\n[[fault]]\nnode = \"R2\"\nframe = 0\nslot = 0\n[[fault]]\nnode = \"B1\"\nframe = 0\nslot = 5\n[[say]]\nfrom = \"B1\"\nto = \"R0\"\nframes = [0, 0]\nslots = [5, 6]\nstages = [1, 1]\noffset = 14\nword = 4294967295\n[[say]]\nfrom = \"R2\"\nto = \"B\"\nframes = [0, 0]\nslots = [19, 19]\nstages = [4, 4]\noffset = 38\nearly = 9998\nraw = \"0aFf\"\n";
     let scenario = read(alloc, text.as_bytes()).map_err(|_| "refused")?;
-    assert!(rt; !scenario.built);
     assert_eq!(rt; scenario.plan.shape().biu(), 4);
     assert_eq!(rt; scenario.plan.plan().version, Version::Two { bus: 5 });
     assert_eq!(rt; scenario.plan.plan().probation, 4096);

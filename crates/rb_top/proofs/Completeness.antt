@@ -1,31 +1,30 @@
--- The answers that must come, from the causes of each answer.
-use Rattle.std.proofs.Common.{◌≡◌, ℕ, ◌<◌, ◌≤◌, ◌⊎◌, true, false, List, length, Option, Some, arith, inl, inr, refl, subst, sym, ◌∙◌}
+-- The answers that must come, from all that is said of an answer.
+use Rattle.std.proofs.Common.{◌≡◌, ℕ, ◌<◌, ◌≤◌, ◌⊎◌, true, false, Bool, List, length, Option, Some, None, arith, inl, inr, refl, subst, sym, ◌∙◌, ap}
 use Rattle.rb_outside.specs.Causes.{Rose}
-use Rattle.rb_outside.specs.Bytes.{ReadsToEnd}
+use Rattle.rb_outside.specs.Bytes.{Gave, ReadsToEnd}
 use Rattle.rb_outside.proofs.Known.{gave_within, read_bytes}
+use Rattle.rb_rules.specs.Goodness.{Scenario}
+use Rattle.rb_gen.specs.Generated.{generated}
 use Rattle.rb_scenario.specs.Acceptance.{IsAccepted, IsRefused}
-use Rattle.rb_scenario.proofs.Documents.{accepted_is_toml, accepted_is_unbroken, served_alike}
-use Rattle.rb_scenario.specs.declared.scenario.Scenario.{Scenario}
+use Rattle.rb_scenario.proofs.Documents.{accepted_alike, accepted_is_toml, accepted_is_unbroken}
+use Rattle.rb_scenario.specs.declared.scenario.Scenario.{Scenario as Accepted}
 use Rattle.rb_entries.specs.declared.refusal.Refusal.{Refusal}
 use Rattle.rb_entries.specs.declared.refusal.Refusal.TheVariants as rule
+use Rattle.rb_book.specs.declared.turn.Turn.{Turn}
+use Rattle.rb_run.specs.declared.ending.Ending.{Ending}
 use Rattle.rb_top.specs.declared.form.Form.{Form}
-use Rattle.rb_top.specs.declared.form.Form.TheVariants.{Run, Check}
+use Rattle.rb_top.specs.declared.form.Form.TheVariants.{Run, Check, Gen, Stress}
 use Rattle.rb_top.specs.declared.status.Status.{Status}
 use Rattle.rb_top.specs.declared.status.Status.TheVariants.{Done, Breach, Usage, Refused, TooLong, ReadFault, WriteFault, OutOfMemory}
-use Rattle.rb_top.specs.Answers.{Completes, ExceedsExactly, HasCode, IsAnswer, IsDue, IsRefusedFor, IsServed, MayRefuse, RefusalIsWritten, ServedIsWritten, Why, WriteFails, scenario_limit}
-use Rattle.rb_top.specs.Answers.IsAnswer.{served, unbuilt}
-use Rattle.rb_top.specs.Answers.IsDue.{of_scenario, of_refusal}
-use Rattle.rb_top.specs.Answers.Why.{Breaks, NotBuilt}
+use Rattle.rb_top.specs.Answers.{Completes, Ends, EndsAs, IsDue, IsEnd, IsLeft, NothingFails, Refuses, status_of}
+use Rattle.rb_top.specs.Inputs.{BreaksRule, HasCode, IsRead, IsRefusedWith, IsTextOf, IsUnread, limit_of, scenario_limit}
+use Rattle.rb_top.specs.Serving.{Answers}
+use Rattle.rb_top.specs.Statuses.{HasEnded, MayRefuse}
 
--- the text of an accepted scenario is due for its bytes
-pub due_of : (form : Form) (input : List ℕ) (scenario : Scenario) (text : List ℕ) → IsAccepted input scenario → IsAnswer form scenario text → IsDue form input text
-due_of form input scenario text accepted (served s) = of_scenario scenario accepted s
-due_of form input scenario text accepted (unbuilt runs not_built) =
-    let P : Form → Type 0 = λ f. IsRefusedFor f input NotBuilt in
-    of_refusal NotBuilt (subst P (sym runs) (scenario, accepted, not_built))
+-- What excludes what.
 
 -- an accepted input has no refusal with a code
-not_refused : (input : List ℕ) (scenario : Scenario) (why : Refusal) → IsAccepted input scenario → HasCode why → ¬ IsRefused input why
+not_refused : (input : List ℕ) (scenario : Accepted) (why : Refusal) → IsAccepted input scenario → HasCode why → ¬ IsRefused input why
 not_refused input scenario rule.NotToml accepted coded refused = accepted_is_toml input scenario accepted refused
 not_refused input scenario rule.MissingKey accepted coded refused = accepted_is_unbroken input scenario rule.MissingKey accepted refused
 not_refused input scenario rule.UnknownKey accepted coded refused = accepted_is_unbroken input scenario rule.UnknownKey accepted refused
@@ -42,85 +41,153 @@ not_refused input scenario rule.OutOfMemory accepted coded refused =
     let e : false ≡ true = coded in
     cc
 
--- an input that is served isn't refused
-not_both : (form : Form) (input : List ℕ) (scenario : Scenario) (why : Why) → IsAccepted input scenario → IsServed form scenario → ¬ IsRefusedFor form input why
-not_both form input scenario (Breaks why) accepted s refused = not_refused input scenario why accepted refused.0 refused.1
-not_both Run input scenario NotBuilt accepted s refused =
-    let e : true ≡ false = sym s ∙ served_alike input scenario refused.0 accepted refused.1 ∙ refused.2 in
-    cc
-not_both Check input scenario NotBuilt accepted s refused = refused
+breaks_none : (input line : List ℕ) (sc : Scenario) → IsTextOf input sc → ¬ BreaksRule input line
+breaks_none input line sc text breaks = not_refused input text.accepted breaks.rule text.is breaks.coded breaks.broken
 
--- what the answers rest on
-pub record Causes (form : Form) (status : Status) (left left' held held' : Option (List ℕ)) (reads reads' writes writes' : ℕ) : Type 0 where
-  pub done : status ≡ Done → ServedIsWritten form left left' held held'
-  pub refused : status ≡ Refused → RefusalIsWritten form left left' held held'
-  pub too_long : ExceedsExactly status left left'
-  pub read_fault : status ≡ ReadFault → Rose reads reads'
-  pub write_fault : status ≡ WriteFault → WriteFails form left left' held held' writes writes'
-  pub never : ¬ (status ≡ Usage) × ¬ (status ≡ Breach)
+-- the text of one scenario
+same_scenario : (input : List ℕ) (a b : Scenario) → IsTextOf input a → IsTextOf input b → a ≡ b
+same_scenario input a b is_a is_b = sym is_a.shows ∙ accepted_alike input is_a.accepted is_b.accepted is_a.is is_b.is ∙ is_b.shows
 
-same_input : (input : List ℕ) (left' : Option (List ℕ)) (read : List ℕ) (P : List ℕ → Type 0) → ReadsToEnd (Some input) left' read → P read → P input
-same_input input left' read P gave p = subst P (read_bytes input left' read gave) p
+unwrapped : Option Ending → Ending → Ending
+unwrapped None default = default
+unwrapped (Some e) default = e
 
--- where an input is served and refused at once nothing can come
-served_not_refused : (form : Form) (input : List ℕ) (left' held held' : Option (List ℕ)) (scenario : Scenario) → IsAccepted input scenario → IsServed form scenario
-    → ¬ RefusalIsWritten form (Some input) left' held held'
-served_not_refused form input left' held held' scenario accepted s r =
-    not_both form input scenario r.why accepted s (same_input input left' r.input (λ bytes. IsRefusedFor form bytes r.why) r.gave r.refused)
+-- a run ends in one way
+same_end : (sc : Scenario) (a b : Status) → EndsAs sc a → EndsAs sc b → a ≡ b
+unfolding unwrapped
+same_end sc a b is_a is_b =
+    let endings : is_a.ending ≡ is_b.ending = ap (λ o. unwrapped o is_a.ending) (sym is_a.ends ∙ is_b.ends) in
+    is_a.is ∙ ap status_of endings ∙ sym is_b.is
 
-refused_not_served : (form : Form) (input : List ℕ) (left' held held' : Option (List ℕ)) (why : Why) → IsRefusedFor form input why
-    → ¬ ServedIsWritten form (Some input) left' held held'
-refused_not_served form input left' held held' why refused d =
-    not_both form input d.scenario why (same_input input left' d.input (λ bytes. IsAccepted bytes d.scenario) d.gave d.accepted) d.served refused
+-- an input that is refused doesn't end
+not_both : (form : Form) (input line : List ℕ) (end : Status) → IsEnd form input end → ¬ IsRefusedWith form input line
+not_both Run input line end e refused = breaks_none input line e.0 e.1 refused
+not_both Check input line end e refused = breaks_none input line e.0 e.1 refused
+not_both (Gen seed frames) input line end e refused = refused
+not_both (Stress seed frames) input line end e refused = refused
 
-served_ends : (form : Form) (status : Status) (input : List ℕ) (left' held held' : Option (List ℕ)) (reads reads' writes writes' : ℕ) (scenario : Scenario)
-    → Causes form status (Some input) left' held held' reads reads' writes writes' → IsAccepted input scenario → IsServed form scenario → length input ≤ scenario_limit
-    → ¬ Rose reads reads' → ¬ Rose writes writes' → (status ≡ Done) ⊎ (status ≡ OutOfMemory)
-served_ends form Done input left' held held' reads reads' writes writes' scenario c accepted s short no_read no_write = inl refl
-served_ends form Breach input left' held held' reads reads' writes writes' scenario c accepted s short no_read no_write = absurd (c.never.1 refl)
-served_ends form Usage input left' held held' reads reads' writes writes' scenario c accepted s short no_read no_write = absurd (c.never.0 refl)
-served_ends form Refused input left' held held' reads reads' writes writes' scenario c accepted s short no_read no_write =
-    absurd (served_not_refused form input left' held held' scenario accepted s (c.refused refl))
-served_ends form TooLong input left' held held' reads reads' writes writes' scenario c accepted s short no_read no_write =
-    let long : scenario_limit < length input = gave_within input left' scenario_limit (c.too_long.too_long refl) in absurd (omega arith)
-served_ends form ReadFault input left' held held' reads reads' writes writes' scenario c accepted s short no_read no_write = absurd (no_read (c.read_fault refl))
-served_ends form WriteFault input left' held held' reads reads' writes writes' scenario c accepted s short no_read no_write = absurd (no_write (c.write_fault refl).rose)
-served_ends form OutOfMemory input left' held held' reads reads' writes writes' scenario c accepted s short no_read no_write = inr refl
+-- What is known of an answer.
 
-refused_ends : (form : Form) (status : Status) (input : List ℕ) (left' held held' : Option (List ℕ)) (reads reads' writes writes' : ℕ) (why : Why)
-    → Causes form status (Some input) left' held held' reads reads' writes writes' → IsRefusedFor form input why → MayRefuse status
-refused_ends form Done input left' held held' reads reads' writes writes' why c refused = absurd (refused_not_served form input left' held held' why refused (c.done refl))
-refused_ends form Breach input left' held held' reads reads' writes writes' why c refused = absurd (c.never.1 refl)
-refused_ends form Usage input left' held held' reads reads' writes writes' why c refused = absurd (c.never.0 refl)
-refused_ends form Refused input left' held held' reads reads' writes writes' why c refused = tt
-refused_ends form TooLong input left' held held' reads reads' writes writes' why c refused = tt
-refused_ends form ReadFault input left' held held' reads reads' writes writes' why c refused = tt
-refused_ends form WriteFault input left' held held' reads reads' writes writes' why c refused = tt
-refused_ends form OutOfMemory input left' held held' reads reads' writes writes' why c refused = tt
+-- the input that was read is the one that was left
+read_is_left : (form : Form) (left left' : Option (List ℕ)) (input read : List ℕ) → IsLeft (limit_of form) left input → IsRead form left left' read → read ≡ input
+read_is_left Run left left' input read is r =
+    let P : Option (List ℕ) → Type 0 = λ l. ReadsToEnd l left' read in read_bytes input left' read (subst P is r)
+read_is_left Check left left' input read is r =
+    let P : Option (List ℕ) → Type 0 = λ l. ReadsToEnd l left' read in read_bytes input left' read (subst P is r)
+read_is_left (Gen seed frames) left left' input read is r = r ∙ sym is
+read_is_left (Stress seed frames) left left' input read is r = r ∙ sym is
 
-refused_at_once : (form : Form) (status : Status) (input : List ℕ) (left' held held' : Option (List ℕ)) (reads reads' writes writes' : ℕ) (why : Why)
-    → Causes form status (Some input) left' held held' reads reads' writes writes' → IsRefusedFor form input why → length input ≤ scenario_limit
-    → ¬ Rose reads reads' → ¬ Rose writes writes' → (status ≡ Refused) ⊎ (status ≡ OutOfMemory)
-refused_at_once form Done input left' held held' reads reads' writes writes' why c refused short no_read no_write =
-    absurd (refused_not_served form input left' held held' why refused (c.done refl))
-refused_at_once form Breach input left' held held' reads reads' writes writes' why c refused short no_read no_write = absurd (c.never.1 refl)
-refused_at_once form Usage input left' held held' reads reads' writes writes' why c refused short no_read no_write = absurd (c.never.0 refl)
-refused_at_once form Refused input left' held held' reads reads' writes writes' why c refused short no_read no_write = inl refl
-refused_at_once form TooLong input left' held held' reads reads' writes writes' why c refused short no_read no_write =
-    let long : scenario_limit < length input = gave_within input left' scenario_limit (c.too_long.too_long refl) in absurd (omega arith)
-refused_at_once form ReadFault input left' held held' reads reads' writes writes' why c refused short no_read no_write = absurd (no_read (c.read_fault refl))
-refused_at_once form WriteFault input left' held held' reads reads' writes writes' why c refused short no_read no_write = absurd (no_write (c.write_fault refl).rose)
-refused_at_once form OutOfMemory input left' held held' reads reads' writes writes' why c refused short no_read no_write = inr refl
+-- what is due ends so
+ends_so : (form : Form) (input : List ℕ) (is_plain : Bool) (told told' : Option (List Turn)) (status : Status) (text : List ℕ)
+    → IsDue form input is_plain told told' status text → IsEnd form input status
+ends_so Run input is_plain told told' status text due = (due.scenario, due.says, due.ends)
+ends_so Check input is_plain told told' status text due = (due.0.scenario, due.0.says, due.1.done)
+ends_so (Gen seed frames) input is_plain told told' status text due = due.1.done
+ends_so (Stress seed frames) input is_plain told told' status text due = due.ends
 
-pub completes : (form : Form) (status : Status) (left left' held held' : Option (List ℕ)) (reads reads' writes writes' : ℕ)
-    → Causes form status left left' held held' reads reads' writes writes' → Completes form status left reads reads' writes writes'
-completes form status left left' held held' reads reads' writes writes' c =
-    let P : Option (List ℕ) → Type 0 = λ known. Causes form status known left' held held' reads reads' writes writes' in
-    record {
-      served = λ input scenario told accepted s short no_read no_write.
-          served_ends form status input left' held held' reads reads' writes writes' scenario (subst P told c) accepted s short no_read no_write;
-      refused = λ input why told refused. refused_ends form status input left' held held' reads reads' writes writes' why (subst P told c) refused;
-      refused_at_once = λ input why told refused short no_read no_write.
-          refused_at_once form status input left' held held' reads reads' writes writes' why (subst P told c) refused short no_read no_write;
-      no_breach = c.never.1;
-    }
+one_end : (form : Form) (input : List ℕ) (a b : Status) → IsEnd form input a → IsEnd form input b → a ≡ b
+one_end Run input a b is_a is_b =
+    let P : Scenario → Type 0 = λ sc. EndsAs sc a in
+    same_end is_b.0 a b (subst P (same_scenario input is_a.0 is_b.0 is_a.1 is_b.1) is_a.2) is_b.2
+one_end Check input a b is_a is_b = is_a.2 ∙ sym is_b.2
+one_end (Gen seed frames) input a b is_a is_b = is_a ∙ sym is_b
+one_end (Stress seed frames) input a b is_a is_b = same_end (generated seed frames) a b is_a is_b
+
+-- too long an input is not within the limit
+never_long : (form : Form) (left left' : Option (List ℕ)) (reads reads' writes writes' : ℕ) (input : List ℕ) → IsLeft (limit_of form) left input
+    → NothingFails form input reads reads' writes writes' → ¬ IsUnread form TooLong left left' reads reads'
+never_long Run left left' reads reads' writes writes' input is fine unread =
+    let P : Option (List ℕ) → Type 0 = λ l. Gave l left' (λ n. scenario_limit < n) in
+    let long : scenario_limit < length input = gave_within input left' scenario_limit (subst P is (unread.too_long refl)) in
+    absurd (omega (arith, long, fine.within))
+never_long Check left left' reads reads' writes writes' input is fine unread =
+    let P : Option (List ℕ) → Type 0 = λ l. Gave l left' (λ n. scenario_limit < n) in
+    let long : scenario_limit < length input = gave_within input left' scenario_limit (subst P is (unread.too_long refl)) in
+    absurd (omega (arith, long, fine.within))
+never_long (Gen seed frames) left left' reads reads' writes writes' input is fine unread = unread.not_long refl
+never_long (Stress seed frames) left left' reads reads' writes writes' input is fine unread = unread.not_long refl
+
+never_faulty : (form : Form) (left left' : Option (List ℕ)) (reads reads' writes writes' : ℕ) (input : List ℕ)
+    → NothingFails form input reads reads' writes writes' → ¬ IsUnread form ReadFault left left' reads reads'
+never_faulty Run left left' reads reads' writes writes' input fine unread = fine.no_read (unread.fault refl)
+never_faulty Check left left' reads reads' writes writes' input fine unread = fine.no_read (unread.fault refl)
+never_faulty (Gen seed frames) left left' reads reads' writes writes' input fine unread = unread.no_fault refl
+never_faulty (Stress seed frames) left left' reads reads' writes writes' input fine unread = unread.no_fault refl
+
+-- Completeness.
+
+-- all that is said of an answer
+abbrev Said : Form → Status → Option (List ℕ) → Option (List ℕ) → ℕ → ℕ → Option (List ℕ) → Option (List ℕ) → ℕ → ℕ → Bool → Option (List Turn) → Option (List Turn) → Type 0
+Said form status left left' reads reads' held held' writes writes' is_plain told told' =
+    Answers form status left left' reads reads' held held' writes writes' is_plain told told'
+
+-- where the form has ended
+has_ended : (form : Form) (status : Status) (left left' held held' : Option (List ℕ)) (is_plain : Bool) (told told' : Option (List Turn)) (input : List ℕ)
+    → IsLeft (limit_of form) left input → Ends form status left left' held held' is_plain told told' → IsEnd form input status
+has_ended form status left left' held held' is_plain told told' input is e =
+    let P : List ℕ → Type 0 = λ xs. IsEnd form xs status in
+    subst P (read_is_left form left left' input e.input is e.read) (ends_so form e.input is_plain told told' status e.text e.due)
+
+-- where it is refused
+has_refused : (form : Form) (left left' held held' : Option (List ℕ)) (input : List ℕ) → IsLeft (limit_of form) left input → (r : Refuses form left left' held held')
+    → IsRefusedWith form input r.line
+has_refused form left left' held held' input is r =
+    let P : List ℕ → Type 0 = λ xs. IsRefusedWith form xs r.line in subst P (read_is_left form left left' input r.input is r.read) r.refused
+
+ended : (form : Form) (status : Status) (left left' : Option (List ℕ)) (reads reads' : ℕ) (held held' : Option (List ℕ)) (writes writes' : ℕ) (is_plain : Bool)
+    (told told' : Option (List Turn)) (input : List ℕ) (end : Status) → Said form status left left' reads reads' held held' writes writes' is_plain told told'
+    → IsLeft (limit_of form) left input → IsEnd form input end → NothingFails form input reads reads' writes writes' → (status ≡ end) ⊎ (status ≡ OutOfMemory)
+ended form Done left left' reads reads' held held' writes writes' is_plain told told' input end x is e fine =
+    inl (one_end form input Done end (has_ended form Done left left' held held' is_plain told told' input is (x.ended tt)) e)
+ended form Breach left left' reads reads' held held' writes writes' is_plain told told' input end x is e fine =
+    inl (one_end form input Breach end (has_ended form Breach left left' held held' is_plain told told' input is (x.ended tt)) e)
+ended form Usage left left' reads reads' held held' writes writes' is_plain told told' input end x is e fine = absurd (x.known refl)
+ended form Refused left left' reads reads' held held' writes writes' is_plain told told' input end x is e fine =
+    absurd (not_both form input (x.refused refl).line end e (has_refused form left left' held held' input is (x.refused refl)))
+ended form TooLong left left' reads reads' held held' writes writes' is_plain told told' input end x is e fine =
+    absurd (never_long form left left' reads reads' writes writes' input is fine x.unread)
+ended form ReadFault left left' reads reads' held held' writes writes' is_plain told told' input end x is e fine =
+    absurd (never_faulty form left left' reads reads' writes writes' input fine x.unread)
+ended form WriteFault left left' reads reads' held held' writes writes' is_plain told told' input end x is e fine = absurd (fine.no_write (x.failed refl).rose)
+ended form OutOfMemory left left' reads reads' held held' writes writes' is_plain told told' input end x is e fine = inr refl
+
+refused : (form : Form) (status : Status) (left left' : Option (List ℕ)) (reads reads' : ℕ) (held held' : Option (List ℕ)) (writes writes' : ℕ) (is_plain : Bool)
+    (told told' : Option (List Turn)) (input line : List ℕ) → Said form status left left' reads reads' held held' writes writes' is_plain told told'
+    → IsLeft (limit_of form) left input → IsRefusedWith form input line → MayRefuse status
+refused form Done left left' reads reads' held held' writes writes' is_plain told told' input line x is r =
+    absurd (not_both form input line Done (has_ended form Done left left' held held' is_plain told told' input is (x.ended tt)) r)
+refused form Breach left left' reads reads' held held' writes writes' is_plain told told' input line x is r =
+    absurd (not_both form input line Breach (has_ended form Breach left left' held held' is_plain told told' input is (x.ended tt)) r)
+refused form Usage left left' reads reads' held held' writes writes' is_plain told told' input line x is r = absurd (x.known refl)
+refused form Refused left left' reads reads' held held' writes writes' is_plain told told' input line x is r = tt
+refused form TooLong left left' reads reads' held held' writes writes' is_plain told told' input line x is r = tt
+refused form ReadFault left left' reads reads' held held' writes writes' is_plain told told' input line x is r = tt
+refused form WriteFault left left' reads reads' held held' writes writes' is_plain told told' input line x is r = tt
+refused form OutOfMemory left left' reads reads' held held' writes writes' is_plain told told' input line x is r = tt
+
+refused_at_once : (form : Form) (status : Status) (left left' : Option (List ℕ)) (reads reads' : ℕ) (held held' : Option (List ℕ)) (writes writes' : ℕ) (is_plain : Bool)
+    (told told' : Option (List Turn)) (input line : List ℕ) → Said form status left left' reads reads' held held' writes writes' is_plain told told'
+    → IsLeft (limit_of form) left input → IsRefusedWith form input line → NothingFails form input reads reads' writes writes'
+    → (status ≡ Refused) ⊎ (status ≡ OutOfMemory)
+refused_at_once form Done left left' reads reads' held held' writes writes' is_plain told told' input line x is r fine =
+    absurd (not_both form input line Done (has_ended form Done left left' held held' is_plain told told' input is (x.ended tt)) r)
+refused_at_once form Breach left left' reads reads' held held' writes writes' is_plain told told' input line x is r fine =
+    absurd (not_both form input line Breach (has_ended form Breach left left' held held' is_plain told told' input is (x.ended tt)) r)
+refused_at_once form Usage left left' reads reads' held held' writes writes' is_plain told told' input line x is r fine = absurd (x.known refl)
+refused_at_once form Refused left left' reads reads' held held' writes writes' is_plain told told' input line x is r fine = inl refl
+refused_at_once form TooLong left left' reads reads' held held' writes writes' is_plain told told' input line x is r fine =
+    absurd (never_long form left left' reads reads' writes writes' input is fine x.unread)
+refused_at_once form ReadFault left left' reads reads' held held' writes writes' is_plain told told' input line x is r fine =
+    absurd (never_faulty form left left' reads reads' writes writes' input fine x.unread)
+refused_at_once form WriteFault left left' reads reads' held held' writes writes' is_plain told told' input line x is r fine =
+    absurd (fine.no_write (x.failed refl).rose)
+refused_at_once form OutOfMemory left left' reads reads' held held' writes writes' is_plain told told' input line x is r fine = inr refl
+
+pub completes : (form : Form) (status : Status) (left left' : Option (List ℕ)) (reads reads' : ℕ) (held held' : Option (List ℕ)) (writes writes' : ℕ) (is_plain : Bool)
+    (told told' : Option (List Turn)) → Said form status left left' reads reads' held held' writes writes' is_plain told told'
+    → Completes form status left reads reads' writes writes'
+completes form status left left' reads reads' held held' writes writes' is_plain told told' x = record {
+  ended = λ input end is e fine. ended form status left left' reads reads' held held' writes writes' is_plain told told' input end x is e fine;
+  refused = λ input line is r. refused form status left left' reads reads' held held' writes writes' is_plain told told' input line x is r;
+  refused_at_once = λ input line is r fine. refused_at_once form status left left' reads reads' held held' writes writes' is_plain told told' input line x is r fine;
+}

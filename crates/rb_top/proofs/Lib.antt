@@ -1,4 +1,7 @@
-pub mod Carried
 pub mod Writing
-pub mod Served
+pub mod Rest
+pub mod FormAnswers
+pub mod Summing
+pub mod OneForm
+pub mod Promised
 pub mod Completeness

@@ -1,5 +1,5 @@
 -- A text written piece by piece: what is still owed of it, and what stands where a write fails.
-use Rattle.std.proofs.Common.{◌≡◌, ℕ, suc, ◌+◌, ◌-◌, ◌<◌, ◌≤◌, List, [], ◌++◌, Option, Result, Ok, Err, OnErr, arith, sym, ◌∙◌, ap, append_assoc, subst, refl}
+use Rattle.std.proofs.Common.{◌≡◌, ℕ, suc, ◌+◌, ◌-◌, ◌<◌, ◌≤◌, List, [], ◌++◌, Option, Result, Ok, Err, OnErr, OnOk, arith, sym, ◌∙◌, ap, append_assoc, subst, refl}
 use Rattle.std.proofs.lemmas.List.{append-nil}
 use Rattle.std.specs.List.{flat_map, range_with_len}
 use Rattle.std.specs.Io.KnownBytes.{Appends}
@@ -22,11 +22,11 @@ pub owes_all : (old : Option (List ℕ)) (whole : List ℕ) → Owes old old who
 owes_all old whole = record { written = []; appended = appends_none old; completes = refl }
 
 -- the rest may be written out otherwise
-owes_same : (old now : Option (List ℕ)) (whole rest other : List ℕ) → rest ≡ other → Owes old now whole rest → Owes old now whole other
+pub owes_same : (old now : Option (List ℕ)) (whole rest other : List ℕ) → rest ≡ other → Owes old now whole rest → Owes old now whole other
 owes_same old now whole rest other e o = let P : List ℕ → Type 0 = λ xs. Owes old now whole xs in subst P e o
 
 -- one more piece is written
-owes_less : (old mid new : Option (List ℕ)) (whole piece rest : List ℕ) → Owes old mid whole (piece ++ rest) → Appends mid new piece → Owes old new whole rest
+pub owes_less : (old mid new : Option (List ℕ)) (whole piece rest : List ℕ) → Owes old mid whole (piece ++ rest) → Appends mid new piece → Owes old new whole rest
 owes_less old mid new whole piece rest o p = record {
   written = o.written ++ piece;
   appended = appends_join old mid new o.written piece o.appended p;
@@ -34,7 +34,7 @@ owes_less old mid new whole piece rest o p = record {
 }
 
 -- a piece is written in part, and nothing after it
-owes_part : (old mid new : Option (List ℕ)) (whole piece rest : List ℕ) → Owes old mid whole (piece ++ rest) → AppendsPart mid new piece → AppendsPart old new whole
+pub owes_part : (old mid new : Option (List ℕ)) (whole piece rest : List ℕ) → Owes old mid whole (piece ++ rest) → AppendsPart mid new piece → AppendsPart old new whole
 owes_part old mid new whole piece rest o p =
     let P : List ℕ → Type 0 = λ xs. AppendsPart old new xs in
     subst P (append_assoc o.written piece rest ∙ o.completes) (part_widens old new (o.written ++ piece) rest (part_join old mid new o.written piece o.appended p))
@@ -91,3 +91,35 @@ pub owes_pieces_alone : (old : Option (List ℕ)) (piece : ℕ → List ℕ) (n 
 owes_pieces_alone old piece n =
     let e : n - 0 ≡ n = omega arith in
     owes_same old old _ _ _ (ap (λ k. flat_map piece (range_with_len 0 k)) (sym e) ∙ sym (append-nil (pieces piece 0 n))) (owes_all old (flat_map piece (range_with_len 0 n)))
+
+-- Four pieces, one after another.
+
+pub four_written : (a b c d e : Option (List ℕ)) (w x y z : List ℕ) → Appends a b w → Appends b c x → Appends c d y → Appends d e z
+    → Appends a e (w ++ (x ++ (y ++ z)))
+four_written a b c d e w x y z first second third fourth =
+    appends_join a b e w (x ++ (y ++ z)) first (appends_join b c e x (y ++ z) second (appends_join c d e y z third fourth))
+
+pub part_of_first : (a b : Option (List ℕ)) (w rest : List ℕ) → AppendsPart a b w → AppendsPart a b (w ++ rest)
+part_of_first a b w rest p = part_widens a b w rest p
+
+pub part_of_second : (a b c : Option (List ℕ)) (w x rest : List ℕ) → Appends a b w → AppendsPart b c x → AppendsPart a c (w ++ (x ++ rest))
+part_of_second a b c w x rest first p = part_join a b c w (x ++ rest) first (part_widens b c x rest p)
+
+pub part_of_third : (a b c d : Option (List ℕ)) (w x y rest : List ℕ) → Appends a b w → Appends b c x → AppendsPart c d y
+    → AppendsPart a d (w ++ (x ++ (y ++ rest)))
+part_of_third a b c d w x y rest first second p =
+    part_join a b d w (x ++ (y ++ rest)) first (part_of_second b c d x y rest second p)
+
+pub part_of_fourth : (a b c d e : Option (List ℕ)) (w x y z : List ℕ) → Appends a b w → Appends b c x → Appends c d y → AppendsPart d e z
+    → AppendsPart a e (w ++ (x ++ (y ++ z)))
+part_of_fourth a b c d e w x y z first second third p =
+    part_join a b e w (x ++ (y ++ z)) first (part_join b c e x (y ++ z) second (part_join c d e y z third p))
+
+-- what a result has of its value and of its error, where both follow from the same
+pub err_from : {T E A B : Type 0} (r : Result T E) → (A → B) → OnErr r A → OnErr r B
+err_from (Ok x) f a = tt
+err_from (Err e) f a = f a
+
+pub ok_from : {T E A B : Type 0} (r : Result T E) → (A → B) → OnOk r A → OnOk r B
+ok_from (Ok x) f a = f a
+ok_from (Err e) f a = tt

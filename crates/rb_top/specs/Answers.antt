@@ -1,151 +1,170 @@
 -- When each answer of the top call comes, and what it leaves written.
-use Rattle.std.specs.Prelude.{ℕ, ◌≡◌, ◌≤◌, ◌<◌, ◌⊎◌, List, length, String, Option, Some, None, IsSome, unwrap_or, true, false}
+use Rattle.std.specs.Prelude.{⊤, ℕ, ◌≡◌, ◌≤◌, ◌⊎◌, Bool, List, [], length, String, Option, Some, None}
 use Rattle.std.specs.declared.alloc.Global.{Global}
 use Rattle.std.specs.Io.KnownBytes.{Appends}
-use Rattle.rb_outside.specs.Bytes.{AppendsPart, Gave, ReadsToEnd}
+use Rattle.rb_outside.specs.Bytes.{AppendsPart}
 use Rattle.rb_outside.specs.Causes.{Rose}
-use Rattle.rb_report.specs.Report.{refused_text}
-use Rattle.rb_scenario.specs.Acceptance.{IsAccepted, IsRefused}
-use Rattle.rb_entries.specs.Codes.{code_of, detail_of}
-use Rattle.rb_scenario.specs.declared.scenario.Scenario.{Scenario}
-use Rattle.rb_entries.specs.declared.refusal.Refusal.{Refusal}
+use Rattle.rb_rules.specs.Goodness.{Scenario}
+use Rattle.rb_rules.specs.Lawful.{IsLawful}
+use Rattle.rb_gen.specs.Generated.{generated}
+use Rattle.rb_book.specs.declared.turn.Turn.{Turn}
+use Rattle.rb_run.specs.Runs.{EndsWith}
+use Rattle.rb_run.specs.Turns.{AreAll, AreGiven, records_in, text_of}
+use Rattle.rb_run.specs.declared.ending.Ending.{Ending}
+use Rattle.rb_run.specs.declared.ending.Ending.TheVariants as ending
 use Rattle.rb_top.specs.declared.form.Form.{Form}
-use Rattle.rb_top.specs.declared.form.Form.TheVariants.{Run, Check}
+use Rattle.rb_top.specs.declared.form.Form.TheVariants.{Run, Check, Gen, Stress}
 use Rattle.rb_top.specs.declared.status.Status.{Status}
 use Rattle.rb_top.specs.declared.status.Status.TheVariants as answer
 use Rattle.rb_top.specs.CheckText.{check_text}
-use Rattle.rb_top.specs.RunText.{run_text}
-use Rattle.rb_top.specs.Words.{form_of}
+use Rattle.rb_top.specs.Texts.{generated_text, summary_with}
+use Rattle.rb_top.specs.Inputs.{IsRead, IsRefusedWith, IsTextOf, limit_of}
+use Rattle.rb_top.specs.Statuses.{MayRefuse, RunsNothing, WritesNothing}
+use Rattle.rb_top.specs.Words.{AskFor}
 
--- Usage comes exactly where the words are of no known form
-pub record UsageExactly (status : Status) (words : List (String Global)) : Type 0 where
-  pub unknown : status ≡ answer.Usage → form_of words ≡ None
-  pub refused : form_of words ≡ None → status ≡ answer.Usage
-  pub known : ¬ (status ≡ answer.Usage) → IsSome (form_of words)
+-- The end.
 
--- the most bytes of a scenario
-abbrev pub scenario_limit : ℕ
-scenario_limit = 4194304
+abbrev pub status_of : Ending → Status
+status_of ending.Ended = answer.Done
+status_of ending.Breach = answer.Breach
 
--- What is written.
+-- the run of a scenario ends so: Breach exactly where its last record is one, else Done
+pub record EndsAs (sc : Scenario) (status : Status) : Type 0 where
+  pub ending : Ending
+  pub ends : EndsWith sc ending
+  pub is : status ≡ status_of ending
 
--- `run` serves the accepted scenarios of some form alone
-abbrev pub IsServed : Form → Scenario → Type 0
-IsServed Run scenario = scenario.built ≡ true
-IsServed Check scenario = Unit {0}
+-- so the form ends on its input
+abbrev pub IsEnd : Form → List ℕ → Status → Type 0
+IsEnd Run input status = (sc : Scenario) × IsTextOf input sc × EndsAs sc status
+IsEnd Check input status = (sc : Scenario) × IsTextOf input sc × (status ≡ answer.Done)
+IsEnd (Gen seed frames) input status = status ≡ answer.Done
+IsEnd (Stress seed frames) input status = EndsAs (generated seed frames) status
 
--- the text of a scenario that is served
-abbrev pub text_of : Form → Scenario → List ℕ
-text_of Run scenario = run_text scenario
-text_of Check scenario = check_text scenario.plan.sizes scenario.plan.plan
+-- What is due.
 
--- why a scenario isn't served: it breaks a rule, or it is of a form that `run` doesn't serve yet
-pub data Why : Type 0 where
-  Breaks : (rule : Refusal) → Why
-  NotBuilt : Why
+-- `run` is due the report of the turns that the drive gave: all turns of the scenario that the input says
+pub record IsReport (input : List ℕ) (is_plain : Bool) (told told' : Option (List Turn)) (status : Status) (text : List ℕ) : Type 0 where
+  pub scenario : Scenario
+  pub turns : List Turn
+  pub says : IsTextOf input scenario
+  pub lawful : IsLawful scenario
+  pub given : AreGiven scenario is_plain told told' turns
+  pub all : AreAll scenario turns
+  pub ends : EndsAs scenario status
+  pub text_is : text ≡ text_of turns
 
--- the rule has a code; want of memory has none
-abbrev pub HasCode : Refusal → Type 0
-HasCode rule = IsSome (code_of rule)
+-- `stress` is due the summary of the turns that the drive gave: all turns of the generated scenario. With a breach that is nothing
+pub record IsSummary (seed frames : ℕ) (is_plain : Bool) (told told' : Option (List Turn)) (status : Status) (text : List ℕ) : Type 0 where
+  pub turns : List Turn
+  pub lawful : IsLawful (generated seed frames)
+  pub given : AreGiven (generated seed frames) is_plain told told' turns
+  pub all : AreAll (generated seed frames) turns
+  pub ends : EndsAs (generated seed frames) status
+  pub text_is : text ≡ summary_with ends.ending (records_in turns)
 
--- the line that says why
-abbrev pub refusal_text : Why → List ℕ
-refusal_text (Breaks rule) = refused_text (unwrap_or (code_of rule) 0) (detail_of rule) false
-refusal_text NotBuilt = refused_text 13 None false
+-- `check` is due both sides of each inequality, for the scenario that the input says
+pub record IsSides (input text : List ℕ) : Type 0 where
+  pub scenario : Scenario
+  pub says : IsTextOf input scenario
+  pub text_is : text ≡ check_text scenario.sizes scenario.plan
 
--- the input is refused for this
-abbrev pub IsRefusedFor : Form → List ℕ → Why → Type 0
-IsRefusedFor form input (Breaks rule) = HasCode rule × IsRefused input rule
-IsRefusedFor Run input NotBuilt = (scenario : Scenario) × IsAccepted input scenario × (scenario.built ≡ false)
-IsRefusedFor Check input NotBuilt = ⊥
+-- a form without a run ends as done, and the drive gave nothing
+pub record IsAlone (told told' : Option (List Turn)) (status : Status) : Type 0 where
+  pub done : status ≡ answer.Done
+  pub silent : told' ≡ told
 
--- the text of an accepted scenario: what is asked for, or that it isn't built
-pub data IsAnswer (form : Form) (scenario : Scenario) : List ℕ → Type 0 where
-  served : IsServed form scenario → IsAnswer form scenario (text_of form scenario)
-  unbuilt : form ≡ Run → scenario.built ≡ false → IsAnswer form scenario (refusal_text NotBuilt)
+-- the form's text for its input, where it ends so
+abbrev pub IsDue : Form → List ℕ → Bool → Option (List Turn) → Option (List Turn) → Status → List ℕ → Type 0
+IsDue Run input is_plain told told' status text = IsReport input is_plain told told' status text
+IsDue Check input is_plain told told' status text = IsSides input text × IsAlone told told' status
+IsDue (Gen seed frames) input is_plain told told' status text = (text ≡ generated_text seed frames) × IsAlone told told' status
+IsDue (Stress seed frames) input is_plain told told' status text = IsSummary seed frames is_plain told told' status text
 
--- of such a text the first bytes are written
-pub record AnswerPart (form : Form) (scenario : Scenario) (held held' : Option (List ℕ)) : Type 0 where
-  pub text : List ℕ
-  pub answers : IsAnswer form scenario text
-  pub written : AppendsPart held held' text
+-- of a run that goes on, the report of the turns that the drive gave so far is due
+pub record IsReportSoFar (input : List ℕ) (is_plain : Bool) (told told' : Option (List Turn)) (text : List ℕ) : Type 0 where
+  pub scenario : Scenario
+  pub turns : List Turn
+  pub says : IsTextOf input scenario
+  pub given : AreGiven scenario is_plain told told' turns
+  pub text_is : text ≡ text_of turns
 
--- the text that is due for an input: that of its scenario, or the line of a refusal
-pub data IsDue (form : Form) (input : List ℕ) : List ℕ → Type 0 where
-  of_scenario : (scenario : Scenario) → IsAccepted input scenario → IsServed form scenario → IsDue form input (text_of form scenario)
-  of_refusal : (why : Why) → IsRefusedFor form input why → IsDue form input (refusal_text why)
+-- the text that was due when a write failed: the line of a refusal, before anything was asked of the drive, or the form's text as far
+-- as it was known
+abbrev pub IsDueSoFar : Form → List ℕ → Bool → Option (List Turn) → Option (List Turn) → List ℕ → Type 0
+IsDueSoFar Run input is_plain told told' text = IsReportSoFar input is_plain told told' text
+IsDueSoFar Check input is_plain told told' text = IsDue Check input is_plain told told' answer.Done text
+IsDueSoFar (Gen seed frames) input is_plain told told' text = IsDue (Gen seed frames) input is_plain told told' answer.Done text
+IsDueSoFar (Stress seed frames) input is_plain told told' text = IsDue (Stress seed frames) input is_plain told told' answer.Done text
 
 -- Answers.
 
--- the input is an accepted scenario that is served, and its text is written
-pub record ServedIsWritten (form : Form) (left left' held held' : Option (List ℕ)) : Type 0 where
-  pub input : List ℕ
-  pub scenario : Scenario
-  pub gave : ReadsToEnd left left' input
-  pub accepted : IsAccepted input scenario
-  pub served : IsServed form scenario
-  pub written : Appends held held' (text_of form scenario)
+-- Usage comes exactly where the words ask for none of the forms
+pub record UsageExactly (status : Status) (words : List (String Global)) : Type 0 where
+  pub unknown : status ≡ answer.Usage → (form : Form) → ¬ AskFor words form
+  pub refused : ((form : Form) → ¬ AskFor words form) → status ≡ answer.Usage
+  pub known : ¬ (status ≡ answer.Usage) → (form : Form) × AskFor words form
 
--- the input is refused, and the one line of the refusal is written
-pub record RefusalIsWritten (form : Form) (left left' held held' : Option (List ℕ)) : Type 0 where
-  pub input : List ℕ
-  pub why : Why
-  pub gave : ReadsToEnd left left' input
-  pub refused : IsRefusedFor form input why
-  pub written : Appends held held' (refusal_text why)
+-- the source, the sink and the drive are as they were, where the answer or the form leaves them so
+pub record Untouched {S K D : Type 0} (words : List (String Global)) (status : Status) (source source' : S) (sink sink' : K) (drive drive' : D) : Type 0 where
+  pub unread : status ≡ answer.Usage → source' ≡ source
+  pub without_input : (form : Form) → AskFor words form → limit_of form ≡ None → source' ≡ source
+  pub unwritten : WritesNothing status → sink' ≡ sink
+  pub stress_with_breach : (seed frames : ℕ) → AskFor words (Stress seed frames) → status ≡ answer.Breach → sink' ≡ sink
+  pub not_driven : RunsNothing status → drive' ≡ drive
 
--- of the text that is due for the input, the first bytes are written
-pub record PartIsWritten (form : Form) (left left' held held' : Option (List ℕ)) : Type 0 where
+-- the form has ended: its input has been read, and its text is written
+pub record Ends (form : Form) (status : Status) (left left' : Option (List ℕ)) (held held' : Option (List ℕ)) (is_plain : Bool) (told told' : Option (List Turn)) : Type 0 where
   pub input : List ℕ
   pub text : List ℕ
-  pub gave : ReadsToEnd left left' input
-  pub due : IsDue form input text
+  pub read : IsRead form left left' input
+  pub due : IsDue form input is_plain told told' status text
+  pub written : Appends held held' text
+
+-- the input has been read and is refused, and the one line of the refusal is written
+pub record Refuses (form : Form) (left left' held held' : Option (List ℕ)) : Type 0 where
+  pub input : List ℕ
+  pub line : List ℕ
+  pub read : IsRead form left left' input
+  pub refused : IsRefusedWith form input line
+  pub written : Appends held held' line
+
+-- the input is refused with this line, and the drive gave nothing
+pub record IsRefusedAlone (form : Form) (input : List ℕ) (told told' : Option (List Turn)) (line : List ℕ) : Type 0 where
+  pub refused : IsRefusedWith form input line
+  pub silent : told' ≡ told
+
+-- a write failed: the count of the sink's faults rose, and of the text that was due the first bytes are written
+pub record FailsToWrite (form : Form) (left left' held held' : Option (List ℕ)) (faults faults' : ℕ) (is_plain : Bool) (told told' : Option (List Turn)) : Type 0 where
+  pub rose : Rose faults faults'
+  pub input : List ℕ
+  pub text : List ℕ
+  pub read : IsRead form left left' input
+  pub due : IsRefusedAlone form input told told' text ⊎ IsDueSoFar form input is_plain told told' text
   pub written : AppendsPart held held' text
 
--- nothing is written at these answers
-abbrev pub WritesNothing : Status → Type 0
-WritesNothing answer.Usage = Unit {0}
-WritesNothing answer.TooLong = Unit {0}
-WritesNothing answer.ReadFault = Unit {0}
-WritesNothing answer.OutOfMemory = Unit {0}
-WritesNothing answer.Done = ⊥
-WritesNothing answer.Breach = ⊥
-WritesNothing answer.Refused = ⊥
-WritesNothing answer.WriteFault = ⊥
+-- Completeness.
 
--- an answer that may come of a refused input
-abbrev pub MayRefuse : Status → Type 0
-MayRefuse answer.Refused = Unit {0}
-MayRefuse answer.TooLong = Unit {0}
-MayRefuse answer.ReadFault = Unit {0}
-MayRefuse answer.WriteFault = Unit {0}
-MayRefuse answer.OutOfMemory = Unit {0}
-MayRefuse answer.Done = ⊥
-MayRefuse answer.Breach = ⊥
-MayRefuse answer.Usage = ⊥
+-- the source tells that this input is left, within the limit
+abbrev pub IsLeft : Option ℕ → Option (List ℕ) → List ℕ → Type 0
+IsLeft None left input = input ≡ []
+IsLeft (Some limit) left input = left ≡ Some input
 
--- the source and the sink are as they were, where the answer leaves them so
-pub record Untouched {S K : Type 0} (status : Status) (source source' : S) (sink sink' : K) : Type 0 where
-  pub unread : status ≡ answer.Usage → source' ≡ source
-  pub unwritten : WritesNothing status → sink' ≡ sink
+-- and it is within the limit
+abbrev pub IsWithin : Option ℕ → List ℕ → Type 0
+IsWithin None input = ⊤
+IsWithin (Some limit) input = length input ≤ limit
 
--- TooLong comes exactly where the source gave more bytes than the limit
-pub record ExceedsExactly (status : Status) (left left' : Option (List ℕ)) : Type 0 where
-  pub too_long : status ≡ answer.TooLong → Gave left left' (λ n. scenario_limit < n)
-  pub short_enough : ¬ (status ≡ answer.TooLong) → Gave left left' (λ n. n ≤ scenario_limit)
+-- nothing fails: the input is within the limit, and no count of faults rises
+pub record NothingFails (form : Form) (input : List ℕ) (reads reads' writes writes' : ℕ) : Type 0 where
+  pub within : IsWithin (limit_of form) input
+  pub no_read : ¬ Rose reads reads'
+  pub no_write : ¬ Rose writes writes'
 
--- a write failed: the count of the sink's faults rose, and a first part of the text that is due is written
-pub record WriteFails (form : Form) (left left' held held' : Option (List ℕ)) (faults faults' : ℕ) : Type 0 where
-  pub rose : Rose faults faults'
-  pub part : PartIsWritten form left left' held held'
-
--- the answers that must come where the words are of a form and the source tells its input
+-- the answers that must come of a form, where the source tells its input. Want of memory alone may come in their place
 pub record Completes (form : Form) (status : Status) (left : Option (List ℕ)) (reads reads' writes writes' : ℕ) : Type 0 where
-  pub served : (input : List ℕ) (scenario : Scenario) → left ≡ Some input → IsAccepted input scenario → IsServed form scenario
-      → length input ≤ scenario_limit → ¬ Rose reads reads' → ¬ Rose writes writes'
-      → (status ≡ answer.Done) ⊎ (status ≡ answer.OutOfMemory)
-  pub refused : (input : List ℕ) (why : Why) → left ≡ Some input → IsRefusedFor form input why → MayRefuse status
-  pub refused_at_once : (input : List ℕ) (why : Why) → left ≡ Some input → IsRefusedFor form input why
-      → length input ≤ scenario_limit → ¬ Rose reads reads' → ¬ Rose writes writes'
-      → (status ≡ answer.Refused) ⊎ (status ≡ answer.OutOfMemory)
-  pub no_breach : ¬ (status ≡ answer.Breach)
+  pub ended : (input : List ℕ) (end : Status) → IsLeft (limit_of form) left input → IsEnd form input end
+      → NothingFails form input reads reads' writes writes' → (status ≡ end) ⊎ (status ≡ answer.OutOfMemory)
+  pub refused : (input line : List ℕ) → IsLeft (limit_of form) left input → IsRefusedWith form input line → MayRefuse status
+  pub refused_at_once : (input line : List ℕ) → IsLeft (limit_of form) left input → IsRefusedWith form input line
+      → NothingFails form input reads reads' writes writes' → (status ≡ answer.Refused) ⊎ (status ≡ answer.OutOfMemory)

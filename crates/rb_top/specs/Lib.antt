@@ -1,5 +1,9 @@
 pub mod Words
+pub mod Statuses
+pub mod Inputs
 pub mod CheckText
-pub mod Carrying
-pub mod RunText
+pub mod Texts
 pub mod Answers
+pub mod Promise
+pub mod Reading
+pub mod Serving

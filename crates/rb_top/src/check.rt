@@ -1,15 +1,17 @@
 //! The text of a check.
-ghost use Rattle.std.specs.Prelude.{◌≡◌, ◌<◌, ◌≤◌, ◌+◌, OnOk, OnErr};
+ghost use Rattle.std.specs.Prelude.{◌≡◌, ◌⊎◌, ◌<◌, ◌≤◌, ◌+◌, OnOk, OnErr};
 ghost use Rattle.std.specs.Io.KnownBytes.{Appends};
 ghost use Rattle.rb_outside.specs.Bytes.{AppendsPart};
-ghost use Rattle.rb_outside.specs.Causes.{HasCause};
+ghost use Rattle.rb_outside.specs.Causes.{HasCause, Rose};
 ghost use Rattle.rb_top.specs.CheckText.{check_text, text_after};
 
-use crate::report::write_line;
+use crate::lines::write_line;
+use crate::status::Status;
 use arrayvec::ArrayString;
 use rb_outside::{Failed, Sink};
 use rb_plan::{Feasible, sides};
 use rb_report::side_line;
+use rb_scenario::Scenario;
 
 // The line of the inequality that comes after so many.
 fn line_after(plan: &Feasible, before: u8) -> ArrayString<96>
@@ -20,8 +22,8 @@ fn line_after(plan: &Feasible, before: u8) -> ArrayString<96>
     side_line(before + 1, left, right)
 }
 
-/// Writes both sides of the seven inequalities, a line each.
-pub(crate) fn write_check<K: Sink>(plan: &Feasible, output: &mut K) -> Result<(), Failed>
+// Writes both sides of the seven inequalities, a line each.
+fn write_check<K: Sink>(plan: &Feasible, output: &mut K) -> Result<(), Failed>
     ensures all { OnOk result (Appends (K.held output.old) (K.held output.new) (check_text plan.now.sizes plan.now.plan)) }
     ensures part { OnErr result (AppendsPart (K.held output.old) (K.held output.new) (check_text plan.now.sizes plan.now.plan)) }
     ensures cause { HasCause (K.faults output.old) (K.faults output.new) result }
@@ -30,4 +32,19 @@ pub(crate) fn write_check<K: Sink>(plan: &Feasible, output: &mut K) -> Result<()
         write_line(output, &line_after(plan, before))?;
     }
     Ok(())
+}
+
+/// Writes both sides of the seven inequalities of the scenario's plan.
+pub(crate) fn show_sides<K: Sink>(scenario: &Scenario, output: &mut K) -> Status
+    ensures done { result ≡ Status.Done
+        → Appends (K.held output.old) (K.held output.new) (check_text scenario.now.plan.sizes scenario.now.plan.plan) }
+    ensures part { result ≡ Status.WriteFault
+        → AppendsPart (K.held output.old) (K.held output.new) (check_text scenario.now.plan.sizes scenario.now.plan.plan) }
+    ensures cause { result ≡ Status.WriteFault → Rose (K.faults output.old) (K.faults output.new) }
+    ensures one_of { (result ≡ Status.Done) ⊎ (result ≡ Status.WriteFault) }
+{
+    match write_check(&scenario.plan, output) {
+        Ok(()) => Status::Done,
+        Err(Failed) => Status::WriteFault,
+    }
 }

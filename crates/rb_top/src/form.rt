@@ -1,41 +1,97 @@
 //! The forms of words that the program knows.
-ghost use Rattle.std.specs.Prelude.{◌≡◌, ◌↔◌, IsTrue, codes, string_bytes};
-ghost use Rattle.std.specs.Str.{bytes_eq};
-ghost use Rattle.rb_top.specs.Words.{form_named, form_of};
+ghost use Rattle.std.specs.Prelude.{ℕ, ◌≡◌, ◌≢◌, ◌<◌, ◌≤◌, ◌^◌, ◌∷◌, [], IfNone, IfSome, codes, decimal, string_bytes};
+ghost use Rattle.rb_top.specs.declared.form.Form.{Form};
+ghost use Rattle.rb_top.specs.Words.{AreNumbers, AskFor, IsInRange, words_of};
 
-/// What the words ask for: to run a scenario, or to check it and show both sides of its plan's inequalities.
+use itoa::Buffer;
+
+/// What the words ask for. A seed is any number of 64 bits, and there are 1 to 4096 frames.
 #[derive(Clone, Copy, Debug, PartialEq, Eq)]
 pub enum Form {
+    /// To run a scenario and report what happened.
     Run,
+    /// To check a scenario and show both sides of its plan's inequalities.
     Check,
+    /// To write the text of the scenario that is generated from a seed, for so many frames.
+    Gen(u64, u32),
+    /// To run that scenario and show its four numbers.
+    Stress(u64, u32),
 }
 
-// Whether the word is this text.
-fn is_text(word: &String, text: &str) -> bool
-    ensures { result ≡ bytes_eq (string_bytes word.now) text.now }
-{
-    word.as_str() == text
-}
+/// The most frames of a generated scenario.
+const MOST_FRAMES: u64 = 4096;
 
-// The form with this name.
-fn form_named(word: &String) -> Option<Form>
-    ensures { result ≡ form_named (string_bytes word.now) }
+// The number that the text is, in decimal without sign and without leading zero.
+fn number_in(text: &str) -> Option<u64>
+    ensures some { IfSome result (λ n. (n < 2 ^ 64) × (text.now ≡ decimal n)) }
+    ensures none { IfNone result ((n : ℕ) → n < 2 ^ 64 → text.now ≢ decimal n) }
 {
-    if is_text(word, "run") {
-        Some(Form::Run)
-    } else if is_text(word, "check") {
-        Some(Form::Check)
+    let number = match text.parse::<u64>() {
+        Ok(number) => number,
+        Err(_) => return None,
+    };
+    if Buffer::new().format(number) == text {
+        Some(number)
     } else {
         None
     }
 }
 
-/// The form of the words, which is one word. None for all other words.
+// The number of frames that the text is.
+fn frames_in(text: &str) -> Option<u32>
+    ensures some { IfSome result (λ n. (text.now ≡ decimal n) × (1 ≤ n) × (n ≤ 4096)) }
+    ensures none { IfNone result ((n : ℕ) → 1 ≤ n → n ≤ 4096 → text.now ≢ decimal n) }
+{
+    match number_in(text) {
+        Some(number) if number >= 1 && number <= MOST_FRAMES => Some(number as u32),
+        _ => None,
+    }
+}
+
+// The form of one word.
+fn form_named(word: &str) -> Option<Form>
+    ensures some { IfSome result (λ form. (words_of form ≡ word.now ∷ []) × IsInRange form) }
+    ensures none { IfNone result ((form : Form) → words_of form ≢ word.now ∷ []) }
+{
+    match word {
+        "run" => Some(Form::Run),
+        "check" => Some(Form::Check),
+        _ => None,
+    }
+}
+
+// The form of a word and these numbers.
+fn form_numbered(word: &str, seed: u64, frames: u32) -> Option<Form>
+    requires { AreNumbers seed frames }
+    ensures some { IfSome result (λ form. (words_of form ≡ word.now ∷ decimal seed ∷ decimal frames ∷ []) × IsInRange form) }
+    ensures none { IfNone result ((form : Form) → words_of form ≢ word.now ∷ decimal seed ∷ decimal frames ∷ []) }
+{
+    match word {
+        "gen" => Some(Form::Gen(seed, frames)),
+        "stress" => Some(Form::Stress(seed, frames)),
+        _ => None,
+    }
+}
+
+// The form of three words.
+fn form_with_numbers(word: &str, seed: &str, frames: &str) -> Option<Form>
+    ensures some { IfSome result (λ form. (words_of form ≡ word.now ∷ seed.now ∷ frames.now ∷ []) × IsInRange form) }
+    ensures none { IfNone result ((form : Form) → IsInRange form → words_of form ≢ word.now ∷ seed.now ∷ frames.now ∷ []) }
+{
+    match (number_in(seed), frames_in(frames)) {
+        (Some(seed), Some(frames)) => form_numbered(word, seed, frames),
+        _ => None,
+    }
+}
+
+/// The form that the words ask for, byte by byte. None for all other words.
 pub(crate) fn form_of(words: &[String]) -> Option<Form>
-    ensures { result ≡ form_of words.now }
+    ensures some { IfSome result (AskFor words.now) }
+    ensures none { IfNone result ((form : Form) → ¬ AskFor words.now form) }
 {
     match words {
-        [word] => form_named(word),
+        [word] => form_named(word.as_str()),
+        [word, seed, frames] => form_with_numbers(word.as_str(), seed.as_str(), frames.as_str()),
         _ => None,
     }
 }

@@ -1,12 +1,13 @@
 //! The top call: words, input and output of the program as values.
 #![tactic(auto)]
 
-mod answers;
-mod carrying;
 mod check;
 pub mod form;
-mod report;
-mod sizes;
+mod generating;
+mod lines;
+mod reading;
+mod running;
+mod serving;
 pub mod status;
 pub mod top;
 

@@ -1,78 +1,61 @@
 //! The top call.
-ghost use Rattle.std.specs.Prelude.{◌≡◌, ◌≤◌, ◌<◌, Some};
-ghost use Rattle.rb_outside.specs.Causes.{Rose};
-ghost use Rattle.rb_top.specs.Answers.{Completes, ExceedsExactly, RefusalIsWritten, ServedIsWritten, Untouched, UsageExactly, WriteFails, WritesNothing};
-ghost use Rattle.rb_top.specs.Words.{form_of};
+ghost use Rattle.std.specs.Prelude.{◌≡◌, IsTrue};
 ghost use Rattle.rb_top.specs.declared.form.Form.{Form};
+ghost use Rattle.rb_top.specs.Answers.{Completes, Ends, FailsToWrite, Refuses, Untouched, UsageExactly};
+ghost use Rattle.rb_top.specs.Inputs.{IsUnread};
+ghost use Rattle.rb_top.specs.Promise.{KeepsItsPromise};
+ghost use Rattle.rb_top.specs.Statuses.{HasEnded};
+ghost use Rattle.rb_top.specs.Words.{AskFor};
 
-use crate::answers::{answer, refuse};
-use crate::form::{Form, form_of};
+use crate::form::form_of;
+use crate::serving::serve;
 use crate::status::Status;
-use rb_outside::{Sink, Source, Unread, read_all};
-use rb_scenario::{Refusal, read};
+use rb_outside::{Sink, Source};
+use rb_port::Apps;
+use rb_world::Drive;
 use std::alloc::Global;
 
-/// The most bytes of a scenario.
-const SCENARIO_LIMIT: usize = 4_194_304;
-
-/// Reads a scenario and writes what the words ask for.
-fn serve<S: Source, K: Sink>(alloc: Global, form: Form, input: &mut S, output: &mut K) -> Status
-    ensures done { result ≡ Status.Done
-        → ServedIsWritten form (S.left input.old) (S.left input.new) (K.held output.old) (K.held output.new) }
-    ensures refused { result ≡ Status.Refused
-        → RefusalIsWritten form (S.left input.old) (S.left input.new) (K.held output.old) (K.held output.new) }
-    ensures too_long { ExceedsExactly result (S.left input.old) (S.left input.new) }
-    ensures read_fault { result ≡ Status.ReadFault → Rose (S.faults input.old) (S.faults input.new) }
-    ensures write_fault { result ≡ Status.WriteFault
-        → WriteFails form (S.left input.old) (S.left input.new) (K.held output.old) (K.held output.new)
-        (K.faults output.old) (K.faults output.new) }
-    ensures unwritten { WritesNothing result → output.new ≡ output.old }
-    ensures never { ¬ (result ≡ Status.Usage) × ¬ (result ≡ Status.Breach) }
-{
-    let bytes = match read_all(alloc, input, SCENARIO_LIMIT) {
-        Ok(bytes) => bytes,
-        Err(Unread::TooLong) => return Status::TooLong,
-        Err(Unread::Fault) => return Status::ReadFault,
-        Err(Unread::OutOfMemory) => return Status::OutOfMemory,
-    };
-    match read(alloc, &bytes) {
-        Ok(scenario) => answer(form, &scenario, output),
-        Err(Refusal::OutOfMemory) => Status::OutOfMemory,
-        Err(rule) => refuse(rule, output),
-    }
-}
-
-/// The program as a call: it reads a scenario from the source to its end, and writes to the sink, a line at a time, what the
-/// words ask for: `run` the report of its run, `check` both sides of the seven inequalities of its plan.
+/// The program as a call: it does what the words ask for, and writes to the sink, a line at a time.
 ///
-/// `Done`: the scenario was accepted and its whole text is written. `Usage`: the words are of no known form; nothing was
-/// read or written. `Refused`: the input breaks a rule, or `run` doesn't serve the scenario yet; one line with the code says
-/// why. `TooLong`: the source gave more than 4,194,304 bytes. `ReadFault`, `WriteFault`: the source or the sink failed; what a
-/// failing sink took is a first part of the text. `OutOfMemory`: an allocation failed before anything was written. `Breach`
-/// does not come yet, since a silent RMU breaks no premise.
-pub fn run_robus<S: Source, K: Sink>(
+/// | words | what it does |
+/// |---|---|
+/// | `run` | reads a scenario, runs it and writes the report of the drive's turns |
+/// | `check` | reads a scenario and writes both sides of the seven inequalities of its plan |
+/// | `gen SEED FRAMES` | writes the text of the generated scenario; reads nothing |
+/// | `stress SEED FRAMES` | runs the generated scenario and writes four numbers of the drive's turns; reads nothing |
+///
+/// `Done`: all is written. `Breach`: the run of `run` or `stress` ended with a breach of the fault premise; `run` has written its report
+/// up to it, `stress` nothing. `Usage`: the words are of no known form; nothing was read or written. `Refused`: the input breaks a rule;
+/// one line with its code says which. `TooLong`: the source gave more than 4,194,304 bytes. `ReadFault`, `WriteFault`: the source or the
+/// sink failed; what a failing sink took is a first part of the text that was due. `OutOfMemory`: an allocation failed before anything
+/// was written.
+pub fn run_robus<S: Source, K: Sink, D: Drive>(
     alloc: Global,
     words: &[String],
     input: &mut S,
     output: &mut K,
+    apps: &Apps,
+    drive: &mut D,
 ) -> Status
     ensures usage { UsageExactly result words.now }
-    ensures untouched { Untouched result input.old input.new output.old output.new }
-    ensures done { result ≡ Status.Done → (form : Form) → form_of words.now ≡ Some form
-        → ServedIsWritten form (S.left input.old) (S.left input.new) (K.held output.old) (K.held output.new) }
-    ensures refused { result ≡ Status.Refused → (form : Form) → form_of words.now ≡ Some form
-        → RefusalIsWritten form (S.left input.old) (S.left input.new) (K.held output.old) (K.held output.new) }
-    ensures too_long { ExceedsExactly result (S.left input.old) (S.left input.new) }
-    ensures read_fault { result ≡ Status.ReadFault → Rose (S.faults input.old) (S.faults input.new) }
-    ensures write_fault { result ≡ Status.WriteFault → (form : Form) → form_of words.now ≡ Some form
-        → WriteFails form (S.left input.old) (S.left input.new) (K.held output.old) (K.held output.new)
-        (K.faults output.old) (K.faults output.new) }
-    ensures complete { (form : Form) → form_of words.now ≡ Some form
-        → Completes form result (S.left input.old) (S.faults input.old) (S.faults input.new)
-        (K.faults output.old) (K.faults output.new) }
+    ensures untouched { Untouched words.now result input.old input.new output.old output.new drive.old drive.new }
+    ensures ended { HasEnded result → (form : Form) → AskFor words.now form
+        → Ends form result (S.left input.old) (S.left input.new) (K.held output.old) (K.held output.new)
+        (D.is_plain drive.old) (D.told drive.old) (D.told drive.new) }
+    ensures promise { IsTrue (D.is_plain drive.old) → HasEnded result → (form : Form) → AskFor words.now form
+        → KeepsItsPromise form result (S.left input.old) (S.left input.new) (K.held output.old) (K.held output.new) }
+    ensures refused { result ≡ Status.Refused → (form : Form) → AskFor words.now form
+        → Refuses form (S.left input.old) (S.left input.new) (K.held output.old) (K.held output.new) }
+    ensures unread { (form : Form) → AskFor words.now form
+        → IsUnread form result (S.left input.old) (S.left input.new) (S.faults input.old) (S.faults input.new) }
+    ensures write_fault { result ≡ Status.WriteFault → (form : Form) → AskFor words.now form
+        → FailsToWrite form (S.left input.old) (S.left input.new) (K.held output.old) (K.held output.new)
+        (K.faults output.old) (K.faults output.new) (D.is_plain drive.old) (D.told drive.old) (D.told drive.new) }
+    ensures complete { (form : Form) → AskFor words.now form
+        → Completes form result (S.left input.old) (S.faults input.old) (S.faults input.new) (K.faults output.old) (K.faults output.new) }
 {
     match form_of(words) {
-        Some(form) => serve(alloc, form, input, output),
+        Some(form) => serve(alloc, form, input, output, apps, drive),
         None => Status::Usage,
     }
 }

@@ -46,4 +46,4 @@ returns-clause-lawful c =
 
 pub returns-clause-said : goal.returns-clause-said
 returns-clause-said c =
-    said_by_its_table _ (drawn_from c.args.seed) c.args.frames (returns-clause-scenario c) refl c.requires.least c.requires.most
+    said_by_its_table _ (drawn_from c.args.seed) c.args.frames (returns-clause-scenario c) c.requires.least c.requires.most

@@ -1,0 +1,219 @@
+-- The answers for a form, from what came of its input and of its run.
+use Rattle.std.proofs.Common.{◌≡◌, ℕ, ◌≤◌, ◌⊎◌, Bool, List, [], Option, inl, inr, refl, sym, subst}
+use Rattle.std.specs.Io.KnownBytes.{Appends}
+use Rattle.rb_outside.specs.Bytes.{AppendsPart, ReadsToEnd}
+use Rattle.rb_outside.specs.Causes.{Rose}
+use Rattle.rb_gen.specs.Generated.{generated}
+use Rattle.rb_scenario.specs.Acceptance.{as_scenario}
+use Rattle.rb_scenario.specs.declared.scenario.Scenario.{Scenario as Accepted}
+use Rattle.rb_book.specs.declared.turn.Turn.{Turn}
+use Rattle.rb_run.specs.Runs.{WritesPart}
+use Rattle.rb_run.specs.Turns.{text_of}
+use Rattle.rb_top.specs.declared.form.Form.{Form}
+use Rattle.rb_top.specs.declared.form.Form.TheVariants.{Run, Check, Gen, Stress}
+use Rattle.rb_top.specs.declared.status.Status.{Status}
+use Rattle.rb_top.specs.declared.status.Status.TheVariants.{Done, Breach, Usage, Refused, TooLong, ReadFault, WriteFault, OutOfMemory}
+use Rattle.rb_top.specs.Answers.{Ends}
+use Rattle.rb_top.specs.CheckText.{check_text}
+use Rattle.rb_top.specs.Inputs.{BreaksRule, IsNeverUnread, IsRead, IsRefusedWith, IsTextOf, IsUnread, IsUnreadOver, scenario_limit}
+use Rattle.rb_top.specs.Reading.{ReadsNone, ReadsScenario}
+use Rattle.rb_top.specs.Serving.{Answers, FailsToSum, IsOfRun, IsOfText, IsReported, IsSummed}
+use Rattle.rb_top.specs.Statuses.{HasEnded, MayRefuse, RunsNothing, WritesNothing}
+use Rattle.rb_top.specs.Texts.{generated_text}
+
+-- a form that reads a scenario
+pub record ReadsAScenario (form : Form) : Type 0 where
+  pub read : (left left' : Option (List ℕ)) (input : List ℕ) → ReadsToEnd left left' input → IsRead form left left' input
+  pub refuse : (input line : List ℕ) → BreaksRule input line → IsRefusedWith form input line
+  pub unread : (status : Status) (left left' : Option (List ℕ)) (faults faults' : ℕ) → IsUnreadOver scenario_limit status left left' faults faults'
+      → IsUnread form status left left' faults faults'
+
+pub run_reads : ReadsAScenario Run
+run_reads = record {
+  read = λ left left' input h. h;
+  refuse = λ input line h. h;
+  unread = λ status left left' faults faults' h. h;
+}
+
+pub check_reads : ReadsAScenario Check
+check_reads = record {
+  read = λ left left' input h. h;
+  refuse = λ input line h. h;
+  unread = λ status left left' faults faults' h. h;
+}
+
+never_both : (status : Status) → MayRefuse status → HasEnded status → ⊥
+never_both Done may ended = may
+never_both Breach may ended = may
+never_both Usage may ended = ended
+never_both Refused may ended = ended
+never_both TooLong may ended = ended
+never_both ReadFault may ended = ended
+never_both WriteFault may ended = ended
+never_both OutOfMemory may ended = ended
+
+-- no scenario has been read
+pub none_answers : (form : Form) → ReadsAScenario form → (status : Status) (left left' : Option (List ℕ)) (reads reads' : ℕ) (held held' : Option (List ℕ))
+    (writes writes' : ℕ) (is_plain : Bool) (told : Option (List Turn)) → ReadsNone status left left' reads reads' held held' writes writes'
+    → Answers form status left left' reads reads' held held' writes writes' is_plain told told
+none_answers form f status left left' reads reads' held held' writes writes' is_plain told n = record {
+  known = λ e. let P : Status → Type 0 = λ s. MayRefuse s in subst P e n.one_of;
+  ended = λ h. absurd (never_both status n.one_of h);
+  refused = λ e. let r = n.refused e in record {
+      input = r.input; line = r.line; read = f.read left left' r.input r.read; refused = f.refuse r.input r.line r.refused; written = r.written
+    };
+  unread = f.unread status left left' reads reads' n.unread;
+  failed = λ e. let r = n.failed e in record {
+      rose = r.rose; input = r.input; text = r.line; read = f.read left left' r.input r.read;
+      due = inl (record { refused = f.refuse r.input r.line r.refused; silent = refl }); written = r.written
+    };
+}
+
+-- a scenario has been read, and its run was opened
+pub record Reports (accepted : Accepted) (status : Status) (held held' : Option (List ℕ)) (writes writes' : ℕ) (is_plain : Bool) (told told' : Option (List Turn)) : Type 0 where
+  pub ended : HasEnded status → IsReported (as_scenario accepted) status is_plain told told' held held'
+  pub part : status ≡ WriteFault → WritesPart (as_scenario accepted) is_plain told told' held held'
+  pub cause : status ≡ WriteFault → Rose writes writes'
+  pub one_of : IsOfRun status
+
+-- where such a run wrote nothing it was not opened
+pub is_memory : (status : Status) → IsOfRun status → WritesNothing status → status ≡ OutOfMemory
+is_memory Done one_of h = absurd h
+is_memory Breach one_of h = absurd h
+is_memory Usage one_of h = absurd one_of
+is_memory Refused one_of h = absurd h
+is_memory TooLong one_of h = absurd one_of
+is_memory ReadFault one_of h = absurd one_of
+is_memory WriteFault one_of h = absurd h
+is_memory OutOfMemory one_of h = refl
+
+-- so where nothing was asked of the drive
+pub is_memory_only : (status : Status) → IsOfRun status → RunsNothing status → status ≡ OutOfMemory
+is_memory_only Done one_of h = absurd h
+is_memory_only Breach one_of h = absurd h
+is_memory_only Usage one_of h = absurd one_of
+is_memory_only Refused one_of h = absurd one_of
+is_memory_only TooLong one_of h = absurd one_of
+is_memory_only ReadFault one_of h = absurd one_of
+is_memory_only WriteFault one_of h = absurd h
+is_memory_only OutOfMemory one_of h = refl
+
+no_run : (status : Status) (s : Status) → (IsOfRun s → ⊥) → IsOfRun status → ¬ (status ≡ s)
+no_run status s never one_of e = let P : Status → Type 0 = λ x. IsOfRun x in never (subst P e one_of)
+
+no_text : (status : Status) (s : Status) → (IsOfText s → ⊥) → IsOfText status → ¬ (status ≡ s)
+no_text status s never one_of e = let P : Status → Type 0 = λ x. IsOfText x in never (subst P e one_of)
+
+pub report_answers : (accepted : Accepted) (status : Status) (left left' : Option (List ℕ)) (reads reads' : ℕ) (held held' : Option (List ℕ))
+    (writes writes' : ℕ) (is_plain : Bool) (told told' : Option (List Turn)) → ReadsScenario left left' accepted
+    → Reports accepted status held held' writes writes' is_plain told told'
+    → Answers Run status left left' reads reads' held held' writes writes' is_plain told told'
+report_answers accepted status left left' reads reads' held held' writes writes' is_plain told told' r x =
+    let says : IsTextOf r.input (as_scenario accepted) = record { accepted = accepted; is = r.is; shows = refl } in
+    record {
+      known = no_run status Usage (λ h. h) x.one_of;
+      ended = λ h. let all = x.ended h in record {
+          input = r.input; text = text_of all.written.turns; read = r.read; written = all.written.text;
+          due = record {
+            scenario = as_scenario accepted; turns = all.written.turns; says = says; lawful = r.lawful; given = all.written.given;
+            all = all.written.all; ends = all.ends; text_is = refl
+          }
+        };
+      refused = λ e. absurd (no_run status Refused (λ h. h) x.one_of e);
+      unread = record {
+        too_long = λ e. absurd (no_run status TooLong (λ h. h) x.one_of e);
+        short_enough = λ e. r.short_enough;
+        fault = λ e. absurd (no_run status ReadFault (λ h. h) x.one_of e);
+      };
+      failed = λ e. let part = x.part e in record {
+          rose = x.cause e; input = r.input; text = text_of part.turns; read = r.read; written = part.text;
+          due = inr (record { scenario = as_scenario accepted; turns = part.turns; says = says; given = part.given; text_is = refl })
+        };
+    }
+
+-- a text was due, and no run
+pub record Writes (text : List ℕ) (status : Status) (held held' : Option (List ℕ)) (writes writes' : ℕ) : Type 0 where
+  pub done : status ≡ Done → Appends held held' text
+  pub part : status ≡ WriteFault → AppendsPart held held' text
+  pub cause : status ≡ WriteFault → Rose writes writes'
+  pub one_of : IsOfText status
+
+pub of_two : (status : Status) → (status ≡ Done) ⊎ (status ≡ WriteFault) → IsOfText status
+of_two status (inl e) = let P : Status → Type 0 = λ s. IsOfText s in subst P (sym e) tt
+of_two status (inr e) = let P : Status → Type 0 = λ s. IsOfText s in subst P (sym e) tt
+
+-- nothing else is answered
+pub not_two : (status : Status) → (status ≡ Done) ⊎ (status ≡ WriteFault) → WritesNothing status → ⊥
+not_two status (inl e) h = let P : Status → Type 0 = λ s. WritesNothing s in subst P e h
+not_two status (inr e) h = let P : Status → Type 0 = λ s. WritesNothing s in subst P e h
+
+only_done : (status : Status) → IsOfText status → HasEnded status → status ≡ Done
+only_done Done one_of h = refl
+only_done Breach one_of h = absurd one_of
+only_done Usage one_of h = absurd h
+only_done Refused one_of h = absurd h
+only_done TooLong one_of h = absurd h
+only_done ReadFault one_of h = absurd h
+only_done WriteFault one_of h = absurd h
+only_done OutOfMemory one_of h = absurd h
+
+pub sides_answer : (accepted : Accepted) (status : Status) (left left' : Option (List ℕ)) (reads reads' : ℕ) (held held' : Option (List ℕ))
+    (writes writes' : ℕ) (is_plain : Bool) (told : Option (List Turn)) → ReadsScenario left left' accepted
+    → Writes (check_text accepted.plan.sizes accepted.plan.plan) status held held' writes writes'
+    → Answers Check status left left' reads reads' held held' writes writes' is_plain told told
+sides_answer accepted status left left' reads reads' held held' writes writes' is_plain told r x =
+    let says : IsTextOf r.input (as_scenario accepted) = record { accepted = accepted; is = r.is; shows = refl } in
+    let text = check_text accepted.plan.sizes accepted.plan.plan in
+    record {
+      known = no_text status Usage (λ h. h) x.one_of;
+      ended = λ h. let done = only_done status x.one_of h in record {
+          input = r.input; text = text; read = r.read; written = x.done done;
+          due = (record { scenario = as_scenario accepted; says = says; text_is = refl }, record { done = done; silent = refl })
+        };
+      refused = λ e. absurd (no_text status Refused (λ h. h) x.one_of e);
+      unread = record {
+        too_long = λ e. absurd (no_text status TooLong (λ h. h) x.one_of e);
+        short_enough = λ e. r.short_enough;
+        fault = λ e. absurd (no_text status ReadFault (λ h. h) x.one_of e);
+      };
+      failed = λ e. record {
+          rose = x.cause e; input = r.input; text = text; read = r.read; written = x.part e;
+          due = inr (record { scenario = as_scenario accepted; says = says; text_is = refl }, record { done = refl; silent = refl })
+        };
+    }
+
+pub generated_answers : (seed frames : ℕ) (status : Status) (left : Option (List ℕ)) (reads : ℕ) (held held' : Option (List ℕ))
+    (writes writes' : ℕ) (is_plain : Bool) (told : Option (List Turn)) → Writes (generated_text seed frames) status held held' writes writes'
+    → Answers (Gen seed frames) status left left reads reads held held' writes writes' is_plain told told
+generated_answers seed frames status left reads held held' writes writes' is_plain told x = record {
+  known = no_text status Usage (λ h. h) x.one_of;
+  ended = λ h. let done = only_done status x.one_of h in record {
+      input = []; text = generated_text seed frames; read = refl; written = x.done done; due = (refl, record { done = done; silent = refl })
+    };
+  refused = λ e. absurd (no_text status Refused (λ h. h) x.one_of e);
+  unread = record { not_long = no_text status TooLong (λ h. h) x.one_of; no_fault = no_text status ReadFault (λ h. h) x.one_of };
+  failed = λ e. record {
+      rose = x.cause e; input = []; text = generated_text seed frames; read = refl; written = x.part e;
+      due = inr (refl, record { done = refl; silent = refl })
+    };
+}
+
+-- a generated run was opened, and its numbers were due
+pub record Sums (seed frames : ℕ) (status : Status) (held held' : Option (List ℕ)) (writes writes' : ℕ) (is_plain : Bool) (told told' : Option (List Turn)) : Type 0 where
+  pub ended : HasEnded status → IsSummed seed frames status is_plain told told' held held'
+  pub part : status ≡ WriteFault → FailsToSum seed frames is_plain told told' held held'
+  pub cause : status ≡ WriteFault → Rose writes writes'
+  pub one_of : IsOfRun status
+
+pub sum_answers : (seed frames : ℕ) (status : Status) (left : Option (List ℕ)) (reads : ℕ) (held held' : Option (List ℕ))
+    (writes writes' : ℕ) (is_plain : Bool) (told told' : Option (List Turn)) → Sums seed frames status held held' writes writes' is_plain told told'
+    → Answers (Stress seed frames) status left left reads reads held held' writes writes' is_plain told told'
+sum_answers seed frames status left reads held held' writes writes' is_plain told told' x = record {
+  known = no_run status Usage (λ h. h) x.one_of;
+  ended = λ h. let all = x.ended h in record { input = []; text = all.text; read = refl; written = all.written; due = all.due };
+  refused = λ e. absurd (no_run status Refused (λ h. h) x.one_of e);
+  unread = record { not_long = no_run status TooLong (λ h. h) x.one_of; no_fault = no_run status ReadFault (λ h. h) x.one_of };
+  failed = λ e. let part = x.part e in record {
+      rose = x.cause e; input = []; text = part.text; read = refl; written = part.written; due = inr part.due
+    };
+}

@@ -1,0 +1,41 @@
+use Rattle.std.proofs.Common.{◌∙◌, subst, sym}
+use Rattle.rb_rules.specs.Lawful.{IsLawful}
+use Rattle.rb_scenario.specs.Acceptance.{as_scenario}
+use Rattle.rb_run.proofs.Opened.{just-opened}
+use Rattle.rb_top.proofs.Summing.{not_summed, summed, summed_in_part}
+use Rattle.rb_top.proofs.running.stress.Goals as goal
+
+pub tally-ending-requires : goal.tally-ending-requires
+tally-ending-requires g c = just-opened c.in-Ok-open.world (as_scenario c.in-Ok.scenario) c.in-Ok-open.ensures.stands
+
+pub returns-in-Ok-write_summary-clause-ended : goal.returns-in-Ok-write_summary-clause-ended
+returns-in-Ok-write_summary-clause-ended g c h =
+    summed c.args.seed c.args.frames c.in-Ok-open.world.bus c.tally-ending.result.0 _ _ _ c.tally-ending.result.1 _ _ c.in-Ended.is
+    (record {
+      generates = c.in-Ok-open.ensures.bus ∙ c.in-Ok.ensures.scenario;
+      lawful = subst IsLawful (sym c.in-Ok-open.ensures.bus) c.in-Ok.ensures.lawful;
+      tallies = c.tally-ending.ensures.totals;
+      ends = c.tally-ending.ensures.ending;
+    })
+    c.in-Ok-write_summary.ensures.all
+
+pub returns-in-Ended-clause-part : goal.returns-in-Ended-clause-part
+returns-in-Ended-clause-part g c h =
+    summed_in_part c.args.seed c.args.frames c.in-Ok-open.world.bus c.tally-ending.result.0 _ _ _ c.tally-ending.result.1 _ _ c.in-Ended.is
+    (record {
+      generates = c.in-Ok-open.ensures.bus ∙ c.in-Ok.ensures.scenario;
+      lawful = subst IsLawful (sym c.in-Ok-open.ensures.bus) c.in-Ok.ensures.lawful;
+      tallies = c.tally-ending.ensures.totals;
+      ends = c.tally-ending.ensures.ending;
+    })
+    c.in-Err-write_summary.ensures.part
+
+pub returns-clause-ended : goal.returns-clause-ended
+returns-clause-ended g c h =
+    not_summed c.args.seed c.args.frames c.in-Ok-open.world.bus c.tally-ending.result.0 _ _ _ c.tally-ending.result.1 _ c.in-Breach.is
+    (record {
+      generates = c.in-Ok-open.ensures.bus ∙ c.in-Ok.ensures.scenario;
+      lawful = subst IsLawful (sym c.in-Ok-open.ensures.bus) c.in-Ok.ensures.lawful;
+      tallies = c.tally-ending.ensures.totals;
+      ends = c.tally-ending.ensures.ending;
+    })

@@ -1,0 +1,38 @@
+use Rattle.std.proofs.Common.{subst, sym}
+use Rattle.rb_top.specs.declared.form.Form.{Form}
+use Rattle.rb_top.specs.Serving.{Answers}
+use Rattle.rb_top.proofs.FormAnswers.{generated_answers, sum_answers}
+use Rattle.rb_top.proofs.serving.serve.Goals as goal
+
+pub returns-in-Check-clause-answers : goal.returns-in-Check-clause-answers
+returns-in-Check-clause-answers g c =
+    let P : Form → Type 0 = λ f. Answers f c.check.result (g.S.Source.left c.args.input.now) (g.S.Source.left c.check.new.input) (g.S.Source.faults c.args.input.now) (g.S.Source.faults c.check.new.input)
+    (g.K.Sink.held c.args.output.now) (g.K.Sink.held c.check.new.output) (g.K.Sink.faults c.args.output.now) (g.K.Sink.faults c.check.new.output)
+    (g.D.Drive.is_plain c.args.drive.now) (g.D.Drive.told c.args.drive.now) (g.D.Drive.told c.args.drive.now) in
+    subst P (sym c.in-Check.is) (c.check.ensures.answers (g.D.Drive.is_plain c.args.drive.now) (g.D.Drive.told c.args.drive.now))
+
+pub returns-in-Gen-clause-answers : goal.returns-in-Gen-clause-answers
+returns-in-Gen-clause-answers g c =
+    let P : Form → Type 0 = λ f. Answers f c.generate_text.result (g.S.Source.left c.args.input.now) (g.S.Source.left c.args.input.now) (g.S.Source.faults c.args.input.now) (g.S.Source.faults c.args.input.now)
+    (g.K.Sink.held c.args.output.now) (g.K.Sink.held c.generate_text.new.output) (g.K.Sink.faults c.args.output.now) (g.K.Sink.faults c.generate_text.new.output)
+    (g.D.Drive.is_plain c.args.drive.now) (g.D.Drive.told c.args.drive.now) (g.D.Drive.told c.args.drive.now) in
+    subst P (sym c.in-Gen.is)
+    (generated_answers c.in-Gen.seed c.in-Gen.frames c.generate_text.result _ _ _ _ _ _ _ _ (record {
+      done = c.generate_text.ensures.done;
+      part = c.generate_text.ensures.part;
+      cause = c.generate_text.ensures.cause;
+      one_of = c.generate_text.ensures.one_of;
+    }))
+
+pub returns-in-Stress-clause-answers : goal.returns-in-Stress-clause-answers
+returns-in-Stress-clause-answers g c =
+    let P : Form → Type 0 = λ f. Answers f c.stress.result (g.S.Source.left c.args.input.now) (g.S.Source.left c.args.input.now) (g.S.Source.faults c.args.input.now) (g.S.Source.faults c.args.input.now)
+    (g.K.Sink.held c.args.output.now) (g.K.Sink.held c.stress.new.output) (g.K.Sink.faults c.args.output.now) (g.K.Sink.faults c.stress.new.output)
+    (g.D.Drive.is_plain c.args.drive.now) (g.D.Drive.told c.args.drive.now) (g.D.Drive.told c.stress.new.drive) in
+    subst P (sym c.in-Stress.is)
+    (sum_answers c.in-Stress.seed c.in-Stress.frames c.stress.result _ _ _ _ _ _ _ _ _ (record {
+      ended = c.stress.ensures.ended;
+      part = c.stress.ensures.part;
+      cause = c.stress.ensures.cause;
+      one_of = c.stress.ensures.one_of;
+    }))

@@ -1,0 +1,88 @@
+-- What a form reads, and how its input is refused or not read to its end.
+use Rattle.std.specs.Prelude.{ℕ, ◌≡◌, ◌≤◌, ◌<◌, List, [], Option, Some, None, IsSome, unwrap_or, false}
+use Rattle.rb_outside.specs.Bytes.{Gave, ReadsToEnd}
+use Rattle.rb_outside.specs.Causes.{Rose}
+use Rattle.rb_rules.specs.Goodness.{Scenario}
+use Rattle.rb_rules.specs.Lawful.{IsLawful}
+use Rattle.rb_report.specs.Report.{refused_text}
+use Rattle.rb_entries.specs.Codes.{code_of, detail_of}
+use Rattle.rb_entries.specs.declared.refusal.Refusal.{Refusal}
+use Rattle.rb_scenario.specs.Acceptance.{IsAccepted, IsRefused, as_scenario}
+use Rattle.rb_scenario.specs.declared.scenario.Scenario.{Scenario as Accepted}
+use Rattle.rb_top.specs.declared.form.Form.{Form}
+use Rattle.rb_top.specs.declared.form.Form.TheVariants.{Run, Check, Gen, Stress}
+use Rattle.rb_top.specs.declared.status.Status.{Status}
+use Rattle.rb_top.specs.declared.status.Status.TheVariants as answer
+
+-- The input.
+
+-- the most bytes of a scenario
+abbrev pub scenario_limit : ℕ
+scenario_limit = 4194304
+
+-- the most bytes of a form's input. A form without an input reads nothing
+abbrev pub limit_of : Form → Option ℕ
+limit_of Run = Some scenario_limit
+limit_of Check = Some scenario_limit
+limit_of (Gen seed frames) = None
+limit_of (Stress seed frames) = None
+
+-- by that limit: this is all that the source had left, and nothing where nothing is read
+abbrev pub IsReadBy : Option ℕ → Option (List ℕ) → Option (List ℕ) → List ℕ → Type 0
+IsReadBy None left left' input = input ≡ []
+IsReadBy (Some limit) left left' input = ReadsToEnd left left' input
+
+-- the form's input, read to its end
+abbrev pub IsRead : Form → Option (List ℕ) → Option (List ℕ) → List ℕ → Type 0
+IsRead form left left' input = IsReadBy (limit_of form) left left' input
+
+-- the input is the text of an accepted scenario, this one
+pub record IsTextOf (input : List ℕ) (sc : Scenario) : Type 0 where
+  pub accepted : Accepted
+  pub is : IsAccepted input accepted
+  pub shows : as_scenario accepted ≡ sc
+
+-- Refusals.
+
+-- the rule has a code; want of memory has none
+abbrev pub HasCode : Refusal → Type 0
+HasCode rule = IsSome (code_of rule)
+
+-- the line that names the rule
+abbrev pub rule_text : Refusal → List ℕ
+rule_text rule = refused_text (unwrap_or (code_of rule) 0) (detail_of rule) false
+
+-- the input is the text of no scenario, by the first rule that it breaks, which has this line
+pub record BreaksRule (input line : List ℕ) : Type 0 where
+  pub rule : Refusal
+  pub coded : HasCode rule
+  pub broken : IsRefused input rule
+  pub line_is : line ≡ rule_text rule
+
+-- the form's input is refused with this line
+abbrev pub IsRefusedWith : Form → List ℕ → List ℕ → Type 0
+IsRefusedWith Run input line = BreaksRule input line
+IsRefusedWith Check input line = BreaksRule input line
+IsRefusedWith (Gen seed frames) input line = ⊥
+IsRefusedWith (Stress seed frames) input line = ⊥
+
+-- Reading that doesn't come to the end.
+
+-- TooLong comes exactly where the source gave more bytes than the limit, and ReadFault only where the count of its faults rose
+pub record IsUnreadOver (limit : ℕ) (status : Status) (left left' : Option (List ℕ)) (faults faults' : ℕ) : Type 0 where
+  pub too_long : status ≡ answer.TooLong → Gave left left' (λ n. limit < n)
+  pub short_enough : ¬ (status ≡ answer.TooLong) → Gave left left' (λ n. n ≤ limit)
+  pub fault : status ≡ answer.ReadFault → Rose faults faults'
+
+-- neither comes of a form without an input
+pub record IsNeverUnread (status : Status) : Type 0 where
+  pub not_long : ¬ (status ≡ answer.TooLong)
+  pub no_fault : ¬ (status ≡ answer.ReadFault)
+
+abbrev pub IsUnreadBy : Option ℕ → Status → Option (List ℕ) → Option (List ℕ) → ℕ → ℕ → Type 0
+IsUnreadBy None status left left' faults faults' = IsNeverUnread status
+IsUnreadBy (Some limit) status left left' faults faults' = IsUnreadOver limit status left left' faults faults'
+
+-- so of a form
+abbrev pub IsUnread : Form → Status → Option (List ℕ) → Option (List ℕ) → ℕ → ℕ → Type 0
+IsUnread form status left left' faults faults' = IsUnreadBy (limit_of form) status left left' faults faults'

@@ -1,0 +1,60 @@
+-- What comes of serving a form, and of a run that is opened for one.
+use Rattle.std.specs.Prelude.{⊤, ℕ, ◌≡◌, Bool, List, Option}
+use Rattle.std.specs.Io.KnownBytes.{Appends}
+use Rattle.rb_outside.specs.Bytes.{AppendsPart}
+use Rattle.rb_rules.specs.Goodness.{Scenario}
+use Rattle.rb_book.specs.declared.turn.Turn.{Turn}
+use Rattle.rb_run.specs.Runs.{WritesAll}
+use Rattle.rb_top.specs.declared.form.Form.{Form}
+use Rattle.rb_top.specs.declared.status.Status.{Status}
+use Rattle.rb_top.specs.declared.status.Status.TheVariants as answer
+use Rattle.rb_top.specs.Answers.{Ends, EndsAs, FailsToWrite, IsSummary, Refuses}
+use Rattle.rb_top.specs.Inputs.{IsUnread}
+use Rattle.rb_top.specs.Statuses.{HasEnded}
+
+-- all that is said of the answer for a form
+pub record Answers (form : Form) (status : Status) (left left' : Option (List ℕ)) (reads reads' : ℕ) (held held' : Option (List ℕ)) (writes writes' : ℕ) (is_plain : Bool) (told told' : Option (List Turn)) : Type 0 where
+  pub known : ¬ (status ≡ answer.Usage)
+  pub ended : HasEnded status → Ends form status left left' held held' is_plain told told'
+  pub refused : status ≡ answer.Refused → Refuses form left left' held held'
+  pub unread : IsUnread form status left left' reads reads'
+  pub failed : status ≡ answer.WriteFault → FailsToWrite form left left' held held' writes writes' is_plain told told'
+
+-- a run was opened, the drive gave all its turns, and their report was written
+pub record IsReported (sc : Scenario) (status : Status) (is_plain : Bool) (told told' : Option (List Turn)) (held held' : Option (List ℕ)) : Type 0 where
+  pub ends : EndsAs sc status
+  pub written : WritesAll sc is_plain told told' held held'
+
+-- a generated run was opened, the drive gave all its turns, and what is due of them was written
+pub record IsSummed (seed frames : ℕ) (status : Status) (is_plain : Bool) (told told' : Option (List Turn)) (held held' : Option (List ℕ)) : Type 0 where
+  pub text : List ℕ
+  pub due : IsSummary seed frames is_plain told told' status text
+  pub written : Appends held held' text
+
+-- or its first bytes were, the run having ended without a breach
+pub record FailsToSum (seed frames : ℕ) (is_plain : Bool) (told told' : Option (List Turn)) (held held' : Option (List ℕ)) : Type 0 where
+  pub text : List ℕ
+  pub due : IsSummary seed frames is_plain told told' answer.Done text
+  pub written : AppendsPart held held' text
+
+-- an answer of a run that is to be opened
+abbrev pub IsOfRun : Status → Type 0
+IsOfRun answer.Done = ⊤
+IsOfRun answer.Breach = ⊤
+IsOfRun answer.WriteFault = ⊤
+IsOfRun answer.OutOfMemory = ⊤
+IsOfRun answer.Usage = ⊥
+IsOfRun answer.Refused = ⊥
+IsOfRun answer.TooLong = ⊥
+IsOfRun answer.ReadFault = ⊥
+
+-- an answer of a form without a run, whose input has been read
+abbrev pub IsOfText : Status → Type 0
+IsOfText answer.Done = ⊤
+IsOfText answer.WriteFault = ⊤
+IsOfText answer.OutOfMemory = ⊤
+IsOfText answer.Breach = ⊥
+IsOfText answer.Usage = ⊥
+IsOfText answer.Refused = ⊥
+IsOfText answer.TooLong = ⊥
+IsOfText answer.ReadFault = ⊥

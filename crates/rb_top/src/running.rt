@@ -1,0 +1,122 @@
+//! Runs that are told to their end: as a report, or as four numbers.
+ghost use Rattle.std.specs.Prelude.{◌≡◌, ◌≤◌, OnOk, OnErr};
+ghost use Rattle.std.specs.Io.KnownBytes.{Appends};
+ghost use Rattle.rb_outside.specs.Bytes.{AppendsPart};
+ghost use Rattle.rb_outside.specs.Causes.{HasCause, Rose};
+ghost use Rattle.rb_rules.specs.Lawful.{IsLawful};
+ghost use Rattle.rb_report.specs.Report.{summary_text};
+ghost use Rattle.rb_scenario.specs.Acceptance.{as_scenario};
+ghost use Rattle.rb_run.specs.Runs.{WritesPart};
+ghost use Rattle.rb_top.specs.Answers.{status_of};
+ghost use Rattle.rb_top.specs.Serving.{FailsToSum, IsOfRun, IsReported, IsSummed};
+ghost use Rattle.rb_top.specs.Statuses.{HasEnded};
+ghost use Rattle.rb_top.specs.Texts.{summary_of};
+ghost use Rattle.rb_top.specs.Words.{AreNumbers};
+
+use crate::lines::write_line;
+use crate::status::Status;
+use rb_base::OutOfMemory;
+use rb_gen::generate;
+use rb_outside::{Failed, Sink};
+use rb_port::Apps;
+use rb_report::summary_line;
+use rb_run::{Ending, Totals, tally, write_run};
+use rb_scenario::Scenario;
+use rb_world::{Drive, World};
+use std::alloc::Global;
+
+// The answer where a run ends so and all is written.
+fn status_of(ending: Ending) -> Status
+    ensures { result ≡ status_of ending }
+{
+    match ending {
+        Ending::Ended => Status::Done,
+        Ending::Breach => Status::Breach,
+    }
+}
+
+/// Opens the run of a scenario and writes its report.
+pub(crate) fn report<K: Sink, D: Drive>(
+    alloc: Global,
+    scenario: Scenario,
+    output: &mut K,
+    apps: &Apps,
+    drive: &mut D,
+) -> Status
+    requires { IsLawful (as_scenario scenario) }
+    ensures ended { HasEnded result
+        → IsReported (as_scenario scenario) result (D.is_plain drive.old) (D.told drive.old) (D.told drive.new) (K.held output.old) (K.held output.new) }
+    ensures part { result ≡ Status.WriteFault
+        → WritesPart (as_scenario scenario) (D.is_plain drive.old) (D.told drive.old) (D.told drive.new) (K.held output.old) (K.held output.new) }
+    ensures cause { result ≡ Status.WriteFault → Rose (K.faults output.old) (K.faults output.new) }
+    ensures unopened { result ≡ Status.OutOfMemory → (output.new ≡ output.old) × (drive.new ≡ drive.old) }
+    ensures one_of { IsOfRun result }
+{
+    let mut world = match World::open(alloc, scenario) {
+        Ok(world) => world,
+        Err(OutOfMemory) => return Status::OutOfMemory,
+    };
+    match write_run(&mut world, apps, drive, output) {
+        Ok(ending) => status_of(ending),
+        Err(Failed) => Status::WriteFault,
+    }
+}
+
+// Writes one of the four numbers of a run.
+fn write_number<K: Sink>(which: u8, value: u64, output: &mut K) -> Result<(), Failed>
+    requires { which ≤ 3 }
+    ensures all { OnOk result (Appends (K.held output.old) (K.held output.new) (summary_text which value)) }
+    ensures part { OnErr result (AppendsPart (K.held output.old) (K.held output.new) (summary_text which value)) }
+    ensures cause { HasCause (K.faults output.old) (K.faults output.new) result }
+{
+    write_line(output, &summary_line(which, value))
+}
+
+// Writes the four numbers of a run, a line each.
+fn write_summary<K: Sink>(totals: &Totals, output: &mut K) -> Result<(), Failed>
+    ensures all { OnOk result (Appends (K.held output.old) (K.held output.new) (summary_of totals.now)) }
+    ensures part { OnErr result (AppendsPart (K.held output.old) (K.held output.new) (summary_of totals.now)) }
+    ensures cause { HasCause (K.faults output.old) (K.faults output.new) result }
+{
+    write_number(0, totals.frames as u64, output)?;
+    write_number(1, totals.deliveries, output)?;
+    write_number(2, totals.convicted as u64, output)?;
+    write_number(3, totals.spread, output)
+}
+
+/// Opens the generated run of a seed and a number of frames, and writes its four numbers, or nothing where it ends with a breach.
+pub(crate) fn stress<K: Sink, D: Drive>(
+    alloc: Global,
+    seed: u64,
+    frames: u32,
+    output: &mut K,
+    apps: &Apps,
+    drive: &mut D,
+) -> Status
+    requires { AreNumbers seed frames }
+    ensures ended { HasEnded result
+        → IsSummed seed frames result (D.is_plain drive.old) (D.told drive.old) (D.told drive.new) (K.held output.old) (K.held output.new) }
+    ensures part { result ≡ Status.WriteFault
+        → FailsToSum seed frames (D.is_plain drive.old) (D.told drive.old) (D.told drive.new) (K.held output.old) (K.held output.new) }
+    ensures cause { result ≡ Status.WriteFault → Rose (K.faults output.old) (K.faults output.new) }
+    ensures unopened { result ≡ Status.OutOfMemory → (output.new ≡ output.old) × (drive.new ≡ drive.old) }
+    ensures breach { result ≡ Status.Breach → output.new ≡ output.old }
+    ensures one_of { IsOfRun result }
+{
+    let scenario = match generate(alloc, seed, frames) {
+        Ok(scenario) => scenario,
+        Err(OutOfMemory) => return Status::OutOfMemory,
+    };
+    let mut world = match World::open(alloc, scenario) {
+        Ok(world) => world,
+        Err(OutOfMemory) => return Status::OutOfMemory,
+    };
+    let (ending, totals) = tally(&mut world, apps, drive);
+    match ending {
+        Ending::Ended => match write_summary(&totals, output) {
+            Ok(()) => Status::Done,
+            Err(Failed) => Status::WriteFault,
+        },
+        Ending::Breach => Status::Breach,
+    }
+}

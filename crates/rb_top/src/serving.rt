@@ -1,0 +1,78 @@
+//! Serving a form of words.
+ghost use Rattle.std.specs.Prelude.{ℕ, ◌≡◌, Bool, List, None, Option};
+ghost use Rattle.rb_book.specs.declared.turn.Turn.{Turn};
+ghost use Rattle.rb_top.specs.declared.form.Form.TheVariants.{Run, Check, Stress};
+ghost use Rattle.rb_top.specs.Inputs.{limit_of};
+ghost use Rattle.rb_top.specs.Serving.{Answers};
+ghost use Rattle.rb_top.specs.Statuses.{RunsNothing, WritesNothing};
+ghost use Rattle.rb_top.specs.Words.{IsInRange};
+
+use crate::check::show_sides;
+use crate::form::Form;
+use crate::generating::generate_text;
+use crate::reading::read_scenario;
+use crate::running::{report, stress};
+use crate::status::Status;
+use rb_outside::{Sink, Source};
+use rb_port::Apps;
+use rb_world::Drive;
+use std::alloc::Global;
+
+// Reads a scenario, runs it and reports what happened.
+fn run<S: Source, K: Sink, D: Drive>(
+    alloc: Global,
+    input: &mut S,
+    output: &mut K,
+    apps: &Apps,
+    drive: &mut D,
+) -> Status
+    ensures answers { Answers Run result (S.left input.old) (S.left input.new) (S.faults input.old) (S.faults input.new)
+        (K.held output.old) (K.held output.new) (K.faults output.old) (K.faults output.new)
+        (D.is_plain drive.old) (D.told drive.old) (D.told drive.new) }
+    ensures unwritten { WritesNothing result → output.new ≡ output.old }
+    ensures not_driven { RunsNothing result → drive.new ≡ drive.old }
+{
+    match read_scenario(alloc, input, output) {
+        Ok(scenario) => report(alloc, scenario, output, apps, drive),
+        Err(status) => status,
+    }
+}
+
+// Reads a scenario and shows both sides of its plan's inequalities.
+fn check<S: Source, K: Sink>(alloc: Global, input: &mut S, output: &mut K) -> Status
+    ensures answers { (is_plain : Bool) (told : Option (List Turn))
+        → Answers Check result (S.left input.old) (S.left input.new) (S.faults input.old) (S.faults input.new)
+        (K.held output.old) (K.held output.new) (K.faults output.old) (K.faults output.new) is_plain told told }
+    ensures unwritten { WritesNothing result → output.new ≡ output.old }
+{
+    match read_scenario(alloc, input, output) {
+        Ok(scenario) => show_sides(&scenario, output),
+        Err(status) => status,
+    }
+}
+
+/// Serves the form.
+pub(crate) fn serve<S: Source, K: Sink, D: Drive>(
+    alloc: Global,
+    form: Form,
+    input: &mut S,
+    output: &mut K,
+    apps: &Apps,
+    drive: &mut D,
+) -> Status
+    requires { IsInRange form }
+    ensures answers { Answers form result (S.left input.old) (S.left input.new) (S.faults input.old) (S.faults input.new)
+        (K.held output.old) (K.held output.new) (K.faults output.old) (K.faults output.new)
+        (D.is_plain drive.old) (D.told drive.old) (D.told drive.new) }
+    ensures without_input { limit_of form ≡ None → input.new ≡ input.old }
+    ensures unwritten { WritesNothing result → output.new ≡ output.old }
+    ensures stress_with_breach { (seed frames : ℕ) → form ≡ Stress seed frames → result ≡ Status.Breach → output.new ≡ output.old }
+    ensures not_driven { RunsNothing result → drive.new ≡ drive.old }
+{
+    match form {
+        Form::Run => run(alloc, input, output, apps, drive),
+        Form::Check => check(alloc, input, output),
+        Form::Gen(seed, frames) => generate_text(alloc, seed, frames, output),
+        Form::Stress(seed, frames) => stress(alloc, seed, frames, output, apps, drive),
+    }
+}
