@@ -2,7 +2,10 @@
 #![tactic(auto)]
 
 use rb_outside::{StdSink, StdSource};
+use rb_port::{App, Apps};
 use rb_top::run_robus;
+use rb_world::FirstDrive;
+use std::alloc::{AllocError, Global};
 use std::io::ErrorKind;
 use std::process::ExitCode;
 use std::{env, io};
@@ -27,13 +30,59 @@ fn arguments(rt: &HostRuntime) -> Result<Vec<String>, u8> {
     arguments.skip(1).collect(rt.alloc()).map_err(|_| NO_MEMORY)
 }
 
+/// The three applications that a scenario may name.
+fn applications(alloc: Global) -> Result<Apps, AllocError> {
+    let table = App {
+        offer: Box::new(alloc, |state: u64, _slot: u16| {
+            (state % 4294967296) as u32
+        })?,
+        learn: Box::new(
+            alloc,
+            |state: u64, _slot: u16, _sender: u8, _value: Option<u32>| state,
+        )?,
+    };
+    let counter = App {
+        offer: Box::new(alloc, |state: u64, _slot: u16| {
+            (state % 4294967296) as u32
+        })?,
+        learn: Box::new(
+            alloc,
+            |state: u64, _slot: u16, _sender: u8, _value: Option<u32>| state.wrapping_add(1),
+        )?,
+    };
+    let follow = App {
+        offer: Box::new(alloc, |state: u64, slot: u16| {
+            ((u128::from(state) + u128::from(slot)) % 4294967296) as u32
+        })?,
+        learn: Box::new(
+            alloc,
+            |state: u64, _slot: u16, _sender: u8, value: Option<u32>| {
+                ((31 * u128::from(state) + u128::from(value.unwrap_or(0)))
+                    % 18446744073709551616) as u64
+            },
+        )?,
+    };
+    Ok(Apps::new(table, counter, follow))
+}
+
 fn main(rt: HostRuntime) -> ExitCode {
     let words = match arguments(&rt) {
         Ok(words) => words,
         Err(status) => return ExitCode::from(status),
     };
+    let Ok(apps) = applications(rt.alloc()) else {
+        return ExitCode::from(NO_MEMORY);
+    };
     let mut input = StdSource::new(rt.reader());
     let mut output = StdSink::new(io::writer(&rt));
-    let status = run_robus(rt.alloc(), &words, &mut input, &mut output);
+    let mut drive = FirstDrive::new();
+    let status = run_robus(
+        rt.alloc(),
+        &words,
+        &mut input,
+        &mut output,
+        &apps,
+        &mut drive,
+    );
     ExitCode::from(status as u8)
 }
