@@ -1,5 +1,5 @@
 -- What a node tells, and what it delivers.
-use Rattle.std.proofs.Common.{◌≡◌, ℕ, zero, suc, ◌<◌, ◌≤◌, ◌==◌, Bool, true, false, Some, None, Option, List, [], ◌∷◌, length, slice_get, get_or, refl, sym, ap, ◌∙◌, subst, arith, if◌then◌else◌}
+use Rattle.std.proofs.Common.{◌≡◌, ℕ, zero, suc, ◌<◌, ◌==◌, Bool, true, false, Some, None, Option, List, [], ◌∷◌, length, slice_get, get_or, refl, sym, ap, ◌∙◌, subst, arith, if◌then◌else◌}
 use Rattle.std.specs.Prelude.{slice_set, unwrap_or}
 use Rattle.std.proofs.lemmas.Bool.Decides.{nat_tests}
 use Rattle.std.proofs.lemmas.List.{length-set}
@@ -21,7 +21,7 @@ use Rattle.rb_rules.specs.NodeState.{NodeState, trusted_of}
 use Rattle.rb_site.specs.Tells.{row_at}
 use Rattle.rb_rules.specs.Ports.{PortState, delivered_to, fresh_port, losses_of}
 use Rattle.rb_rules.specs.WorldStep.{Site, World, with_delivery, with_epoch}
-use Rattle.rb_book.specs.Changing.{changed_at, number_in, row_shown, side_in, with_begun, with_row}
+use Rattle.rb_book.specs.Changing.{changed_at, number_in, row_shown, with_begun, with_row}
 use Rattle.rb_book.specs.Holding.{Holds}
 use Rattle.rb_book.specs.declared.ledger.Ledger.{Ledger}
 use Rattle.rb_port.specs.Keeping.{HoldsPort, KeptPort}
