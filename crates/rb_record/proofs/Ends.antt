@@ -31,7 +31,7 @@ true-false e = absurd (cc)
 
 -- Nothing is due once the run has ended.
 
-ended-idle : (sc : Scenario) (w : World) → w.book.ended ≡ true → length (due_of sc w) ≡ 0
+pub ended-idle : (sc : Scenario) (w : World) → w.book.ended ≡ true → length (due_of sc w) ≡ 0
 unfolding due_of
 ended-idle sc w e = ap (λ b. length (elim (b || needs_no_event sc w.book.upcoming) as (λ _. List Due) [ true ↦ [] | false ↦ due_at sc w (least (flat_map times_of (in_order w.sites))) ])) e
 

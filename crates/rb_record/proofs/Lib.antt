@@ -5,3 +5,4 @@ pub mod Comings
 pub mod Ticks
 pub mod Writing
 pub mod Finish
+pub mod Logs

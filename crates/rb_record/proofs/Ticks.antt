@@ -56,7 +56,7 @@ use Rattle.rb_record.proofs.Ends.{none-given}
 use Rattle.rb_record.proofs.Comings.{AreSized, AreSound, IsSized, IsSound, due-runs, run-sound}
 use Rattle.rb_record.proofs.Runs.{choices_of, run-busy, run-idle, run-is, run-reached}
 
-some-same : {X : Type 0} (a b : X) → Some a ≡ Some b → a ≡ b
+pub some-same : {X : Type 0} (a b : X) → Some a ≡ Some b → a ≡ b
 some-same a b e = cc
 
 back-from : {X Y : Type 0} (f : X → Y) (o : Option X) (y : Y) → option_map f o ≡ Some y → (x : X) × ((o ≡ Some x) × (f x ≡ y))
@@ -256,7 +256,7 @@ event-fits sc w e lawful reached sound is =
     (subst (λ (s : Site). s.core.had + ticks_given (event_of sc w.ports is.d.side is.d.node s.core is.d.pending) ≤ 2 ^ 31) same all)
 
 -- what arrives has bytes
-sized-at : (n : ℕ) (c : Coming) (cs : List Coming) → StandsAt n c cs → AreSized cs → IsSized c.bytes
+pub sized-at : (n : ℕ) (c : Coming) (cs : List Coming) → StandsAt n c cs → AreSized cs → IsSized c.bytes
 sized-at n c [] at is = absurd at
 sized-at zero c (x ∷ xs) at is = subst (λ (c : Coming). IsSized c.bytes) at is.0
 sized-at (suc n) c (x ∷ xs) at is = sized-at n c xs at is.1
@@ -352,7 +352,7 @@ taken-before sc w e name z lawful reached sound is at =
 
 -- What is recorded.
 
-ticks-append : (xs ys : List Event) → ticks_in (xs ++ ys) ≡ ticks_in xs + ticks_in ys
+pub ticks-append : (xs ys : List Event) → ticks_in (xs ++ ys) ≡ ticks_in xs + ticks_in ys
 ticks-append [] ys = omega arith
 ticks-append (x ∷ xs) ys = let rest = ticks-append xs ys in omega (arith, rest)
 

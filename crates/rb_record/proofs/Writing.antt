@@ -18,7 +18,7 @@ use Rattle.rb_outside.proofs.Known.{appends_join, appends_none, part_join, part_
 use Rattle.rb_world.specs.Worlds.{Kept, Stands}
 use Rattle.rb_record.specs.Recording.{IsRecorded, IsRecordedWhole, IsTold, WritesAll, WritesNext, WritesPart, WritesPartOf, log_text}
 use Rattle.rb_record.proofs.Ends.{all-given, busy-more, whole-given}
-use Rattle.rb_record.proofs.Ticks.{next-is}
+use Rattle.rb_record.proofs.Ticks.{next-is, ticks-append}
 
 -- One event.
 
@@ -63,16 +63,12 @@ text-more sc name n log after bytes more text told others =
     ap (log_text sc name) (append_assoc (given_in sc name n) next others) ∙ text (next ++ others) ∙ ap (λ xs. bytes ++ xs) (told.text others)
     ∙ sym (append_assoc bytes more (written after.waiting others))
 
-ticks-sum : (xs ys : List Event) → ticks_in (xs ++ ys) ≡ ticks_in xs + ticks_in ys
-ticks-sum [] ys = omega arith
-ticks-sum (x ∷ xs) ys = let rest = ticks-sum xs ys in omega (arith, rest)
-
 pub recorded-more : (sc : Scenario) (name : NodeName) (n : ℕ) (k after : Kept) (log later : Tally) (held mid since : Option (List ℕ)) → IsRecorded sc name n k log held mid
     → WritesNext log later (given_next sc name (first_run sc n)) mid since → 1 ≤ length (due_of sc (first_run sc n)) → after.bus ≡ sc → Stands after (first_run sc (suc n))
     → IsRecorded sc name (n + 1) after later held since
 recorded-more sc name n k after log later held mid since is next some bus stands =
     let one : suc n ≡ n + 1 = omega arith in
-    let sum = ticks-sum (given_in sc name n) (given_next sc name (first_run sc n)) in
+    let sum = ticks-append (given_in sc name n) (given_next sc name (first_run sc n)) in
     let before = is.ticks in
     let more = next.told.ticks in
     subst (λ m. IsRecorded sc name m after later held since) one (record {
