@@ -2,11 +2,12 @@
 # make build                                       proves and builds the program
 # make test                                        the gate: every proof, must-fail edit, test and program
 # make bench                                       builds the programs and measures them
+# make examples                                    runs each example, and looks for the lines that its page names
 
-.PHONY: run build test bench
+.PHONY: run build test bench examples
 
 run:
-	@test -n "$(SCENARIO)" || { echo "usage: make run SCENARIO=examples/one_silent_rmu.toml" >&2; exit 2; }
+	@test -n "$(SCENARIO)" || { echo "usage: make run SCENARIO=examples/one_silent_rmu.toml (or another of examples/)" >&2; exit 2; }
 	@tools/run "$(SCENARIO)"
 
 build:
@@ -18,3 +19,6 @@ test:
 bench: build
 	cd crates/rb_bench && rt run -- closes 1000 > /dev/null
 	tools/bench
+
+examples: build
+	tools/examples

@@ -2,6 +2,38 @@
 #![tactic(auto)]
 
 #[cfg(test)]
-mod answers;
+mod applications;
 #[cfg(test)]
-mod documents;
+mod breaches;
+#[cfg(test)]
+mod calls;
+#[cfg(test)]
+mod drives;
+#[cfg(test)]
+mod faulty_bius;
+#[cfg(test)]
+mod faulty_rmus;
+#[cfg(test)]
+mod load;
+#[cfg(test)]
+mod logs;
+#[cfg(test)]
+mod nodes;
+#[cfg(test)]
+mod ordinary;
+#[cfg(test)]
+mod outside;
+#[cfg(test)]
+mod probation;
+#[cfg(test)]
+mod records;
+#[cfg(test)]
+mod refusals;
+#[cfg(test)]
+mod tables;
+#[cfg(test)]
+mod trial;
+#[cfg(test)]
+mod versions;
+#[cfg(test)]
+mod words;
