@@ -1,13 +1,17 @@
-//! The program: `run_robus` over standard input and standard output. It ends with the number of the status.
+//! The program: `run_robus` over standard input and standard output, with the three applications and a plain drive. It ends with the
+//! number of the status.
 #![tactic(auto)]
 
 use rb_outside::{StdSink, StdSource};
+use rb_port::{App, Apps};
 use rb_top::run_robus;
+use rb_world::FirstDrive;
+use std::alloc::AllocError;
 use std::io::ErrorKind;
 use std::process::ExitCode;
 use std::{env, io};
 
-/// The status where the text of an argument finds no memory.
+/// The status where an application or the text of an argument finds no memory.
 const NO_MEMORY: u8 = 7;
 
 /// The status where the arguments cannot be had for another cause, as where one is no text.
@@ -27,13 +31,51 @@ fn arguments(rt: &HostRuntime) -> Result<Vec<String>, u8> {
     arguments.skip(1).collect(rt.alloc()).map_err(|_| NO_MEMORY)
 }
 
+/// The top call with the words, or want of memory for the applications. They are made here, where their entries are known to answer as
+/// `Apps::new` asks.
+fn serve(rt: &HostRuntime, words: &[String]) -> Result<u8, AllocError> {
+    let alloc = rt.alloc();
+    let table = App {
+        offer: Box::new(alloc, |state: u64, _slot: u16| (state % 4294967296) as u32)?,
+        learn: Box::new(
+            alloc,
+            |state: u64, _slot: u16, _sender: u8, _value: Option<u32>| state,
+        )?,
+    };
+    let counter = App {
+        offer: Box::new(alloc, |state: u64, _slot: u16| (state % 4294967296) as u32)?,
+        learn: Box::new(
+            alloc,
+            |state: u64, _slot: u16, _sender: u8, _value: Option<u32>| state.wrapping_add(1),
+        )?,
+    };
+    let follow = App {
+        offer: Box::new(alloc, |state: u64, slot: u16| {
+            ((u128::from(state) + u128::from(slot)) % 4294967296) as u32
+        })?,
+        learn: Box::new(
+            alloc,
+            |state: u64, _slot: u16, _sender: u8, value: Option<u32>| {
+                ((31 * u128::from(state) + u128::from(value.unwrap_or(0)))
+                    % 18446744073709551616) as u64
+            },
+        )?,
+    };
+    let apps = Apps::new(table, counter, follow);
+    let mut input = StdSource::new(rt.reader());
+    let mut output = StdSink::new(io::writer(rt));
+    let mut drive = FirstDrive::new();
+    let status = run_robus(alloc, words, &mut input, &mut output, &apps, &mut drive);
+    Ok(status as u8)
+}
+
 fn main(rt: HostRuntime) -> ExitCode {
     let words = match arguments(&rt) {
         Ok(words) => words,
         Err(status) => return ExitCode::from(status),
     };
-    let mut input = StdSource::new(rt.reader());
-    let mut output = StdSink::new(io::writer(&rt));
-    let status = run_robus(rt.alloc(), &words, &mut input, &mut output);
-    ExitCode::from(status as u8)
+    match serve(&rt, &words) {
+        Ok(status) => ExitCode::from(status),
+        Err(_) => ExitCode::from(NO_MEMORY),
+    }
 }
