@@ -109,25 +109,6 @@ fn documents_that_break_rules(rt: HostRuntime) -> Result<(), Fail> {
                 status: Status::Refused,
                 lines: &[("", "refused 5 OutOfRange")],
             },
-            // The node is looked at last.
-            Case {
-                words: "record B7",
-                input: &[ORDINARY],
-                status: Status::Refused,
-                lines: &[("", "refused 12 NoSuchNode")],
-            },
-            Case {
-                words: "record R3",
-                input: &[ORDINARY],
-                status: Status::Refused,
-                lines: &[("", "refused 12 NoSuchNode")],
-            },
-            Case {
-                words: "record B7",
-                input: &[ORDINARY, "delay = 15001\n"],
-                status: Status::Refused,
-                lines: &[("", "refused 8 DelayBounds")],
-            },
         ],
     )
 }

@@ -1,16 +1,17 @@
-//! The program: `run_robus` over standard input and standard output. It ends with the number of the status.
+//! The program: `run_robus` over standard input and standard output, with the three applications and a plain drive. It ends with the
+//! number of the status.
 #![tactic(auto)]
 
 use rb_outside::{StdSink, StdSource};
 use rb_port::{App, Apps};
 use rb_top::run_robus;
 use rb_world::FirstDrive;
-use std::alloc::{AllocError, Global};
+use std::alloc::AllocError;
 use std::io::ErrorKind;
 use std::process::ExitCode;
 use std::{env, io};
 
-/// The status where the text of an argument finds no memory.
+/// The status where an application or the text of an argument finds no memory.
 const NO_MEMORY: u8 = 7;
 
 /// The status where the arguments cannot be had for another cause, as where one is no text.
@@ -30,21 +31,19 @@ fn arguments(rt: &HostRuntime) -> Result<Vec<String>, u8> {
     arguments.skip(1).collect(rt.alloc()).map_err(|_| NO_MEMORY)
 }
 
-/// The three applications that a scenario may name.
-fn applications(alloc: Global) -> Result<Apps, AllocError> {
+/// The top call with the words, or want of memory for the applications. They are made here, where their entries are known to answer as
+/// `Apps::new` asks.
+fn serve(rt: &HostRuntime, words: &[String]) -> Result<u8, AllocError> {
+    let alloc = rt.alloc();
     let table = App {
-        offer: Box::new(alloc, |state: u64, _slot: u16| {
-            (state % 4294967296) as u32
-        })?,
+        offer: Box::new(alloc, |state: u64, _slot: u16| (state % 4294967296) as u32)?,
         learn: Box::new(
             alloc,
             |state: u64, _slot: u16, _sender: u8, _value: Option<u32>| state,
         )?,
     };
     let counter = App {
-        offer: Box::new(alloc, |state: u64, _slot: u16| {
-            (state % 4294967296) as u32
-        })?,
+        offer: Box::new(alloc, |state: u64, _slot: u16| (state % 4294967296) as u32)?,
         learn: Box::new(
             alloc,
             |state: u64, _slot: u16, _sender: u8, _value: Option<u32>| state.wrapping_add(1),
@@ -62,7 +61,12 @@ fn applications(alloc: Global) -> Result<Apps, AllocError> {
             },
         )?,
     };
-    Ok(Apps::new(table, counter, follow))
+    let apps = Apps::new(table, counter, follow);
+    let mut input = StdSource::new(rt.reader());
+    let mut output = StdSink::new(io::writer(rt));
+    let mut drive = FirstDrive::new();
+    let status = run_robus(alloc, words, &mut input, &mut output, &apps, &mut drive);
+    Ok(status as u8)
 }
 
 fn main(rt: HostRuntime) -> ExitCode {
@@ -70,19 +74,8 @@ fn main(rt: HostRuntime) -> ExitCode {
         Ok(words) => words,
         Err(status) => return ExitCode::from(status),
     };
-    let Ok(apps) = applications(rt.alloc()) else {
-        return ExitCode::from(NO_MEMORY);
-    };
-    let mut input = StdSource::new(rt.reader());
-    let mut output = StdSink::new(io::writer(&rt));
-    let mut drive = FirstDrive::new();
-    let status = run_robus(
-        rt.alloc(),
-        &words,
-        &mut input,
-        &mut output,
-        &apps,
-        &mut drive,
-    );
-    ExitCode::from(status as u8)
+    match serve(&rt, &words) {
+        Ok(status) => ExitCode::from(status),
+        Err(_) => ExitCode::from(NO_MEMORY),
+    }
 }
