@@ -1,5 +1,5 @@
 -- What is given without an event ends the run.
-use Rattle.std.proofs.Common.{◌≡◌, ℕ, suc, ◌+◌, ◌==◌, ◌&&◌, ◌||◌, not, nat_lt, Bool, true, false, List, [], ◌∷◌, ◌++◌, refl, ap, sym, ◌∙◌, arith, Option, Some, None, is_some, lit≤, slice_get, if◌then◌else◌}
+use Rattle.std.proofs.Common.{◌≡◌, ℕ, suc, ◌+◌, ◌==◌, ◌&&◌, ◌||◌, not, nat_lt, Bool, true, false, List, [], ◌∷◌, ◌++◌, refl, ap, sym, ◌∙◌, arith, Option, Some, None, is_some, lit≤, if◌then◌else◌}
 use Rattle.std.proofs.lemmas.Bool.{le-ltb}
 use Rattle.std.proofs.lemmas.List.{append-nil}
 use Rattle.rb_base.specs.Nodes.{Side, has, size}
@@ -8,7 +8,6 @@ use Rattle.rb_base.specs.Sizes.{IsShape}
 use Rattle.rb_base.specs.declared.values.Place.{Place}
 use Rattle.rb_base.proofs.SetSizes.{size_none}
 use Rattle.rb_base.proofs.Sets.{has_none, is_set_of, same_set_of}
-use Rattle.rb_rules.specs.declared.cause.Cause.{Cause}
 use Rattle.rb_rules.specs.declared.cause.Cause.TheVariants.{FewGoodBiu, FewGoodRmu, TwoSided}
 use Rattle.rb_rules.specs.Book.{Begun, Book, Each, Milestone, Record, Row, after_verdict, frame_records, in_order, judged_of, map_from, with_stage}
 use Rattle.rb_rules.specs.Book.Milestone.{Begin, Stage, End}

@@ -5,7 +5,6 @@ use Rattle.std.specs.List.{range_with_len}
 use Rattle.std.proofs.lemmas.List.Elements.{All-head, All-tail}
 use Rattle.std.proofs.lemmas.Option.{slice_get_within}
 use Rattle.rb_base.specs.Nodes.{Side, other}
-use Rattle.rb_base.specs.Nodes.Side.{Biu, Rmu}
 use Rattle.rb_base.specs.declared.values.Place.{Place}
 use Rattle.rb_rules.specs.declared.closing.Closed.{Closed}
 use Rattle.rb_rules.specs.declared.message.Message.{Message}
@@ -24,14 +23,13 @@ use Rattle.rb_rules.specs.NodeState.{NodeState}
 use Rattle.rb_rules.specs.Ports.{PortState}
 use Rattle.rb_rules.specs.Slots.{count_of, same_side}
 use Rattle.rb_rules.specs.Spelling.{spelling_of}
-use Rattle.rb_rules.specs.WorldStep.{Due, Pending, Site, Way, World, after_act, after_arrival, at_node, await, due_of, enter, first_world, fresh_site, go_on, happens, pass_and_tick, proceed, says_in, sent_to, settle, span_from, stop, take, take_if_due, with_act, with_close, with_epoch, with_message, with_pending}
+use Rattle.rb_rules.specs.WorldStep.{Due, Pending, Site, World, after_act, after_arrival, at_node, await, due_of, enter, first_world, fresh_site, go_on, happens, pass_and_tick, proceed, says_in, sent_to, settle, span_from, stop, take, take_if_due, with_act, with_close, with_epoch, with_message, with_pending}
 use Rattle.rb_rules.specs.WorldStep.Pending.{Tick, Arrival}
 use Rattle.rb_rules.specs.WorldStep.Way.{ByAnEvent, ByItself}
 use Rattle.rb_rules.proofs.WindowNumbers.{get-each, get-made}
-use Rattle.rb_history.specs.Given.{first_run, first_step}
+use Rattle.rb_history.specs.Given.{first_run}
 use Rattle.rb_order.proofs.DueEvents.{IsDue, IsReady}
 use Rattle.rb_order.proofs.PendingLists.{StandsAt}
-use Rattle.rb_order.proofs.RoundNodes.{item-at}
 use Rattle.rb_order.proofs.SameHeard.{Every}
 use Rattle.rb_order.proofs.WorldNodes.{first-counts, settle-sites}
 use Rattle.rb_order.proofs.WorldStands.{is_node, node-is}

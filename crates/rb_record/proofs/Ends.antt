@@ -1,5 +1,5 @@
 -- How a run ends in which each step takes the first due event.
-use Rattle.std.proofs.Common.{◌≡◌, ◌≢◌, ◌⊎◌, ℕ, zero, suc, ◌+◌, ◌^◌, ◌<◌, ◌≤◌, ◌||◌, Bool, true, false, Option, Some, None, List, [], ◌∷◌, ◌++◌, append_assoc, length, slice_get, refl, sym, ap, ◌∙◌, subst, arith, inl, inr, lit<}
+use Rattle.std.proofs.Common.{◌≡◌, ◌⊎◌, ℕ, zero, suc, ◌+◌, ◌^◌, ◌<◌, ◌≤◌, ◌||◌, Bool, true, false, Option, Some, None, List, [], ◌∷◌, ◌++◌, append_assoc, length, slice_get, refl, sym, ap, ◌∙◌, subst, arith, inl, inr}
 use Rattle.std.specs.Prelude.{flat_map, option_and_then, option_map}
 use Rattle.std.specs.List.{last_or}
 use Rattle.std.proofs.lemmas.Bool.{cases_lt}
@@ -18,7 +18,7 @@ use Rattle.rb_history.specs.Given.{AreGiven, first_run, first_step, given_in, gi
 use Rattle.rb_order.proofs.EventsHold.{due-holds, events-hold, turns-hold}
 use Rattle.rb_order.proofs.OneTake.{settle-hands}
 use Rattle.rb_order.proofs.RoundNodes.{item-at}
-use Rattle.rb_order.specs.Laws.{IsNextTurn, SomethingIsDue}
+use Rattle.rb_order.specs.Laws.{IsNextTurn}
 use Rattle.rb_world.specs.Nexts.{is_last}
 use Rattle.rb_world.specs.Worlds.{IsReached}
 use Rattle.rb_world.proofs.GoingOn.{ended-stays}
@@ -54,9 +54,9 @@ idle-ends sc w lawful reached none = by w.book.ended (needs_no_event sc w.book.u
     by true f e h = ap (λ (x : World). x.book.ended) (ended-stays sc w e) ∙ e
     by false true e h = alone-ends sc w lawful.sizes e h
     by false false e h = absurd (
-      let some = subst (λ (x : World). x.book.ended ≡ false → needs_no_event sc x.book.upcoming ≡ false → 1 ≤ length (due_of sc x)) (sym reached.is)
-      (due-holds sc lawful reached.choices) e h in
-      omega (arith, some, none))
+        let some = subst (λ (x : World). x.book.ended ≡ false → needs_no_event sc x.book.upcoming ≡ false → 1 ≤ length (due_of sc x)) (sym reached.is)
+        (due-holds sc lawful reached.choices) e h in
+        omega (arith, some, none))
 
 pub run-ends : (sc : Scenario) (n : ℕ) → IsLawful sc → length (due_of sc (first_run sc n)) ≡ 0 → (first_run sc (suc n)).book.ended ≡ true
 run-ends sc n lawful none = ap (λ (w : World). w.book.ended) (run-idle sc (first_run sc n) none) ∙ idle-ends sc (first_run sc n) lawful (run-reached sc n) none

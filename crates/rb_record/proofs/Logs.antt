@@ -1,7 +1,6 @@
 -- What is recorded is a log.
-use Rattle.std.proofs.Common.{◌≡◌, ℕ, zero, suc, ◌+◌, ◌-◌, ◌^◌, ◌<◌, ◌≤◌, ◌%◌, ◌&&◌, ◌==◌, nat_lt, Bool, true, false, All, List, [], ◌∷◌, ◌++◌, get_or, length, refl, sym, ◌∙◌, ap, subst, arith, inl, inr, Option, Some, None, is_some, slice_get}
-use Rattle.std.specs.Prelude.{if◌then◌else◌, Ok}
-use Rattle.std.specs.List.{flat_map}
+use Rattle.std.proofs.Common.{◌≡◌, ℕ, zero, suc, ◌+◌, ◌-◌, ◌^◌, ◌<◌, ◌≤◌, ◌&&◌, Bool, true, false, All, List, [], ◌∷◌, ◌++◌, get_or, length, refl, sym, ◌∙◌, ap, subst, arith, inl, inr, Option, Some, None, is_some, slice_get}
+use Rattle.std.specs.Prelude.{if◌then◌else◌}
 use Rattle.std.proofs.lemmas.Bool.{cases_lt}
 use Rattle.std.proofs.lemmas.List.{append-nil, get_or_past}
 use Rattle.std.proofs.lemmas.List.Elements.{All-append, All-cons, All-nil}
@@ -14,30 +13,28 @@ use Rattle.rb_base.specs.declared.node.NodeName.{NodeName}
 use Rattle.rb_rules.specs.declared.role.Role.{Role}
 use Rattle.rb_rules.specs.declared.role.Role.TheVariants.{Schedule, Data, DiagBiu, DiagRmu, Sync}
 use Rattle.rb_rules.specs.Book.{of_kind}
-use Rattle.rb_rules.specs.Core.{Core, pass_to}
+use Rattle.rb_rules.specs.Core.{pass_to}
 use Rattle.rb_rules.specs.Goodness.{Scenario}
-use Rattle.rb_rules.specs.Hearing.{Coming, port_at, word_for}
+use Rattle.rb_rules.specs.Hearing.{Coming, word_for}
 use Rattle.rb_rules.specs.Lawful.{HasEach, IsLawful, IsNodeOf, kind_of}
 use Rattle.rb_rules.specs.Links.{same_node}
-use Rattle.rb_rules.specs.Ports.{PortState, offered_at}
+use Rattle.rb_rules.specs.Ports.{PortState}
 use Rattle.rb_rules.specs.Slots.{count_of, role_of}
-use Rattle.rb_rules.specs.WorldStep.{Due, Pending, Site, World, due_of, event_at, event_of, wants_in, word_of}
+use Rattle.rb_rules.specs.WorldStep.{Due, Pending, Site, World, event_at, event_of, wants_in, word_of}
 use Rattle.rb_rules.specs.WorldStep.Pending.{Tick, Arrival}
-use Rattle.rb_history.specs.Given.{AreGiven, first_run, given_in, given_next, if_given, is_before_end, site_of}
+use Rattle.rb_history.specs.Given.{first_run, given_in, given_next, is_before_end, site_of}
 use Rattle.rb_log.specs.Laws.{IsTellable, MayHappen, ticks_in}
-use Rattle.rb_log.specs.LogText.{log_in, senders_of}
+use Rattle.rb_log.specs.LogText.{senders_of}
 use Rattle.rb_log.specs.Writing.{given, ticks_given}
 use Rattle.rb_log.proofs.RoundTrip.{written_read}
-use Rattle.rb_order.proofs.DueEvents.{IsDue, IsReady, every-at}
+use Rattle.rb_order.proofs.DueEvents.{IsDue, IsReady}
 use Rattle.rb_order.proofs.PendingLists.{StandsAt}
-use Rattle.rb_order.proofs.SameHeard.{Every}
 use Rattle.rb_order.proofs.WorldNodes.{Known, worlds-known}
-use Rattle.rb_plan.specs.Timetable.{Timetable}
 use Rattle.rb_world.specs.Worlds.{IsReached}
 use Rattle.rb_world.proofs.Ready.{due-reached}
 use Rattle.rb_record.specs.Laws.{OneLog, RecordedIsRead}
-use Rattle.rb_record.specs.Recording.{MayTell, log_text}
-use Rattle.rb_record.proofs.Comings.{AreSized, AreSound, IsSized, IsSound, run-sound}
+use Rattle.rb_record.specs.Recording.{MayTell}
+use Rattle.rb_record.proofs.Comings.{AreSound, IsSound, run-sound}
 use Rattle.rb_record.proofs.Ends.{ended-idle, none-given, still-over}
 use Rattle.rb_record.proofs.Runs.{run-reached}
 use Rattle.rb_record.proofs.Ticks.{IsEvent, at-node, is-event, may-tell, next-is, sized-at, some-same, ticks-append}

@@ -1,17 +1,14 @@
 -- A run in which each step takes the first due event.
-use Rattle.std.proofs.Common.{◌≡◌, ℕ, zero, suc, ◌+◌, ◌*◌, ◌^◌, ◌<◌, ◌≤◌, ◌||◌, Bool, true, false, Option, Some, None, List, [], ◌∷◌, ◌++◌, fold, length, is_some, slice_get, refl, sym, ap, ◌∙◌, subst, arith, inl, inr}
+use Rattle.std.proofs.Common.{◌≡◌, ℕ, zero, suc, ◌+◌, ◌*◌, ◌^◌, ◌<◌, ◌≤◌, Some, None, List, [], ◌∷◌, ◌++◌, fold, length, slice_get, refl, sym, ap, ◌∙◌, subst, arith}
 use Rattle.std.proofs.lemmas.Nat.{mul-le}
-use Rattle.rb_rules.specs.Book.{Record}
 use Rattle.rb_rules.specs.Goodness.{Scenario}
 use Rattle.rb_rules.specs.Lawful.{IsLawful}
-use Rattle.rb_rules.specs.WorldStep.{Choice, Due, World, choose, due_at, due_of, first_world, go_on, least, needs_no_event, take, times_of, world_after}
+use Rattle.rb_rules.specs.WorldStep.{Choice, Due, World, choose, due_of, first_world, go_on, take, world_after}
 use Rattle.rb_rules.specs.WorldStep.Choice.{Take, GoOn}
-use Rattle.rb_rules.specs.Book.{in_order}
 use Rattle.rb_history.specs.Given.{first_run, first_step, step_with}
 use Rattle.rb_order.proofs.EventsHold.{ends-hold}
 use Rattle.rb_order.proofs.EveryWorld.{after-more}
-use Rattle.rb_order.proofs.RoundNodes.{item-at}
-use Rattle.rb_order.specs.Laws.{EveryRunEnds, most_at_once, most_takes, nodes_of, taken_by, takes_from}
+use Rattle.rb_order.specs.Laws.{most_at_once, most_takes, nodes_of, taken_by, takes_from}
 use Rattle.rb_world.specs.Worlds.{IsReached}
 
 -- One step.

@@ -1,20 +1,18 @@
 -- What a node is given in a run are at most 2^31 ticks, and arrivals of some bytes.
-use Rattle.std.proofs.Common.{◌≡◌, ◌⊎◌, ℕ, zero, suc, ◌+◌, ◌-◌, ◌^◌, ◌<◌, ◌≤◌, ◌==◌, ◌&&◌, max, nat_lt, Bool, true, false, List, [], ◌∷◌, ◌++◌, length, refl, sym, ◌∙◌, ap, subst, arith, inl, inr, Option, Some, None, is_some, slice_get}
-use Rattle.std.specs.Prelude.{⊤, option_and_then, option_map, if◌then◌else◌}
+use Rattle.std.proofs.Common.{◌≡◌, ℕ, zero, suc, ◌+◌, ◌-◌, ◌^◌, ◌<◌, ◌≤◌, ◌==◌, ◌&&◌, max, Bool, true, false, List, [], ◌∷◌, ◌++◌, length, refl, sym, ◌∙◌, ap, subst, arith, Option, Some, None, slice_get}
+use Rattle.std.specs.Prelude.{option_and_then, option_map, if◌then◌else◌}
 use Rattle.std.proofs.lemmas.Bool.Decides.{nat_tests}
 use Rattle.std.proofs.lemmas.Option.{slice_get_within}
 use Rattle.rb_base.specs.Nodes.{Side, other}
 use Rattle.rb_base.specs.Nodes.Side.{Biu, Rmu}
 use Rattle.rb_base.specs.Sizes.{Sizes}
 use Rattle.rb_base.specs.declared.event.Event.{Event}
-use Rattle.rb_base.specs.declared.event.EventKind.{EventKind}
-use Rattle.rb_base.specs.declared.event.EventKind.TheVariants as kind
 use Rattle.rb_base.specs.declared.node.NodeName.{NodeName}
 use Rattle.rb_base.specs.declared.node.NodeName.TheVariants as node
 use Rattle.rb_rules.specs.declared.closing.Closed.{Closed}
 use Rattle.rb_rules.specs.declared.message.Message.{Message}
 use Rattle.rb_rules.specs.declared.record.Epoch.{Epoch}
-use Rattle.rb_rules.specs.Book.{Each, map_each, of_kind}
+use Rattle.rb_rules.specs.Book.{Each, of_kind}
 use Rattle.rb_rules.specs.Clock.{stamp_of}
 use Rattle.rb_rules.specs.Core.{Act, Core, pass_to}
 use Rattle.rb_rules.specs.Goodness.{Scenario, clock_of, clock_place, is_good}
@@ -25,17 +23,16 @@ use Rattle.rb_rules.specs.NodeState.{NodeState}
 use Rattle.rb_rules.specs.Ports.{PortState}
 use Rattle.rb_rules.specs.Slots.{count_of, same_side}
 use Rattle.rb_rules.specs.Plan.{longest_of, shortest_of}
-use Rattle.rb_rules.specs.WorldStep.{Choice, Due, Pending, Site, Timed, World, after_act, after_arrival, at_node, await, choose, due_of, enter, event_at, event_of, go_on, happens, pass_and_tick, proceed, says_in, sent_to, settle, span_from, stop, take, take_if_due, wants_in, with_act, with_close, with_epoch, with_message, with_pending, word_of, world_after}
-use Rattle.rb_rules.specs.WorldStep.Choice.{Take}
+use Rattle.rb_rules.specs.WorldStep.{Due, Pending, Site, Timed, World, after_act, after_arrival, at_node, await, due_of, enter, event_at, event_of, go_on, happens, pass_and_tick, proceed, says_in, sent_to, settle, span_from, stop, take, take_if_due, wants_in, with_act, with_close, with_epoch, with_message, with_pending, word_of}
 use Rattle.rb_rules.specs.WorldStep.Pending.{Tick, Arrival}
 use Rattle.rb_rules.specs.WorldStep.Way.{ByAnEvent, ByItself}
 use Rattle.rb_rules.proofs.Drift.{clock_moves}
 use Rattle.rb_rules.proofs.QuietTicks.{arrive-same}
 use Rattle.rb_rules.proofs.Stamps.{Moves, stamp_le, stamp_of-is}
 use Rattle.rb_rules.proofs.WindowNumbers.{get-each}
-use Rattle.rb_history.specs.Given.{first_run, first_step, given_in, given_next, if_given, index_of, is_before_end, site_of}
+use Rattle.rb_history.specs.Given.{first_run, given_in, given_next, if_given, index_of, is_before_end, site_of}
 use Rattle.rb_log.specs.Laws.{ticks_in}
-use Rattle.rb_log.specs.Writing.{HasBytes, ticks_given, ticks_with}
+use Rattle.rb_log.specs.Writing.{HasBytes, ticks_given}
 use Rattle.rb_order.proofs.DueEvents.{IsDue, IsReady}
 use Rattle.rb_order.proofs.EventsHold.{any, ends-hold, nodes_at, ticks-left}
 use Rattle.rb_order.proofs.CloseOrder.{shortest-some}
@@ -44,7 +41,6 @@ use Rattle.rb_order.proofs.OneEvent.{all-pend}
 use Rattle.rb_order.proofs.PendingLists.{StandsAt}
 use Rattle.rb_order.proofs.RoundNodes.{item-at}
 use Rattle.rb_order.proofs.RunsEnd.{HasTicksLeft}
-use Rattle.rb_order.proofs.SameHeard.{Every}
 use Rattle.rb_order.proofs.Takes.{tick-had}
 use Rattle.rb_order.proofs.WorldNodes.{settle-sites, worlds-known}
 use Rattle.rb_order.proofs.WorldStands.{AllPend, is_node, node-is}
@@ -54,7 +50,7 @@ use Rattle.rb_world.proofs.InTime.{HasTick, reached-in-time}
 use Rattle.rb_record.specs.Recording.{MayTell}
 use Rattle.rb_record.proofs.Ends.{none-given}
 use Rattle.rb_record.proofs.Comings.{AreSized, AreSound, IsSized, IsSound, due-runs, run-sound}
-use Rattle.rb_record.proofs.Runs.{choices_of, run-busy, run-idle, run-is, run-reached}
+use Rattle.rb_record.proofs.Runs.{run-busy, run-idle, run-reached}
 
 pub some-same : {X : Type 0} (a b : X) → Some a ≡ Some b → a ≡ b
 some-same a b e = cc
@@ -346,9 +342,14 @@ taken-before sc w e name z lawful reached sound is at =
     let same : due.s ≡ is.s = some-same due.s is.s (sym due.there ∙ is.there) in
     let its : e ≡ event_of sc w.ports d.side d.node due.s.core d.pending = is.is ∙ ap (λ (s : Site). event_of sc w.ports d.side d.node s.core d.pending) (sym same) in
     let test : is_node d.side d.node (kind_of name) (index_of name) ≡ same_node e.node name =
-    same-is d.side d.node name ∙ ap (λ n. same_node n name) (sym (ap (λ (e : Event). e.node) its ∙ event-node sc w.ports d.side d.node due.s.core d.pending)) in
-    (b.s, (b.there, b.had ∙ ap (λ m. b.s.core.had + m) (ap (λ t. elim t as (λ _. ℕ) [ true ↦ ticks_given (event_of sc w.ports d.side d.node due.s.core d.pending) | false ↦ 0 ]) test
-    ∙ ap (λ (e2 : Event). elim (same_node e.node name) as (λ _. ℕ) [ true ↦ ticks_given e2 | false ↦ 0 ]) (sym its))))
+    same-is d.side d.node name ∙ ap (λ n. same_node n name) (sym (ap (λ (e : Event). e.node) its ∙ event-node sc w.ports d.side d.node due.s.core d.pending)) in (
+      b.s,
+      (
+        b.there,
+        b.had ∙ ap (λ m. b.s.core.had + m) (ap (λ t. elim t as (λ _. ℕ) [ true ↦ ticks_given (event_of sc w.ports d.side d.node due.s.core d.pending) | false ↦ 0 ]) test
+            ∙ ap (λ (e2 : Event). elim (same_node e.node name) as (λ _. ℕ) [ true ↦ ticks_given e2 | false ↦ 0 ]) (sym its)),
+      ),
+    )
 
 -- What is recorded.
 

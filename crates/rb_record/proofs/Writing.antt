@@ -1,5 +1,5 @@
 -- What is written of a log while a run goes on.
-use Rattle.std.proofs.Common.{◌≡◌, ℕ, zero, suc, ◌+◌, ◌<◌, ◌≤◌, ◌&&◌, Bool, true, false, Option, Some, None, List, [], ◌∷◌, ◌++◌, append_assoc, length, refl, sym, ap, ◌∙◌, subst, arith, inl, inr}
+use Rattle.std.proofs.Common.{◌≡◌, ℕ, suc, ◌+◌, ◌≤◌, ◌&&◌, true, false, Option, Some, List, [], ◌∷◌, ◌++◌, append_assoc, length, refl, sym, ap, ◌∙◌, subst, arith}
 use Rattle.std.specs.Prelude.{if◌then◌else◌, Result, Ok, Err, IsErr, MatchResult, OnErr, OnOk}
 use Rattle.std.specs.Io.KnownBytes.{Appends}
 use Rattle.std.proofs.lemmas.List.{append-nil}
@@ -9,12 +9,11 @@ use Rattle.rb_rules.specs.Goodness.{Scenario}
 use Rattle.rb_rules.specs.Lawful.{IsLawful}
 use Rattle.rb_rules.specs.Links.{same_node}
 use Rattle.rb_rules.specs.WorldStep.{World, due_of, event_at, first_world}
-use Rattle.rb_history.specs.Given.{AreGiven, first_run, given_in, given_next, if_given, is_before_end, site_of}
+use Rattle.rb_history.specs.Given.{first_run, given_in, given_next, is_before_end, site_of}
 use Rattle.rb_log.specs.Header.{header_of}
-use Rattle.rb_log.specs.Laws.{ticks_in}
 use Rattle.rb_log.specs.Writing.{Tally, ticks_given, written}
 use Rattle.rb_outside.specs.Bytes.{AppendsPart}
-use Rattle.rb_outside.proofs.Known.{appends_join, appends_none, part_join, part_none, part_of, part_widens}
+use Rattle.rb_outside.proofs.Known.{appends_join, appends_none, part_join, part_widens}
 use Rattle.rb_world.specs.Worlds.{Kept, Stands}
 use Rattle.rb_record.specs.Recording.{IsRecorded, IsRecordedWhole, IsTold, WritesAll, WritesNext, WritesPart, WritesPartOf, log_text}
 use Rattle.rb_record.proofs.Ends.{all-given, busy-more, whole-given}

@@ -1,4 +1,4 @@
-use Rattle.std.proofs.Common.{◌≡◌, sym, ap, ◌∙◌, subst}
+use Rattle.std.proofs.Common.{◌≡◌, ap, ◌∙◌, subst}
 use Rattle.rb_log.specs.Header.{header_of}
 use Rattle.rb_outside.specs.Bytes.{AppendsPart}
 use Rattle.rb_plan.specs.Timetable.{Timetable}

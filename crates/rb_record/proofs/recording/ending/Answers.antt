@@ -12,6 +12,6 @@ pub returns-in_default : goal.returns-in_default
 returns-in_default g c = record {
   ending = other-ends c.args.world.now.bus c.next.result c.in_default.not-Breach
       (last-turn c.args.world.now c.next.new.self c.next.result c.requires.0 c.requires.1
-          (c.next.ensures.world (first_run c.args.world.now.bus c.requires.0) c.requires.1.stands));
+      (c.next.ensures.world (first_run c.args.world.now.bus c.requires.0) c.requires.1.stands));
   bus = c.next.ensures.bus;
 }

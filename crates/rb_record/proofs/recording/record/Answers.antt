@@ -1,4 +1,4 @@
-use Rattle.std.proofs.Common.{◌≡◌, ◌∙◌, subst}
+use Rattle.std.proofs.Common.{◌∙◌}
 use Rattle.rb_record.proofs.Writing.{all-written, end-part, on-err}
 use Rattle.rb_record.proofs.recording.record.Goals as goal
 

@@ -1,4 +1,4 @@
-use Rattle.std.proofs.Common.{◌≡◌, ◌≤◌, sym, ◌∙◌, arith}
+use Rattle.std.proofs.Common.{sym, ◌∙◌, arith}
 use Rattle.rb_record.proofs.Runs.{few-steps}
 use Rattle.rb_record.proofs.Writing.{match-err, part-for, recorded-for, recorded-whole}
 use Rattle.rb_record.proofs.recording.record_all.Goals as goal

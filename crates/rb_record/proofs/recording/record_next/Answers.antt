@@ -1,4 +1,4 @@
-use Rattle.std.proofs.Common.{◌≡◌, suc, sym, subst}
+use Rattle.std.proofs.Common.{suc, sym, subst}
 use Rattle.rb_history.specs.Given.{first_run}
 use Rattle.rb_world.specs.Worlds.{Stands}
 use Rattle.rb_record.proofs.Runs.{run-busy}

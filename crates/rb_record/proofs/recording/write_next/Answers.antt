@@ -1,4 +1,4 @@
-use Rattle.std.proofs.Common.{◌≡◌, ◌∷◌, [], ◌≤◌, sym, ◌∙◌, subst, Some}
+use Rattle.std.proofs.Common.{◌≡◌, ◌∷◌, [], sym, ◌∙◌, subst}
 use Rattle.std.specs.Io.KnownBytes.{Appends}
 use Rattle.rb_outside.specs.Bytes.{AppendsPart}
 use Rattle.rb_history.specs.Given.{given_next}

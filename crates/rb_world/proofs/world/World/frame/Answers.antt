@@ -1,10 +1,8 @@
-use Rattle.std.proofs.Common.{◌≡◌, ◌<◌, Some, slice_get, get_or, sym, ap, ◌∙◌, subst, arith}
+use Rattle.std.proofs.Common.{◌≡◌, get_or, sym, ap, ◌∙◌, subst, arith}
 use Rattle.rb_base.specs.Nodes.Side.{Biu, Rmu}
-use Rattle.rb_rules.specs.Book.{of_kind}
-use Rattle.rb_rules.specs.Lawful.{IsNodeOf, kind_of}
+use Rattle.rb_rules.specs.Lawful.{IsNodeOf}
 use Rattle.rb_node.specs.Cores.{Running}
 use Rattle.rb_slot.specs.Engines.{Seated}
-use Rattle.rb_traffic.specs.Arriving.{number_of}
 use Rattle.rb_world.specs.Worlds.{Kept, Stands}
 use Rattle.rb_world.proofs.Asked.{frame-named, node-within}
 use Rattle.rb_world.proofs.world.World.frame.Goals as goal
