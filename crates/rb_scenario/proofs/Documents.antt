@@ -1,5 +1,5 @@
 -- An accepted input says one scenario, and breaks no rule.
-use Rattle.std.proofs.Common.{◌≡◌, ℕ, List, Option, Some, None, ap, sym, ◌∙◌}
+use Rattle.std.proofs.Common.{◌≡◌, ℕ, List, Some, None, ap, sym, ◌∙◌}
 use Rattle.toml.specs.Data.{Members}
 use Rattle.rb_scenario.specs.Acceptance.{IsAccepted, IsBroken, IsDocument, IsRefused, first_broken, as_scenario}
 use Rattle.rb_scenario.specs.Reading.{scenario_of}

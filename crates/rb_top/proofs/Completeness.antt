@@ -1,6 +1,5 @@
 -- The answers that must come, from all that is said of an answer.
-use Rattle.std.proofs.Common.{◌≡◌, ℕ, ◌<◌, ◌≤◌, ◌⊎◌, true, false, Bool, List, length, Option, Some, None, arith, inl, inr, refl, subst, sym, ◌∙◌, ap}
-use Rattle.rb_outside.specs.Causes.{Rose}
+use Rattle.std.proofs.Common.{◌≡◌, ℕ, ◌<◌, ◌⊎◌, true, false, Bool, List, length, Option, Some, None, arith, inl, inr, refl, subst, sym, ◌∙◌, ap}
 use Rattle.rb_outside.specs.Bytes.{Gave, ReadsToEnd}
 use Rattle.rb_outside.proofs.Known.{gave_within, read_bytes}
 use Rattle.rb_rules.specs.Goodness.{Scenario}
@@ -19,7 +18,7 @@ use Rattle.rb_top.specs.declared.status.Status.TheVariants.{Done, Breach, Usage,
 use Rattle.rb_top.specs.Answers.{Completes, Ends, EndsAs, IsDue, IsEnd, IsLeft, NothingFails, Refuses, status_of}
 use Rattle.rb_top.specs.Inputs.{BreaksRule, HasCode, IsRead, IsRefusedWith, IsTextOf, IsUnread, limit_of, scenario_limit}
 use Rattle.rb_top.specs.Serving.{Answers}
-use Rattle.rb_top.specs.Statuses.{HasEnded, MayRefuse}
+use Rattle.rb_top.specs.Statuses.{MayRefuse}
 
 -- What excludes what.
 

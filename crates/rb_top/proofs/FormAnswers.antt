@@ -1,9 +1,8 @@
 -- The answers for a form, from what came of its input and of its run.
-use Rattle.std.proofs.Common.{◌≡◌, ℕ, ◌≤◌, ◌⊎◌, Bool, List, [], Option, inl, inr, refl, sym, subst}
+use Rattle.std.proofs.Common.{◌≡◌, ℕ, ◌⊎◌, Bool, List, [], Option, inl, inr, refl, sym, subst}
 use Rattle.std.specs.Io.KnownBytes.{Appends}
 use Rattle.rb_outside.specs.Bytes.{AppendsPart, ReadsToEnd}
 use Rattle.rb_outside.specs.Causes.{Rose}
-use Rattle.rb_gen.specs.Generated.{generated}
 use Rattle.rb_scenario.specs.Acceptance.{as_scenario}
 use Rattle.rb_scenario.specs.declared.scenario.Scenario.{Scenario as Accepted}
 use Rattle.rb_book.specs.declared.turn.Turn.{Turn}
@@ -13,9 +12,8 @@ use Rattle.rb_top.specs.declared.form.Form.{Form}
 use Rattle.rb_top.specs.declared.form.Form.TheVariants.{Run, Check, Gen, Stress}
 use Rattle.rb_top.specs.declared.status.Status.{Status}
 use Rattle.rb_top.specs.declared.status.Status.TheVariants.{Done, Breach, Usage, Refused, TooLong, ReadFault, WriteFault, OutOfMemory}
-use Rattle.rb_top.specs.Answers.{Ends}
 use Rattle.rb_top.specs.CheckText.{check_text}
-use Rattle.rb_top.specs.Inputs.{BreaksRule, IsNeverUnread, IsRead, IsRefusedWith, IsTextOf, IsUnread, IsUnreadOver, scenario_limit}
+use Rattle.rb_top.specs.Inputs.{BreaksRule, IsRead, IsRefusedWith, IsTextOf, IsUnread, IsUnreadOver, scenario_limit}
 use Rattle.rb_top.specs.Reading.{ReadsNone, ReadsScenario}
 use Rattle.rb_top.specs.Serving.{Answers, FailsToSum, IsOfRun, IsOfText, IsReported, IsSummed}
 use Rattle.rb_top.specs.Statuses.{HasEnded, MayRefuse, RunsNothing, WritesNothing}
@@ -60,13 +58,21 @@ none_answers form f status left left' reads reads' held held' writes writes' is_
   known = λ e. let P : Status → Type 0 = λ s. MayRefuse s in subst P e n.one_of;
   ended = λ h. absurd (never_both status n.one_of h);
   refused = λ e. let r = n.refused e in record {
-      input = r.input; line = r.line; read = f.read left left' r.input r.read; refused = f.refuse r.input r.line r.refused; written = r.written
-    };
+    input = r.input;
+    line = r.line;
+    read = f.read left left' r.input r.read;
+    refused = f.refuse r.input r.line r.refused;
+    written = r.written;
+  };
   unread = f.unread status left left' reads reads' n.unread;
   failed = λ e. let r = n.failed e in record {
-      rose = r.rose; input = r.input; text = r.line; read = f.read left left' r.input r.read;
-      due = inl (record { refused = f.refuse r.input r.line r.refused; silent = refl }); written = r.written
-    };
+    rose = r.rose;
+    input = r.input;
+    text = r.line;
+    read = f.read left left' r.input r.read;
+    due = inl (record { refused = f.refuse r.input r.line r.refused; silent = refl });
+    written = r.written;
+  };
 }
 
 -- a scenario has been read, and its run was opened
@@ -113,12 +119,21 @@ report_answers accepted status left left' reads reads' held held' writes writes'
     record {
       known = no_run status Usage (λ h. h) x.one_of;
       ended = λ h. let all = x.ended h in record {
-          input = r.input; text = text_of all.written.turns; read = r.read; written = all.written.text;
-          due = record {
-            scenario = as_scenario accepted; turns = all.written.turns; says = says; lawful = r.lawful; given = all.written.given;
-            all = all.written.all; ends = all.ends; text_is = refl
-          }
+        input = r.input;
+        text = text_of all.written.turns;
+        read = r.read;
+        written = all.written.text;
+        due = record {
+          scenario = as_scenario accepted;
+          turns = all.written.turns;
+          says = says;
+          lawful = r.lawful;
+          given = all.written.given;
+          all = all.written.all;
+          ends = all.ends;
+          text_is = refl;
         };
+      };
       refused = λ e. absurd (no_run status Refused (λ h. h) x.one_of e);
       unread = record {
         too_long = λ e. absurd (no_run status TooLong (λ h. h) x.one_of e);
@@ -126,9 +141,13 @@ report_answers accepted status left left' reads reads' held held' writes writes'
         fault = λ e. absurd (no_run status ReadFault (λ h. h) x.one_of e);
       };
       failed = λ e. let part = x.part e in record {
-          rose = x.cause e; input = r.input; text = text_of part.turns; read = r.read; written = part.text;
-          due = inr (record { scenario = as_scenario accepted; turns = part.turns; says = says; given = part.given; text_is = refl })
-        };
+        rose = x.cause e;
+        input = r.input;
+        text = text_of part.turns;
+        read = r.read;
+        written = part.text;
+        due = inr (record { scenario = as_scenario accepted; turns = part.turns; says = says; given = part.given; text_is = refl });
+      };
     }
 
 -- a text was due, and no run
@@ -167,9 +186,12 @@ sides_answer accepted status left left' reads reads' held held' writes writes' i
     record {
       known = no_text status Usage (λ h. h) x.one_of;
       ended = λ h. let done = only_done status x.one_of h in record {
-          input = r.input; text = text; read = r.read; written = x.done done;
-          due = (record { scenario = as_scenario accepted; says = says; text_is = refl }, record { done = done; silent = refl })
-        };
+        input = r.input;
+        text = text;
+        read = r.read;
+        written = x.done done;
+        due = (record { scenario = as_scenario accepted; says = says; text_is = refl }, record { done = done; silent = refl });
+      };
       refused = λ e. absurd (no_text status Refused (λ h. h) x.one_of e);
       unread = record {
         too_long = λ e. absurd (no_text status TooLong (λ h. h) x.one_of e);
@@ -177,9 +199,13 @@ sides_answer accepted status left left' reads reads' held held' writes writes' i
         fault = λ e. absurd (no_text status ReadFault (λ h. h) x.one_of e);
       };
       failed = λ e. record {
-          rose = x.cause e; input = r.input; text = text; read = r.read; written = x.part e;
-          due = inr (record { scenario = as_scenario accepted; says = says; text_is = refl }, record { done = refl; silent = refl })
-        };
+        rose = x.cause e;
+        input = r.input;
+        text = text;
+        read = r.read;
+        written = x.part e;
+        due = inr (record { scenario = as_scenario accepted; says = says; text_is = refl }, record { done = refl; silent = refl });
+      };
     }
 
 pub generated_answers : (seed frames : ℕ) (status : Status) (left : Option (List ℕ)) (reads : ℕ) (held held' : Option (List ℕ))
@@ -188,14 +214,22 @@ pub generated_answers : (seed frames : ℕ) (status : Status) (left : Option (Li
 generated_answers seed frames status left reads held held' writes writes' is_plain told x = record {
   known = no_text status Usage (λ h. h) x.one_of;
   ended = λ h. let done = only_done status x.one_of h in record {
-      input = []; text = generated_text seed frames; read = refl; written = x.done done; due = (refl, record { done = done; silent = refl })
-    };
+    input = [];
+    text = generated_text seed frames;
+    read = refl;
+    written = x.done done;
+    due = (refl, record { done = done; silent = refl });
+  };
   refused = λ e. absurd (no_text status Refused (λ h. h) x.one_of e);
   unread = record { not_long = no_text status TooLong (λ h. h) x.one_of; no_fault = no_text status ReadFault (λ h. h) x.one_of };
   failed = λ e. record {
-      rose = x.cause e; input = []; text = generated_text seed frames; read = refl; written = x.part e;
-      due = inr (refl, record { done = refl; silent = refl })
-    };
+    rose = x.cause e;
+    input = [];
+    text = generated_text seed frames;
+    read = refl;
+    written = x.part e;
+    due = inr (refl, record { done = refl; silent = refl });
+  };
 }
 
 -- a generated run was opened, and its numbers were due
@@ -214,6 +248,11 @@ sum_answers seed frames status left reads held held' writes writes' is_plain tol
   refused = λ e. absurd (no_run status Refused (λ h. h) x.one_of e);
   unread = record { not_long = no_run status TooLong (λ h. h) x.one_of; no_fault = no_run status ReadFault (λ h. h) x.one_of };
   failed = λ e. let part = x.part e in record {
-      rose = x.cause e; input = []; text = part.text; read = refl; written = part.written; due = inr part.due
-    };
+    rose = x.cause e;
+    input = [];
+    text = part.text;
+    read = refl;
+    written = part.written;
+    due = inr part.due;
+  };
 }

@@ -1,11 +1,9 @@
 -- What a plain drive's run promises.
-use Rattle.std.proofs.Common.{◌≡◌, ℕ, true, List, [], Option, ap, sym, ◌∙◌, subst}
+use Rattle.std.proofs.Common.{ℕ, true, List, [], Option, ap, ◌∙◌, subst}
 use Rattle.std.specs.Io.KnownBytes.{Appends}
-use Rattle.rb_rules.specs.Rounds.{records_of}
 use Rattle.rb_gen.specs.Generated.{generated}
 use Rattle.rb_bus.proofs.Promise.{promise, stands}
 use Rattle.rb_book.specs.declared.turn.Turn.{Turn}
-use Rattle.rb_run.specs.Turns.{records_in}
 use Rattle.rb_run.proofs.Plain.{plain-records, plain-text}
 use Rattle.rb_top.specs.declared.form.Form.{Form}
 use Rattle.rb_top.specs.declared.form.Form.TheVariants.{Run, Check, Gen, Stress}

@@ -1,5 +1,5 @@
 -- What is due of a generated run, from its numbers.
-use Rattle.std.proofs.Common.{◌≡◌, ℕ, Bool, List, [], Option, ap, refl, sym, ◌∙◌, subst}
+use Rattle.std.proofs.Common.{◌≡◌, ℕ, Bool, List, [], Option, ap, refl, subst}
 use Rattle.std.specs.Io.KnownBytes.{Appends}
 use Rattle.rb_outside.specs.Bytes.{AppendsPart}
 use Rattle.rb_outside.proofs.Known.{appends_none}

@@ -3,7 +3,6 @@ use Rattle.std.specs.Prelude.{ℕ, ◌≡◌, ◌≤◌, ◌<◌, List, [], Opti
 use Rattle.rb_outside.specs.Bytes.{Gave, ReadsToEnd}
 use Rattle.rb_outside.specs.Causes.{Rose}
 use Rattle.rb_rules.specs.Goodness.{Scenario}
-use Rattle.rb_rules.specs.Lawful.{IsLawful}
 use Rattle.rb_report.specs.Report.{refused_text}
 use Rattle.rb_entries.specs.Codes.{code_of, detail_of}
 use Rattle.rb_entries.specs.declared.refusal.Refusal.{Refusal}

@@ -1,5 +1,5 @@
 -- What `run` and `stress` promise where the drive is plain.
-use Rattle.std.specs.Prelude.{⊤, ℕ, ◌≡◌, List, [], Option}
+use Rattle.std.specs.Prelude.{⊤, ℕ, List, [], Option}
 use Rattle.std.specs.Io.KnownBytes.{Appends}
 use Rattle.rb_outside.specs.Bytes.{ReadsToEnd}
 use Rattle.rb_rules.specs.Goodness.{Scenario}
@@ -19,19 +19,19 @@ use Rattle.rb_top.specs.Texts.{summary_with}
 pub record KeepsTheHeadline (status : Status) (left left' held held' : Option (List ℕ)) : Type 0 where
   pub input : List ℕ
   pub scenario : Scenario
-  pub read : ReadsToEnd left left' input                               -- nothing is left of the input
-  pub accepted : IsTextOf input scenario                               -- it is the text of an accepted scenario
-  pub written : Appends held held' (report_of (records_of scenario [])) -- what was added to the sink is the report of its rounds
-  pub ends : EndsAs scenario status                                    -- the answer is Breach exactly where they end with one
-  pub promise : Headline scenario []                                   -- up to the breach the bus keeps its promise
-  pub machine : StandsFor scenario []                                  -- and all good nodes are one machine
+  pub read : ReadsToEnd left left' input  -- nothing is left of the input
+  pub accepted : IsTextOf input scenario  -- it is the text of an accepted scenario
+  pub written : Appends held held' (report_of (records_of scenario []))  -- what was added to the sink is the report of its rounds
+  pub ends : EndsAs scenario status  -- the answer is Breach exactly where they end with one
+  pub promise : Headline scenario []  -- up to the breach the bus keeps its promise
+  pub machine : StandsFor scenario []  -- and all good nodes are one machine
 
 -- The promise of `stress`, at Done and at Breach
 pub record SumsTheHeadline (seed frames : ℕ) (status : Status) (held held' : Option (List ℕ)) : Type 0 where
-  pub ends : EndsAs (generated seed frames) status                     -- the answer is Breach exactly where its rounds end with one
+  pub ends : EndsAs (generated seed frames) status  -- the answer is Breach exactly where its rounds end with one
   pub written : Appends held held' (summary_with ends.ending (records_of (generated seed frames) []))  -- the numbers are those of its rounds
-  pub promise : Headline (generated seed frames) []                    -- up to the breach the bus keeps its promise
-  pub machine : StandsFor (generated seed frames) []                   -- and all good nodes are one machine
+  pub promise : Headline (generated seed frames) []  -- up to the breach the bus keeps its promise
+  pub machine : StandsFor (generated seed frames) []  -- and all good nodes are one machine
 
 -- the promise of a form. There is none of a form without a run
 abbrev pub KeepsItsPromise : Form → Status → Option (List ℕ) → Option (List ℕ) → Option (List ℕ) → Option (List ℕ) → Type 0

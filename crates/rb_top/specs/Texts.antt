@@ -3,7 +3,6 @@ use Rattle.std.specs.Prelude.{ℕ, List, [], ◌++◌}
 use Rattle.std.specs.List.{flat_map}
 use Rattle.rb_rules.specs.Book.{Record}
 use Rattle.rb_report.specs.Report.{summary_text}
-use Rattle.rb_report.specs.Texts.{report_of}
 use Rattle.rb_gen.specs.Generated.{generated}
 use Rattle.rb_gen.specs.Text.{lines_of}
 use Rattle.rb_run.specs.Tallies.{tally_of}

@@ -35,7 +35,12 @@ pub(crate) fn write_generated<K: Sink>(scenario: &Scenario, output: &mut K) -> R
 }
 
 /// Writes the text of the scenario of a seed and a number of frames.
-pub(crate) fn generate_text<K: Sink>(alloc: Global, seed: u64, frames: u32, output: &mut K) -> Status
+pub(crate) fn generate_text<K: Sink>(
+    alloc: Global,
+    seed: u64,
+    frames: u32,
+    output: &mut K,
+) -> Status
     requires { AreNumbers seed frames }
     ensures done { result ≡ Status.Done → Appends (K.held output.old) (K.held output.new) (generated_text seed frames) }
     ensures part { result ≡ Status.WriteFault → AppendsPart (K.held output.old) (K.held output.new) (generated_text seed frames) }

@@ -1,4 +1,4 @@
-use Rattle.std.proofs.Common.{◌≡◌, ℕ, List, map, refl, ap, sym, subst, ◌∙◌}
+use Rattle.std.proofs.Common.{◌≡◌, ℕ, List, map, ap, sym, subst, ◌∙◌}
 use Rattle.rb_base.specs.Counting.{numbers}
 use Rattle.rb_plan.specs.Timetable.{Timetable}
 use Rattle.rb_rules.specs.declared.link.Rule.{Rule}

@@ -9,10 +9,10 @@ pub loop-text-preserved : goal.loop-text-preserved
 loop-text-preserved g c =
     let not_past : 414 ≤ c.loop-text.next → ⊥ = λ past. let none = c.in-Some.ensures.none.1 past in cc in
     record {
-  within = omega (arith, not_past);
-  owes = owes_line _ _ _ (lines_of (as_scenario c.args.scenario.now)) c.loop-text.next c.in-Some.text.bytes (sym c.in-Some.ensures.text) c.loop-text.invariant.owes (search rules);
-  later = search rules;
-}
+      within = omega (arith, not_past);
+      owes = owes_line _ _ _ (lines_of (as_scenario c.args.scenario.now)) c.loop-text.next c.in-Some.text.bytes (sym c.in-Some.ensures.text) c.loop-text.invariant.owes (search rules);
+      later = search rules;
+    }
 
 pub returns-in_err-write_line-clause-part : goal.returns-in_err-write_line-clause-part
 returns-in_err-write_line-clause-part g c =

@@ -1,4 +1,4 @@
-use Rattle.std.proofs.Common.{◌≡◌, ◌∙◌, Bool, true, subst, sym}
+use Rattle.std.proofs.Common.{◌≡◌, Bool, true, subst}
 use Rattle.rb_top.specs.declared.form.Form.{Form}
 use Rattle.rb_top.specs.Answers.{Completes, Ends, FailsToWrite, Refuses}
 use Rattle.rb_top.specs.Inputs.{IsUnread}
