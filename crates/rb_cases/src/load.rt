@@ -5,35 +5,33 @@ use rb_world::{FrameRecord, Ties, Turn};
 use std::alloc::Global;
 use std::test::Fail;
 
+const CASES: &[Case] = &[
+    Case {
+        words: "stress 7 200",
+        input: &[],
+        status: Status::Done,
+        lines: &[(
+            "",
+            "frames 200\ndeliveries 22621\nconvicted 2\nspread 60200",
+        )],
+    },
+    Case {
+        words: "stress 0 1",
+        input: &[],
+        status: Status::Done,
+        lines: &[("", "frames 1\ndeliveries 119\nconvicted 2\nspread 60200")],
+    },
+    Case {
+        words: "stress 18446744073709551615 3",
+        input: &[],
+        status: Status::Done,
+        lines: &[("", "frames 3\ndeliveries 345\nconvicted 2\nspread 60200")],
+    },
+];
+
 #[test]
 fn numbers_of_generated_runs(rt: HostRuntime) -> Result<(), Fail> {
-    try_cases(
-        &rt,
-        rt.alloc(),
-        &[
-            Case {
-                words: "stress 7 200",
-                input: &[],
-                status: Status::Done,
-                lines: &[(
-                    "",
-                    "frames 200\ndeliveries 22621\nconvicted 2\nspread 60200",
-                )],
-            },
-            Case {
-                words: "stress 0 1",
-                input: &[],
-                status: Status::Done,
-                lines: &[("", "frames 1\ndeliveries 119\nconvicted 2\nspread 60200")],
-            },
-            Case {
-                words: "stress 18446744073709551615 3",
-                input: &[],
-                status: Status::Done,
-                lines: &[("", "frames 3\ndeliveries 345\nconvicted 2\nspread 60200")],
-            },
-        ],
-    )
+    try_cases(&rt, rt.alloc(), CASES)
 }
 
 /// The four numbers of a run, as `stress` writes them.
