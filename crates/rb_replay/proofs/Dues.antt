@@ -183,17 +183,22 @@ pub advances-none : (me : Side) (n : Running) (name : NodeName) (frames : ℕ) (
 advances-none me n name frames events due held d =
     record { part = []; rest = due; whole = refl; appended = appends_none held; goes_on = d }
 
--- quiet ticks have passed, and these events are left
-pub advances-so : (me : Side) (n m : Running) (name : NodeName) (frames : ℕ) (events others left : List CoreEvent) (due : List ℕ) (before after : Option (List ℕ))
-    → ((rest : List ℕ) → IsDue me n name frames events rest → IsDue me m name frames others rest) → others ≡ left
-    → Advances me n name frames events due before after → Advances me m name frames left due before after
-advances-so me n m name frames events others left due before after so is a = record {
+-- quiet ticks have passed
+pub advances-so : (me : Side) (n m : Running) (name : NodeName) (frames : ℕ) (events others : List CoreEvent) (due : List ℕ) (before after : Option (List ℕ))
+    → ((rest : List ℕ) → IsDue me n name frames events rest → IsDue me m name frames others rest)
+    → Advances me n name frames events due before after → Advances me m name frames others due before after
+advances-so me n m name frames events others due before after so a = record {
   part = a.part;
   rest = a.rest;
   whole = a.whole;
   appended = a.appended;
-  goes_on = subst (λ es. IsDue me m name frames es a.rest) is (so a.rest a.goes_on);
+  goes_on = so a.rest a.goes_on;
 }
+
+-- the events that are left are these
+pub advances-is : (me : Side) (n : Running) (name : NodeName) (frames : ℕ) (events left : List CoreEvent) (due : List ℕ) (before after : Option (List ℕ))
+    → events ≡ left → Advances me n name frames events due before after → Advances me n name frames left due before after
+advances-is me n name frames events left due before after is a = subst (λ es. Advances me n name frames es due before after) is a
 
 -- more was written
 pub advances-more : (me : Side) (n m : Running) (name : NodeName) (frames more : ℕ) (events others : List CoreEvent) (due : List ℕ) (first before after : Option (List ℕ))

@@ -39,6 +39,7 @@ fn write_two<S: Sink>(
 }
 
 // Writes the begin of a frame, where one begins: its first tick, and whom the node holds convicted.
+#[inline(always)]
 fn write_epoch<S: Sink>(node: NodeName, epoch: Option<Epoch>, output: &mut S) -> Result<(), Failed>
     ensures all { OnOk result (Appends (S.held output.old) (S.held output.new) (epoch_lines node epoch)) }
     ensures part { OnErr result (AppendsPart (S.held output.old) (S.held output.new) (epoch_lines node epoch)) }
@@ -64,6 +65,7 @@ fn number_of(node: NodeName) -> u8
 }
 
 // Writes a delivery, where there is one.
+#[inline(always)]
 fn write_delivery<S: Sink>(
     node: NodeName,
     delivered: &Option<Delivery>,
@@ -84,6 +86,7 @@ fn write_delivery<S: Sink>(
 
 /// Writes what a node tells at a tick: the frame that begins, and what it delivers in the window that it closes, which is `shown`.
 #[tactic(auto, using(crate::proofs::Written::in_turn))]
+#[inline(always)]
 pub(crate) fn write_step<S: Sink>(
     node: NodeName,
     step: &Step,

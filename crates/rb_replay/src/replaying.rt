@@ -7,7 +7,8 @@ ghost use Rattle.rb_log.specs.Cursor.{shown};
 ghost use Rattle.rb_node.specs.Cores.{IsCore, IsSameNode, arrive_of, passing_end, tick_of};
 ghost use Rattle.rb_outside.specs.Bytes.{AppendsPart};
 ghost use Rattle.rb_outside.specs.Causes.{HasCause};
-ghost use Rattle.rb_rules.specs.Core.{Core, CoreEvent};
+ghost use Rattle.rb_rules.specs.Core.{Core};
+ghost use Rattle.rb_rules.specs.Core.CoreEvent.{Tick};
 ghost use Rattle.rb_replay.specs.Replaying.{Advances, IsDue};
 
 use crate::lines::{begun_by, write_line, write_step};
@@ -59,22 +60,48 @@ fn give_tick<K: Kind, S: Sink>(
     Ok(begun_by(step.epoch))
 }
 
-// Gives the node an event and writes what it tells; gives the number of frames above 0 that begin.
+// Gives the node a tick and the quiet ticks that stand behind it in the log.
+fn give_ticks<K: Kind, S: Sink>(
+    node: &mut Node<K>,
+    log: &mut LogReader<'_>,
+    name: NodeName,
+    word: u32,
+    output: &mut S,
+) -> Result<u32, Failed>
+    ensures advances { (frames : ℕ) (due : List ℕ) → IsDue (side_of K.CODE) node.old name frames (Tick word ∷ log.old.events) due
+        → IfOk result (λ n. Advances (side_of K.CODE) node.new name (frames + n) log.new.events due (S.held output.old) (S.held output.new)) }
+    ensures part { (frames : ℕ) (due : List ℕ) → IsDue (side_of K.CODE) node.old name frames (Tick word ∷ log.old.events) due
+        → OnErr result (AppendsPart (S.held output.old) (S.held output.new) due) }
+    ensures most { IfOk result (λ n. n ≤ 1) }
+    ensures had { OnOk result (node.new.had ≤ 2 ^ 31) }
+    ensures shorter { length log.new.events ≤ length log.old.events }
+    ensures cause { HasCause (S.faults output.old) (S.faults output.new) result }
+{
+    let begun = give_tick(node, name, word, output)?;
+    pass_quiet(node, log);
+    Ok(begun)
+}
+
+// Gives the node the event that comes before those that are left in the log, and quiet ticks behind it, and writes what it
+// tells; gives the number of frames above 0 that begin.
 fn give<K: Kind, S: Sink>(
     node: &mut Node<K>,
+    log: &mut LogReader<'_>,
     name: NodeName,
     event: LogEvent<'_>,
     output: &mut S,
 ) -> Result<u32, Failed>
-    ensures advances { (frames : ℕ) (events : List CoreEvent) (due : List ℕ) → IsDue (side_of K.CODE) node.old name frames (shown event.entry ∷ events) due
-        → IfOk result (λ n. Advances (side_of K.CODE) node.new name (frames + n) events due (S.held output.old) (S.held output.new)) }
-    ensures part { (frames : ℕ) (events : List CoreEvent) (due : List ℕ) → IsDue (side_of K.CODE) node.old name frames (shown event.entry ∷ events) due
+    ensures advances { (frames : ℕ) (due : List ℕ) → IsDue (side_of K.CODE) node.old name frames (shown event.entry ∷ log.old.events) due
+        → IfOk result (λ n. Advances (side_of K.CODE) node.new name (frames + n) log.new.events due (S.held output.old) (S.held output.new)) }
+    ensures part { (frames : ℕ) (due : List ℕ) → IsDue (side_of K.CODE) node.old name frames (shown event.entry ∷ log.old.events) due
         → OnErr result (AppendsPart (S.held output.old) (S.held output.new) due) }
     ensures most { IfOk result (λ n. n ≤ 1) }
+    ensures had { OnOk result (node.old.had ≤ 2 ^ 31 → node.new.had ≤ 2 ^ 31) }
+    ensures shorter { length log.new.events ≤ length log.old.events }
     ensures cause { HasCause (S.faults output.old) (S.faults output.new) result }
 {
     match event {
-        LogEvent::Tick(word) => give_tick(node, name, word, output),
+        LogEvent::Tick(word) => give_ticks(node, log, name, word, output),
         LogEvent::Arrive { from, bytes } => {
             node.arrive(from, bytes);
             Ok(0)
@@ -97,14 +124,12 @@ fn replay_at<K: Kind, S: Sink>(
     ensures cause { HasCause (S.faults output.old) (S.faults output.new) result }
 {
     let name = log.node();
+    let _had = node.had();
     let mut frames = 0;
-    'events: loop {
-        pass_quiet(&mut node, &mut log);
-        let Some(event) = log.next() else {
-            return write_line(output, &end_line(frames));
-        };
-        frames += give(&mut node, name, event, output)?;
+    'events: while let Some(event) = log.next() {
+        frames += give(&mut node, &mut log, name, event, output)?;
     }
+    write_line(output, &end_line(frames))
 }
 
 /// Gives what a log tells to the node whose log it is, from its first tick on, and writes what the node tells, line by line, as

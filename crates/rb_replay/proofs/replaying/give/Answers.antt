@@ -3,24 +3,21 @@ use Rattle.rb_base.specs.Nodes.{side_of}
 use Rattle.rb_log.specs.Cursor.{shown}
 use Rattle.rb_rules.specs.Core.{CoreEvent}
 use Rattle.rb_replay.specs.Replaying.{IsDue}
-use Rattle.rb_replay.proofs.Dues.{arrival-advances, tick-failed, tick-told}
+use Rattle.rb_replay.proofs.Dues.{arrival-advances}
 use Rattle.rb_replay.proofs.replaying.give.Goals as goal
 
 pub returns-in-Tick-clause-advances : goal.returns-in-Tick-clause-advances
 returns-in-Tick-clause-advances g c =
-    λ frames events due d.
-    tick-told (side_of g.K.Kind.CODE) c.args.node.now c.give_tick.new.node c.args.name frames c.in-Tick.word events due _ _ c.give_tick.result
-    c.give_tick.ensures.same c.give_tick.ensures.core c.give_tick.ensures.begun c.give_tick.ensures.all
-    (subst (λ (e : CoreEvent). IsDue (side_of g.K.Kind.CODE) c.args.node.now c.args.name frames (e ∷ events) due) (ap shown c.in-Tick.is) d)
+    λ frames due d. c.give_ticks.ensures.advances frames due
+    (subst (λ (e : CoreEvent). IsDue (side_of g.K.Kind.CODE) c.args.node.now c.args.name frames (e ∷ c.args.log.now.events) due) (ap shown c.in-Tick.is) d)
 
 pub returns-in-Tick-clause-part : goal.returns-in-Tick-clause-part
 returns-in-Tick-clause-part g c =
-    λ frames events due d.
-    tick-failed (side_of g.K.Kind.CODE) c.args.node.now c.args.name frames c.in-Tick.word events due _ _ c.give_tick.result c.give_tick.ensures.part
-    (subst (λ (e : CoreEvent). IsDue (side_of g.K.Kind.CODE) c.args.node.now c.args.name frames (e ∷ events) due) (ap shown c.in-Tick.is) d)
+    λ frames due d. c.give_ticks.ensures.part frames due
+    (subst (λ (e : CoreEvent). IsDue (side_of g.K.Kind.CODE) c.args.node.now c.args.name frames (e ∷ c.args.log.now.events) due) (ap shown c.in-Tick.is) d)
 
 pub returns-in-Arrive-clause-advances : goal.returns-in-Arrive-clause-advances
 returns-in-Arrive-clause-advances g c =
-    λ frames events due d.
-    arrival-advances (side_of g.K.Kind.CODE) c.args.node.now c.arrive.new.self c.args.name frames c.in-Arrive.from c.in-Arrive.bytes.now events due _ c.arrive.ensures.rest c.arrive.ensures.core
-    (subst (λ (e : CoreEvent). IsDue (side_of g.K.Kind.CODE) c.args.node.now c.args.name frames (e ∷ events) due) (ap shown c.in-Arrive.is) d)
+    λ frames due d.
+    arrival-advances (side_of g.K.Kind.CODE) c.args.node.now c.arrive.new.self c.args.name frames c.in-Arrive.from c.in-Arrive.bytes.now c.args.log.now.events due _ c.arrive.ensures.rest c.arrive.ensures.core
+    (subst (λ (e : CoreEvent). IsDue (side_of g.K.Kind.CODE) c.args.node.now c.args.name frames (e ∷ c.args.log.now.events) due) (ap shown c.in-Arrive.is) d)
