@@ -1,11 +1,10 @@
 -- The numbers with one turn more.
-use Rattle.std.proofs.Common.{◌≡◌, ℕ, ◌+◌, max, List, [], ◌∷◌, ◌++◌, Option, Some, None, length, filter_map, refl, sym, ap, ◌∙◌, arith, length-append}
+use Rattle.std.proofs.Common.{◌≡◌, ℕ, ◌+◌, max, List, [], ◌∷◌, ◌++◌, Option, Some, None, length, refl, ap, ◌∙◌, arith, length-append}
 use Rattle.std.proofs.lemmas.Grind.{flat_map-append}
 use Rattle.std.proofs.lemmas.List.{append-nil}
 use Rattle.std.proofs.lemmas.List.Elements.{filter_map-append}
 use Rattle.std.specs.List.{flat_map, last_or}
 use Rattle.std.specs.Option.{option_to_list}
-use Rattle.rb_rules.specs.declared.record.SlotLine.{SlotLine}
 use Rattle.rb_rules.specs.Book.{Record}
 use Rattle.rb_rules.specs.Book.Record.{Frame, Slot, Ended, Breach}
 use Rattle.rb_book.specs.Records.{record_of}

@@ -1,5 +1,5 @@
 -- A run of which some turns have been given and written.
-use Rattle.std.proofs.Common.{◌≡◌, ℕ, ◌+◌, Bool, true, false, Option, Some, None, List, [], ◌∷◌, ◌++◌, length, refl, sym, ap, ◌∙◌, subst, arith, length-append, Result, Ok, Err, OnErr}
+use Rattle.std.proofs.Common.{◌≡◌, ℕ, ◌+◌, Bool, false, Option, Some, None, List, [], ◌∷◌, ◌++◌, length, refl, sym, ap, ◌∙◌, subst, length-append}
 use Rattle.std.specs.Io.KnownBytes.{Appends}
 use Rattle.rb_rules.specs.Goodness.{Scenario}
 use Rattle.rb_book.specs.Records.{record_of}

@@ -1,5 +1,5 @@
 -- The turns that a drive gives in a run, and what they say.
-use Rattle.std.specs.Prelude.{⊤, ℕ, ◌≡◌, Bool, true, Option, Some, None, List, [], ◌∷◌, ◌++◌, filter_map, length, map}
+use Rattle.std.specs.Prelude.{⊤, ℕ, ◌≡◌, Bool, true, Option, Some, None, List, [], ◌++◌, filter_map, length, map}
 use Rattle.rb_rules.specs.Book.{Record}
 use Rattle.rb_rules.specs.Goodness.{Scenario}
 use Rattle.rb_rules.specs.Rounds.{records_of}

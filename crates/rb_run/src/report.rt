@@ -32,7 +32,10 @@ fn write_epochs<K: Sink>(frame: u32, nodes: &[NodeLine], output: &mut K) -> Resu
     ensures cause { HasCause (K.faults output.old) (K.faults output.new) result }
 {
     for node in nodes {
-        write_line(output, &epoch_line(frame, node.node, node.tick, Some(node.time)))?;
+        write_line(
+            output,
+            &epoch_line(frame, node.node, node.tick, Some(node.time)),
+        )?;
     }
     Ok(())
 }
@@ -44,7 +47,10 @@ fn write_convicted<K: Sink>(frame: u32, nodes: &[NodeLine], output: &mut K) -> R
     ensures cause { HasCause (K.faults output.old) (K.faults output.new) result }
 {
     for node in nodes {
-        write_line(output, &convicted_line(frame, node.node, node.biu, node.rmu))?;
+        write_line(
+            output,
+            &convicted_line(frame, node.node, node.biu, node.rmu),
+        )?;
     }
     Ok(())
 }
@@ -82,7 +88,13 @@ fn write_deliveries<K: Sink>(slot: &SlotRecord, output: &mut K) -> Result<(), Fa
     for line in slot.lines.as_slice() {
         write_line(
             output,
-            &delivery_line(slot.frame, slot.slot, line.receiver, line.sender, line.value),
+            &delivery_line(
+                slot.frame,
+                slot.slot,
+                line.receiver,
+                line.sender,
+                line.value,
+            ),
         )?;
     }
     Ok(())

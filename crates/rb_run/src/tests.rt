@@ -1,9 +1,13 @@
 //! One run on its happy path, written and counted.
+ghost use Rattle.std.specs.Prelude.{IfOk};
+ghost use Rattle.rb_run.specs.Runs.{HasGivenNothing};
+
 use super::*;
 use rb_outside::MemSink;
 use rb_port::{App, Apps};
 use rb_scenario::read;
 use rb_world::{FirstDrive, World};
+use std::alloc::Global;
 use std::test::Fail;
 
 // The clock of BIU 1 is 30000 late. BIU 2 is silent from slot 3 of frame 0 on: its request was heard before, and its data slot comes after.
@@ -71,6 +75,32 @@ p 2 B1 13 1\n\
 end 2\n\
 ";
 
+// The run, just opened.
+fn open(alloc: Global) -> Result<World, Fail>
+    ensures { IfOk result HasGivenNothing }
+{
+    let Ok(scenario) = read(alloc, SCENARIO.as_bytes()) else {
+        return Err("refused".into());
+    };
+    let Ok(world) = World::open(alloc, scenario) else {
+        return Err("no memory".into());
+    };
+    Ok(world)
+}
+
+fn write(alloc: Global, apps: &Apps, output: &mut MemSink) -> Result<Ending, Fail> {
+    let mut world = open(alloc)?;
+    let Ok(ending) = write_run(&mut world, apps, &mut FirstDrive::new(), output) else {
+        return Err("no room".into());
+    };
+    Ok(ending)
+}
+
+fn count(alloc: Global, apps: &Apps) -> Result<(Ending, Totals), Fail> {
+    let mut world = open(alloc)?;
+    Ok(tally(&mut world, apps, &mut FirstDrive::new()))
+}
+
 #[test]
 fn run_is_written_and_counted(rt: HostRuntime) -> Result<(), Fail> {
     let alloc = rt.alloc();
@@ -106,25 +136,12 @@ fn run_is_written_and_counted(rt: HostRuntime) -> Result<(), Fail> {
     };
     let apps = Apps::new(table, counter, follow);
 
-    let Ok(scenario) = read(alloc, SCENARIO.as_bytes()) else {
-        return Err("refused".into());
-    };
-    let Ok(mut world) = World::open(alloc, scenario) else {
-        return Err("no memory".into());
-    };
     let mut sink = MemSink::new(alloc, 1000, Vec::new(alloc))?;
-    let mut drive = FirstDrive::new();
-    let written = write_run(&mut world, &apps, &mut drive, &mut sink);
-    assert_eq!(rt; written, Ok(Ending::Ended));
+    let ending = write(alloc, &apps, &mut sink)?;
+    assert_eq!(rt; ending, Ending::Ended);
     assert!(rt; sink.bytes() == REPORT.as_bytes());
 
-    let Ok(scenario) = read(alloc, SCENARIO.as_bytes()) else {
-        return Err("refused".into());
-    };
-    let Ok(mut world) = World::open(alloc, scenario) else {
-        return Err("no memory".into());
-    };
-    let (ending, totals) = tally(&mut world, &apps, &mut drive);
+    let (ending, totals) = count(alloc, &apps)?;
     assert_eq!(rt; ending, Ending::Ended);
     assert_eq!(rt; totals.frames, 2);
     assert_eq!(rt; totals.deliveries, 10);

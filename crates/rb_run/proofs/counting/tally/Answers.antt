@@ -1,4 +1,4 @@
-use Rattle.std.proofs.Common.{◌≡◌, None, Some, refl, sym, ◌∙◌, rules, arith}
+use Rattle.std.proofs.Common.{◌≡◌, None, Some, refl, sym, ◌∙◌, arith}
 use Rattle.rb_book.specs.Records.{record_of}
 use Rattle.rb_run.specs.Runs.{end_at}
 use Rattle.rb_run.proofs.Counted.{all-counted, none-counted, one-counted}
@@ -18,16 +18,16 @@ returns-in-Some-clause-totals g c =
     let is = c.loop-passed.invariant.counted in
     let ends : end_at (record_of c.next-turn.result) ≡ Some c.in-Some.ending = sym c.ending_at.ensures ∙ c.in-Some.is in
     all-counted _ _ _ _ _ _ _ _ _ _ c.next-turn.result c.in-Some.ending is (goes c.args.world.now.bus (g.D.Drive.is_plain c.args.drive.now) (g.D.Drive.is_plain c.loop-passed.drive) (g.D.Drive.told c.args.drive.now) (g.D.Drive.told c.loop-passed.drive)
-      (g.D.Drive.told c.next-turn.new.self) c.loop-passed.world c.next-turn.new.world is.turns c.next-turn.result is.given c.loop-passed.invariant.stays
-      c.next-turn.ensures.plain c.next-turn.ensures.alike c.next-turn.ensures.bus c.next-turn.ensures.told) c.count-totals.ensures.counted ends
+    (g.D.Drive.told c.next-turn.new.self) c.loop-passed.world c.next-turn.new.world is.turns c.next-turn.result is.given c.loop-passed.invariant.stays
+    c.next-turn.ensures.plain c.next-turn.ensures.alike c.next-turn.ensures.bus c.next-turn.ensures.told) c.count-totals.ensures.counted ends
 
 pub returns-in-Some-clause-ending : goal.returns-in-Some-clause-ending
 returns-in-Some-clause-ending g c =
     let is = c.loop-passed.invariant.counted in
     let ends : end_at (record_of c.next-turn.result) ≡ Some c.in-Some.ending = sym c.ending_at.ensures ∙ c.in-Some.is in
     ends-so _ _ _ _ _ is.turns c.next-turn.result c.in-Some.ending (goes c.args.world.now.bus (g.D.Drive.is_plain c.args.drive.now) (g.D.Drive.is_plain c.loop-passed.drive) (g.D.Drive.told c.args.drive.now) (g.D.Drive.told c.loop-passed.drive)
-      (g.D.Drive.told c.next-turn.new.self) c.loop-passed.world c.next-turn.new.world is.turns c.next-turn.result is.given c.loop-passed.invariant.stays
-      c.next-turn.ensures.plain c.next-turn.ensures.alike c.next-turn.ensures.bus c.next-turn.ensures.told) ends
+    (g.D.Drive.told c.next-turn.new.self) c.loop-passed.world c.next-turn.new.world is.turns c.next-turn.result is.given c.loop-passed.invariant.stays
+    c.next-turn.ensures.plain c.next-turn.ensures.alike c.next-turn.ensures.bus c.next-turn.ensures.told) ends
 
 pub loop-passed-preserved : goal.loop-passed-preserved
 loop-passed-preserved g c =
@@ -37,8 +37,8 @@ loop-passed-preserved g c =
     let few = c.loop-passed.invariant.few in
     record {
       counted = one-counted _ _ _ _ _ _ _ _ _ _ c.next-turn.result is (goes c.args.world.now.bus (g.D.Drive.is_plain c.args.drive.now) (g.D.Drive.is_plain c.loop-passed.drive) (g.D.Drive.told c.args.drive.now) (g.D.Drive.told c.loop-passed.drive)
-      (g.D.Drive.told c.next-turn.new.self) c.loop-passed.world c.next-turn.new.world is.turns c.next-turn.result is.given c.loop-passed.invariant.stays
-      c.next-turn.ensures.plain c.next-turn.ensures.alike c.next-turn.ensures.bus c.next-turn.ensures.told) c.count-totals.ensures.counted going;
+          (g.D.Drive.told c.next-turn.new.self) c.loop-passed.world c.next-turn.new.world is.turns c.next-turn.result is.given c.loop-passed.invariant.stays
+          c.next-turn.ensures.plain c.next-turn.ensures.alike c.next-turn.ensures.bus c.next-turn.ensures.told) c.count-totals.ensures.counted going;
       few = omega (arith, more, few);
       bus = c.next-turn.ensures.bus ∙ c.loop-passed.invariant.bus;
       stays = c.next-turn.ensures.stays ∙ c.loop-passed.invariant.stays;

@@ -1,4 +1,3 @@
-use Rattle.std.proofs.Common.{rules}
 use Rattle.rb_outside.proofs.Known.{appends_join}
 use Rattle.rb_run.proofs.Texts.{part-last}
 use Rattle.rb_run.proofs.report.write_block.Goals as goal

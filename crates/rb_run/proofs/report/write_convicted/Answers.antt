@@ -1,4 +1,4 @@
-use Rattle.std.proofs.Common.{Some, rules, arith}
+use Rattle.std.proofs.Common.{rules, arith}
 use Rattle.rb_rules.specs.declared.record.NodeLine.{NodeLine}
 use Rattle.rb_report.specs.Report.{convicted_text}
 use Rattle.rb_run.proofs.Lines.{lines-more, lines-part}

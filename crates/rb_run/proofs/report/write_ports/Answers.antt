@@ -1,4 +1,4 @@
-use Rattle.std.proofs.Common.{Some, rules, arith}
+use Rattle.std.proofs.Common.{rules, arith}
 use Rattle.rb_rules.specs.declared.record.PortLine.{PortLine}
 use Rattle.rb_report.specs.Report.{port_text}
 use Rattle.rb_run.proofs.Lines.{lines-more, lines-part}
