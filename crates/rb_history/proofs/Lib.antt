@@ -1,0 +1,16 @@
+pub mod Delivered
+pub mod Gathered
+pub mod NoBreach
+pub mod CoreEvents
+pub mod NodeSites
+pub mod Positions
+pub mod TickText
+pub mod NodeRun
+pub mod NodeSteps
+pub mod ReplayLaw
+pub mod FirstRuns
+pub mod Sized
+pub mod Recorded
+pub mod Worlds
+pub mod NodeLines
+pub mod RoundLines
