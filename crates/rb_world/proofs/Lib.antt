@@ -30,3 +30,4 @@ pub mod FirstStands
 pub mod Showing
 pub mod InTime
 pub mod Arrivals
+pub mod Asked

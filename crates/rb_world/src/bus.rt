@@ -95,6 +95,13 @@ impl Bus {
         &self.plan
     }
 
+    /// How many frames a run has.
+    pub fn frames(&self) -> u32
+        ensures { result ≡ self.now.frames }
+    {
+        self.frames
+    }
+
     /// The application at BIU `i`.
     pub fn app(&self, i: u8) -> u8
         requires { i < self.now.sizes.bius }

@@ -1,6 +1,7 @@
 //! A run, event by event: all nodes of a bus, with what is pending at each.
 #![tactic(auto)]
 
+mod asking;
 mod bus;
 pub mod drive;
 mod due;

@@ -1,0 +1,160 @@
+-- What is recorded is a log.
+use Rattle.std.proofs.Common.{◌≡◌, ℕ, zero, suc, ◌+◌, ◌-◌, ◌^◌, ◌<◌, ◌≤◌, ◌&&◌, Bool, true, false, All, List, [], ◌∷◌, ◌++◌, get_or, length, refl, sym, ◌∙◌, ap, subst, arith, inl, inr, Option, Some, None, is_some, slice_get}
+use Rattle.std.specs.Prelude.{if◌then◌else◌}
+use Rattle.std.proofs.lemmas.Bool.{cases_lt}
+use Rattle.std.proofs.lemmas.List.{append-nil, get_or_past}
+use Rattle.std.proofs.lemmas.List.Elements.{All-append, All-cons, All-nil}
+use Rattle.std.proofs.lemmas.Nat.{mod_below}
+use Rattle.rb_base.specs.Nodes.{Side, other}
+use Rattle.rb_base.specs.Sizes.{Sizes}
+use Rattle.rb_base.specs.declared.event.Event.{Event}
+use Rattle.rb_base.specs.declared.event.EventKind.TheVariants as kind
+use Rattle.rb_base.specs.declared.node.NodeName.{NodeName}
+use Rattle.rb_rules.specs.declared.role.Role.{Role}
+use Rattle.rb_rules.specs.declared.role.Role.TheVariants.{Schedule, Data, DiagBiu, DiagRmu, Sync}
+use Rattle.rb_rules.specs.Book.{of_kind}
+use Rattle.rb_rules.specs.Core.{pass_to}
+use Rattle.rb_rules.specs.Goodness.{Scenario}
+use Rattle.rb_rules.specs.Hearing.{Coming, word_for}
+use Rattle.rb_rules.specs.Lawful.{HasEach, IsLawful, IsNodeOf, kind_of}
+use Rattle.rb_rules.specs.Links.{same_node}
+use Rattle.rb_rules.specs.Ports.{PortState}
+use Rattle.rb_rules.specs.Slots.{count_of, role_of}
+use Rattle.rb_rules.specs.WorldStep.{Due, Pending, Site, World, event_at, event_of, wants_in, word_of}
+use Rattle.rb_rules.specs.WorldStep.Pending.{Tick, Arrival}
+use Rattle.rb_history.specs.Given.{first_run, given_in, given_next, is_before_end, site_of}
+use Rattle.rb_log.specs.Laws.{IsTellable, MayHappen, ticks_in}
+use Rattle.rb_log.specs.LogText.{senders_of}
+use Rattle.rb_log.specs.Writing.{given, ticks_given}
+use Rattle.rb_log.proofs.RoundTrip.{written_read}
+use Rattle.rb_order.proofs.DueEvents.{IsDue, IsReady}
+use Rattle.rb_order.proofs.PendingLists.{StandsAt}
+use Rattle.rb_order.proofs.WorldNodes.{Known, worlds-known}
+use Rattle.rb_world.specs.Worlds.{IsReached}
+use Rattle.rb_world.proofs.Ready.{due-reached}
+use Rattle.rb_record.specs.Laws.{OneLog, RecordedIsRead}
+use Rattle.rb_record.specs.Recording.{MayTell}
+use Rattle.rb_record.proofs.Comings.{AreSound, IsSound, run-sound}
+use Rattle.rb_record.proofs.Ends.{ended-idle, none-given, still-over}
+use Rattle.rb_record.proofs.Runs.{run-reached}
+use Rattle.rb_record.proofs.Ticks.{IsEvent, at-node, is-event, may-tell, next-is, sized-at, some-same, ticks-append}
+
+-- Words.
+
+entry-small : (n m : ℕ) (xs : List ℕ) (i : ℕ) → HasEach n (λ x. x ≤ m) xs → get_or xs i 0 ≤ m
+entry-small n m xs i each = elim (cases_lt i (length xs)) [
+  | inl lt ↦ each.each i 0 lt
+  | inr ge ↦ let past : get_or xs i 0 ≡ 0 = get_or_past xs i 0 ge in omega (arith, past)
+]
+
+word-small : (sc : Scenario) (ports : List PortState) (i slot : ℕ) (r : Role) → IsLawful sc → word_for sc ports i slot r < 2 ^ 32
+word-small sc ports i slot (Schedule n) lawful = let few = entry-small sc.sizes.bius 64 sc.requests i lawful.requests in omega (arith, few)
+word-small sc ports i slot (Data n) lawful = mod_below _ (2 ^ 32) (omega arith)
+word-small sc ports i slot (DiagBiu n) lawful = omega arith
+word-small sc ports i slot (DiagRmu n) lawful = omega arith
+word-small sc ports i slot Sync lawful = omega arith
+
+-- One event.
+
+known-at : (sizes : Sizes) (me : Side) (n : ℕ) (c : Coming) (cs : List Coming) → StandsAt n c cs → Known sizes me cs → c.from < count_of (other me) sizes
+known-at sizes me n c [] at is = absurd at
+known-at sizes me zero c (x ∷ xs) at is = subst (λ (c : Coming). c.from < count_of (other me) sizes) at is.0
+known-at sizes me (suc n) c (x ∷ xs) at is = known-at sizes me n c xs at is.1
+
+happens-by : (sc : Scenario) (ports : List PortState) (me : Side) (i t : ℕ) (s : Site) (p : Pending) → IsLawful sc → IsReady t s p → IsSound s → Known sc.sizes me s.coming
+    → MayHappen (count_of (other me) sc.sizes) (event_of sc ports me i s.core p).kind
+happens-by sc ports me i t s (Tick k) lawful ready is known = by (wants_in sc me i (pass_to k s.core))
+  where
+    by : (slot : Option ℕ) → MayHappen (count_of (other me) sc.sizes) (kind.Tick (word_of sc ports i slot) (is_some slot))
+    by None = refl
+    by (Some slot) = word-small sc ports i slot (role_of sc.sizes slot) lawful
+happens-by sc ports me i t s (Arrival place c) lawful ready is known =
+    let size = sized-at place c s.coming ready.0 is.sized in (known-at sc.sizes me place c s.coming ready.0 known, size.0, size.1)
+
+-- it is one that can happen at its node
+event-happens : (sc : Scenario) (w : World) (e : Event) (name : NodeName) → IsLawful sc → IsReached sc w → AreSound w.sites → IsEvent sc w e → same_node e.node name ≡ true
+    → MayHappen (senders_of (record { sizes = sc.sizes; plan = sc.plan }) name) e.kind
+event-happens sc w e name lawful reached sound is same =
+    let d : Due = is.d in
+    let due : IsDue w d = due-reached sc w 0 d reached is.found in
+    let one : due.s ≡ is.s = some-same due.s is.s (sym due.there ∙ is.there) in
+    let known : Known sc.sizes d.side due.s.coming =
+    subst (λ (x : World). (me : Side) (i : ℕ) (s : Site) → slice_get (of_kind me x.sites) i ≡ Some s → Known sc.sizes me s.coming) (sym reached.is) (worlds-known sc reached.choices).known d.side d.node due.s due.there in
+    let at = at-node sc w e name is same in
+    subst (λ (e : Event). MayHappen (count_of (other (kind_of name)) sc.sizes) e.kind) (sym is.is)
+    (subst (λ (s : Site). MayHappen (count_of (other (kind_of name)) sc.sizes) (event_of sc w.ports d.side d.node s.core d.pending).kind) one
+    (subst (λ k. MayHappen (count_of (other k) sc.sizes) (event_of sc w.ports d.side d.node due.s.core d.pending).kind) at.0
+    (happens-by sc w.ports d.side d.node due.t due.s d.pending lawful due.ready (sound d.side d.node due.s due.there) known)))
+
+-- All of them.
+
+abbrev CanHappen : Scenario → NodeName → Event → Type 0
+CanHappen sc name e = MayHappen (senders_of (record { sizes = sc.sizes; plan = sc.plan }) name) e.kind
+
+abbrev AllHappen : Scenario → NodeName → List Event → Type 0
+AllHappen sc name events = All (CanHappen sc name) events
+
+next-happens : (sc : Scenario) (name : NodeName) (n : ℕ) → IsLawful sc → AllHappen sc name (given_next sc name (first_run sc n))
+next-happens sc name n lawful = by (event_at sc (first_run sc n) 0) refl
+  where
+    at : (e : Event) → event_at sc (first_run sc n) 0 ≡ Some e → (a b : Bool) → same_node e.node name ≡ a → AllHappen sc name (if a && b then e ∷ [] else [])
+    at e found true true same =
+        All-cons (CanHappen sc name) e [] (event-happens sc (first_run sc n) e name lawful (run-reached sc n) (run-sound sc n lawful) (is-event sc (first_run sc n) e found) same) (All-nil (CanHappen sc name))
+    at e found true false same = All-nil (CanHappen sc name)
+    at e found false b same = All-nil (CanHappen sc name)
+
+    by : (o : Option Event) → event_at sc (first_run sc n) 0 ≡ o → AllHappen sc name (given_next sc name (first_run sc n))
+    by None e = subst (AllHappen sc name) (sym (next-is sc name (first_run sc n) None e)) (All-nil (CanHappen sc name))
+    by (Some e) found =
+        subst (AllHappen sc name) (sym (next-is sc name (first_run sc n) (Some e) found)) (at e found (same_node e.node name) (is_before_end sc (site_of name (first_run sc n))) refl)
+
+given-happen : (sc : Scenario) (name : NodeName) (n : ℕ) → IsLawful sc → AllHappen sc name (given_in sc name n)
+given-happen sc name zero lawful = All-nil (CanHappen sc name)
+given-happen sc name (suc n) lawful = All-append (CanHappen sc name) (given_in sc name n) (given_next sc name (first_run sc n)) (given-happen sc name n lawful) (next-happens sc name n lawful)
+
+tell-fits : (ticks : ℕ) (events : List Event) → ticks ≤ 2147483648 → MayTell ticks events → ticks + ticks_in events ≤ 2147483648
+tell-fits ticks [] le may = omega (arith, le)
+tell-fits ticks (e ∷ events) le may = let rest = tell-fits (ticks + ticks_given e) events may.0 may.2 in omega (arith, rest)
+
+given-fit : (sc : Scenario) (name : NodeName) (n : ℕ) → IsLawful sc → ticks_in (given_in sc name n) ≤ 2147483648
+given-fit sc name zero lawful = omega arith
+given-fit sc name (suc n) lawful =
+    let before = given-fit sc name n lawful in
+    let fits = tell-fits (ticks_in (given_in sc name n)) (given_next sc name (first_run sc n)) before (may-tell sc name n (ticks_in (given_in sc name n)) lawful refl) in
+    let sum = ticks-append (given_in sc name n) (given_next sc name (first_run sc n)) in
+    omega (arith, fits, sum)
+
+given-tellable : (sc : Scenario) (name : NodeName) (n : ℕ) → IsLawful sc → IsNodeOf sc.sizes name → IsTellable (record { sizes = sc.sizes; plan = sc.plan }) name (given_in sc name n)
+given-tellable sc name n lawful node = record {
+  shape = lawful.sizes;
+  plan = lawful.plan;
+  feasible = lawful.feasible;
+  version = lawful.version;
+  node_of = node;
+  happen = given-happen sc name n lawful;
+  ticks = given-fit sc name n lawful;
+}
+
+pub recorded-read : RecordedIsRead
+recorded-read sc lawful name node events given =
+    written_read (record { sizes = sc.sizes; plan = sc.plan }) name events
+    (subst (IsTellable (record { sizes = sc.sizes; plan = sc.plan }) name) (sym given.all) (given-tellable sc name given.steps lawful node))
+
+-- One list.
+
+given-still : (sc : Scenario) (name : NodeName) (n k : ℕ) → (first_run sc n).book.ended ≡ true → given_in sc name (n + k) ≡ given_in sc name n
+given-still sc name n zero over = let same : n + 0 ≡ n = omega arith in ap (given_in sc name) same
+given-still sc name n (suc k) over =
+    let same : n + suc k ≡ suc (n + k) = omega arith in
+    let none : given_next sc name (first_run sc (n + k)) ≡ [] = none-given sc name (first_run sc (n + k)) (ended-idle sc (first_run sc (n + k)) (still-over sc n k over)) in
+    ap (given_in sc name) same ∙ ap (λ (es : List Event). given_in sc name (n + k) ++ es) none ∙ append-nil (given_in sc name (n + k)) ∙ given-still sc name n k over
+
+-- after more steps nothing is added
+still-given : (sc : Scenario) (name : NodeName) (m n : ℕ) → m ≤ n → (first_run sc m).book.ended ≡ true → given_in sc name n ≡ given_in sc name m
+still-given sc name m n le over = let same : m + (n - m) ≡ n = omega (arith, le) in ap (given_in sc name) (sym same) ∙ given-still sc name m (n - m) over
+
+pub one-list : OneLog
+one-list sc name events others given other = elim (cases_lt given.steps other.steps) [
+  | inl lt ↦ given.all ∙ sym (still-given sc name given.steps other.steps (omega (arith, lt)) given.over) ∙ sym other.all
+  | inr ge ↦ given.all ∙ still-given sc name other.steps given.steps ge other.over ∙ sym other.all
+]

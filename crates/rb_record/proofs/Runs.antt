@@ -1,0 +1,98 @@
+-- A run in which each step takes the first due event.
+use Rattle.std.proofs.Common.{◌≡◌, ℕ, zero, suc, ◌+◌, ◌*◌, ◌^◌, ◌<◌, ◌≤◌, Some, None, List, [], ◌∷◌, ◌++◌, fold, length, slice_get, refl, sym, ap, ◌∙◌, subst, arith}
+use Rattle.std.proofs.lemmas.Nat.{mul-le}
+use Rattle.rb_rules.specs.Goodness.{Scenario}
+use Rattle.rb_rules.specs.Lawful.{IsLawful}
+use Rattle.rb_rules.specs.WorldStep.{Choice, Due, World, choose, due_of, first_world, go_on, take, world_after}
+use Rattle.rb_rules.specs.WorldStep.Choice.{Take, GoOn}
+use Rattle.rb_history.specs.Given.{first_run, first_step, step_with}
+use Rattle.rb_order.proofs.EventsHold.{ends-hold}
+use Rattle.rb_order.proofs.EveryWorld.{after-more}
+use Rattle.rb_order.specs.Laws.{most_at_once, most_takes, nodes_of, taken_by, takes_from}
+use Rattle.rb_world.specs.Worlds.{IsReached}
+
+-- One step.
+
+pub run-busy : (sc : Scenario) (w : World) → 1 ≤ length (due_of sc w) → first_step sc w ≡ take sc w 0
+unfolding first_step
+run-busy sc w = by (due_of sc w)
+  where
+    by : (ds : List Due) → 1 ≤ length ds → step_with sc w ds ≡ take sc w 0
+    by [] some = absurd (omega (arith, some))
+    by (d ∷ ds) some = refl
+
+pub run-idle : (sc : Scenario) (w : World) → length (due_of sc w) ≡ 0 → first_step sc w ≡ go_on sc w
+unfolding first_step
+run-idle sc w = by (due_of sc w)
+  where
+    by : (ds : List Due) → length ds ≡ 0 → step_with sc w ds ≡ go_on sc w
+    by [] none = refl
+    by (d ∷ ds) none = absurd (omega (arith, none))
+
+-- Choices.
+
+abbrev choice_in : List Due → Choice
+choice_in [] = GoOn
+choice_in (d ∷ ds) = Take 0
+
+step-chosen : (sc : Scenario) (w : World) → first_step sc w ≡ choose sc w (choice_in (due_of sc w))
+unfolding first_step
+step-chosen sc w = by (due_of sc w)
+  where
+    by : (ds : List Due) → step_with sc w ds ≡ choose sc w (choice_in ds)
+    by [] = refl
+    by (d ∷ ds) = refl
+
+-- the choices of so many steps
+abbrev pub choices_of : Scenario → ℕ → List Choice
+choices_of sc zero = []
+choices_of sc (suc n) = choices_of sc n ++ choice_in (due_of sc (first_run sc n)) ∷ []
+
+pub run-is : (sc : Scenario) (n : ℕ) → first_run sc n ≡ world_after sc (choices_of sc n)
+run-is sc zero = refl
+run-is sc (suc n) =
+    step-chosen sc (first_run sc n) ∙ ap (λ w. choose sc w (choice_in (due_of sc (first_run sc n)))) (run-is sc n)
+    ∙ sym (after-more sc (choices_of sc n) (choice_in (due_of sc (first_run sc n))))
+
+pub run-reached : (sc : Scenario) (n : ℕ) → IsReached sc (first_run sc n)
+run-reached sc n = record { choices = choices_of sc n; is = run-is sc n }
+
+-- How many.
+
+takes-more : (sc : Scenario) (w : World) (cs : List Choice) (c : Choice) → takes_from sc w (cs ++ c ∷ []) ≡ takes_from sc w cs + taken_by sc (fold (choose sc) w cs) c
+takes-more sc w [] c = omega arith
+takes-more sc w (x ∷ xs) c = let rest = takes-more sc (choose sc w x) xs c in omega (arith, rest)
+
+one-take : (sc : Scenario) (w : World) → 1 ≤ length (due_of sc w) → taken_by sc w (choice_in (due_of sc w)) ≡ 1
+one-take sc w some = by (due_of sc w) refl some
+  where
+    by : (ds : List Due) → due_of sc w ≡ ds → 1 ≤ length ds → taken_by sc w (choice_in ds) ≡ 1
+    by [] e some = absurd (omega (arith, some))
+    by (d ∷ ds) e some = ap (λ (xs : List Due). elim (slice_get xs 0) as (λ _. ℕ) [ None ↦ 0 | Some d ↦ 1 ]) e
+
+-- as long as some event was due, each step took one
+all-taken : (sc : Scenario) (n : ℕ) → ((m : ℕ) → m < n → 1 ≤ length (due_of sc (first_run sc m))) → n ≤ takes_from sc (first_world sc) (choices_of sc n)
+all-taken sc zero some = omega arith
+all-taken sc (suc n) some =
+    let rest = all-taken sc n (λ m lt. some m (omega (arith, lt))) in
+    let c : Choice = choice_in (due_of sc (first_run sc n)) in
+    let sum = takes-more sc (first_world sc) (choices_of sc n) c in
+    let one : taken_by sc (world_after sc (choices_of sc n)) c ≡ 1 = subst (λ w. taken_by sc w c ≡ 1) (run-is sc n) (one-take sc (first_run sc n) (some n (omega arith))) in
+    omega (arith, rest, sum, one)
+
+few-takes : (sc : Scenario) → IsLawful sc → most_takes sc < 2 ^ 63
+few-takes sc lawful =
+    let nodes : nodes_of sc.sizes ≤ 32 = let b = lawful.sizes.most_bius in let r = lawful.sizes.most_rmus in omega (arith, b, r) in
+    let says = lawful.few_says in
+    let up : nodes_of sc.sizes * length sc.says ≤ 32 * 1024 = mul-le (nodes_of sc.sizes) (length sc.says) 32 1024 nodes says in
+    let once : most_at_once sc ≤ 32800 = omega (arith, nodes, up) in
+    let all : 2 ^ 31 * (most_at_once sc + 1) + most_at_once sc ≤ 2 ^ 31 * 32801 + 32800 = omega (arith, once) in
+    let product = mul-le (nodes_of sc.sizes) (2 ^ 31 * (most_at_once sc + 1) + most_at_once sc) 32 (2 ^ 31 * 32801 + 32800) nodes all in
+    omega (arith, product)
+
+pub few-steps : (sc : Scenario) (n : ℕ) → IsLawful sc → ((m : ℕ) → m < n → 1 ≤ length (due_of sc (first_run sc m))) → n < 2 ^ 63
+few-steps sc n lawful some =
+    let many = all-taken sc n some in
+    let few = (ends-hold sc lawful).few (choices_of sc n) in
+    let most = few-takes sc lawful in
+    omega (arith, many, few, most)

@@ -1,0 +1,11 @@
+//! What one node is given in a run, written as a log.
+#![tactic(auto)]
+
+mod laws;
+mod recording;
+#[cfg(test)]
+mod tests;
+
+pub use laws::{one_log, recorded_is_read};
+pub use rb_run::Ending;
+pub use recording::record;

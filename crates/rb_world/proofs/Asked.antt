@@ -1,0 +1,68 @@
+-- What is asked of a run.
+use Rattle.std.proofs.Common.{◌≡◌, ℕ, ◌<◌, List, Some, length, slice_get, get_or, refl, sym, ap, ◌∙◌, subst, arith}
+use Rattle.std.specs.Prelude.{option_and_then, option_map}
+use Rattle.rb_base.specs.Nodes.{Side}
+use Rattle.rb_base.specs.Nodes.Side.{Biu, Rmu}
+use Rattle.rb_base.specs.declared.event.Event.{Event}
+use Rattle.rb_base.specs.declared.node.NodeName.{NodeName}
+use Rattle.rb_rules.specs.Book.{of_kind}
+use Rattle.rb_rules.specs.Core.{Core}
+use Rattle.rb_rules.specs.Goodness.{Scenario}
+use Rattle.rb_rules.specs.Lawful.{IsNodeOf, kind_of}
+use Rattle.rb_rules.specs.Links.{name_of}
+use Rattle.rb_rules.specs.Ports.{PortState}
+use Rattle.rb_rules.specs.Slots.{count_of}
+use Rattle.rb_rules.specs.WorldStep.{Due, Pending, Site, World, due_of, event_at, event_of}
+use Rattle.rb_rules.specs.WorldStep.Pending.{Tick, Arrival}
+use Rattle.rb_agenda.specs.Agenda.{IsDue}
+use Rattle.rb_agenda.specs.Holding.{due_with}
+use Rattle.rb_agenda.proofs.Which.{has-item}
+use Rattle.rb_site.specs.Sites.{Kept as KeptSite}
+use Rattle.rb_traffic.specs.Arriving.{number_of}
+use Rattle.rb_world.specs.Worlds.{Kept, Stands, due_in}
+use Rattle.rb_world.proofs.Idle.{due-busy}
+use Rattle.rb_world.proofs.Told.{got-is}
+use Rattle.rb_world.proofs.Turns.{due-is-now}
+
+event-node : (sc : Scenario) (ports : List PortState) (me : Side) (i : ℕ) (c : Core) (p : Pending) → (event_of sc ports me i c p).node ≡ name_of me i
+event-node sc ports me i c (Tick k) = refl
+event-node sc ports me i c (Arrival place a) = refl
+
+-- the node of the event that is due at a place
+pub node-at : (k : Kept) (w : World) (i place : ℕ) (name : NodeName) → Stands k w → i < due_in k → IsDue k.bus w k.scene.agenda i name place
+    → option_map (λ (e : Event). e.node) (event_at k.bus w i) ≡ Some name
+unfolding event_at
+node-at k w i place name is below due =
+    let d : Due = due_with due.side due.number _ due.site due.event in
+    let found : slice_get (due_of k.bus w) i ≡ Some d = ap (λ (l : List Due). slice_get l i) (due-is-now k.bus w (due-busy k w i is below)) ∙ due.due in
+    ap (λ o. option_map (λ (e : Event). e.node) (option_and_then (λ (d : Due). option_map (λ (s : Site). event_of k.bus w.ports d.side d.node s.core d.pending) (slice_get (of_kind d.side w.sites) d.node)) o)) found
+    ∙ ap (λ o. option_map (λ (e : Event). e.node) (option_map (λ (s : Site). event_of k.bus w.ports due.side due.number s.core d.pending) o)) due.there
+    ∙ ap (λ n. Some n) (event-node k.bus w.ports due.side due.number due.site.core d.pending ∙ sym due.named)
+
+-- the frame in which a node is
+pub frame-at : (k : Kept) (w : World) (me : Side) (i : ℕ) (site : KeptSite) (s : Site) → Stands k w → slice_get (of_kind me k.nodes) i ≡ Some site
+    → slice_get (of_kind me w.sites) i ≡ Some s → site.node.seat.state.frame ≡ s.core.state.frame
+frame-at k w me i site s is kept there = sym (ap (λ st. st.frame) ((is.nodes me).each i site s kept there).site.core.state)
+
+-- a node of the bus is kept
+pub node-within : (k : Kept) (w : World) (name : NodeName) (me : Side) (i : ℕ) → Stands k w → IsNodeOf k.bus.sizes name → name ≡ name_of me i → i < length (of_kind me k.nodes)
+node-within k w name me i is node named =
+    let within : i < count_of me k.bus.sizes = by me (subst (IsNodeOf k.bus.sizes) named node) in
+    let many : length (of_kind me k.nodes) ≡ count_of me k.bus.sizes = (is.nodes me).many in
+    omega (arith, within, many)
+  where
+    by : (me : Side) → IsNodeOf k.bus.sizes (name_of me i) → i < count_of me k.bus.sizes
+    by Biu h = h
+    by Rmu h = h
+
+pub frame-named : (k : Kept) (w : World) (name : NodeName) (me : Side) (i frame : ℕ) (site : KeptSite) (s : Site) → Stands k w → IsNodeOf k.bus.sizes name → name ≡ name_of me i
+    → site ≡ get_or (of_kind me k.nodes) i site → frame ≡ site.node.seat.state.frame → slice_get (of_kind (kind_of name) w.sites) (number_of name) ≡ Some s → frame ≡ s.core.state.frame
+frame-named k w name me i frame site s is node named got frame_is there =
+    let found = has-item (of_kind me k.nodes) i (node-within k w name me i is node named) in
+    let same : found.item ≡ site = sym (got ∙ got-is (of_kind me k.nodes) i found.item site found.is) in
+    frame_is ∙ frame-at k w me i site s is (found.is ∙ ap (λ x. Some x) same)
+    (sym (ap (λ (n : NodeName). slice_get (of_kind (kind_of n) w.sites) (number_of n)) named ∙ by me) ∙ there)
+  where
+    by : (me : Side) → slice_get (of_kind (kind_of (name_of me i)) w.sites) (number_of (name_of me i)) ≡ slice_get (of_kind me w.sites) i
+    by Biu = refl
+    by Rmu = refl
