@@ -1,0 +1,4 @@
+mod QuietText
+mod Written
+mod Events
+mod Dues

@@ -1,0 +1,33 @@
+-- A replay as it goes on.
+use Rattle.std.specs.Prelude.{ℕ, ◌+◌, ◌≡◌, ◌≤◌, Option, List, ◌++◌}
+use Rattle.std.specs.Io.KnownBytes.{Appends}
+use Rattle.std.specs.List.{flat_map}
+use Rattle.rb_base.specs.Nodes.{Side}
+use Rattle.rb_base.specs.declared.node.NodeName.{NodeName}
+use Rattle.rb_rules.specs.Core.{Act, Core, CoreEvent, acts_of}
+use Rattle.rb_node.specs.Cores.{IsCore, Running}
+use Rattle.rb_report.specs.Report.{end_text}
+use Rattle.rb_history.specs.Replays.{act_lines, frames_in}
+
+-- the acts of a core that sits where the node sits
+abbrev pub acts_at : Side → Running → Core → List CoreEvent → List Act
+acts_at me n c events = acts_of n.seat.sizes n.seat.plan me n.seat.index c events
+
+-- the text of the acts to come, where so many frames above 0 have begun
+abbrev pub text_after : NodeName → ℕ → List Act → List ℕ
+text_after name frames acts = flat_map (act_lines name) acts ++ end_text (frames + frames_in acts)
+
+-- the text that is due of a node to which these events are to come, where so many frames above 0 have begun
+pub record IsDue (me : Side) (n : Running) (name : NodeName) (frames : ℕ) (events : List CoreEvent) (due : List ℕ) : Type 0 where
+  pub core : Core
+  pub stands : IsCore n core
+  pub few : frames ≤ core.had
+  pub text : due ≡ text_after name frames (acts_at me n core events)
+
+-- a first part of the text that was due was appended, and with so many frames more the rest is due
+pub record Advances (me : Side) (n : Running) (name : NodeName) (frames : ℕ) (events : List CoreEvent) (due : List ℕ) (before after : Option (List ℕ)) : Type 0 where
+  pub part : List ℕ
+  pub rest : List ℕ
+  pub whole : due ≡ part ++ rest
+  pub appended : Appends before after part
+  pub goes_on : IsDue me n name frames events rest

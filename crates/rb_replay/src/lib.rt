@@ -1,0 +1,9 @@
+//! The replay of a log: what one node was given is given to a fresh core again, and what it tells is written as text.
+#![tactic(auto)]
+
+mod lines;
+mod replaying;
+#[cfg(test)]
+mod tests;
+
+pub use replaying::replay;

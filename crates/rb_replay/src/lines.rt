@@ -1,0 +1,117 @@
+//! What a node tells, as lines.
+ghost use Rattle.std.specs.Prelude.{◌≡◌, ◌≤◌, ◌++◌, OnOk, OnErr};
+ghost use Rattle.std.specs.Io.KnownBytes.{Appends};
+ghost use Rattle.rb_outside.specs.Bytes.{AppendsPart};
+ghost use Rattle.rb_outside.specs.Causes.{HasCause};
+ghost use Rattle.rb_history.specs.Given.{index_of};
+ghost use Rattle.rb_history.specs.Replays.{act_lines, delivery_lines, epoch_lines, frames_with};
+ghost use Rattle.rb_node.specs.Acts.{IsAct};
+ghost use Rattle.rb_rules.specs.Core.{Act};
+
+use arrayvec::ArrayString;
+use rb_base::{Delivery, NodeName};
+use rb_node::{Closed, Epoch, Step};
+use rb_outside::{Failed, Sink, write_all};
+use rb_report::{convicted_line, delivery_line, epoch_line};
+
+/// Writes the line.
+pub(crate) fn write_line<S: Sink>(output: &mut S, line: &ArrayString<96>) -> Result<(), Failed>
+    ensures all { OnOk result (Appends (S.held output.old) (S.held output.new) line.now.bytes) }
+    ensures part { OnErr result (AppendsPart (S.held output.old) (S.held output.new) line.now.bytes) }
+    ensures cause { HasCause (S.faults output.old) (S.faults output.new) result }
+{
+    write_all(output, line.as_str().as_bytes())
+}
+
+// Writes one line and then the other.
+#[tactic(auto, using(crate::proofs::Written::in_turn))]
+fn write_two<S: Sink>(
+    first: &ArrayString<96>,
+    second: &ArrayString<96>,
+    output: &mut S,
+) -> Result<(), Failed>
+    ensures all { OnOk result (Appends (S.held output.old) (S.held output.new) (first.now.bytes ++ second.now.bytes)) }
+    ensures part { OnErr result (AppendsPart (S.held output.old) (S.held output.new) (first.now.bytes ++ second.now.bytes)) }
+    ensures cause { HasCause (S.faults output.old) (S.faults output.new) result }
+{
+    write_line(output, first)?;
+    write_line(output, second)
+}
+
+// Writes the begin of a frame, where one begins: its first tick, and whom the node holds convicted.
+#[inline(always)]
+fn write_epoch<S: Sink>(node: NodeName, epoch: Option<Epoch>, output: &mut S) -> Result<(), Failed>
+    ensures all { OnOk result (Appends (S.held output.old) (S.held output.new) (epoch_lines node epoch)) }
+    ensures part { OnErr result (AppendsPart (S.held output.old) (S.held output.new) (epoch_lines node epoch)) }
+    ensures cause { HasCause (S.faults output.old) (S.faults output.new) result }
+{
+    match epoch {
+        Some(epoch) => {
+            let first_tick = epoch_line(epoch.frame, node, epoch.tick, None);
+            let convicted = convicted_line(epoch.frame, node, epoch.biu, epoch.rmu);
+            write_two(&first_tick, &convicted, output)
+        }
+        None => Ok(()),
+    }
+}
+
+// The number of the node among those of its kind.
+fn number_of(node: NodeName) -> u8
+    ensures { result ≡ index_of node }
+{
+    match node {
+        NodeName::Biu(number) | NodeName::Rmu(number) => number,
+    }
+}
+
+// Writes a delivery, where there is one.
+#[inline(always)]
+fn write_delivery<S: Sink>(
+    node: NodeName,
+    delivered: &Option<Delivery>,
+    output: &mut S,
+) -> Result<(), Failed>
+    ensures all { OnOk result (Appends (S.held output.old) (S.held output.new) (delivery_lines node delivered.now)) }
+    ensures part { OnErr result (AppendsPart (S.held output.old) (S.held output.new) (delivery_lines node delivered.now)) }
+    ensures cause { HasCause (S.faults output.old) (S.faults output.new) result }
+{
+    match delivered {
+        Some(d) => write_line(
+            output,
+            &delivery_line(d.frame, d.slot, number_of(node), d.sender, d.value),
+        ),
+        None => Ok(()),
+    }
+}
+
+/// Writes what a node tells at a tick: the frame that begins, and what it delivers in the window that it closes, which is `shown`.
+#[tactic(auto, using(crate::proofs::Written::in_turn))]
+#[inline(always)]
+pub(crate) fn write_step<S: Sink>(
+    node: NodeName,
+    step: &Step,
+    shown: &Closed,
+    output: &mut S,
+) -> Result<(), Failed>
+    ensures all { (x : Act) → IsAct shown.now step.now x → OnOk result (Appends (S.held output.old) (S.held output.new) (act_lines node x)) }
+    ensures part { (x : Act) → IsAct shown.now step.now x → OnErr result (AppendsPart (S.held output.old) (S.held output.new) (act_lines node x)) }
+    ensures cause { HasCause (S.faults output.old) (S.faults output.new) result }
+{
+    write_epoch(node, step.epoch, output)?;
+    if step.closed {
+        write_delivery(node, &shown.delivered, output)
+    } else {
+        Ok(())
+    }
+}
+
+/// How many frames above 0 begin: 1 or none.
+pub(crate) fn begun_by(epoch: Option<Epoch>) -> u32
+    ensures value { result ≡ frames_with epoch }
+    ensures most { result ≤ 1 }
+{
+    match epoch {
+        Some(epoch) if epoch.frame > 0 => 1,
+        _ => 0,
+    }
+}
