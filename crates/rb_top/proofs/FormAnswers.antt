@@ -1,21 +1,26 @@
 -- The answers for a form, from what came of its input and of its run.
-use Rattle.std.proofs.Common.{◌≡◌, ℕ, ◌⊎◌, Bool, List, [], Option, inl, inr, refl, sym, subst}
+use Rattle.std.proofs.Common.{◌≡◌, ◌∙◌, ◌≤◌, ℕ, ◌⊎◌, Bool, List, [], Option, inl, inr, refl, sym, subst}
 use Rattle.std.specs.Io.KnownBytes.{Appends}
-use Rattle.rb_outside.specs.Bytes.{AppendsPart, ReadsToEnd}
+use Rattle.rb_outside.specs.Bytes.{AppendsPart, Gave, ReadsToEnd}
 use Rattle.rb_outside.specs.Causes.{Rose}
+use Rattle.rb_base.specs.declared.node.NodeName.{NodeName}
+use Rattle.rb_rules.specs.Lawful.{IsNodeOf}
+use Rattle.rb_entries.specs.declared.refusal.Refusal.TheVariants.{NoSuchNode}
+use Rattle.rb_record.specs.Recording.{WritesPart as WritesPartOf, log_text}
 use Rattle.rb_scenario.specs.Acceptance.{as_scenario}
 use Rattle.rb_scenario.specs.declared.scenario.Scenario.{Scenario as Accepted}
 use Rattle.rb_book.specs.declared.turn.Turn.{Turn}
 use Rattle.rb_run.specs.Runs.{WritesPart}
 use Rattle.rb_run.specs.Turns.{text_of}
 use Rattle.rb_top.specs.declared.form.Form.{Form}
-use Rattle.rb_top.specs.declared.form.Form.TheVariants.{Run, Check, Gen, Stress}
+use Rattle.rb_top.specs.declared.form.Form.TheVariants.{Run, Check, Gen, Stress, Record, Replay}
 use Rattle.rb_top.specs.declared.status.Status.{Status}
 use Rattle.rb_top.specs.declared.status.Status.TheVariants.{Done, Breach, Usage, Refused, TooLong, ReadFault, WriteFault, OutOfMemory}
+use Rattle.rb_top.specs.Answers.{IsDueSoFar, IsRefusedAlone, IsReplay}
 use Rattle.rb_top.specs.CheckText.{check_text}
-use Rattle.rb_top.specs.Inputs.{BreaksRule, IsRead, IsRefusedWith, IsTextOf, IsUnread, IsUnreadOver, scenario_limit}
+use Rattle.rb_top.specs.Inputs.{BreaksLog, BreaksRule, IsRead, IsRefusedWith, IsTextOf, IsUnread, IsUnreadOver, LacksNode, log_limit, rule_text, scenario_limit}
 use Rattle.rb_top.specs.Reading.{ReadsNone, ReadsScenario}
-use Rattle.rb_top.specs.Serving.{Answers, FailsToSum, IsOfRun, IsOfText, IsReported, IsSummed}
+use Rattle.rb_top.specs.Serving.{Answers, FailsToReplay, FailsToSum, IsLogged, IsNotRead, IsOfLog, IsOfRun, IsOfText, IsReplayed, IsReported, IsSummed, RefusesLog}
 use Rattle.rb_top.specs.Statuses.{HasEnded, MayRefuse, RunsNothing, WritesNothing}
 use Rattle.rb_top.specs.Texts.{generated_text}
 
@@ -37,6 +42,13 @@ pub check_reads : ReadsAScenario Check
 check_reads = record {
   read = λ left left' input h. h;
   refuse = λ input line h. h;
+  unread = λ status left left' faults faults' h. h;
+}
+
+pub record_reads : (node : NodeName) → ReadsAScenario (Record node)
+record_reads node = record {
+  read = λ left left' input h. h;
+  refuse = λ input line h. inl h;
   unread = λ status left left' faults faults' h. h;
 }
 
@@ -255,4 +267,154 @@ sum_answers seed frames status left reads held held' writes writes' is_plain tol
     written = part.written;
     due = inr part.due;
   };
+}
+
+-- a scenario has been read, and the log of a node of its bus was due
+pub record Logs (accepted : Accepted) (node : NodeName) (status : Status) (held held' : Option (List ℕ)) (writes writes' : ℕ) : Type 0 where
+  pub ended : HasEnded status → IsLogged (as_scenario accepted) node status held held'
+  pub part : status ≡ WriteFault → WritesPartOf (as_scenario accepted) node held held'
+  pub cause : status ≡ WriteFault → Rose writes writes'
+  pub one_of : IsOfRun status
+
+pub log_answers : (accepted : Accepted) (node : NodeName) (status : Status) (left left' : Option (List ℕ)) (reads reads' : ℕ) (held held' : Option (List ℕ))
+    (writes writes' : ℕ) (is_plain : Bool) (told : Option (List Turn)) → IsNodeOf accepted.plan.sizes node → ReadsScenario left left' accepted
+    → Logs accepted node status held held' writes writes'
+    → Answers (Record node) status left left' reads reads' held held' writes writes' is_plain told told
+log_answers accepted node status left left' reads reads' held held' writes writes' is_plain told there r x =
+    let says : IsTextOf r.input (as_scenario accepted) = record { accepted = accepted; is = r.is; shows = refl } in
+    record {
+      known = no_run status Usage (λ h. h) x.one_of;
+      ended = λ h. let all = x.ended h in record {
+          input = r.input; text = log_text (as_scenario accepted) node all.written.events; read = r.read; written = all.written.text;
+          due = record {
+            log = record { scenario = as_scenario accepted; events = all.written.events; says = says; there = there; given = all.written.given; text_is = refl };
+            ends = all.ends; silent = refl
+          }
+        };
+      refused = λ e. absurd (no_run status Refused (λ h. h) x.one_of e);
+      unread = record {
+        too_long = λ e. absurd (no_run status TooLong (λ h. h) x.one_of e);
+        short_enough = λ e. r.short_enough;
+        fault = λ e. absurd (no_run status ReadFault (λ h. h) x.one_of e);
+      };
+      failed = λ e. let part = x.part e in record {
+          rose = x.cause e; input = r.input; text = log_text (as_scenario accepted) node part.events; read = r.read; written = part.text;
+          due = inr (record { scenario = as_scenario accepted; events = part.events; says = says; there = there; given = part.given; text_is = refl }, refl)
+        };
+    }
+
+-- the scenario that has been read has no such node
+pub record Lacks (status : Status) (held held' : Option (List ℕ)) (writes writes' : ℕ) : Type 0 where
+  pub refused : status ≡ Refused → Appends held held' (rule_text NoSuchNode)
+  pub part : status ≡ WriteFault → AppendsPart held held' (rule_text NoSuchNode)
+  pub cause : status ≡ WriteFault → Rose writes writes'
+  pub one_of : (status ≡ Refused) ⊎ (status ≡ WriteFault)
+
+other_than : (status a b s : Status) → ¬ (a ≡ s) → ¬ (b ≡ s) → (status ≡ a) ⊎ (status ≡ b) → ¬ (status ≡ s)
+other_than status a b s not_a not_b (inl e) is = not_a (sym e ∙ is)
+other_than status a b s not_a not_b (inr e) is = not_b (sym e ∙ is)
+
+neither_ends : (status : Status) → (status ≡ Refused) ⊎ (status ≡ WriteFault) → ¬ HasEnded status
+neither_ends status (inl e) h = let P : Status → Type 0 = λ s. HasEnded s in subst P e h
+neither_ends status (inr e) h = let P : Status → Type 0 = λ s. HasEnded s in subst P e h
+
+pub neither_is_silent : (status : Status) → (status ≡ Refused) ⊎ (status ≡ WriteFault) → ¬ WritesNothing status
+neither_is_silent status (inl e) h = let P : Status → Type 0 = λ s. WritesNothing s in subst P e h
+neither_is_silent status (inr e) h = let P : Status → Type 0 = λ s. WritesNothing s in subst P e h
+
+pub lack_answers : (accepted : Accepted) (node : NodeName) (status : Status) (left left' : Option (List ℕ)) (reads reads' : ℕ) (held held' : Option (List ℕ))
+    (writes writes' : ℕ) (is_plain : Bool) (told : Option (List Turn)) → ¬ IsNodeOf accepted.plan.sizes node → ReadsScenario left left' accepted
+    → Lacks status held held' writes writes'
+    → Answers (Record node) status left left' reads reads' held held' writes writes' is_plain told told
+lack_answers accepted node status left left' reads reads' held held' writes writes' is_plain told none r x =
+    let says : IsTextOf r.input (as_scenario accepted) = record { accepted = accepted; is = r.is; shows = refl } in
+    let lacks : LacksNode node r.input (rule_text NoSuchNode) = record { scenario = as_scenario accepted; says = says; none = none; line_is = refl } in
+    record {
+      known = other_than status Refused WriteFault Usage (λ e. cc) (λ e. cc) x.one_of;
+      ended = λ h. absurd (neither_ends status x.one_of h);
+      refused = λ e. record { input = r.input; line = rule_text NoSuchNode; read = r.read; refused = inr lacks; written = x.refused e };
+      unread = record {
+        too_long = λ e. absurd (other_than status Refused WriteFault TooLong (λ d. cc) (λ d. cc) x.one_of e);
+        short_enough = λ e. r.short_enough;
+        fault = λ e. absurd (other_than status Refused WriteFault ReadFault (λ d. cc) (λ d. cc) x.one_of e);
+      };
+      failed = λ e. record {
+          rose = x.cause e; input = r.input; text = rule_text NoSuchNode; read = r.read; written = x.part e;
+          due = inl (record { refused = inr lacks; silent = refl })
+        };
+    }
+
+-- a log, or what is none, has been read
+pub record Replays (bytes : List ℕ) (status : Status) (held held' : Option (List ℕ)) (writes writes' : ℕ) : Type 0 where
+  pub done : status ≡ Done → IsReplayed bytes held held'
+  pub refused : status ≡ Refused → RefusesLog bytes held held'
+  pub part : status ≡ WriteFault → FailsToReplay bytes held held'
+  pub cause : status ≡ WriteFault → Rose writes writes'
+  pub one_of : IsOfLog status
+
+no_log : (status : Status) (s : Status) → (IsOfLog s → ⊥) → IsOfLog status → ¬ (status ≡ s)
+no_log status s never one_of e = let P : Status → Type 0 = λ x. IsOfLog x in never (subst P e one_of)
+
+only_replayed : (status : Status) → IsOfLog status → HasEnded status → status ≡ Done
+only_replayed Done one_of h = refl
+only_replayed Breach one_of h = absurd one_of
+only_replayed Usage one_of h = absurd h
+only_replayed Refused one_of h = absurd h
+only_replayed TooLong one_of h = absurd h
+only_replayed ReadFault one_of h = absurd h
+only_replayed WriteFault one_of h = absurd h
+only_replayed OutOfMemory one_of h = absurd h
+
+pub logs_write : (status : Status) → IsOfLog status → ¬ WritesNothing status
+logs_write Done one_of h = h
+logs_write Breach one_of h = h
+logs_write Usage one_of h = one_of
+logs_write Refused one_of h = h
+logs_write TooLong one_of h = one_of
+logs_write ReadFault one_of h = one_of
+logs_write WriteFault one_of h = h
+logs_write OutOfMemory one_of h = one_of
+
+due_of_replay : (bytes text : List ℕ) (is_plain : Bool) (told : Option (List Turn)) → BreaksLog bytes text ⊎ IsReplay bytes text
+    → IsRefusedAlone Replay bytes told told text ⊎ IsDueSoFar Replay bytes is_plain told told text
+due_of_replay bytes text is_plain told (inl breaks) = inl (record { refused = breaks; silent = refl })
+due_of_replay bytes text is_plain told (inr replay) = inr (replay, record { done = refl; silent = refl })
+
+pub replay_answers : (bytes : List ℕ) (status : Status) (left left' : Option (List ℕ)) (reads reads' : ℕ) (held held' : Option (List ℕ))
+    (writes writes' : ℕ) (is_plain : Bool) (told : Option (List Turn)) → ReadsToEnd left left' bytes → Gave left left' (λ n. n ≤ log_limit)
+    → Replays bytes status held held' writes writes'
+    → Answers Replay status left left' reads reads' held held' writes writes' is_plain told told
+replay_answers bytes status left left' reads reads' held held' writes writes' is_plain told read short x = record {
+  known = no_log status Usage (λ h. h) x.one_of;
+  ended = λ h. let done = only_replayed status x.one_of h in let all = x.done done in
+      record { input = bytes; text = all.text; read = read; written = all.written; due = (all.replay, record { done = done; silent = refl }) };
+  refused = λ e. let r = x.refused e in record { input = bytes; line = r.line; read = read; refused = r.breaks; written = r.written };
+  unread = record {
+    too_long = λ e. absurd (no_log status TooLong (λ h. h) x.one_of e);
+    short_enough = λ e. short;
+    fault = λ e. absurd (no_log status ReadFault (λ h. h) x.one_of e);
+  };
+  failed = λ e. let part = x.part e in
+      record { rose = x.cause e; input = bytes; text = part.text; read = read; due = due_of_replay bytes part.text is_plain told part.due; written = part.written };
+}
+
+unread_is_no_end : (status : Status) → IsNotRead status → ¬ HasEnded status
+unread_is_no_end Done one_of h = one_of
+unread_is_no_end Breach one_of h = one_of
+unread_is_no_end Usage one_of h = one_of
+unread_is_no_end Refused one_of h = one_of
+unread_is_no_end TooLong one_of h = h
+unread_is_no_end ReadFault one_of h = h
+unread_is_no_end WriteFault one_of h = one_of
+unread_is_no_end OutOfMemory one_of h = h
+
+pub unread_answers : (status : Status) (left left' : Option (List ℕ)) (reads reads' : ℕ) (held : Option (List ℕ)) (writes : ℕ) (is_plain : Bool) (told : Option (List Turn))
+    → IsNotRead status → IsUnreadOver log_limit status left left' reads reads'
+    → Answers Replay status left left' reads reads' held held writes writes is_plain told told
+unread_answers status left left' reads reads' held writes is_plain told one_of unread = record {
+  known = λ e. let P : Status → Type 0 = λ s. IsNotRead s in subst P e one_of;
+  ended = λ h. absurd (unread_is_no_end status one_of h);
+  refused = λ e. let P : Status → Type 0 = λ s. IsNotRead s in absurd (subst P e one_of);
+  unread = unread;
+  failed = λ e. let P : Status → Type 0 = λ s. IsNotRead s in absurd (subst P e one_of);
 }

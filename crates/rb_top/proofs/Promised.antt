@@ -6,7 +6,7 @@ use Rattle.rb_bus.proofs.Promise.{promise, stands}
 use Rattle.rb_book.specs.declared.turn.Turn.{Turn}
 use Rattle.rb_run.proofs.Plain.{plain-records, plain-text}
 use Rattle.rb_top.specs.declared.form.Form.{Form}
-use Rattle.rb_top.specs.declared.form.Form.TheVariants.{Run, Check, Gen, Stress}
+use Rattle.rb_top.specs.declared.form.Form.TheVariants.{Run, Check, Gen, Stress, Record, Replay}
 use Rattle.rb_top.specs.declared.status.Status.{Status}
 use Rattle.rb_top.specs.Answers.{Ends}
 use Rattle.rb_top.specs.Promise.{KeepsItsPromise}
@@ -40,3 +40,5 @@ promised (Stress seed frames) status left left' held held' told told' e =
       promise = promise (generated seed frames) [] due.lawful;
       machine = stands (generated seed frames) [] due.lawful;
     }
+promised (Record node) status left left' held held' told told' e = tt
+promised Replay status left left' held held' told told' e = tt

@@ -1,19 +1,25 @@
 -- When each answer of the top call comes, and what it leaves written.
-use Rattle.std.specs.Prelude.{⊤, ℕ, ◌≡◌, ◌≤◌, ◌⊎◌, Bool, List, [], length, String, Option, Some, None}
+use Rattle.std.specs.Prelude.{⊤, ℕ, ◌≡◌, ◌≤◌, ◌⊎◌, Bool, List, [], length, String, Option, Some, None, Result, Ok}
 use Rattle.std.specs.declared.alloc.Global.{Global}
 use Rattle.std.specs.Io.KnownBytes.{Appends}
 use Rattle.rb_outside.specs.Bytes.{AppendsPart}
 use Rattle.rb_outside.specs.Causes.{Rose}
+use Rattle.rb_base.specs.declared.event.Event.{Event}
+use Rattle.rb_base.specs.declared.node.NodeName.{NodeName}
 use Rattle.rb_rules.specs.Goodness.{Scenario}
-use Rattle.rb_rules.specs.Lawful.{IsLawful}
+use Rattle.rb_rules.specs.Lawful.{IsLawful, IsNodeOf}
 use Rattle.rb_gen.specs.Generated.{generated}
 use Rattle.rb_book.specs.declared.turn.Turn.{Turn}
+use Rattle.rb_history.specs.Given.{AreGiven as AreGivenTo}
+use Rattle.rb_history.specs.Replays.{replay_text}
+use Rattle.rb_log.specs.LogText.{Log, log_in}
+use Rattle.rb_record.specs.Recording.{log_text}
 use Rattle.rb_run.specs.Runs.{EndsWith}
 use Rattle.rb_run.specs.Turns.{AreAll, AreGiven, records_in, text_of}
 use Rattle.rb_run.specs.declared.ending.Ending.{Ending}
 use Rattle.rb_run.specs.declared.ending.Ending.TheVariants as ending
 use Rattle.rb_top.specs.declared.form.Form.{Form}
-use Rattle.rb_top.specs.declared.form.Form.TheVariants.{Run, Check, Gen, Stress}
+use Rattle.rb_top.specs.declared.form.Form.TheVariants.{Run, Check, Gen, Stress, Record, Replay}
 use Rattle.rb_top.specs.declared.status.Status.{Status}
 use Rattle.rb_top.specs.declared.status.Status.TheVariants as answer
 use Rattle.rb_top.specs.CheckText.{check_text}
@@ -40,6 +46,8 @@ IsEnd Run input status = (sc : Scenario) × IsTextOf input sc × EndsAs sc statu
 IsEnd Check input status = (sc : Scenario) × IsTextOf input sc × (status ≡ answer.Done)
 IsEnd (Gen seed frames) input status = status ≡ answer.Done
 IsEnd (Stress seed frames) input status = EndsAs (generated seed frames) status
+IsEnd (Record node) input status = (sc : Scenario) × IsTextOf input sc × IsNodeOf sc.sizes node × EndsAs sc status
+IsEnd Replay input status = (log : Log) × (log_in input ≡ Ok log) × (status ≡ answer.Done)
 
 -- What is due.
 
@@ -69,6 +77,28 @@ pub record IsSides (input text : List ℕ) : Type 0 where
   pub says : IsTextOf input scenario
   pub text_is : text ≡ check_text scenario.sizes scenario.plan
 
+-- `record` is due the log of all that its node is given in the run of the scenario that the input says, each event being the first that
+-- is due
+pub record IsLogOf (node : NodeName) (input text : List ℕ) : Type 0 where
+  pub scenario : Scenario
+  pub events : List Event
+  pub says : IsTextOf input scenario
+  pub there : IsNodeOf scenario.sizes node
+  pub given : AreGivenTo scenario node events
+  pub text_is : text ≡ log_text scenario node events
+
+-- the run ends so, and the drive gave nothing
+pub record IsRecorded (node : NodeName) (input : List ℕ) (told told' : Option (List Turn)) (status : Status) (text : List ℕ) : Type 0 where
+  pub log : IsLogOf node input text
+  pub ends : EndsAs log.scenario status
+  pub silent : told' ≡ told
+
+-- `replay` is due what the node of the log tells when it is given the log's events
+pub record IsReplay (input text : List ℕ) : Type 0 where
+  pub log : Log
+  pub spells : log_in input ≡ Ok log
+  pub text_is : text ≡ replay_text log.timetable.sizes log.timetable.plan log.node log.events
+
 -- a form without a run ends as done, and the drive gave nothing
 pub record IsAlone (told told' : Option (List Turn)) (status : Status) : Type 0 where
   pub done : status ≡ answer.Done
@@ -80,6 +110,8 @@ IsDue Run input is_plain told told' status text = IsReport input is_plain told t
 IsDue Check input is_plain told told' status text = IsSides input text × IsAlone told told' status
 IsDue (Gen seed frames) input is_plain told told' status text = (text ≡ generated_text seed frames) × IsAlone told told' status
 IsDue (Stress seed frames) input is_plain told told' status text = IsSummary seed frames is_plain told told' status text
+IsDue (Record node) input is_plain told told' status text = IsRecorded node input told told' status text
+IsDue Replay input is_plain told told' status text = IsReplay input text × IsAlone told told' status
 
 -- of a run that goes on, the report of the turns that the drive gave so far is due
 pub record IsReportSoFar (input : List ℕ) (is_plain : Bool) (told told' : Option (List Turn)) (text : List ℕ) : Type 0 where
@@ -89,13 +121,14 @@ pub record IsReportSoFar (input : List ℕ) (is_plain : Bool) (told told' : Opti
   pub given : AreGiven scenario is_plain told told' turns
   pub text_is : text ≡ text_of turns
 
--- the text that was due when a write failed: the line of a refusal, before anything was asked of the drive, or the form's text as far
--- as it was known
+-- the form's text, as far as it was due when a write failed
 abbrev pub IsDueSoFar : Form → List ℕ → Bool → Option (List Turn) → Option (List Turn) → List ℕ → Type 0
 IsDueSoFar Run input is_plain told told' text = IsReportSoFar input is_plain told told' text
 IsDueSoFar Check input is_plain told told' text = IsDue Check input is_plain told told' answer.Done text
 IsDueSoFar (Gen seed frames) input is_plain told told' text = IsDue (Gen seed frames) input is_plain told told' answer.Done text
 IsDueSoFar (Stress seed frames) input is_plain told told' text = IsDue (Stress seed frames) input is_plain told told' answer.Done text
+IsDueSoFar (Record node) input is_plain told told' text = IsLogOf node input text × (told' ≡ told)
+IsDueSoFar Replay input is_plain told told' text = IsDue Replay input is_plain told told' answer.Done text
 
 -- Answers.
 

@@ -1,15 +1,21 @@
 -- What a form reads, and how its input is refused or not read to its end.
-use Rattle.std.specs.Prelude.{ℕ, ◌≡◌, ◌≤◌, ◌<◌, List, [], Option, Some, None, IsSome, unwrap_or, false}
+use Rattle.std.specs.Prelude.{ℕ, ◌≡◌, ◌≤◌, ◌<◌, ◌⊎◌, List, [], Option, Some, None, IsSome, unwrap_or, Result, Err, false, true}
 use Rattle.rb_outside.specs.Bytes.{Gave, ReadsToEnd}
 use Rattle.rb_outside.specs.Causes.{Rose}
+use Rattle.rb_base.specs.declared.node.NodeName.{NodeName}
 use Rattle.rb_rules.specs.Goodness.{Scenario}
+use Rattle.rb_rules.specs.Lawful.{IsNodeOf}
 use Rattle.rb_report.specs.Report.{refused_text}
 use Rattle.rb_entries.specs.Codes.{code_of, detail_of}
 use Rattle.rb_entries.specs.declared.refusal.Refusal.{Refusal}
+use Rattle.rb_entries.specs.declared.refusal.Refusal.TheVariants.{NoSuchNode}
+use Rattle.rb_log.specs.LogText.{log_in}
+use Rattle.rb_log.specs.declared.refusal.LogRefusal.{LogRefusal}
+use Rattle.rb_log.specs.declared.refusal.LogRefusal.TheVariants.{BadMagic, BadField, Truncated, AfterEnd}
 use Rattle.rb_scenario.specs.Acceptance.{IsAccepted, IsRefused, as_scenario}
 use Rattle.rb_scenario.specs.declared.scenario.Scenario.{Scenario as Accepted}
 use Rattle.rb_top.specs.declared.form.Form.{Form}
-use Rattle.rb_top.specs.declared.form.Form.TheVariants.{Run, Check, Gen, Stress}
+use Rattle.rb_top.specs.declared.form.Form.TheVariants.{Run, Check, Gen, Stress, Record, Replay}
 use Rattle.rb_top.specs.declared.status.Status.{Status}
 use Rattle.rb_top.specs.declared.status.Status.TheVariants as answer
 
@@ -19,12 +25,18 @@ use Rattle.rb_top.specs.declared.status.Status.TheVariants as answer
 abbrev pub scenario_limit : ℕ
 scenario_limit = 4194304
 
+-- and of a log
+abbrev pub log_limit : ℕ
+log_limit = 67108864
+
 -- the most bytes of a form's input. A form without an input reads nothing
 abbrev pub limit_of : Form → Option ℕ
 limit_of Run = Some scenario_limit
 limit_of Check = Some scenario_limit
 limit_of (Gen seed frames) = None
 limit_of (Stress seed frames) = None
+limit_of (Record node) = Some scenario_limit
+limit_of Replay = Some log_limit
 
 -- by that limit: this is all that the source had left, and nothing where nothing is read
 abbrev pub IsReadBy : Option ℕ → Option (List ℕ) → Option (List ℕ) → List ℕ → Type 0
@@ -58,12 +70,44 @@ pub record BreaksRule (input line : List ℕ) : Type 0 where
   pub broken : IsRefused input rule
   pub line_is : line ≡ rule_text rule
 
+-- the input is the text of a scenario without this node, and this is the line that says so
+pub record LacksNode (node : NodeName) (input line : List ℕ) : Type 0 where
+  pub scenario : Scenario
+  pub says : IsTextOf input scenario
+  pub none : ¬ IsNodeOf scenario.sizes node
+  pub line_is : line ≡ rule_text NoSuchNode
+
+-- the code of a log's fault, and its place
+abbrev pub log_code : LogRefusal → ℕ
+log_code BadMagic = 1
+log_code (BadField place) = 2
+log_code (Truncated place) = 3
+log_code (AfterEnd place) = 4
+
+abbrev pub log_place : LogRefusal → Option ℕ
+log_place BadMagic = None
+log_place (BadField place) = Some place
+log_place (Truncated place) = Some place
+log_place (AfterEnd place) = Some place
+
+-- the line that names the fault
+abbrev pub fault_text : LogRefusal → List ℕ
+fault_text fault = refused_text (log_code fault) (log_place fault) true
+
+-- the input spells no log, by its first fault, which has this line
+pub record BreaksLog (input line : List ℕ) : Type 0 where
+  pub fault : LogRefusal
+  pub spells : log_in input ≡ Err fault
+  pub line_is : line ≡ fault_text fault
+
 -- the form's input is refused with this line
 abbrev pub IsRefusedWith : Form → List ℕ → List ℕ → Type 0
 IsRefusedWith Run input line = BreaksRule input line
 IsRefusedWith Check input line = BreaksRule input line
 IsRefusedWith (Gen seed frames) input line = ⊥
 IsRefusedWith (Stress seed frames) input line = ⊥
+IsRefusedWith (Record node) input line = BreaksRule input line ⊎ LacksNode node input line
+IsRefusedWith Replay input line = BreaksLog input line
 
 -- Reading that doesn't come to the end.
 

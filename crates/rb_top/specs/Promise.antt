@@ -9,7 +9,7 @@ use Rattle.rb_rules.specs.StandsFor.{StandsFor}
 use Rattle.rb_report.specs.Texts.{report_of}
 use Rattle.rb_gen.specs.Generated.{generated}
 use Rattle.rb_top.specs.declared.form.Form.{Form}
-use Rattle.rb_top.specs.declared.form.Form.TheVariants.{Run, Check, Gen, Stress}
+use Rattle.rb_top.specs.declared.form.Form.TheVariants.{Run, Check, Gen, Stress, Record, Replay}
 use Rattle.rb_top.specs.declared.status.Status.{Status}
 use Rattle.rb_top.specs.Answers.{EndsAs}
 use Rattle.rb_top.specs.Inputs.{IsTextOf}
@@ -33,9 +33,11 @@ pub record SumsTheHeadline (seed frames : ℕ) (status : Status) (held held' : O
   pub promise : Headline (generated seed frames) []  -- up to the breach the bus keeps its promise
   pub machine : StandsFor (generated seed frames) []  -- and all good nodes are one machine
 
--- the promise of a form. There is none of a form without a run
+-- the promise of a form. There is none where no drive is asked
 abbrev pub KeepsItsPromise : Form → Status → Option (List ℕ) → Option (List ℕ) → Option (List ℕ) → Option (List ℕ) → Type 0
 KeepsItsPromise Run status left left' held held' = KeepsTheHeadline status left left' held held'
 KeepsItsPromise Check status left left' held held' = ⊤
 KeepsItsPromise (Gen seed frames) status left left' held held' = ⊤
 KeepsItsPromise (Stress seed frames) status left left' held held' = SumsTheHeadline seed frames status held held'
+KeepsItsPromise (Record node) status left left' held held' = ⊤
+KeepsItsPromise Replay status left left' held held' = ⊤

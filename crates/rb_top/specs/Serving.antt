@@ -1,15 +1,17 @@
 -- What comes of serving a form, and of a run that is opened for one.
-use Rattle.std.specs.Prelude.{⊤, ℕ, ◌≡◌, Bool, List, Option}
+use Rattle.std.specs.Prelude.{⊤, ℕ, ◌≡◌, ◌⊎◌, Bool, List, Option}
 use Rattle.std.specs.Io.KnownBytes.{Appends}
 use Rattle.rb_outside.specs.Bytes.{AppendsPart}
+use Rattle.rb_base.specs.declared.node.NodeName.{NodeName}
 use Rattle.rb_rules.specs.Goodness.{Scenario}
 use Rattle.rb_book.specs.declared.turn.Turn.{Turn}
+use Rattle.rb_record.specs.Recording.{WritesAll as WritesAllOf}
 use Rattle.rb_run.specs.Runs.{WritesAll}
 use Rattle.rb_top.specs.declared.form.Form.{Form}
 use Rattle.rb_top.specs.declared.status.Status.{Status}
 use Rattle.rb_top.specs.declared.status.Status.TheVariants as answer
-use Rattle.rb_top.specs.Answers.{Ends, EndsAs, FailsToWrite, IsSummary, Refuses}
-use Rattle.rb_top.specs.Inputs.{IsUnread}
+use Rattle.rb_top.specs.Answers.{Ends, EndsAs, FailsToWrite, IsReplay, IsSummary, Refuses}
+use Rattle.rb_top.specs.Inputs.{BreaksLog, IsUnread}
 use Rattle.rb_top.specs.Statuses.{HasEnded}
 
 -- all that is said of the answer for a form
@@ -37,6 +39,11 @@ pub record FailsToSum (seed frames : ℕ) (is_plain : Bool) (told told' : Option
   pub due : IsSummary seed frames is_plain told told' answer.Done text
   pub written : AppendsPart held held' text
 
+-- a run was opened and ended so, and the log of a node in it was written
+pub record IsLogged (sc : Scenario) (node : NodeName) (status : Status) (held held' : Option (List ℕ)) : Type 0 where
+  pub ends : EndsAs sc status
+  pub written : WritesAllOf sc node held held'
+
 -- an answer of a run that is to be opened
 abbrev pub IsOfRun : Status → Type 0
 IsOfRun answer.Done = ⊤
@@ -58,3 +65,43 @@ IsOfText answer.Usage = ⊥
 IsOfText answer.Refused = ⊥
 IsOfText answer.TooLong = ⊥
 IsOfText answer.ReadFault = ⊥
+
+-- an answer of a log that is replayed, or is none
+abbrev pub IsOfLog : Status → Type 0
+IsOfLog answer.Done = ⊤
+IsOfLog answer.Refused = ⊤
+IsOfLog answer.WriteFault = ⊤
+IsOfLog answer.OutOfMemory = ⊥
+IsOfLog answer.Breach = ⊥
+IsOfLog answer.Usage = ⊥
+IsOfLog answer.TooLong = ⊥
+IsOfLog answer.ReadFault = ⊥
+
+-- the answers where an input was not read to its end
+abbrev pub IsNotRead : Status → Type 0
+IsNotRead answer.TooLong = ⊤
+IsNotRead answer.ReadFault = ⊤
+IsNotRead answer.OutOfMemory = ⊤
+IsNotRead answer.Done = ⊥
+IsNotRead answer.Breach = ⊥
+IsNotRead answer.Usage = ⊥
+IsNotRead answer.Refused = ⊥
+IsNotRead answer.WriteFault = ⊥
+
+-- the log that the bytes spell was replayed
+pub record IsReplayed (bytes : List ℕ) (held held' : Option (List ℕ)) : Type 0 where
+  pub text : List ℕ
+  pub replay : IsReplay bytes text
+  pub written : Appends held held' text
+
+-- or they spell none, and the line that says why was written
+pub record RefusesLog (bytes : List ℕ) (held held' : Option (List ℕ)) : Type 0 where
+  pub line : List ℕ
+  pub breaks : BreaksLog bytes line
+  pub written : Appends held held' line
+
+-- or the first bytes of what was due were
+pub record FailsToReplay (bytes : List ℕ) (held held' : Option (List ℕ)) : Type 0 where
+  pub text : List ℕ
+  pub due : BreaksLog bytes text ⊎ IsReplay bytes text
+  pub written : AppendsPart held held' text

@@ -1,9 +1,13 @@
 //! The forms of words that the program knows.
-ghost use Rattle.std.specs.Prelude.{ℕ, ◌≡◌, ◌≢◌, ◌<◌, ◌≤◌, ◌^◌, ◌∷◌, [], IfNone, IfSome, codes, decimal, string_bytes};
+ghost use Rattle.std.specs.Prelude.{ℕ, ◌≡◌, ◌≢◌, ◌<◌, ◌≤◌, ◌^◌, ◌∷◌, ◌++◌, [], IfNone, IfSome, codes, decimal, string_bytes};
+ghost use Rattle.rb_base.specs.declared.node.NodeName.{NodeName};
+ghost use Rattle.rb_document.specs.Names.{IsNumbered};
+ghost use Rattle.rb_report.specs.Report.{node_text};
 ghost use Rattle.rb_top.specs.declared.form.Form.{Form};
 ghost use Rattle.rb_top.specs.Words.{AreNumbers, AskFor, IsInRange, words_of};
 
 use itoa::Buffer;
+use rb_base::NodeName;
 
 /// What the words ask for. A seed is any number of 64 bits, and there are 1 to 4096 frames.
 #[derive(Clone, Copy, Debug, PartialEq, Eq)]
@@ -16,6 +20,10 @@ pub enum Form {
     Gen(u64, u32),
     /// To run that scenario and show its four numbers.
     Stress(u64, u32),
+    /// To run a scenario and write the log of a node, whose number is below 16.
+    Record(NodeName),
+    /// To give a log to its node and write what it tells.
+    Replay,
 }
 
 /// The most frames of a generated scenario.
@@ -48,6 +56,46 @@ fn frames_in(text: &str) -> Option<u32>
     }
 }
 
+// The number below 16 that stands behind the letter.
+fn index_after(letter: &str, text: &str) -> Option<u8>
+    ensures some { IfSome result (λ i. (i < 16) × (text.now ≡ letter.now ++ decimal i)) }
+    ensures none { IfNone result ((i : ℕ) → i < 16 → text.now ≢ letter.now ++ decimal i) }
+{
+    let digits = match text.strip_prefix(letter) {
+        Some(digits) => digits,
+        None => return None,
+    };
+    match number_in(digits) {
+        Some(number) if number < 16 => Some(number as u8),
+        _ => None,
+    }
+}
+
+// The node that the text names.
+fn node_in(text: &str) -> Option<NodeName>
+    ensures some { IfSome result (λ node. (text.now ≡ node_text node) × IsNumbered node) }
+    ensures none { IfNone result ((node : NodeName) → IsNumbered node → text.now ≢ node_text node) }
+{
+    if let Some(index) = index_after("B", text) {
+        return Some(NodeName::Biu(index));
+    }
+    match index_after("R", text) {
+        Some(index) => Some(NodeName::Rmu(index)),
+        None => None,
+    }
+}
+
+// The form of two words.
+fn form_with_node(word: &str, node: &str) -> Option<Form>
+    ensures some { IfSome result (λ form. (words_of form ≡ word.now ∷ node.now ∷ []) × IsInRange form) }
+    ensures none { IfNone result ((form : Form) → IsInRange form → words_of form ≢ word.now ∷ node.now ∷ []) }
+{
+    match (word, node_in(node)) {
+        ("record", Some(node)) => Some(Form::Record(node)),
+        _ => None,
+    }
+}
+
 // The form of one word.
 fn form_named(word: &str) -> Option<Form>
     ensures some { IfSome result (λ form. (words_of form ≡ word.now ∷ []) × IsInRange form) }
@@ -56,6 +104,7 @@ fn form_named(word: &str) -> Option<Form>
     match word {
         "run" => Some(Form::Run),
         "check" => Some(Form::Check),
+        "replay" => Some(Form::Replay),
         _ => None,
     }
 }
@@ -91,6 +140,7 @@ pub(crate) fn form_of(words: &[String]) -> Option<Form>
 {
     match words {
         [word] => form_named(word.as_str()),
+        [word, node] => form_with_node(word.as_str(), node.as_str()),
         [word, seed, frames] => form_with_numbers(word.as_str(), seed.as_str(), frames.as_str()),
         _ => None,
     }

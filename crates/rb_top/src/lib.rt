@@ -6,6 +6,8 @@ pub mod form;
 mod generating;
 mod lines;
 mod reading;
+mod recording;
+mod replaying;
 mod running;
 mod serving;
 pub mod status;

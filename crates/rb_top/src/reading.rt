@@ -1,10 +1,11 @@
-//! Reading a scenario from a source.
-ghost use Rattle.std.specs.Prelude.{◌≡◌, ◌⊎◌, IfOk, IfErr, OnOk, OnErr};
+//! Reading a scenario or a log from a source.
+ghost use Rattle.std.specs.Prelude.{◌≡◌, ◌≤◌, ◌⊎◌, IfOk, IfErr, OnOk, OnErr};
 ghost use Rattle.std.specs.Io.KnownBytes.{Appends};
-ghost use Rattle.rb_outside.specs.Bytes.{AppendsPart};
+ghost use Rattle.rb_outside.specs.Bytes.{AppendsPart, Gave, ReadsToEnd};
 ghost use Rattle.rb_outside.specs.Causes.{HasCause, Rose};
-ghost use Rattle.rb_top.specs.Inputs.{HasCode, rule_text};
+ghost use Rattle.rb_top.specs.Inputs.{HasCode, IsUnreadOver, log_limit, rule_text};
 ghost use Rattle.rb_top.specs.Reading.{ReadsNone, ReadsScenario};
+ghost use Rattle.rb_top.specs.Serving.{IsNotRead};
 ghost use Rattle.rb_top.specs.Statuses.{WritesNothing};
 
 use crate::lines::write_line;
@@ -16,6 +17,9 @@ use std::alloc::Global;
 
 /// The most bytes of a scenario.
 const SCENARIO_LIMIT: usize = 4_194_304;
+
+/// The most bytes of a log.
+const LOG_LIMIT: usize = 67_108_864;
 
 // Writes the line of a rule that is broken.
 fn write_rule<K: Sink>(rule: Refusal, output: &mut K) -> Result<(), Failed>
@@ -30,8 +34,8 @@ fn write_rule<K: Sink>(rule: Refusal, output: &mut K) -> Result<(), Failed>
     )
 }
 
-// Refuses the input for a rule that it breaks.
-fn refuse<K: Sink>(rule: Refusal, output: &mut K) -> Status
+/// Refuses the input for a rule that it breaks.
+pub(crate) fn refuse<K: Sink>(rule: Refusal, output: &mut K) -> Status
     requires { HasCode rule }
     ensures refused { result ≡ Status.Refused → Appends (K.held output.old) (K.held output.new) (rule_text rule) }
     ensures part { result ≡ Status.WriteFault → AppendsPart (K.held output.old) (K.held output.new) (rule_text rule) }
@@ -66,5 +70,21 @@ pub(crate) fn read_scenario<S: Source, K: Sink>(
         Ok(scenario) => Ok(scenario),
         Err(Refusal::OutOfMemory) => Err(Status::OutOfMemory),
         Err(rule) => Err(refuse(rule, output)),
+    }
+}
+
+/// The bytes of a log that the source has left, or the answer where they are too many or can't be had.
+pub(crate) fn read_log<S: Source>(alloc: Global, input: &mut S) -> Result<Vec<u8>, Status>
+    ensures whole { IfOk result (λ v. ReadsToEnd (S.left input.old) (S.left input.new) v.items) }
+    ensures short_enough { IfOk result (λ _. Gave (S.left input.old) (S.left input.new) (λ n. n ≤ log_limit)) }
+    ensures unread { IfErr result (λ status. IsUnreadOver log_limit status (S.left input.old) (S.left input.new)
+        (S.faults input.old) (S.faults input.new)) }
+    ensures one_of { IfErr result IsNotRead }
+{
+    match read_all(alloc, input, LOG_LIMIT) {
+        Ok(bytes) => Ok(bytes),
+        Err(Unread::TooLong) => Err(Status::TooLong),
+        Err(Unread::Fault) => Err(Status::ReadFault),
+        Err(Unread::OutOfMemory) => Err(Status::OutOfMemory),
     }
 }

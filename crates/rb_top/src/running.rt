@@ -25,8 +25,8 @@ use rb_scenario::Scenario;
 use rb_world::{Drive, World};
 use std::alloc::Global;
 
-// The answer where a run ends so and all is written.
-fn status_of(ending: Ending) -> Status
+/// The answer where a run ends so and all is written.
+pub(crate) fn status_of(ending: Ending) -> Status
     ensures { result ≡ status_of ending }
 {
     match ending {

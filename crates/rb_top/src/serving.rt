@@ -1,7 +1,7 @@
 //! Serving a form of words.
 ghost use Rattle.std.specs.Prelude.{ℕ, ◌≡◌, Bool, List, None, Option};
 ghost use Rattle.rb_book.specs.declared.turn.Turn.{Turn};
-ghost use Rattle.rb_top.specs.declared.form.Form.TheVariants.{Run, Check, Stress};
+ghost use Rattle.rb_top.specs.declared.form.Form.TheVariants.{Run, Check, Stress, Record, Replay};
 ghost use Rattle.rb_top.specs.Inputs.{limit_of};
 ghost use Rattle.rb_top.specs.Serving.{Answers};
 ghost use Rattle.rb_top.specs.Statuses.{RunsNothing, WritesNothing};
@@ -10,11 +10,15 @@ ghost use Rattle.rb_top.specs.Words.{IsInRange};
 use crate::check::show_sides;
 use crate::form::Form;
 use crate::generating::generate_text;
-use crate::reading::read_scenario;
+use crate::reading::{read_log, read_scenario, refuse};
+use crate::recording::{has_node, write_log};
+use crate::replaying::replay_bytes;
 use crate::running::{report, stress};
 use crate::status::Status;
+use rb_base::NodeName;
 use rb_outside::{Sink, Source};
 use rb_port::Apps;
+use rb_scenario::Refusal;
 use rb_world::Drive;
 use std::alloc::Global;
 
@@ -51,6 +55,42 @@ fn check<S: Source, K: Sink>(alloc: Global, input: &mut S, output: &mut K) -> St
     }
 }
 
+// Reads a scenario, runs it and writes the log of a node.
+fn record<S: Source, K: Sink>(
+    alloc: Global,
+    node: NodeName,
+    input: &mut S,
+    output: &mut K,
+    apps: &Apps,
+) -> Status
+    ensures answers { (is_plain : Bool) (told : Option (List Turn))
+        → Answers (Record node) result (S.left input.old) (S.left input.new) (S.faults input.old) (S.faults input.new)
+        (K.held output.old) (K.held output.new) (K.faults output.old) (K.faults output.new) is_plain told told }
+    ensures unwritten { WritesNothing result → output.new ≡ output.old }
+{
+    let scenario = match read_scenario(alloc, input, output) {
+        Ok(scenario) => scenario,
+        Err(status) => return status,
+    };
+    if !has_node(&scenario, node) {
+        return refuse(Refusal::NoSuchNode, output);
+    }
+    write_log(alloc, scenario, node, output, apps)
+}
+
+// Reads a log, gives it to its node and writes what it tells.
+fn replay<S: Source, K: Sink>(alloc: Global, input: &mut S, output: &mut K) -> Status
+    ensures answers { (is_plain : Bool) (told : Option (List Turn))
+        → Answers Replay result (S.left input.old) (S.left input.new) (S.faults input.old) (S.faults input.new)
+        (K.held output.old) (K.held output.new) (K.faults output.old) (K.faults output.new) is_plain told told }
+    ensures unwritten { WritesNothing result → output.new ≡ output.old }
+{
+    match read_log(alloc, input) {
+        Ok(bytes) => replay_bytes(&bytes, output),
+        Err(status) => status,
+    }
+}
+
 /// Serves the form.
 pub(crate) fn serve<S: Source, K: Sink, D: Drive>(
     alloc: Global,
@@ -74,5 +114,7 @@ pub(crate) fn serve<S: Source, K: Sink, D: Drive>(
         Form::Check => check(alloc, input, output),
         Form::Gen(seed, frames) => generate_text(alloc, seed, frames, output),
         Form::Stress(seed, frames) => stress(alloc, seed, frames, output, apps, drive),
+        Form::Record(node) => record(alloc, node, input, output, apps),
+        Form::Replay => replay(alloc, input, output),
     }
 }

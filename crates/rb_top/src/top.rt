@@ -23,12 +23,14 @@ use std::alloc::Global;
 /// | `check` | reads a scenario and writes both sides of the seven inequalities of its plan |
 /// | `gen SEED FRAMES` | writes the text of the generated scenario; reads nothing |
 /// | `stress SEED FRAMES` | runs the generated scenario and writes four numbers of the drive's turns; reads nothing |
+/// | `record NODE` | reads a scenario, runs it by first choices and writes the log of all that the node is given |
+/// | `replay` | reads a log, gives it to its node and writes what that tells |
 ///
-/// `Done`: all is written. `Breach`: the run of `run` or `stress` ended with a breach of the fault premise; `run` has written its report
-/// up to it, `stress` nothing. `Usage`: the words are of no known form; nothing was read or written. `Refused`: the input breaks a rule;
-/// one line with its code says which. `TooLong`: the source gave more than 4,194,304 bytes. `ReadFault`, `WriteFault`: the source or the
-/// sink failed; what a failing sink took is a first part of the text that was due. `OutOfMemory`: an allocation failed before anything
-/// was written.
+/// `Done`: all is written. `Breach`: the run of `run`, `stress` or `record` ended with a breach of the fault premise; `run` has written its
+/// report up to it, `record` the log, `stress` nothing. `Usage`: the words are of no known form; nothing was read or written. `Refused`: the
+/// input breaks a rule, has no such node or is no log; one line with the code says why. `TooLong`: the source gave more than 4,194,304 bytes
+/// of a scenario, or 67,108,864 of a log. `ReadFault`, `WriteFault`: the source or the sink failed; what a failing sink took is a first part
+/// of what was due. `OutOfMemory`: an allocation failed before anything was written.
 pub fn run_robus<S: Source, K: Sink, D: Drive>(
     alloc: Global,
     words: &[String],

@@ -36,3 +36,17 @@ returns-in-Stress-clause-answers g c =
       cause = c.stress.ensures.cause;
       one_of = c.stress.ensures.one_of;
     }))
+
+pub returns-in-Record-clause-answers : goal.returns-in-Record-clause-answers
+returns-in-Record-clause-answers g c =
+    let P : Form → Type 0 = λ f. Answers f c.record.result (g.S.Source.left c.args.input.now) (g.S.Source.left c.record.new.input) (g.S.Source.faults c.args.input.now) (g.S.Source.faults c.record.new.input)
+    (g.K.Sink.held c.args.output.now) (g.K.Sink.held c.record.new.output) (g.K.Sink.faults c.args.output.now) (g.K.Sink.faults c.record.new.output)
+    (g.D.Drive.is_plain c.args.drive.now) (g.D.Drive.told c.args.drive.now) (g.D.Drive.told c.args.drive.now) in
+    subst P (sym c.in-Record.is) (c.record.ensures.answers (g.D.Drive.is_plain c.args.drive.now) (g.D.Drive.told c.args.drive.now))
+
+pub returns-in-Replay-clause-answers : goal.returns-in-Replay-clause-answers
+returns-in-Replay-clause-answers g c =
+    let P : Form → Type 0 = λ f. Answers f c.replay.result (g.S.Source.left c.args.input.now) (g.S.Source.left c.replay.new.input) (g.S.Source.faults c.args.input.now) (g.S.Source.faults c.replay.new.input)
+    (g.K.Sink.held c.args.output.now) (g.K.Sink.held c.replay.new.output) (g.K.Sink.faults c.args.output.now) (g.K.Sink.faults c.replay.new.output)
+    (g.D.Drive.is_plain c.args.drive.now) (g.D.Drive.told c.args.drive.now) (g.D.Drive.told c.args.drive.now) in
+    subst P (sym c.in-Replay.is) (c.replay.ensures.answers (g.D.Drive.is_plain c.args.drive.now) (g.D.Drive.told c.args.drive.now))

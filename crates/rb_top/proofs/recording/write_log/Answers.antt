@@ -1,0 +1,16 @@
+use Rattle.std.proofs.Common.{subst, sym}
+use Rattle.rb_rules.specs.Goodness.{Scenario}
+use Rattle.rb_rules.specs.Lawful.{IsNodeOf}
+use Rattle.rb_rules.specs.WorldStep.{first_world}
+use Rattle.rb_world.specs.Worlds.{Stands}
+use Rattle.rb_top.proofs.recording.write_log.Goals as goal
+
+pub record-requires-clause-begin : goal.record-requires-clause-begin
+record-requires-clause-begin g c =
+    let P : Scenario → Type 0 = λ sc. Stands c.in-Ok.world (first_world sc) in
+    subst P (sym c.in-Ok.ensures.bus) c.in-Ok.ensures.stands
+
+pub record-requires-clause-node : goal.record-requires-clause-node
+record-requires-clause-node g c =
+    let P : Scenario → Type 0 = λ sc. IsNodeOf sc.sizes c.args.node in
+    subst P (sym c.in-Ok.ensures.bus) c.requires.node

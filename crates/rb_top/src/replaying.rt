@@ -1,0 +1,67 @@
+//! What the node of a log tells.
+ghost use Rattle.std.specs.Prelude.{◌≡◌, OnOk, OnErr};
+ghost use Rattle.std.specs.Io.KnownBytes.{Appends};
+ghost use Rattle.rb_outside.specs.Bytes.{AppendsPart};
+ghost use Rattle.rb_outside.specs.Causes.{HasCause, Rose};
+ghost use Rattle.rb_top.specs.Inputs.{fault_text, log_code, log_place};
+ghost use Rattle.rb_top.specs.Serving.{FailsToReplay, IsOfLog, IsReplayed, RefusesLog};
+
+use crate::lines::write_line;
+use crate::status::Status;
+use rb_log::{LogReader, LogRefusal};
+use rb_outside::{Failed, Sink};
+use rb_replay::replay;
+use rb_report::refused_line;
+
+// The code of a log's fault.
+fn code_of(fault: LogRefusal) -> u8
+    ensures { result ≡ log_code fault }
+{
+    match fault {
+        LogRefusal::BadMagic => 1,
+        LogRefusal::BadField(_) => 2,
+        LogRefusal::Truncated(_) => 3,
+        LogRefusal::AfterEnd(_) => 4,
+    }
+}
+
+// Its place.
+fn place_of(fault: LogRefusal) -> Option<u64>
+    ensures { result ≡ log_place fault }
+{
+    match fault {
+        LogRefusal::BadMagic => None,
+        LogRefusal::BadField(place)
+        | LogRefusal::Truncated(place)
+        | LogRefusal::AfterEnd(place) => Some(place),
+    }
+}
+
+// Writes the line of a log's fault.
+fn write_fault<K: Sink>(fault: LogRefusal, output: &mut K) -> Result<(), Failed>
+    ensures all { OnOk result (Appends (K.held output.old) (K.held output.new) (fault_text fault)) }
+    ensures part { OnErr result (AppendsPart (K.held output.old) (K.held output.new) (fault_text fault)) }
+    ensures cause { HasCause (K.faults output.old) (K.faults output.new) result }
+{
+    write_line(output, &refused_line(code_of(fault), place_of(fault), true))
+}
+
+/// Gives the log that the bytes spell to its node and writes what it tells, or the line that says why they spell none.
+pub(crate) fn replay_bytes<K: Sink>(bytes: &[u8], output: &mut K) -> Status
+    ensures done { result ≡ Status.Done → IsReplayed bytes.now (K.held output.old) (K.held output.new) }
+    ensures refused { result ≡ Status.Refused → RefusesLog bytes.now (K.held output.old) (K.held output.new) }
+    ensures part { result ≡ Status.WriteFault → FailsToReplay bytes.now (K.held output.old) (K.held output.new) }
+    ensures cause { result ≡ Status.WriteFault → Rose (K.faults output.old) (K.faults output.new) }
+    ensures one_of { IsOfLog result }
+{
+    match LogReader::open(bytes) {
+        Ok(log) => match replay(log, output) {
+            Ok(()) => Status::Done,
+            Err(Failed) => Status::WriteFault,
+        },
+        Err(fault) => match write_fault(fault, output) {
+            Ok(()) => Status::Refused,
+            Err(Failed) => Status::WriteFault,
+        },
+    }
+}
