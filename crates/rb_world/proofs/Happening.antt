@@ -28,9 +28,6 @@ use Rattle.rb_world.proofs.Told.{set-here, set-there}
 
 -- The tick that is ahead is overwritten.
 
-bare : Site → Site
-bare s = record s { ahead = None }
-
 entered-same : (sc : Scenario) (me : Side) (i : ℕ) (o : Option Span) (s : Site) → enter sc me i o (record s { ahead = None }) ≡ enter sc me i o s
 entered-same sc me i None s = refl
 entered-same sc me i (Some span) s = by (is_good sc me i span.place.frame span.place.slot)

@@ -34,9 +34,6 @@ unfolding due_of
 none-due-then k w is e = ap (λ b. length (elim b as (λ _. List Due) [ true ↦ [] | false ↦ due_now k.bus w ])) e
 
 -- else all that is pending at the least time
-pub some-due : (k : Kept) (w : World) → Stands k w → (w.book.ended || needs_no_event k.bus w.book.upcoming) ≡ false → due_in k ≡ how_many k.scene.agenda
-some-due k w is e = ap (λ b. elim b as (λ _. ℕ) [ true ↦ 0 | false ↦ how_many k.scene.agenda ]) (sym (idle-is k w is) ∙ e)
-
 pub length-due : (k : Kept) (w : World) (n : ℕ) → (w.book.ended || needs_no_event k.bus w.book.upcoming) ≡ false → n ≡ length (due_now k.bus w) → n ≡ length (due_of k.bus w)
 length-due k w n e all = all ∙ sym (ap length (due-is-now k.bus w e))
 

@@ -1,10 +1,7 @@
 -- Steps up to the next record.
 use Rattle.std.proofs.Common.{◌≡◌, ℕ, zero, suc, ◌+◌, ◌^◌, ◌<◌, inl, inr, true, None, is_some, length, refl, sym, ap, ◌∙◌, subst, arith}
 use Rattle.std.proofs.lemmas.Bool.{cases_lt}
-use Rattle.rb_base.specs.Nodes.{Side, has}
-use Rattle.rb_base.specs.Nodes.Side.{Biu, Rmu}
 use Rattle.rb_rules.specs.Goodness.{Scenario}
-use Rattle.rb_rules.specs.Slots.{count_of}
 use Rattle.rb_rules.specs.WorldStep.{World, due_of, go_on, take}
 use Rattle.rb_book.specs.Records.{record_of}
 use Rattle.rb_book.specs.declared.turn.Turn.{Turn}
@@ -13,8 +10,7 @@ use Rattle.rb_world.specs.declared.ties.Seeding.{Seeding}
 use Rattle.rb_world.specs.declared.ties.Ties.{Ties}
 use Rattle.rb_world.specs.Nexts.{GoesToNext, IsNext, RunsOn, Standing, TakesStep, TakesSteps, after_steps, begun_with, drawn, place_among, step, step_among}
 use Rattle.rb_world.specs.Turning.{Gives}
-use Rattle.rb_world.specs.Worlds.{Kept, Stands, Surrounds, running_of}
-use Rattle.rb_traffic.specs.Arriving.{AreRunning}
+use Rattle.rb_world.specs.Worlds.{Kept, Stands}
 use Rattle.rb_world.proofs.Steps.{few-steps}
 
 -- One step.

@@ -1,14 +1,12 @@
 -- Each call gives the next record of the rounds. For callers: `next-in-rounds` is about one whose world goes to its next record, and `alike-in-rounds`
 -- about one whose world does so by first choices, the turn being that record but for what a drive that is not plain may change (with
 -- `alike-last`, that both are the last of a run or neither is). `take-in-rounds` is about an event that is taken.
-use Rattle.std.proofs.Common.{◌≡◌, ℕ, zero, suc, ◌<◌, ◌≤◌, ◌||◌, ◌⊎◌, inl, inr, Bool, true, false, Option, Some, None, is_some, List, [], ◌∷◌, ◌++◌, flat_map, length, slice_get, refl, sym, ap, ◌∙◌, subst, arith}
+use Rattle.std.proofs.Common.{◌≡◌, ℕ, zero, suc, ◌<◌, ◌≤◌, ◌||◌, inl, inr, Bool, true, false, Option, Some, None, is_some, List, [], ◌∷◌, ◌++◌, flat_map, length, slice_get, refl, sym, ap, ◌∙◌, subst, arith}
 use Rattle.rb_rules.specs.Book.{Record, in_order}
 use Rattle.rb_rules.specs.Goodness.{Scenario}
-use Rattle.rb_rules.specs.Hearing.{Coming}
 use Rattle.rb_rules.specs.Lawful.{IsLawful}
-use Rattle.rb_rules.specs.Ports.{HandIn}
 use Rattle.rb_rules.specs.Rounds.{records_of}
-use Rattle.rb_rules.specs.WorldStep.{Due, Pending, Site, World, due_at, due_of, go_on, happens, least, needs_no_event, settle, take, take_if_due, times_of, with_act, with_pending}
+use Rattle.rb_rules.specs.WorldStep.{Due, Pending, Site, World, due_at, due_of, go_on, happens, least, needs_no_event, take, take_if_due, times_of, with_act, with_pending}
 use Rattle.rb_rules.specs.WorldStep.Choice.{GoOn, Take}
 use Rattle.rb_rules.specs.WorldStep.Pending.{Arrival, Tick}
 use Rattle.rb_rules.specs.WorldStep.Way.{ByAnEvent, ByItself}
@@ -23,7 +21,7 @@ use Rattle.rb_world.specs.declared.ties.Ties.{Ties}
 use Rattle.rb_world.specs.declared.ties.Ties.TheVariants.{First}
 use Rattle.rb_world.specs.Driving.{GoesAlike, bare}
 use Rattle.rb_world.specs.Nexts.{GoesToNext, IsNext, Standing, after_steps, drawn, is_last, place_among, step, step_among}
-use Rattle.rb_world.specs.Numbering.{GivesInRounds, GoesInRounds, IsLastAgain, IsNextRecord, TakesInRounds}
+use Rattle.rb_world.specs.Numbering.{GivesInRounds, GoesInRounds, IsNextRecord, TakesInRounds}
 use Rattle.rb_world.specs.Turning.{Gives}
 use Rattle.rb_world.specs.Worlds.{IsReached, Kept, Stands}
 use Rattle.rb_world.proofs.GoingOn.{ended-stays, going-settles}

@@ -1,5 +1,5 @@
 -- What a node tells, and what it delivers.
-use Rattle.std.proofs.Common.{◌≡◌, ℕ, zero, suc, ◌<◌, ◌≤◌, ◌==◌, Bool, true, false, Some, None, Option, List, [], ◌∷◌, length, slice_get, get_or, refl, sym, ap, ◌∙◌, subst, arith, if◌then◌else◌}
+use Rattle.std.proofs.Common.{◌≡◌, ℕ, zero, suc, ◌<◌, ◌==◌, Bool, true, false, Some, None, Option, List, [], ◌∷◌, length, slice_get, get_or, refl, sym, ap, ◌∙◌, subst, arith, if◌then◌else◌}
 use Rattle.std.specs.Prelude.{slice_set, unwrap_or}
 use Rattle.std.proofs.lemmas.Bool.Decides.{nat_tests}
 use Rattle.std.proofs.lemmas.List.{length-set}
@@ -21,7 +21,7 @@ use Rattle.rb_rules.specs.NodeState.{NodeState, trusted_of}
 use Rattle.rb_site.specs.Tells.{row_at}
 use Rattle.rb_rules.specs.Ports.{PortState, delivered_to, fresh_port, losses_of}
 use Rattle.rb_rules.specs.WorldStep.{Site, World, with_delivery, with_epoch}
-use Rattle.rb_book.specs.Changing.{changed_at, number_in, row_shown, side_in, with_begun, with_row}
+use Rattle.rb_book.specs.Changing.{changed_at, number_in, row_shown, with_begun, with_row}
 use Rattle.rb_book.specs.Holding.{Holds}
 use Rattle.rb_book.specs.declared.ledger.Ledger.{Ledger}
 use Rattle.rb_port.specs.Keeping.{HoldsPort, KeptPort}
@@ -116,10 +116,6 @@ closes-then sc scene after w name c row agenda biu rmu book ports is =
     (told-more sc scene after.book w (kind_of name) (number_of name) (with_row c.place.stage row) (row-tells c.place.stage row) is book)
 
 -- by either name
-pub side-is : (name : NodeName) → side_in name ≡ kind_of name
-side-is (node.Biu i) = refl
-side-is (node.Rmu i) = refl
-
 pub number-is : (name : NodeName) → number_in name ≡ number_of name
 number-is (node.Biu i) = refl
 number-is (node.Rmu i) = refl
@@ -199,19 +195,6 @@ delivers sc kept states i k d inside step is =
         (subst (λ m. slice_get (slice_set states i (delivered_to (port_at sc states i) d.value)) m ≡ Some p) same ep)) own)
     by n a p ea ep false h own =
         is.each n a p (sym (set-there kept i n k h) ∙ ea) (sym (set-there states i n (delivered_to (port_at sc states i) d.value) h) ∙ ep)
-
-set-past : {X : Type 0} (xs : List X) (i : ℕ) (y : X) → length xs ≤ i → slice_set xs i y ≡ xs
-set-past [] i y h = refl
-set-past (x ∷ xs) zero y h = absurd (omega arith)
-set-past (x ∷ xs) (suc i) y h = ap (λ l. x ∷ l) (set-past xs i y (omega arith))
-
--- where there is no port, nothing changes
-pub delivers-none : (sc : Scenario) (kept : List KeptPort) (states : List PortState) (i : ℕ) (d : Delivery) → length kept ≤ i → HoldsPorts sc kept states
-    → HoldsPorts sc kept (with_delivery sc i (Some d) states)
-delivers-none sc kept states i d past is =
-    let all : length states ≡ sc.sizes.bius = is.all in
-    let many : length kept ≡ sc.sizes.bius = is.many in
-    subst (HoldsPorts sc kept) (sym (set-past states i (delivered_to (port_at sc states i) d.value) (omega arith))) is
 
 pub got-is : {X : Type 0} (xs : List X) (i : ℕ) (x d : X) → slice_get xs i ≡ Some x → get_or xs i d ≡ x
 got-is [] i x d e = cc

@@ -172,11 +172,6 @@ sees-nodes sc me i k site scene w s step shown may act is j past =
 abbrev pub act_of : Scenario → World → Side → KeptSite → ℕ → Site → Act
 act_of sc w me site k s = pass_and_tick sc w.ports me (number_of site) k s.core
 
-state-is : (sc : Scenario) (me : Side) (k : ℕ) (site after : KeptSite) (w : World) (s : Site) (step : Step) → IsTicked sc w.ports me site after step k s
-    → (act_of sc w me site k s).core.state ≡ after.node.seat.state
-state-is sc me k site after w s step ticked =
-    ap (λ (c : Core). c.state) (sym (after_tick-core sc w.ports me (number_of site) (act_of sc w me site k s) s)) ∙ ticked.stands.core.state
-
 -- the row that a close tells
 row-told : (sc : Scenario) (ports : List PortState) (me : Side) (i : ℕ) (x : Act) (s : Site) (shown : Closed) → x.closed ≡ Some shown → (shown.place.stage == 4) ≡ false
     → (after_tick sc ports me i x s).row ≡ Some (row_of me i x.core.state (coming_from s.got) shown)

@@ -1,6 +1,6 @@
 -- What a node wants for its tick, and the word that it is handed.
 use Rattle.std.proofs.Common.{◌≡◌, ℕ, ◌+◌, ◌-◌, ◌<◌, ◌^◌, ◌==◌, ◌&&◌, nat_lt, Bool, true, false, Some, None, Option, List, [], refl, sym, ap, ◌∙◌, subst, arith, inl, inr, if◌then◌else◌}
-use Rattle.std.specs.Prelude.{get_or, option_and_then, option_map}
+use Rattle.std.specs.Prelude.{option_and_then, option_map}
 use Rattle.std.specs.Option.{option_or}
 use Rattle.std.proofs.lemmas.Bool.{cases_lt}
 use Rattle.std.proofs.lemmas.Bool.Decides.{nat_tests}
@@ -191,23 +191,6 @@ can-want sc Biu i c h = by (wants sc.sizes sc.plan Biu i c)
     by (Some n) = at n (nat_lt n sc.sizes.bius)
 
 -- The word.
-
-pub word-none : (sc : Scenario) (states : List PortState) (i : ℕ) (slot : Option ℕ) → want.Nothing ≡ want_for sc.sizes slot → 0 ≡ word_of sc states i slot
-word-none sc states i None e = refl
-word-none sc states i (Some n) e = by (nat_lt n sc.sizes.bius) e
-  where
-    by : (b : Bool) → want.Nothing ≡ (if b then want.Request else want.Data n) → 0 ≡ word_of sc states i (Some n)
-    by true e = cc
-    by false e = cc
-
-pub word-request : (sc : Scenario) (states : List PortState) (i : ℕ) (slot : Option ℕ) → want.Request ≡ want_for sc.sizes slot
-    → get_or sc.requests i 0 ≡ word_of sc states i slot
-word-request sc states i None e = cc
-word-request sc states i (Some n) e = by (nat_lt n sc.sizes.bius) refl e
-  where
-    by : (b : Bool) → nat_lt n sc.sizes.bius ≡ b → want.Request ≡ (if b then want.Request else want.Data n) → get_or sc.requests i 0 ≡ word_of sc states i (Some n)
-    by true h e = sym (ap (word_for sc states i n) (schedule-role sc.sizes n h))
-    by false h e = cc
 
 data-same : (m n : ℕ) → want.Data m ≡ want.Data n → m ≡ n
 data-same m n e = cc

@@ -46,6 +46,7 @@ impl World {
         ensures world { (w : RunWorld) → Stands self.old w → Stands self.new (hand self.old.bus w biu state) }
         ensures bus { self.new.bus ≡ self.old.bus }
         ensures seeding { self.new.seeding ≡ self.old.seeding }
+        ensures rounds { (w : RunWorld) → Stands self.old w → (hand self.old.bus w biu state).book ≡ w.book }
     {
         let Last::Frame(frame) = self.last else {
             return;

@@ -2,6 +2,7 @@ use Rattle.std.proofs.Common.{◌≡◌, ◌<◌, true, false, refl, sym, ◌∙
 use Rattle.rb_base.specs.Nodes.Side.{Biu}
 use Rattle.rb_rules.specs.Goodness.{is_good}
 use Rattle.rb_rules.specs.WorldStep.{World as RunWorld, hand}
+use Rattle.rb_order.proofs.WorldBooks.{hand-book}
 use Rattle.rb_world.specs.declared.scene.Scene.{Scene}
 use Rattle.rb_world.specs.Worlds.{Kept, Stands}
 use Rattle.rb_world.proofs.Handed.{good-within, hand-at-good, hand-at-other, hand-elsewhere, surrounds-handed}
@@ -15,6 +16,7 @@ returns-in_default c =
           hand-elsewhere k w c.args.biu c.args.state is c.in_default.not-Frame);
       bus = refl;
       seeding = refl;
+      rounds = λ w is. hand-book c.args.self.now.bus w c.args.biu c.args.state;
     }
 
 pub set_state-requires : goal.set_state-requires
@@ -50,3 +52,9 @@ returns-else-is_good_at_begin-clause-world c =
     let bad : is_good k.bus Biu c.args.biu c.in-Frame.frame 0 ≡ false = sym c.is_good_at_begin.ensures ∙ c.if-is_good_at_begin.false in
     subst (λ (x : Kept). (w : RunWorld) → Stands x w → Stands x (hand x.bus w c.args.biu c.args.state)) c.self.view_is (λ w is.
     hand-at-other k w c.args.biu c.args.state c.in-Frame.frame is c.in-Frame.is bad)
+
+pub returns-then-is_good_at_begin-clause-rounds : goal.returns-then-is_good_at_begin-clause-rounds
+returns-then-is_good_at_begin-clause-rounds c = λ w is. hand-book c.args.self.now.bus w c.args.biu c.args.state
+
+pub returns-else-is_good_at_begin-clause-rounds : goal.returns-else-is_good_at_begin-clause-rounds
+returns-else-is_good_at_begin-clause-rounds c = λ w is. hand-book c.args.self.now.bus w c.args.biu c.args.state
