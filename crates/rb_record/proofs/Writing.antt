@@ -42,15 +42,12 @@ pub writes-none : (log : Tally) (events : List Event) (held : Option (List ℕ))
 writes-none log events held none =
     subst (λ es. WritesNext log log es held held) (sym none) (record { bytes = []; told = told-none log; text = appends_none held })
 
-pub writes-one : (before after : Tally) (events : List Event) (e : Event) (bytes : List ℕ) (held since : Option (List ℕ)) → events ≡ e ∷ [] → IsTold before after (e ∷ []) bytes
-    → Appends held since bytes → WritesNext before after events held since
-writes-one before after events e bytes held since one told text =
-    subst (λ es. WritesNext before after es held since) (sym one) (record { bytes = bytes; told = told; text = text })
-
-pub part-one : (before after : Tally) (events : List Event) (e : Event) (bytes : List ℕ) (held since : Option (List ℕ)) → events ≡ e ∷ [] → IsTold before after (e ∷ []) bytes
-    → AppendsPart held since bytes → WritesPartOf before events held since
-part-one before after events e bytes held since one told text =
-    subst (λ es. WritesPartOf before es held since) (sym one) (record { after = after; bytes = bytes; told = told; text = text })
+-- the same events by another name
+pub for-same : {T E : Type 0} (before after : Tally) (events others : List Event) (held since : Option (List ℕ)) (r : Result T E) → events ≡ others
+    → MatchResult r (λ _. WritesNext before after events held since) (λ _. WritesPartOf before events held since)
+    → MatchResult r (λ _. WritesNext before after others held since) (λ _. WritesPartOf before others held since)
+for-same before after events others held since r same =
+    subst (λ es. MatchResult r (λ _. WritesNext before after es held since) (λ _. WritesPartOf before es held since)) same
 
 -- So far.
 

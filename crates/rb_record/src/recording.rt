@@ -1,6 +1,6 @@
 //! Taking a run to its end, and writing what one node is given in it.
-ghost use Rattle.std.specs.Prelude.{◌≡◌, ◌+◌, ◌&&◌, ℕ, List, Option, IfOk, MatchResult, OnErr, OnOk};
-ghost use Rattle.rb_base.specs.declared.event.Event.{Event};
+ghost use Rattle.std.specs.Prelude.{◌≡◌, ◌+◌, ◌&&◌, ◌∷◌, [], ℕ, List, Option, IfOk, MatchResult, OnErr, OnOk};
+ghost use Rattle.rb_base.specs.declared.event.Event.{Event as Given};
 ghost use Rattle.rb_history.specs.Given.{given_next, is_before_end, site_of};
 ghost use Rattle.rb_outside.specs.Causes.{HasCause};
 ghost use Rattle.rb_record.specs.Recording.{HasDue, IsOver, IsRecorded, IsRecordedWhole, MayTell, WritesAll, WritesNext, WritesPart, WritesPartOf};
@@ -10,7 +10,7 @@ ghost use Rattle.rb_rules.specs.WorldStep.{World as RunWorld, event_at, first_wo
 ghost use Rattle.rb_run.specs.Runs.{EndsWith};
 ghost use Rattle.rb_world.specs.Worlds.{Stands};
 
-use rb_base::NodeName;
+use rb_base::{Event, NodeName};
 use rb_log::{LogWriter, header};
 use rb_outside::{Failed, Sink, write_all};
 use rb_port::Apps;
@@ -36,13 +36,29 @@ fn begin<K: Sink>(world: &World, node: NodeName, output: &mut K) -> Result<LogWr
 fn is_given(world: &World, node: NodeName) -> bool
     requires due { HasDue world.now }
     requires node { IsNodeOf world.now.bus.sizes node }
-    ensures { (w : RunWorld) (e : Event) → Stands world.now w → event_at world.now.bus w 0 ≡ Some e
+    ensures { (w : RunWorld) (e : Given) → Stands world.now w → event_at world.now.bus w 0 ≡ Some e
         → result ≡ (same_node e.node node && is_before_end world.now.bus (site_of node w)) }
 {
     if world.due_node(0) != node {
         return false;
     }
     world.frame(node) < world.frames()
+}
+
+// Writes what is complete of the log with this event.
+fn write_event<K: Sink>(
+    log: &mut LogWriter,
+    event: Event,
+    output: &mut K,
+) -> Result<(), Failed>
+    requires { MayTell log.old.ticks (event ∷ []) }
+    ensures next { MatchResult result
+        (λ _. WritesNext log.old log.new (event ∷ []) (K.held output.old) (K.held output.new))
+        (λ _. WritesPartOf log.old (event ∷ []) (K.held output.old) (K.held output.new)) }
+    ensures cause { HasCause (K.faults output.old) (K.faults output.new) result }
+{
+    let bytes = log.event(&event);
+    write_all(output, bytes.as_slice())
 }
 
 // Writes what is complete of the log with the event that is due first, if the node is given it.
@@ -66,8 +82,7 @@ fn write_next<K: Sink>(
         return Ok(());
     }
     let event = world.event(apps, 0);
-    let bytes = log.event(&event);
-    write_all(output, bytes.as_slice())
+    write_event(log, event, output)
 }
 
 // Takes the event that is due first, once what is complete with it is written.
