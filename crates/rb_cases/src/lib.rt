@@ -16,6 +16,8 @@ mod faulty_rmus;
 #[cfg(test)]
 mod load;
 #[cfg(test)]
+mod logs;
+#[cfg(test)]
 mod nodes;
 #[cfg(test)]
 mod ordinary;

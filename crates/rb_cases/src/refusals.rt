@@ -104,6 +104,25 @@ const CASES: &[Case] = &[
         status: Status::Refused,
         lines: &[("", "refused 5 OutOfRange")],
     },
+    // The node is looked at last.
+    Case {
+        words: "record B7",
+        input: &[ORDINARY],
+        status: Status::Refused,
+        lines: &[("", "refused 12 NoSuchNode")],
+    },
+    Case {
+        words: "record R3",
+        input: &[ORDINARY],
+        status: Status::Refused,
+        lines: &[("", "refused 12 NoSuchNode")],
+    },
+    Case {
+        words: "record B7",
+        input: &[ORDINARY, "delay = 15001\n"],
+        status: Status::Refused,
+        lines: &[("", "refused 8 DelayBounds")],
+    },
 ];
 
 #[test]
