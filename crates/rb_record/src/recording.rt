@@ -46,11 +46,7 @@ fn is_given(world: &World, node: NodeName) -> bool
 }
 
 // Writes what is complete of the log with this event.
-fn write_event<K: Sink>(
-    log: &mut LogWriter,
-    event: Event,
-    output: &mut K,
-) -> Result<(), Failed>
+fn write_event<K: Sink>(log: &mut LogWriter, event: Event, output: &mut K) -> Result<(), Failed>
     requires { MayTell log.old.ticks (event ∷ []) }
     ensures next { MatchResult result
         (λ _. WritesNext log.old log.new (event ∷ []) (K.held output.old) (K.held output.new))

@@ -12,7 +12,7 @@ returns-clause-advances g c =
     c.in_ok-begun.ensures.same c.in_ok-begun.ensures.core c.in_ok-begun.ensures.begun c.in_ok-begun.ensures.all d)
 
 pub returns-in_err-begun-clause-part : goal.returns-in_err-begun-clause-part
-returns-in_err-begun-clause-part g c = 
+returns-in_err-begun-clause-part g c =
     λ frames due d.
     on_err c.from_residual.result
     (tick-part (side_of g.K.Kind.CODE) c.args.node.now c.args.name frames c.args.word c.args.log.now.events due _ _ c.in_err-begun.ensures.part d)
