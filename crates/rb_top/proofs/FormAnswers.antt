@@ -285,12 +285,16 @@ log_answers accepted node status left left' reads reads' held held' writes write
     record {
       known = no_run status Usage (λ h. h) x.one_of;
       ended = λ h. let all = x.ended h in record {
-          input = r.input; text = log_text (as_scenario accepted) node all.written.events; read = r.read; written = all.written.text;
-          due = record {
-            log = record { scenario = as_scenario accepted; events = all.written.events; says = says; there = there; given = all.written.given; text_is = refl };
-            ends = all.ends; silent = refl
-          }
+        input = r.input;
+        text = log_text (as_scenario accepted) node all.written.events;
+        read = r.read;
+        written = all.written.text;
+        due = record {
+          log = record { scenario = as_scenario accepted; events = all.written.events; says = says; there = there; given = all.written.given; text_is = refl };
+          ends = all.ends;
+          silent = refl;
         };
+      };
       refused = λ e. absurd (no_run status Refused (λ h. h) x.one_of e);
       unread = record {
         too_long = λ e. absurd (no_run status TooLong (λ h. h) x.one_of e);
@@ -298,9 +302,13 @@ log_answers accepted node status left left' reads reads' held held' writes write
         fault = λ e. absurd (no_run status ReadFault (λ h. h) x.one_of e);
       };
       failed = λ e. let part = x.part e in record {
-          rose = x.cause e; input = r.input; text = log_text (as_scenario accepted) node part.events; read = r.read; written = part.text;
-          due = inr (record { scenario = as_scenario accepted; events = part.events; says = says; there = there; given = part.given; text_is = refl }, refl)
-        };
+        rose = x.cause e;
+        input = r.input;
+        text = log_text (as_scenario accepted) node part.events;
+        read = r.read;
+        written = part.text;
+        due = inr (record { scenario = as_scenario accepted; events = part.events; says = says; there = there; given = part.given; text_is = refl }, refl);
+      };
     }
 
 -- the scenario that has been read has no such node
@@ -339,9 +347,13 @@ lack_answers accepted node status left left' reads reads' held held' writes writ
         fault = λ e. absurd (other_than status Refused WriteFault ReadFault (λ d. cc) (λ d. cc) x.one_of e);
       };
       failed = λ e. record {
-          rose = x.cause e; input = r.input; text = rule_text NoSuchNode; read = r.read; written = x.part e;
-          due = inl (record { refused = inr lacks; silent = refl })
-        };
+        rose = x.cause e;
+        input = r.input;
+        text = rule_text NoSuchNode;
+        read = r.read;
+        written = x.part e;
+        due = inl (record { refused = inr lacks; silent = refl });
+      };
     }
 
 -- a log, or what is none, has been read

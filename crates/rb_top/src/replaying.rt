@@ -31,9 +31,8 @@ fn place_of(fault: LogRefusal) -> Option<u64>
 {
     match fault {
         LogRefusal::BadMagic => None,
-        LogRefusal::BadField(place)
-        | LogRefusal::Truncated(place)
-        | LogRefusal::AfterEnd(place) => Some(place),
+        LogRefusal::BadField(place) | LogRefusal::Truncated(place) | LogRefusal::AfterEnd(place) =>
+            Some(place),
     }
 }
 
