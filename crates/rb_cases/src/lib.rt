@@ -6,27 +6,15 @@ mod applications;
 #[cfg(test)]
 mod breaches;
 #[cfg(test)]
-mod calls;
-#[cfg(test)]
-mod drives;
-#[cfg(test)]
 mod faulty_bius;
 #[cfg(test)]
 mod faulty_rmus;
 #[cfg(test)]
-mod load;
-#[cfg(test)]
 mod logs;
-#[cfg(test)]
-mod nodes;
 #[cfg(test)]
 mod ordinary;
 #[cfg(test)]
-mod outside;
-#[cfg(test)]
 mod probation;
-#[cfg(test)]
-mod records;
 #[cfg(test)]
 mod refusals;
 #[cfg(test)]

@@ -1,10 +1,8 @@
 //! How a case is tried.
-use rb_base::Event;
 use rb_outside::{MemSink, MemSource, Sink, Source};
 use rb_port::{App, Apps};
-use rb_scenario::read;
 use rb_top::{Status, run_robus};
-use rb_world::{Drive, FirstDrive, Ties, Turn, World};
+use rb_world::{Drive, FirstDrive};
 use std::alloc::{AllocError, Global};
 use std::process::Abort;
 use std::test::Fail;
@@ -131,49 +129,6 @@ pub(crate) fn answer_to(alloc: Global, words: &str, input: Vec<u8>) -> Result<An
         status,
         bytes: sink.bytes().to_vec(alloc)?,
     })
-}
-
-/// The run of a document before its first event.
-pub(crate) fn opened(alloc: Global, document: &[u8]) -> Result<World, Fail> {
-    let Ok(scenario) = read(alloc, document) else {
-        return Err("refused".into());
-    };
-    Ok(World::open(alloc, scenario)?)
-}
-
-/// The next records of a run, so many or up to its last.
-pub(crate) fn records(
-    alloc: Global,
-    world: &mut World,
-    ties: Ties,
-    most: usize,
-) -> Result<Vec<Turn>, AllocError> {
-    let apps = applications!(alloc);
-    let mut records = Vec::new(alloc);
-    for _ in 0..most {
-        let turn = world.next(&apps, ties);
-        let is_last = matches!(turn, Turn::Ended | Turn::Breach(..));
-        records.push(turn)?;
-        if is_last {
-            break;
-        }
-    }
-    Ok(records)
-}
-
-/// Takes event `i` of those that are due. It is told with the turn; None where fewer are due.
-pub(crate) fn taken(
-    alloc: Global,
-    world: &mut World,
-    i: usize,
-) -> Result<Option<(Event, Turn)>, AllocError> {
-    let apps = applications!(alloc);
-    if i < world.due() {
-        let event = world.event(&apps, i);
-        Ok(Some((event, world.take(&apps, i))))
-    } else {
-        Ok(None)
-    }
 }
 
 /// Tries each case.
