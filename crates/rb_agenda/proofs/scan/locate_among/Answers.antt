@@ -2,7 +2,7 @@ use Rattle.std.proofs.Common.{◌≡◌, ◌≤◌, get_or, length, arith, subst
 use Rattle.rb_queue.specs.Waiting.{HasLane, lane_of}
 use Rattle.rb_agenda.specs.Agenda.{StandsAt, due_in, key_of}
 use Rattle.rb_agenda.proofs.Scans.{count-all, count-more, is-here, stands-here}
-use Rattle.rb_agenda.proofs.scan.locate.Goals as goal
+use Rattle.rb_agenda.proofs.scan.locate_among.Goals as goal
 use Rattle.rb_agenda.specs.Agenda.{due_count}
 
 pub due_in-due-requires-clause-lane : goal.due_in-due-requires-clause-lane
