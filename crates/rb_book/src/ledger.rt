@@ -12,6 +12,7 @@ ghost use Rattle.rb_onset.specs.Faults.{faults_of};
 ghost use Rattle.rb_book.specs.Changing.{changed_at, count_for, line_from, number_in, row_shown, side_in, with_begun, with_row};
 ghost use Rattle.rb_book.specs.Holding.{Holds, Passes, StaysUntil, TurnsTo, frame_record, good_for, slot_record};
 ghost use Rattle.rb_book.specs.Settling.{GoesPast, JudgesStage, Settles, after_begin, comes_when, is_due, is_free, rows_found};
+ghost use Rattle.rb_book.specs.declared.turn.Turn.{Turn};
 ghost use Rattle.rb_book.specs.declared.milestone.Milestone.TheVariants as coming;
 ghost use Rattle.rb_book.specs.Records.{milestone_of, record_of, way_of};
 ghost use Rattle.rb_book.specs.Waiting.{found_of, line_of, node_line_of, port_line_of};
@@ -422,5 +423,17 @@ impl Ledger {
             return self.pass();
         }
         turn
+    }
+
+    // The same in place: where nothing is due, the turn stays Quiet.
+    #[inline(always)]
+    pub(crate) fn settle_into(&mut self, way: Way, turn: &mut Turn)
+        requires { turn.old ≡ Turn.Quiet }
+        ensures settled { (sc : Scenario) (w : World) → Holds sc self.old w → Settles sc (way_of way) w self.new turn.new }
+        ensures shape { self.new.shape ≡ self.old.shape }
+    {
+        if self.is_due(way) {
+            *turn = self.settle(way);
+        }
     }
 }
