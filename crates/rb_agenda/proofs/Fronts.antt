@@ -1,17 +1,16 @@
 -- The place of the least of the keys.
-use Rattle.std.proofs.Common.{◌≡◌, ◌≢◌, ℕ, zero, suc, ◌+◌, ◌<◌, ◌≤◌, ◌==◌, ◌&&◌, nat_lt, min, Bool, true, false, List, [], ◌∷◌, ◌++◌, length, take, drop, set, get_or, if◌then◌else◌, refl, sym, ap, ◌∙◌, subst, arith, inl, inr}
+use Rattle.std.proofs.Common.{◌≡◌, ◌≢◌, ℕ, zero, suc, ◌+◌, ◌<◌, ◌≤◌, ◌==◌, ◌&&◌, nat_lt, min, Bool, true, false, List, [], ◌∷◌, length, take, drop, set, get_or, if◌then◌else◌, refl, sym, ap, ◌∙◌, subst, arith, inl, inr}
 use Rattle.std.proofs.lemmas.Bool.{cases_lt}
 use Rattle.std.proofs.lemmas.Bool.Decides.{nat_tests}
 use Rattle.std.proofs.lemmas.List.{get_or-set_other, get_or-set_same, take-append-drop}
-use Rattle.rb_base.specs.declared.node.NodeName.{NodeName}
 use Rattle.rb_rules.specs.Book.{Each, in_order}
 use Rattle.rb_queue.specs.declared.pending.Pending.{Pending}
-use Rattle.rb_queue.specs.Waiting.{HasLane, Held, lane_of, ready_of}
+use Rattle.rb_queue.specs.Waiting.{Held, lane_of, ready_of}
 use Rattle.rb_agenda.specs.declared.scan.Front.{Front}
 use Rattle.rb_agenda.specs.Agenda.{AreKept, StandsAt, due_count, due_in, key_of, least_key, node_at}
 use Rattle.rb_agenda.specs.Fronts.{IsFront, lowered}
 use Rattle.rb_agenda.proofs.Dues.{count-append}
-use Rattle.rb_agenda.proofs.Scans.{IsHere, count-more, is-here, least-more}
+use Rattle.rb_agenda.proofs.Scans.{count-more, is-here, least-more}
 
 -- ---- the least key
 
@@ -171,5 +170,5 @@ some-due lanes keys bius front kept within least ready =
     let now : (key_of l == front.least) ≡ true = grind (arith, nat_tests) in
     let more = count-more lanes bius front.first (get_or keys front.first 0) front.least here in
     let parts = sym (ap (due_count front.least) (take-append-drop (front.first + 1) (in_order lanes)))
-        ∙ count-append front.least (take (front.first + 1) (in_order lanes)) (drop (front.first + 1) (in_order lanes)) in
+    ∙ count-append front.least (take (front.first + 1) (in_order lanes)) (drop (front.first + 1) (in_order lanes)) in
     omega (arith, parts, more, is-due front.least l now, ready)

@@ -8,7 +8,9 @@ ghost use Rattle.rb_queue.specs.Waiting.{HasLane, empty_lane, head_of, lane_of, 
 ghost use Rattle.rb_agenda.specs.Agenda.{IsDue, StandsAt, Takes, TakesDue, due_now, first_time, how_many};
 ghost use Rattle.rb_agenda.specs.Holding.{HoldsSites};
 
-use crate::scan::{Front, are_some, due_count, front_of, is_at_front, key_of, locate, position_of, put_key};
+use crate::scan::{
+    Front, are_some, due_count, front_of, is_at_front, key_of, locate, position_of, put_key,
+};
 use rb_base::{Event, NodeName, OutOfMemory, Shape};
 use rb_queue::Lanes;
 use std::alloc::Global;

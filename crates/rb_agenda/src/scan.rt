@@ -177,13 +177,7 @@ pub(crate) fn locate(
 
 // The same, node by node.
 #[inline(never)]
-fn locate_among(
-    lanes: &Lanes,
-    keys: &[u64],
-    bius: usize,
-    time: u64,
-    i: usize,
-) -> (NodeName, usize)
+fn locate_among(lanes: &Lanes, keys: &[u64], bius: usize, time: u64, i: usize) -> (NodeName, usize)
     requires kept { AreKept lanes.now keys.now bius }
     requires below { i < due_count time (in_order lanes.now) }
     ensures { StandsAt lanes.now time i result.0 result.1 }

@@ -1,5 +1,5 @@
 -- The first of the events of a lane.
-use Rattle.std.proofs.Common.{◌≡◌, ◌≢◌, ℕ, zero, suc, ◌+◌, ◌-◌, ◌<◌, ◌≤◌, ◌==◌, ◌&&◌, ◌||◌, ◌⊎◌, min, nat_lt, Bool, true, false, cond, Option, Some, None, slice_get, List, [], ◌∷◌, ◌++◌, length, map, drop, take, get_or, refl, sym, ap, ◌∙◌, subst, arith, length-append, inl, inr, is_some, IsTrue, ◌↔◌}
+use Rattle.std.proofs.Common.{◌≡◌, ℕ, zero, suc, ◌+◌, ◌-◌, ◌<◌, ◌≤◌, ◌==◌, ◌&&◌, ◌||◌, ◌⊎◌, min, nat_lt, Bool, true, false, cond, Option, Some, None, slice_get, List, [], ◌∷◌, ◌++◌, length, map, take, get_or, refl, sym, ap, ◌∙◌, subst, arith, length-append, inl, inr, is_some, IsTrue, ◌↔◌}
 use Rattle.std.proofs.lemmas.Bool.{cases_lt}
 use Rattle.std.proofs.lemmas.Bool.Decides.{nat_tests}
 use Rattle.std.proofs.lemmas.List.{take_more}
@@ -7,7 +7,7 @@ use Rattle.std.proofs.lemmas.Option.{slice_get-get_or}
 use Rattle.rb_base.specs.Counting.{count_if}
 use Rattle.rb_rules.specs.WorldStep.{least}
 use Rattle.rb_queue.specs.declared.pending.Pending.{Pending}
-use Rattle.rb_queue.specs.Waiting.{Held, source_of, comes, coming_at, arrivals_at, ticks_at, unless_any, ready_at, ready_from, ready_of, head_of}
+use Rattle.rb_queue.specs.Waiting.{Held, source_of, comes, coming_at, arrivals_at, ticks_at, unless_any, ready_at, ready_from, ready_of}
 use Rattle.rb_queue.specs.Scanning.{IsFirst, HasFirst, StandsAt, comes_before}
 use Rattle.rb_queue.proofs.Sources.{from_on, next_source, all_sources, all_left, left_here, found_here, passing_from, passing_next, get-left, get-right, is_within}
 
@@ -36,10 +36,10 @@ first_new events place p f is same known before =
     λ k q at e. subst (λ (f : Pending). q.time ≡ f.time → source_of f.event.kind ≤ source_of q.event.kind) same (is.source k q at) e in
     let lower : (k : ℕ) (q : Pending) → slice_get events k ≡ Some q → q.time ≡ p.time → source_of p.event.kind < source_of q.event.kind =
     λ k q at e.
-      let late : f.time ≤ q.time = time_of k q at in
-      let at_once : p.time ≡ f.time = omega (arith, sooner, late, e) in
-      let there : q.time ≡ f.time = e ∙ at_once in
-      omega (arith, so.1 at_once, source_at k q at there) in
+    let late : f.time ≤ q.time = time_of k q at in
+    let at_once : p.time ≡ f.time = omega (arith, sooner, late, e) in
+    let there : q.time ≡ f.time = e ∙ at_once in
+    omega (arith, so.1 at_once, source_at k q at there) in
     record {
       pending = p;
       stands = ap (slice_get (events ++ p ∷ [])) (let n : length events ≡ length events + 0 = omega arith in n) ∙ get-right events (p ∷ []) 0;
@@ -82,9 +82,9 @@ first_alone p known =
       source = λ k q at e. subst (λ (r : Pending). source_of p.event.kind ≤ source_of r.event.kind) (sym (one k q at).1) (omega arith);
       front = λ k q at e s. omega arith;
     }
-    where
-      nothing : (q : Pending) (k : ℕ) → slice_get [] k ≡ Some q → ⊥
-      nothing q k e = let no : ◌≡◌ {A = Option Pending} None (Some q) = e in cc
+  where
+    nothing : (q : Pending) (k : ℕ) → slice_get [] k ≡ Some q → ⊥
+    nothing q k e = let no : ◌≡◌ {A = Option Pending} None (Some q) = e in cc
 
 -- ---- which is ready first
 
@@ -150,9 +150,9 @@ first_coming events place is =
     let there : f ≡ get_or events place f = cc in
     let none : (j : ℕ) → j < place → comes time source (get_or events j f) ≡ false =
     λ j less.
-      let q = get_or events j f in
-      let at : slice_get events j ≡ Some q = slice_get-get_or events j f (omega (arith, less, within)) in
-      not_in_front (source_of q.event.kind) q.time source time (λ e s. let before : place ≤ j = is.front j q at e s in omega (arith, before, less)) in
+    let q = get_or events j f in
+    let at : slice_get events j ≡ Some q = slice_get-get_or events j f (omega (arith, less, within)) in
+    not_in_front (source_of q.event.kind) q.time source time (λ e s. let before : place ≤ j = is.front j q at e s in omega (arith, before, less)) in
     let same : slice_get (passing_from (comes time source) events place) 0 ≡ slice_get (coming_at time events source) 0 =
     ap (λ l. slice_get l 0) (sym (skip_to (comes time source) events f place (omega (arith, within)) none)) in
     found_here time events source 0 place 0 f within there (itself source time) refl same

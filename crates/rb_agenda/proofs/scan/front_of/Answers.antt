@@ -1,4 +1,4 @@
-use Rattle.std.proofs.Common.{◌≤◌, ◌+◌, length, get_or, arith, sym, subst}
+use Rattle.std.proofs.Common.{◌≤◌, ◌+◌, get_or, arith, sym, subst}
 use Rattle.std.proofs.lemmas.List.{take_all}
 use Rattle.rb_agenda.proofs.Fronts.{IsFrontOf, front-all, front-more, front-none}
 use Rattle.rb_agenda.proofs.scan.front_of.Goals as goal

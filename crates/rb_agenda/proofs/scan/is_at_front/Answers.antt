@@ -2,7 +2,6 @@ use Rattle.std.proofs.Common.{◌≡◌, ◌<◌, true, length, subst, arith}
 use Rattle.rb_queue.specs.Waiting.{lane_of, ready_of}
 use Rattle.rb_agenda.specs.Agenda.{node_at}
 use Rattle.rb_agenda.proofs.Fronts.{some-due, stands-first}
-use Rattle.rb_agenda.proofs.Scans.{is-here}
 use Rattle.rb_agenda.proofs.scan.is_at_front.Goals as goal
 
 ready : (c : goal.After-is_ready) → c.is_ready.result ≡ true → 0 < length (ready_of (lane_of c.args.lanes.now (node_at c.args.bius c.args.front.first)))

@@ -1,4 +1,4 @@
-use Rattle.std.proofs.Common.{◌<◌, length, arith}
+use Rattle.std.proofs.Common.{◌<◌, length}
 use Rattle.rb_queue.proofs.First.{first_more}
 use Rattle.rb_queue.proofs.scan.first_of.Goals as goal
 

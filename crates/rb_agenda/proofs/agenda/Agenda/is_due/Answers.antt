@@ -1,6 +1,6 @@
-use Rattle.std.proofs.Common.{◌≡◌, ◌<◌, length, refl, sym, ap, subst, ◌∙◌, IsTrue, ◌↔◌}
+use Rattle.std.proofs.Common.{◌<◌, refl, sym, ap, subst, ◌∙◌, IsTrue, ◌↔◌}
 use Rattle.rb_rules.specs.Book.{in_order}
-use Rattle.rb_agenda.specs.Agenda.{due_count, first_time, how_many, least_key}
+use Rattle.rb_agenda.specs.Agenda.{due_count, how_many, least_key}
 use Rattle.rb_agenda.specs.Holding.{HoldsSites}
 use Rattle.rb_agenda.proofs.Dues.{many-due}
 use Rattle.rb_agenda.proofs.Keeping.{kept-times}
@@ -17,9 +17,10 @@ returns-then-is_at_front-clause-value c = (λ yes. subst (λ x. 0 < how_many x) 
 pub returns-then-is_at_front-clause-world : goal.returns-then-is_at_front-clause-world
 returns-then-is_at_front-clause-world c =
     let lanes = c.self.inside.lanes in
-    λ sc w holds.
-    (λ yes. subst (λ n. 0 < n) (sym (many-due sc w lanes (subst (λ x. HoldsSites sc.sizes x w.sites) (sym c.self.view_is) holds) (kept-times lanes c.self.inside.keys.items c.self.inside.bius c.self.invariant.0))) (some c),
-    λ more. refl)
+    λ sc w holds. (
+      λ yes. subst (λ n. 0 < n) (sym (many-due sc w lanes (subst (λ x. HoldsSites sc.sizes x w.sites) (sym c.self.view_is) holds) (kept-times lanes c.self.inside.keys.items c.self.inside.bius c.self.invariant.0))) (some c),
+      λ more. refl,
+    )
 
 pub returns-else-is_at_front-clause-world : goal.returns-else-is_at_front-clause-world
 returns-else-is_at_front-clause-world c = λ sc w holds. subst (λ n. IsTrue c.are_some.result ↔ 0 < n) (c.due.ensures.world sc w holds) c.are_some.ensures

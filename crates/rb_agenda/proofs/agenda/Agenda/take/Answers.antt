@@ -13,13 +13,14 @@ invariant_of-self c =
     let bius = c.self.inside.bius in
     let name = c.locate-node.result.0 in
     let place = c.locate-node.result.1 in
-    let call = c.put_key-self-inside in
-    (subst (λ ks. AreKept c.take-event.new.self ks bius) (sym call.ensures.keys)
-    (kept-with lanes c.take-event.new.self keys bius c.position_of-place.result name (without_ready place (lane_of lanes name)) c.key_of-key.result c.position_of-place.ensures
-    c.self.invariant.0 c.locate-node.ensures.lane c.take-event.ensures.after
-    (room-without place (lane_of lanes name) (room-of lanes keys bius name c.self.invariant.0 c.locate-node.ensures.lane))
-    c.key_of-key.ensures.value c.key_of-key.ensures.small),
-    call.ensures.front)
+    let call = c.put_key-self-inside in (
+      subst (λ ks. AreKept c.take-event.new.self ks bius) (sym call.ensures.keys)
+          (kept-with lanes c.take-event.new.self keys bius c.position_of-place.result name (without_ready place (lane_of lanes name)) c.key_of-key.result c.position_of-place.ensures
+          c.self.invariant.0 c.locate-node.ensures.lane c.take-event.ensures.after
+          (room-without place (lane_of lanes name) (room-of lanes keys bius name c.self.invariant.0 c.locate-node.ensures.lane))
+          c.key_of-key.ensures.value c.key_of-key.ensures.small),
+      call.ensures.front,
+    )
 
 pub returns-clause-world : goal.returns-clause-world
 returns-clause-world c =
