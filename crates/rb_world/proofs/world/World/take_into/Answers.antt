@@ -8,7 +8,7 @@ use Rattle.rb_world.specs.Worlds.{Kept, Stands, due_in}
 use Rattle.rb_world.proofs.Chosen.{may-happen}
 use Rattle.rb_world.proofs.Numbered.{taken-in-rounds}
 use Rattle.rb_world.proofs.Turns.{taken}
-use Rattle.rb_world.proofs.world.World.take.Goals as goal
+use Rattle.rb_world.proofs.world.World.take_into.Goals as goal
 
 pub happen-requires : goal.happen-requires
 happen-requires g c =
@@ -39,8 +39,8 @@ invariant_of-self g c =
     let may : MayHappen k.bus k.nodes (record k.scene { agenda = lanes }) c.first_time-time.result name event w i both.0 =
     subst (λ t. MayHappen k.bus k.nodes (record k.scene { agenda = lanes }) t name event w i both.0) (sym c.first_time-time.ensures.value) both.1 in
     let happened = c.happen.ensures w i both.0 may in
-    let settles = c.settle-turn.ensures.settled k.bus (happens k.bus w both.0) happened.surrounds.book in
-    let given = taken k.bus w i both.0 (record { bius = c.happen.new.bius.items; rmus = c.happen.new.rmus.items }) c.happen.new.scene k.seeding c.settle-turn.new.self c.settle-turn.result
+    let settles = c.settle_into.ensures.settled k.bus (happens k.bus w both.0) happened.surrounds.book in
+    let given = taken k.bus w i both.0 (record { bius = c.happen.new.bius.items; rmus = c.happen.new.rmus.items }) c.happen.new.scene k.seeding c.settle_into.new.self c.settle_into.new.turn
     c.last_of-self-inside.result is.lawful is.reached may.found happened settles c.last_of-self-inside.ensures in
     (take k.bus w i, given.stands)
 
@@ -58,10 +58,10 @@ returns-clause-world g c =
     let may : MayHappen k.bus k.nodes (record k.scene { agenda = lanes }) c.first_time-time.result name event w i both.0 =
     subst (λ t. MayHappen k.bus k.nodes (record k.scene { agenda = lanes }) t name event w i both.0) (sym c.first_time-time.ensures.value) both.1 in
     let happened = c.happen.ensures w i both.0 may in
-    let settles = c.settle-turn.ensures.settled k.bus (happens k.bus w both.0) happened.surrounds.book in
-    let given = taken k.bus w i both.0 (record { bius = c.happen.new.bius.items; rmus = c.happen.new.rmus.items }) c.happen.new.scene k.seeding c.settle-turn.new.self c.settle-turn.result
+    let settles = c.settle_into.ensures.settled k.bus (happens k.bus w both.0) happened.surrounds.book in
+    let given = taken k.bus w i both.0 (record { bius = c.happen.new.bius.items; rmus = c.happen.new.rmus.items }) c.happen.new.scene k.seeding c.settle_into.new.self c.settle_into.new.turn
     c.last_of-self-inside.result is.lawful is.reached may.found happened settles c.last_of-self-inside.ensures in
-    subst (λ (kept : Kept). Gives (record { bus = k.bus; nodes = record { bius = c.happen.new.bius.items; rmus = c.happen.new.rmus.items }; scene = record c.happen.new.scene { book = c.settle-turn.new.self }; seeding = k.seeding; last = c.last_of-self-inside.result }) c.settle-turn.result (take kept.bus w i)) c.self.view_is given
+    subst (λ (kept : Kept). Gives (record { bus = k.bus; nodes = record { bius = c.happen.new.bius.items; rmus = c.happen.new.rmus.items }; scene = record c.happen.new.scene { book = c.settle_into.new.self }; seeding = k.seeding; last = c.last_of-self-inside.result }) c.settle_into.new.turn (take kept.bus w i)) c.self.view_is given
 
 pub returns-clause-rounds : goal.returns-clause-rounds
 returns-clause-rounds g c =
@@ -77,8 +77,8 @@ returns-clause-rounds g c =
     let may : MayHappen k.bus k.nodes (record k.scene { agenda = lanes }) c.first_time-time.result name event w i both.0 =
     subst (λ t. MayHappen k.bus k.nodes (record k.scene { agenda = lanes }) t name event w i both.0) (sym c.first_time-time.ensures.value) both.1 in
     let happened = c.happen.ensures w i both.0 may in
-    let settles = c.settle-turn.ensures.settled k.bus (happens k.bus w both.0) happened.surrounds.book in
-    let given = taken k.bus w i both.0 (record { bius = c.happen.new.bius.items; rmus = c.happen.new.rmus.items }) c.happen.new.scene k.seeding c.settle-turn.new.self c.settle-turn.result
+    let settles = c.settle_into.ensures.settled k.bus (happens k.bus w both.0) happened.surrounds.book in
+    let given = taken k.bus w i both.0 (record { bius = c.happen.new.bius.items; rmus = c.happen.new.rmus.items }) c.happen.new.scene k.seeding c.settle_into.new.self c.settle_into.new.turn
     c.last_of-self-inside.result is.lawful is.reached may.found happened settles c.last_of-self-inside.ensures in
-    subst (λ (kept : Kept). TakesInRounds kept.bus w (take kept.bus w i) (record_of c.settle-turn.result)) c.self.view_is
-    (taken-in-rounds k.bus _ c.settle-turn.result w i both.0 is.lawful is.reached may.found given)
+    subst (λ (kept : Kept). TakesInRounds kept.bus w (take kept.bus w i) (record_of c.settle_into.new.turn)) c.self.view_is
+    (taken-in-rounds k.bus _ c.settle_into.new.turn w i both.0 is.lawful is.reached may.found given)
