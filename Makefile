@@ -3,8 +3,12 @@
 # make test                                        the gate: every proof, must-fail edit, test and program
 # make bench                                       builds the programs and measures them
 # make examples                                    runs each example, and looks for the lines that its page names
+# make compare COUNT=1000 SEED=1                   gives so many cases to the program and to a second model of the bus
 
-.PHONY: run build test bench examples
+COUNT = 1000
+SEED = 1
+
+.PHONY: run build test bench examples compare
 
 run:
 	@test -n "$(SCENARIO)" || { echo "usage: make run SCENARIO=examples/one_silent_rmu.toml (or another of examples/)" >&2; exit 2; }
@@ -22,3 +26,6 @@ bench: build
 
 examples: build
 	tools/examples
+
+compare: build
+	tools/compare_models $(COUNT) $(SEED)
