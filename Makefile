@@ -34,14 +34,12 @@ tutorial: build
 
 install:
 	@tools/proved $(ROBUS) || { echo "make install: no proved program is up to date: make build first" >&2; exit 2; }
-	install -d "$(AT)/bin" "$(AT)/share/man/man1" "$(AT)/share/man/man5" "$(AT)/share/doc/robus/docs" "$(AT)/share/doc/robus/examples"
+	install -d "$(AT)/bin" "$(AT)/share/man/man1" "$(AT)/share/man/man5" "$(AT)/share/doc/robus"
 	install -m 755 $(ROBUS) "$(AT)/bin/robus"
 	tools/manual docs/robus.md robus 1 > "$(AT)/share/man/man1/robus.1"
 	tools/manual docs/SCENARIOS.md robus_scenario 5 "scenarios of a fault-tolerant broadcast bus" > "$(AT)/share/man/man5/robus_scenario.5"
 	tools/manual docs/FORMATS.md robus_formats 5 "messages and logs of a fault-tolerant broadcast bus" > "$(AT)/share/man/man5/robus_formats.5"
-	install -m 644 README.md "$(AT)/share/doc/robus"
-	install -m 644 docs/* "$(AT)/share/doc/robus/docs"
-	install -m 644 examples/* "$(AT)/share/doc/robus/examples"
+	cp -R README.md docs examples "$(AT)/share/doc/robus"
 
 uninstall:
 	rm -f "$(AT)/bin/robus" "$(AT)/share/man/man1/robus.1" "$(AT)/share/man/man5/robus_scenario.5" "$(AT)/share/man/man5/robus_formats.5"
