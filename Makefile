@@ -4,13 +4,16 @@
 # make bench                                       builds the programs and measures them
 # make examples                                    runs each example, and looks for the lines that its page names
 # make tutorial                                    runs the commands of docs/TUTORIAL.md, and compares what they print
+# make compare COUNT=1000 SEED=1                   gives so many cases to the program and to a second model of the bus
 # make install PREFIX=/usr/local                   puts the program that was built, manual pages, documents and examples there
 
 PREFIX ?= /usr/local
 ROBUS = crates/robus/out/robus
 AT = $(DESTDIR)$(PREFIX)
+COUNT = 1000
+SEED = 1
 
-.PHONY: run build test bench examples tutorial install uninstall
+.PHONY: run build test bench examples tutorial compare install uninstall
 
 run:
 	@test -n "$(SCENARIO)" || { echo "usage: make run SCENARIO=examples/one_silent_rmu.toml (or another of examples/)" >&2; exit 2; }
@@ -31,6 +34,9 @@ examples: build
 
 tutorial: build
 	tools/tutorial
+
+compare: build
+	tools/compare_models $(COUNT) $(SEED)
 
 install:
 	@tools/proved $(ROBUS) || { echo "make install: no proved program is up to date: make build first" >&2; exit 2; }
