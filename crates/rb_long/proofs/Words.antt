@@ -19,7 +19,7 @@ pub some-word : (letter : List ℕ) (n : ℕ) → n ≤ parts_in (length letter)
 some-word letter zero some = omega arith
 some-word letter (suc k) some = let e = part-is letter k (suc k) (omega arith) some in omega (arith, e)
 
-words-in : (letter : List ℕ) → length (spelling_of letter) ≡ parts_in (length letter) + 1
+pub words-in : (letter : List ℕ) → length (spelling_of letter) ≡ parts_in (length letter) + 1
 words-in letter = let e = length-map-range_with_len (part_at letter) 0 (parts_in (length letter)) in omega (arith, e)
 
 -- the next word is the first letter's

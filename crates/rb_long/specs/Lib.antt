@@ -3,3 +3,4 @@ pub mod Reading
 pub mod Readers
 pub mod Waiting
 pub mod Senders
+pub mod Delivered

@@ -8,8 +8,6 @@ pub mod receiver;
 pub mod refusal;
 pub mod sender;
 mod spelling;
-#[cfg(test)]
-mod tests;
 
 pub use receiver::LongReceiver;
 pub use refusal::LongRefusal;

@@ -1,7 +1,8 @@
 //! What a reader of one sender's values makes of them.
-ghost use Rattle.std.specs.Prelude.{◌≡◌, ◌<◌, ◌≤◌, ◌∷◌, [], ◌++◌, true, None, drop, length, option_map, take};
+ghost use Rattle.std.specs.Prelude.{◌≡◌, ◌≤◌, ◌∷◌, [], ◌++◌, ℕ, IfSome, drop, length, take};
+ghost use Rattle.arrayvec.specs.ArrayVec.{ArrayVec as Letter};
 ghost use Rattle.std.specs.List.{list_all};
-ghost use Rattle.rb_long.specs.Reading.{Read, is_zero, with_part, with_value};
+ghost use Rattle.rb_long.specs.Reading.{is_zero, with_part, with_value};
 ghost use Rattle.rb_long.specs.Readers.{Reads, is_open, open_of};
 
 use crate::spelling::{bytes_in, is_first, is_part, length_in};
@@ -66,7 +67,8 @@ fn is_open(reader: &Reader) -> bool
 
 // Reads three bytes more, and gives the letter whose last they are.
 fn add(reader: &mut Reader, part: [u8; 3]) -> Option<ArrayVec<u8, 255>>
-    ensures { Reads (with_part part (open_of reader.old)) reader.new result }
+    ensures read { Reads (with_part part (open_of reader.old)) reader.new result }
+    ensures some { IfSome result (λ (letter : Letter ℕ). 1 ≤ length letter.items) }
 {
     if !is_open(reader) {
         return None;
@@ -85,7 +87,8 @@ fn add(reader: &mut Reader, part: [u8; 3]) -> Option<ArrayVec<u8, 255>>
 
 // Reads a value, and gives the letter whose last word it is.
 pub(crate) fn hear(reader: &mut Reader, value: Heard) -> Option<ArrayVec<u8, 255>>
-    ensures { Reads (with_value value (open_of reader.old)) reader.new result }
+    ensures read { Reads (with_value value (open_of reader.old)) reader.new result }
+    ensures some { IfSome result (λ (letter : Letter ℕ). 1 ≤ length letter.items) }
 {
     let Heard::Word(word) = value else {
         reader.wanted = 0;

@@ -1,5 +1,6 @@
 //! A receiver of letters.
-ghost use Rattle.std.specs.Prelude.{◌≡◌, ◌<◌, None, get_or, replicate, slice_set};
+ghost use Rattle.std.specs.Prelude.{◌≡◌, ◌<◌, ◌≤◌, ℕ, IfSome, None, length, get_or, replicate, slice_set};
+ghost use Rattle.arrayvec.specs.ArrayVec.{ArrayVec as Letter};
 ghost use Rattle.rb_long.specs.Reading.{with_value};
 ghost use Rattle.rb_long.specs.Readers.{letter_in};
 
@@ -38,6 +39,7 @@ impl LongReceiver {
     pub fn hear(&mut self, sender: u8, value: Heard) -> Option<ArrayVec<u8, 255>>
         requires { sender < 16 }
         ensures given { letter_in result ≡ (with_value value (get_or self.old sender None)).given }
+        ensures some { IfSome result (λ (letter : Letter ℕ). 1 ≤ length letter.items) }
         ensures after { self.new ≡ slice_set self.old sender (with_value value (get_or self.old sender None)).after }
     {
         hear(&mut self.readers[usize::from(sender)], value)
