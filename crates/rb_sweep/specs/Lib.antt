@@ -1,0 +1,3 @@
+pub mod AheadOf
+pub mod Laws
+pub mod Sweeping

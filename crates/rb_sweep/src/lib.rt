@@ -1,0 +1,26 @@
+//! Laws of sweeps: a world may leave arrivals behind, and take all that come to a node together. Each law is the contract of a function
+//! that does nothing.
+#![tactic(none)]
+
+ghost use Rattle.rb_sweep.specs.Laws.{NothingIsSwept, PushesPassASweep, SweepsCompose, SweepsKeepTheRest};
+
+/// A node that is swept up to a time and then up to a later one is swept up to the later one.
+pub fn sweeps_compose()
+    ensures { SweepsCompose }
+{}
+
+/// A sweep changes what comes to a node, what came, and of the core only how many ticks it has counted and what it has got. All that
+/// is left comes at the time or later.
+pub fn sweeps_keep_the_rest()
+    ensures { SweepsKeepTheRest }
+{}
+
+/// Where nothing comes before the time a sweep changes nothing.
+pub fn nothing_is_swept()
+    ensures { NothingIsSwept }
+{}
+
+/// What comes at the time or later may be pushed before the sweep or after it.
+pub fn pushes_pass_a_sweep()
+    ensures { PushesPassASweep }
+{}
