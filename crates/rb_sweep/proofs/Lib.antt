@@ -1,2 +1,3 @@
 pub mod Firsts
 pub mod Sweeps
+pub mod SentLater

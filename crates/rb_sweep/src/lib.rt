@@ -2,7 +2,7 @@
 //! that does nothing.
 #![tactic(none)]
 
-ghost use Rattle.rb_sweep.specs.Laws.{NothingIsSwept, PushesPassASweep, SweepsCompose, SweepsKeepTheRest};
+ghost use Rattle.rb_sweep.specs.Laws.{NothingIsSwept, PushesPassASweep, SweepsCompose, SweepsKeepTheRest, WhatIsSentComesLaterInLawful};
 
 /// A node that is swept up to a time and then up to a later one is swept up to the later one.
 pub fn sweeps_compose()
@@ -23,4 +23,10 @@ pub fn nothing_is_swept()
 /// What comes at the time or later may be pushed before the sweep or after it.
 pub fn pushes_pass_a_sweep()
     ensures { PushesPassASweep }
+{}
+
+/// In every lawful scenario the message that a node sends at a tick may be pushed before a sweep through the time of the tick or after it
+/// (`message`), and what nodes that are not good say in a window comes later than the tick before the window (`said`).
+pub fn what_is_sent_comes_later()
+    ensures { WhatIsSentComesLaterInLawful }
 {}
