@@ -1,3 +1,5 @@
 pub mod Firsts
 pub mod Sweeps
 pub mod SentLater
+pub mod Settles
+pub mod OpenWorlds

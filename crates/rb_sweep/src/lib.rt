@@ -2,7 +2,7 @@
 //! that does nothing.
 #![tactic(none)]
 
-ghost use Rattle.rb_sweep.specs.Laws.{NothingIsSwept, PushesPassASweep, SweepsCompose, SweepsKeepTheRest, WhatIsSentComesLaterInLawful};
+ghost use Rattle.rb_sweep.specs.Laws.{ArrivalsSettleNothing, NothingIsSwept, PushesPassASweep, SweepsCompose, SweepsKeepTheRest, WhatIsSentComesLaterInLawful};
 
 /// A node that is swept up to a time and then up to a later one is swept up to the later one.
 pub fn sweeps_compose()
@@ -29,4 +29,9 @@ pub fn pushes_pass_a_sweep()
 /// (`message`), and what nodes that are not good say in a window comes later than the tick before the window (`said`).
 pub fn what_is_sent_comes_later()
     ensures { WhatIsSentComesLaterInLawful }
+{}
+
+/// In every lawful scenario, whatever was chosen before, an arrival that is taken changes its node alone, and gives no record.
+pub fn arrivals_settle_nothing()
+    ensures { ArrivalsSettleNothing }
 {}
