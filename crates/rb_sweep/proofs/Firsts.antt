@@ -52,7 +52,7 @@ other-first a b e = grind (arith, nat_tests)
 -- The first.
 
 -- the first of c and what comes after it, by the test
-abbrev pick : Coming → Placed → Bool → Placed
+abbrev pub pick : Coming → Placed → Bool → Placed
 pick c q b = if b then (record { place = 0; coming = c }) else (record { place = suc q.place; coming = q.coming })
 
 pub first-stands : (cs : List Coming) (p : Placed) → first_of cs ≡ Some p → StandsAt p.place p.coming cs

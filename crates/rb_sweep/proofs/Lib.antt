@@ -3,3 +3,5 @@ pub mod Sweeps
 pub mod SentLater
 pub mod Settles
 pub mod OpenWorlds
+pub mod ReadyFirst
+pub mod EachNode
