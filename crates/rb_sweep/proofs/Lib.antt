@@ -5,3 +5,4 @@ pub mod Settles
 pub mod OpenWorlds
 pub mod ReadyFirst
 pub mod EachNode
+pub mod DueFirst

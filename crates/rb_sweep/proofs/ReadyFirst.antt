@@ -156,10 +156,10 @@ pub record FirstMade {X Y : Type 0} (k : ℕ) (make : ℕ → X → List Y) (xs 
   pub is : Begins d (make (k + n) x)
   pub before : (m : ℕ) (y : X) → m < n → slice_get xs m ≡ Some y → make (k + m) y ≡ []
 
-head-same : {X : Type 0} (x y : X) (xs ys : List X) → x ∷ xs ≡ y ∷ ys → x ≡ y
+pub head-same : {X : Type 0} (x y : X) (xs ys : List X) → x ∷ xs ≡ y ∷ ys → x ≡ y
 head-same x y xs ys e = cc
 
-first-made : {X Y : Type 0} (k : ℕ) (make : ℕ → X → List Y) (xs : List X) (d : Y) → Begins d (flat_map (λ l. l) (map_from k make xs)) → FirstMade k make xs d
+pub first-made : {X Y : Type 0} (k : ℕ) (make : ℕ → X → List Y) (xs : List X) (d : Y) → Begins d (flat_map (λ l. l) (map_from k make xs)) → FirstMade k make xs d
 first-made k make [] d is = absurd (no-head is.0 d is.1)
   where
     no-head : {Y : Type 0} (rest : List Y) (d : Y) → [] ≡ d ∷ rest → ⊥
