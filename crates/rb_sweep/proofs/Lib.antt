@@ -6,3 +6,4 @@ pub mod OpenWorlds
 pub mod ReadyFirst
 pub mod EachNode
 pub mod DueFirst
+pub mod Leads

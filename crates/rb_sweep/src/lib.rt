@@ -2,7 +2,7 @@
 //! that does nothing.
 #![tactic(none)]
 
-ghost use Rattle.rb_sweep.specs.Laws.{ArrivalsSettleNothing, NothingIsSwept, PushesPassASweep, SweepsCompose, SweepsKeepTheRest, WhatIsSentComesLaterInLawful};
+ghost use Rattle.rb_sweep.specs.Laws.{ArrivalsSettleNothing, NothingIsSwept, PushesPassASweep, SweepsCompose, SweepsKeepTheRest, TakesLeadToTheFirstTick, WhatIsSentComesLaterInLawful};
 
 /// A node that is swept up to a time and then up to a later one is swept up to the later one.
 pub fn sweeps_compose()
@@ -34,4 +34,11 @@ pub fn what_is_sent_comes_later()
 /// In every lawful scenario, whatever was chosen before, an arrival that is taken changes its node alone, and gives no record.
 pub fn arrivals_settle_nothing()
     ensures { ArrivalsSettleNothing }
+{}
+
+/// In every lawful scenario, whatever was chosen before, takes of the first due event lead to the first tick, as long as the run has not
+/// ended and its next record needs an event. Each is an arrival and gives no record. After them each node is swept, those behind the
+/// tick's node up to its time and the others through it, and nothing else has changed.
+pub fn takes_lead_to_the_first_tick()
+    ensures { TakesLeadToTheFirstTick }
 {}
