@@ -7,3 +7,4 @@ pub mod ReadyFirst
 pub mod EachNode
 pub mod DueFirst
 pub mod Leads
+pub mod AfterTick

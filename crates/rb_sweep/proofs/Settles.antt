@@ -88,3 +88,24 @@ settle-changed sc way (suc n) g w keeps =
         → settle_rest sc way n (changed g (settle_next sc way w)) o ≡ changed g (settle_rest sc way n (settle_next sc way w) o)
     by None rest = rest
     by (Some r) rest = refl
+
+-- What is settled does not depend on the turn, either.
+
+next-turn : (sc : Scenario) (way : Way) (w : World) (t : Option Record) → settle_next sc way (record w { turn = t }) ≡ record (settle_next sc way w) { turn = t }
+next-turn sc way w t = by (comes_so sc way w.book.upcoming && is_complete sc w.sites w.book.upcoming)
+  where
+    by : (b : Bool) → (elim b as (λ _. World) [ true ↦ record w { book = book_with sc w.sites w.book w.book.upcoming; turn = t } | false ↦ record w { turn = t } ])
+        ≡ record (elim b as (λ _. World) [ true ↦ record w { book = book_with sc w.sites w.book w.book.upcoming } | false ↦ w ]) { turn = t }
+    by true = refl
+    by false = refl
+
+pub settle-turn : (sc : Scenario) (way : Way) (n : ℕ) (w : World) (t : Option Record) → settle sc way n (record w { turn = t }) ≡ settle sc way n w
+settle-turn sc way zero w t = refl
+settle-turn sc way (suc n) w t =
+    ap (λ next. settle_rest sc way n next (record_since (record w { turn = t }) next)) (next-turn sc way w t)
+    ∙ by (record_since w (settle_next sc way w)) (settle-turn sc way n (settle_next sc way w) t)
+  where
+    by : (o : Option Record) → settle sc way n (record (settle_next sc way w) { turn = t }) ≡ settle sc way n (settle_next sc way w)
+        → settle_rest sc way n (record (settle_next sc way w) { turn = t }) o ≡ settle_rest sc way n (settle_next sc way w) o
+    by None rest = rest
+    by (Some r) rest = refl
