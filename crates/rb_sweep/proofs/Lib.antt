@@ -8,3 +8,4 @@ pub mod EachNode
 pub mod DueFirst
 pub mod Leads
 pub mod AfterTick
+pub mod GoesOn

@@ -2,7 +2,7 @@
 //! that does nothing.
 #![tactic(none)]
 
-ghost use Rattle.rb_sweep.specs.Laws.{ArrivalsSettleNothing, NothingIsSwept, PushesPassASweep, SweepsCompose, SweepsKeepTheRest, TakesLeadToTheFirstTick, WhatIsSentComesLaterInLawful};
+ghost use Rattle.rb_sweep.specs.Laws.{ArrivalsSettleNothing, NothingIsSwept, PushesPassASweep, SweepsCompose, SweepsKeepTheRest, TakesLeadToTheFirstTick, WhatIsSentComesLaterInLawful, WorldsGoOnAhead};
 
 /// A node that is swept up to a time and then up to a later one is swept up to the later one.
 pub fn sweeps_compose()
@@ -41,4 +41,12 @@ pub fn arrivals_settle_nothing()
 /// tick's node up to its time and the others through it, and nothing else has changed.
 pub fn takes_lead_to_the_first_tick()
     ensures { TakesLeadToTheFirstTick }
+{}
+
+/// In every lawful scenario, whatever was chosen before: where the world is ahead of another, each of whose nodes lacks only arrivals before
+/// a time, and the first tick is pending there, takes of the first due event lead to the tick. One take more, that of the tick, leads to
+/// a world that is ahead of what the tick alone makes of the other: one node is swept, takes its tick, and what that completes is settled.
+/// The times of the nodes only rise.
+pub fn worlds_go_on_ahead()
+    ensures { WorldsGoOnAhead }
 {}
