@@ -9,3 +9,4 @@ pub mod DueFirst
 pub mod Leads
 pub mod AfterTick
 pub mod GoesOn
+pub mod SomeFirst

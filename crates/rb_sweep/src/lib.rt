@@ -2,7 +2,7 @@
 //! that does nothing.
 #![tactic(none)]
 
-ghost use Rattle.rb_sweep.specs.Laws.{ArrivalsSettleNothing, NothingIsSwept, PushesPassASweep, SweepsCompose, SweepsKeepTheRest, TakesLeadToTheFirstTick, WhatIsSentComesLaterInLawful, WorldsGoOnAhead};
+ghost use Rattle.rb_sweep.specs.Laws.{ArrivalsSettleNothing, NothingIsSwept, PushesPassASweep, SomeTickIsFirst, SweepsCompose, SweepsKeepTheRest, TakesLeadToTheFirstTick, WhatIsSentComesLaterInLawful, WorldsGoOnAhead};
 
 /// A node that is swept up to a time and then up to a later one is swept up to the later one.
 pub fn sweeps_compose()
@@ -41,6 +41,12 @@ pub fn arrivals_settle_nothing()
 /// tick's node up to its time and the others through it, and nothing else has changed.
 pub fn takes_lead_to_the_first_tick()
     ensures { TakesLeadToTheFirstTick }
+{}
+
+/// In every lawful scenario, whatever was chosen before, some tick is pending and one is the first, as long as the run has not ended and its
+/// next record needs an event.
+pub fn some_tick_is_first()
+    ensures { SomeTickIsFirst }
 {}
 
 /// In every lawful scenario, whatever was chosen before: where the world is ahead of another, each of whose nodes lacks only arrivals before
