@@ -34,7 +34,7 @@ use Rattle.rb_order.proofs.Takes.{busy-later, tick-had}
 use Rattle.rb_order.proofs.WorldNodes.{NodesKnown, events-due, worlds-known}
 use Rattle.rb_order.proofs.WorldStands.{AllPend, IsUp, sent_by}
 use Rattle.rb_sweep.specs.AheadOf.{after_takes}
-use Rattle.rb_sweep.proofs.Firsts.{every-append, every-so, some-same}
+use Rattle.rb_sweep.proofs.Firsts.{every-append, some-same}
 use Rattle.rb_sweep.proofs.SentLater.{node-moves, says-later}
 
 true-false : {P : Type 0} → true ≡ false → P

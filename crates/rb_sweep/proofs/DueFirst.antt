@@ -1,10 +1,10 @@
 -- The first due event of a world: the first arrival, or the first tick.
-use Rattle.std.proofs.Common.{◌≡◌, ℕ, zero, suc, ◌+◌, ◌<◌, ◌≤◌, ◌==◌, ◌||◌, ◌⊎◌, min, nat_lt, Bool, true, false, List, [], ◌∷◌, ◌++◌, append_assoc, flat_map, length, map, refl, ap, sym, ◌∙◌, subst, arith, inl, inr, Option, Some, None, option_map, option_to_list, slice_get}
+use Rattle.std.proofs.Common.{◌≡◌, ℕ, zero, suc, ◌+◌, ◌<◌, ◌≤◌, ◌==◌, ◌||◌, ◌⊎◌, Bool, true, false, List, [], ◌∷◌, ◌++◌, append_assoc, flat_map, map, refl, ap, sym, ◌∙◌, subst, arith, inl, inr, Option, Some, None, option_map, option_to_list, slice_get}
 use Rattle.std.proofs.lemmas.Bool.{cases_lt, eq-eqb, ltb-true}
 use Rattle.std.proofs.lemmas.Bool.Decides.{nat_tests}
 use Rattle.rb_base.specs.Nodes.{Side}
 use Rattle.rb_base.specs.Nodes.Side.{Biu, Rmu}
-use Rattle.rb_rules.specs.Book.{Each, in_order, map_each, map_from, of_kind}
+use Rattle.rb_rules.specs.Book.{in_order, map_from, of_kind}
 use Rattle.rb_rules.specs.Goodness.{Scenario}
 use Rattle.rb_rules.specs.Hearing.{Coming}
 use Rattle.rb_rules.specs.WorldStep.{Due, Site, Timed, World, due_at, due_of, least, needs_no_event, ready_at, tick_at, times_of}
@@ -17,7 +17,7 @@ use Rattle.rb_order.proofs.WorldStands.{AllPend}
 use Rattle.rb_sweep.specs.AheadOf.{IsFirstTick, is_behind, until_tick}
 use Rattle.rb_sweep.specs.Laws.{NeedsEvent}
 use Rattle.rb_sweep.specs.Sweeping.{Placed, first_of}
-use Rattle.rb_sweep.proofs.EachNode.{nodes-order, until-behind, until-least, until-not}
+use Rattle.rb_sweep.proofs.EachNode.{nodes-order, until-behind, until-not}
 use Rattle.rb_sweep.proofs.Firsts.{every-so, some-same}
 use Rattle.rb_sweep.proofs.OpenWorlds.{Goes}
 use Rattle.rb_sweep.proofs.ReadyFirst.{Begins, FirstMade, ReadyFirst, first-made, head-same, ready-first}

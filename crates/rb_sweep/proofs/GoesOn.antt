@@ -1,5 +1,5 @@
 -- A world that is ahead of another goes on as its ticks alone make the other go on.
-use Rattle.std.proofs.Common.{◌≡◌, ℕ, zero, suc, ◌+◌, ◌<◌, ◌≤◌, ◌⊎◌, ◌&&◌, Bool, true, false, List, [], ◌∷◌, ◌++◌, refl, ap, sym, ◌∙◌, subst, arith, inl, inr, Option, Some, None, option_map, slice_get}
+use Rattle.std.proofs.Common.{◌≡◌, ℕ, suc, ◌+◌, ◌<◌, ◌≤◌, ◌⊎◌, ◌&&◌, Bool, true, false, List, [], ◌∷◌, ◌++◌, refl, ap, sym, ◌∙◌, subst, arith, inl, inr, Option, Some, None, option_map, slice_get}
 use Rattle.std.proofs.lemmas.Bool.{cases_lt}
 use Rattle.rb_base.specs.Nodes.{Side, other}
 use Rattle.rb_rules.specs.declared.message.Message.{Message}
@@ -10,12 +10,11 @@ use Rattle.rb_rules.specs.Goodness.{Scenario, clock_of}
 use Rattle.rb_rules.specs.Hearing.{Sending, coming_of}
 use Rattle.rb_rules.specs.Lawful.{IsLawful}
 use Rattle.rb_rules.specs.Slots.{same_side}
-use Rattle.rb_rules.specs.WorldStep.{Choice, Due, Site, Timed, World, after_act, at_node, due_of, happens, pass_and_tick, sent_to, settle, take, take_if_due, with_act, with_message, with_pending, world_after}
+use Rattle.rb_rules.specs.WorldStep.{Choice, Due, Site, Timed, World, after_act, at_node, due_of, happens, pass_and_tick, sent_to, settle, take, take_if_due, with_act, with_message, world_after}
 use Rattle.rb_rules.specs.WorldStep.Pending.{Tick}
 use Rattle.rb_rules.specs.WorldStep.Way.{ByAnEvent}
 use Rattle.rb_rules.proofs.WindowNumbers.{get-each}
 use Rattle.rb_order.proofs.OneEvent.{happens-is}
-use Rattle.rb_order.proofs.SameHeard.{Every}
 use Rattle.rb_order.proofs.WorldNodes.{settle-sites}
 use Rattle.rb_order.proofs.WorldStands.{back-from, get-at, is_node, node-is, node-itself}
 use Rattle.rb_sweep.specs.AheadOf.{GoesOnAhead, IsFirstTick, LeadsToTick, after_takes, ahead_of, each_swept, is_behind, tick_alone, until_tick}
@@ -27,7 +26,7 @@ use Rattle.rb_sweep.proofs.Firsts.{some-same}
 use Rattle.rb_sweep.proofs.Leads.{leads-to-tick}
 use Rattle.rb_sweep.proofs.OpenWorlds.{Goes, goes-reached}
 use Rattle.rb_sweep.proofs.SentLater.{sent-passes}
-use Rattle.rb_sweep.proofs.Settles.{KeepsTold, changed, each-fuse, settle-changed, settle-turn}
+use Rattle.rb_sweep.proofs.Settles.{KeepsTold, each-fuse, settle-changed, settle-turn}
 use Rattle.rb_sweep.proofs.Sweeps.{all-every, sweep-stays, sweeps-compose, sweeps-keep}
 
 -- Sweeps of all nodes.

@@ -1,19 +1,18 @@
 -- Takes of arrivals lead to the first tick.
-use Rattle.std.proofs.Common.{◌≡◌, ℕ, zero, suc, ◌+◌, ◌<◌, ◌≤◌, Bool, true, false, List, [], ◌∷◌, refl, ap, sym, ◌∙◌, subst, arith, inl, inr, Option, Some, None, slice_get}
+use Rattle.std.proofs.Common.{◌≡◌, ℕ, zero, suc, ◌+◌, ◌<◌, ◌≤◌, Bool, true, false, refl, ap, sym, ◌∙◌, subst, arith, inl, inr, Some, None, slice_get}
 use Rattle.rb_base.specs.Nodes.{Side}
-use Rattle.rb_rules.specs.Book.{Each, map_each, of_kind}
+use Rattle.rb_rules.specs.Book.{Each, of_kind}
 use Rattle.rb_rules.specs.Goodness.{Scenario}
 use Rattle.rb_rules.specs.Hearing.{Coming}
-use Rattle.rb_rules.specs.WorldStep.{Choice, Due, Site, Timed, World, after_arrival, at_node, due_of, take, world_after}
+use Rattle.rb_rules.specs.WorldStep.{Site, Timed, World, after_arrival, at_node, due_of, take, world_after}
 use Rattle.rb_rules.specs.WorldStep.Choice.{Take}
-use Rattle.rb_rules.specs.WorldStep.Pending.{Arrival, Tick}
+use Rattle.rb_rules.specs.WorldStep.Pending.{Arrival}
 use Rattle.rb_order.specs.Laws.{most_at_once}
-use Rattle.rb_order.proofs.SameHeard.{Every}
 use Rattle.rb_order.proofs.Takes.{all_left, arrival-left, one-less}
 use Rattle.rb_order.proofs.WorldNodes.{NodesKnown, choose-known}
 use Rattle.rb_order.proofs.WorldStands.{is_node, node-is}
 use Rattle.rb_sweep.specs.AheadOf.{ArrivalIsFirst, IsFirstTick, LeadsToTick, after_takes, ahead_of, each_swept, until_tick}
-use Rattle.rb_sweep.specs.Laws.{NeedsEvent, TakesLeadToTheFirstTick}
+use Rattle.rb_sweep.specs.Laws.{TakesLeadToTheFirstTick}
 use Rattle.rb_sweep.specs.Sweeping.{Placed, swept}
 use Rattle.rb_sweep.proofs.DueFirst.{ArrivalDue, TickDue, WhatIsDue, what-is-due, which-due}
 use Rattle.rb_sweep.proofs.EachNode.{KeepsAhead, each-alike, each-itself, first-changed}

@@ -1,15 +1,15 @@
 -- What comes next in a world that was reached, and needs an event, still waits for a node. So an arrival settles nothing.
-use Rattle.std.proofs.Common.{◌≡◌, ℕ, zero, suc, ◌+◌, ◌<◌, ◌≤◌, ◌==◌, ◌&&◌, not, Bool, true, false, List, refl, ap, sym, ◌∙◌, subst, arith, inl, inr, Option, Some, None, slice_get, if◌then◌else◌}
+use Rattle.std.proofs.Common.{◌≡◌, ℕ, ◌+◌, ◌<◌, ◌==◌, ◌&&◌, Bool, true, false, List, refl, ap, sym, ◌∙◌, arith, inl, inr, Some, None, slice_get, if◌then◌else◌}
 use Rattle.std.proofs.lemmas.Bool.{lt-ltb}
 use Rattle.rb_base.specs.Nodes.{Side}
-use Rattle.rb_rules.specs.Book.{Book, Each, of_kind}
+use Rattle.rb_rules.specs.Book.{Book}
 use Rattle.rb_rules.specs.Book.Milestone.{Begin, End, Stage}
 use Rattle.rb_rules.specs.Goodness.{Scenario}
 use Rattle.rb_rules.specs.Hearing.{Coming}
 use Rattle.rb_rules.specs.Lawful.{IsLawful}
 use Rattle.rb_rules.specs.Ports.{HandIn}
 use Rattle.rb_rules.specs.Rounds.{Moment, moment}
-use Rattle.rb_rules.specs.WorldStep.{Choice, Due, Site, World, after_arrival, at_node, comes_so, due_of, happens, is_complete, needs_no_event, settle, settle_next, take, take_if_due, world_after}
+use Rattle.rb_rules.specs.WorldStep.{Choice, Due, Site, World, after_arrival, at_node, comes_so, due_of, is_complete, needs_no_event, settle, settle_next, take, take_if_due, world_after}
 use Rattle.rb_rules.specs.WorldStep.Pending.{Arrival}
 use Rattle.rb_rules.specs.WorldStep.Way.{ByAnEvent}
 use Rattle.rb_order.specs.Closing.{stages_in}

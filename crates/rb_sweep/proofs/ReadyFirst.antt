@@ -1,19 +1,17 @@
 -- What is due first: at the first node that has something ready at the least time, its first arrival, else its tick.
-use Rattle.std.proofs.Common.{◌≡◌, ℕ, zero, suc, ◌+◌, ◌<◌, ◌≤◌, ◌==◌, ◌&&◌, ◌||◌, ◌⊎◌, nat_lt, Bool, true, false, List, [], ◌∷◌, ◌++◌, cond, filter, flat_map, length, map, refl, ap, sym, ◌∙◌, subst, arith, inl, inr, Option, Some, None, option_map, option_to_list, slice_get}
+use Rattle.std.proofs.Common.{◌≡◌, ℕ, zero, suc, ◌+◌, ◌<◌, ◌≤◌, ◌==◌, ◌&&◌, ◌⊎◌, Bool, true, false, List, [], ◌∷◌, ◌++◌, cond, filter, flat_map, map, refl, ap, sym, ◌∙◌, subst, arith, inl, inr, Option, Some, None, slice_get}
 use Rattle.std.specs.List.{enumerate_from, range_with_len}
 use Rattle.std.proofs.lemmas.Bool.Decides.{nat_tests}
 use Rattle.rb_base.specs.Counting.{numbers}
 use Rattle.rb_base.specs.Nodes.{Side, other}
-use Rattle.rb_base.specs.Nodes.Side.{Biu, Rmu}
 use Rattle.rb_base.specs.Sizes.{Sizes}
-use Rattle.rb_rules.specs.Book.{Each, in_order, map_each, map_from, of_kind}
+use Rattle.rb_rules.specs.Book.{map_from}
 use Rattle.rb_rules.specs.Hearing.{Coming}
 use Rattle.rb_rules.specs.Slots.{count_of}
-use Rattle.rb_rules.specs.WorldStep.{Due, Site, Timed, arrivals_at, ready_at, tick_at, unless_any}
-use Rattle.rb_rules.specs.WorldStep.Pending.{Arrival, Tick}
+use Rattle.rb_rules.specs.WorldStep.{Due, Site, arrivals_at, ready_at, tick_at, unless_any}
+use Rattle.rb_rules.specs.WorldStep.Pending.{Arrival}
 use Rattle.rb_order.proofs.SameHeard.{Every}
 use Rattle.rb_order.proofs.WorldNodes.{Known}
-use Rattle.rb_sweep.specs.AheadOf.{is_behind}
 use Rattle.rb_sweep.specs.Sweeping.{Placed, comes_first, first_of, first_with}
 use Rattle.rb_sweep.proofs.Firsts.{every-so, every-stands, first-least, first-stands, pick, some-same, which-first}
 

@@ -1,5 +1,5 @@
 -- What is sent, and what is said in a window, comes later than the tick before.
-use Rattle.std.proofs.Common.{◌≡◌, ℕ, zero, suc, ◌+◌, ◌-◌, ◌<◌, ◌≤◌, ◌&&◌, Bool, true, false, All, List, [], ◌∷◌, ◌++◌, cond, filter, flat_map, length, map, refl, ap, sym, ◌∙◌, subst, arith, Some, None}
+use Rattle.std.proofs.Common.{◌≡◌, ℕ, zero, suc, ◌+◌, ◌<◌, ◌≤◌, ◌&&◌, Bool, true, false, List, [], ◌∷◌, ◌++◌, cond, filter, flat_map, length, map, refl, ap, sym, ◌∙◌, arith}
 use Rattle.std.specs.List.{range_with_len}
 use Rattle.rb_base.specs.Nodes.{Side, other}
 use Rattle.rb_base.specs.Nodes.Side.{Biu, Rmu}
@@ -20,7 +20,7 @@ use Rattle.rb_order.proofs.CloseOrder.{shortest-some}
 use Rattle.rb_order.proofs.ReceiverHears.{way-least}
 use Rattle.rb_order.proofs.SameHeard.{Every}
 use Rattle.rb_order.proofs.WorldStands.{other-twice, same-kind}
-use Rattle.rb_sweep.specs.Laws.{SweepsFrom, WhatIsSentComesLater, WhatIsSentComesLaterInLawful, with_more}
+use Rattle.rb_sweep.specs.Laws.{SweepsFrom, WhatIsSentComesLaterInLawful, with_more}
 use Rattle.rb_sweep.specs.Sweeping.{swept}
 use Rattle.rb_sweep.proofs.Firsts.{every-append, every-so}
 use Rattle.rb_sweep.proofs.Sweeps.{all-every, every-all, push-passes, sweeps-keep}

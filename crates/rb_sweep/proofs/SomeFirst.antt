@@ -1,12 +1,12 @@
 -- As long as a record needs an event some tick is pending, and so one of them is the first.
-use Rattle.std.proofs.Common.{◌≡◌, ℕ, zero, suc, ◌+◌, ◌<◌, ◌≤◌, ◌⊎◌, Bool, true, false, List, [], ◌∷◌, refl, ap, sym, ◌∙◌, subst, arith, inl, inr, Option, Some, None, slice_get}
+use Rattle.std.proofs.Common.{◌≡◌, ℕ, zero, suc, ◌<◌, ◌≤◌, ◌⊎◌, true, false, List, [], ◌∷◌, refl, ap, sym, ◌∙◌, subst, arith, inl, inr, Option, Some, None, slice_get}
 use Rattle.std.proofs.lemmas.Bool.{cases_lt, ltb-true}
 use Rattle.rb_base.specs.Nodes.{Side}
 use Rattle.rb_base.specs.Nodes.Side.{Biu, Rmu}
 use Rattle.rb_rules.specs.Book.{of_kind}
 use Rattle.rb_rules.specs.Goodness.{Scenario}
 use Rattle.rb_rules.specs.Lawful.{IsLawful}
-use Rattle.rb_rules.specs.WorldStep.{Choice, Site, Timed, World, world_after}
+use Rattle.rb_rules.specs.WorldStep.{Site, Timed, World, world_after}
 use Rattle.rb_order.proofs.Behind.{IsBehind}
 use Rattle.rb_order.proofs.BreakOff.{BreakStands}
 use Rattle.rb_order.proofs.BreakRuns.{WaitsYet, waits-yet}

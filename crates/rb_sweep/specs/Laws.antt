@@ -1,9 +1,9 @@
 -- What is proved of sweeps.
-use Rattle.std.specs.Prelude.{ℕ, ◌≡◌, ◌+◌, ◌<◌, ◌≤◌, All, true, false, Option, Some, None, List, ◌++◌, slice_get}
-use Rattle.rb_base.specs.Nodes.{Side, other}
+use Rattle.std.specs.Prelude.{ℕ, ◌≡◌, ◌+◌, ◌<◌, ◌≤◌, All, false, Option, Some, None, List, ◌++◌, slice_get}
+use Rattle.rb_base.specs.Nodes.{Side}
 use Rattle.rb_rules.specs.Clock.{time_of}
 use Rattle.rb_rules.specs.Goodness.{Scenario, clock_of}
-use Rattle.rb_rules.specs.Hearing.{Coming, Sending, Span, coming_of}
+use Rattle.rb_rules.specs.Hearing.{Coming, Sending, Span}
 use Rattle.rb_rules.specs.Lawful.{IsLawful}
 use Rattle.rb_rules.specs.Slots.{count_of}
 use Rattle.rb_rules.specs.WorldStep.{Choice, Site, Timed, World, after_arrival, at_node, due_of, needs_no_event, says_in, sent_to, take, world_after}
