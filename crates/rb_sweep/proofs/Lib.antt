@@ -10,3 +10,4 @@ pub mod Leads
 pub mod AfterTick
 pub mod GoesOn
 pub mod SomeFirst
+pub mod Calls

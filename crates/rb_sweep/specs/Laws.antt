@@ -6,7 +6,7 @@ use Rattle.rb_rules.specs.Goodness.{Scenario, clock_of}
 use Rattle.rb_rules.specs.Hearing.{Coming, Sending, Span}
 use Rattle.rb_rules.specs.Lawful.{IsLawful}
 use Rattle.rb_rules.specs.Slots.{count_of}
-use Rattle.rb_rules.specs.WorldStep.{Choice, Site, Timed, World, after_arrival, at_node, due_of, needs_no_event, says_in, sent_to, take, world_after}
+use Rattle.rb_rules.specs.WorldStep.{Choice, Site, Timed, World, after_arrival, at_node, due_of, go_on, needs_no_event, says_in, sent_to, take, world_after}
 use Rattle.rb_rules.specs.WorldStep.Pending.{Arrival}
 use Rattle.rb_sweep.specs.AheadOf.{GoesOnAhead, IsFirstTick, LeadsToTick, ahead_of, until_tick}
 use Rattle.rb_sweep.specs.Sweeping.{swept}
@@ -88,3 +88,13 @@ WorldsGoOnAhead =
     (sc : Scenario) → IsLawful sc → (choices : List Choice) (until : Side → ℕ → ℕ) (w : World) → world_after sc choices ≡ ahead_of sc until w
     → NeedsEvent sc w → (me : Side) (i : ℕ) (a : Timed) → IsFirstTick w me i a → ((side : Side) (j : ℕ) → until side j ≤ until_tick me i a.time side j)
     → GoesOnAhead sc until w me i a
+
+-- Calls.
+
+-- a world of which no node is ahead is itself
+abbrev pub NobodyIsAhead : Type 0
+NobodyIsAhead = (sc : Scenario) (w : World) → ahead_of sc (λ side j. 0) w ≡ w
+
+-- what needs no event is given alike to a world that is ahead
+abbrev pub GoOnPassesASweep : Type 0
+GoOnPassesASweep = (sc : Scenario) (until : Side → ℕ → ℕ) (w : World) → go_on sc (ahead_of sc until w) ≡ ahead_of sc until (go_on sc w)

@@ -2,7 +2,7 @@
 //! that does nothing.
 #![tactic(none)]
 
-ghost use Rattle.rb_sweep.specs.Laws.{ArrivalsSettleNothing, NothingIsSwept, PushesPassASweep, SomeTickIsFirst, SweepsCompose, SweepsKeepTheRest, TakesLeadToTheFirstTick, WhatIsSentComesLaterInLawful, WorldsGoOnAhead};
+ghost use Rattle.rb_sweep.specs.Laws.{ArrivalsSettleNothing, GoOnPassesASweep, NobodyIsAhead, NothingIsSwept, PushesPassASweep, SomeTickIsFirst, SweepsCompose, SweepsKeepTheRest, TakesLeadToTheFirstTick, WhatIsSentComesLaterInLawful, WorldsGoOnAhead};
 
 /// A node that is swept up to a time and then up to a later one is swept up to the later one.
 pub fn sweeps_compose()
@@ -55,4 +55,14 @@ pub fn some_tick_is_first()
 /// The times of the nodes only rise.
 pub fn worlds_go_on_ahead()
     ensures { WorldsGoOnAhead }
+{}
+
+/// A world of which no node is ahead is itself, so a run may begin with the times 0.
+pub fn nobody_is_ahead()
+    ensures { NobodyIsAhead }
+{}
+
+/// What needs no event is given alike to a world and to one that is ahead of it.
+pub fn go_on_passes_a_sweep()
+    ensures { GoOnPassesASweep }
 {}
