@@ -11,3 +11,4 @@ pub mod AfterTick
 pub mod GoesOn
 pub mod SomeFirst
 pub mod Calls
+pub mod GotKnown
