@@ -12,3 +12,4 @@ pub mod GoesOn
 pub mod SomeFirst
 pub mod Calls
 pub mod GotKnown
+pub mod HadThere
