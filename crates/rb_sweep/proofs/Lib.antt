@@ -13,3 +13,5 @@ pub mod SomeFirst
 pub mod Calls
 pub mod GotKnown
 pub mod HadThere
+pub mod HadOff
+pub mod BehindFew
