@@ -18,7 +18,7 @@ use Rattle.rb_order.proofs.TickRooms.{has-room}
 use Rattle.rb_order.proofs.WorldNodes.{Known}
 use Rattle.rb_order.proofs.WorldStands.{IsUp, sent_by}
 use Rattle.rb_sweep.specs.AheadOf.{ahead_of}
-use Rattle.rb_sweep.specs.Room.{NothingComesToStopped, PendingBehindIsFew}
+use Rattle.rb_sweep.specs.Room.{PendingBehindIsFew}
 use Rattle.rb_sweep.specs.Sweeping.{Placed, first_of, swept}
 use Rattle.rb_sweep.proofs.Firsts.{first-stands, length-without}
 use Rattle.rb_sweep.proofs.GoesOn.{sweep_to}
@@ -94,6 +94,6 @@ behind-few sc lawful choices until w is stopped me i s there = by s.runs refl
         let all = times-many s in
         omega (arith, few, same, all)
     by false e =
-        let none : length s.coming ≡ 0 = ap length (stopped me i s there e) in
+        let none : length s.coming ≡ 0 = ap length (stopped me i s there e).1 in
         let all = times-many s in
         omega (arith, none, all)

@@ -15,3 +15,4 @@ pub mod GotKnown
 pub mod HadThere
 pub mod HadOff
 pub mod BehindFew
+pub mod Stopped

@@ -1,19 +1,45 @@
 -- How much may be pending at a node that leaves arrivals behind.
-use Rattle.std.specs.Prelude.{ℕ, ◌≡◌, ◌≤◌, false, Some, None, List, [], length, slice_get}
-use Rattle.rb_base.specs.Nodes.{Side}
+use Rattle.std.specs.Prelude.{ℕ, ◌≡◌, ◌+◌, ◌≤◌, true, false, Some, None, List, [], length, slice_get}
+use Rattle.rb_base.specs.Nodes.{Side, other}
+use Rattle.rb_rules.specs.declared.message.Message.{Message}
 use Rattle.rb_rules.specs.Book.{of_kind}
+use Rattle.rb_rules.specs.Core.{Act}
 use Rattle.rb_rules.specs.Goodness.{Scenario}
 use Rattle.rb_rules.specs.Lawful.{IsLawful}
-use Rattle.rb_rules.specs.WorldStep.{Choice, Site, World, times_of, world_after}
+use Rattle.rb_rules.specs.WorldStep.{Choice, Site, Timed, World, after_act, pass_and_tick, times_of, world_after}
 use Rattle.rb_order.specs.PendingEvents.{most_pending}
-use Rattle.rb_sweep.specs.AheadOf.{ahead_of}
+use Rattle.rb_sweep.specs.AheadOf.{IsFirstTick, ahead_of, tick_alone, until_tick}
+use Rattle.rb_sweep.specs.Laws.{NeedsEvent}
+use Rattle.rb_sweep.specs.Sweeping.{swept}
 
--- to a node that has stopped nothing comes
-abbrev pub NothingComesToStopped : World → Type 0
-NothingComesToStopped w = (me : Side) (i : ℕ) (s : Site) → slice_get (of_kind me w.sites) i ≡ Some s → s.runs ≡ false → s.coming ≡ []
+-- at a node that has stopped nothing is pending
+abbrev pub StoppedHaveNothing : World → Type 0
+StoppedHaveNothing w = (me : Side) (i : ℕ) (s : Site) → slice_get (of_kind me w.sites) i ≡ Some s → s.runs ≡ false → (s.ahead ≡ None) × (s.coming ≡ [])
+
+-- so it is in each world that choices lead to, and a tick alone keeps it so
+pub record StoppedStayEmpty (sc : Scenario) : Type 0 where
+  pub reached : (choices : List Choice) → StoppedHaveNothing (world_after sc choices)
+  pub kept : (w : World) (me : Side) (i : ℕ) (a : Timed) → IsFirstTick w me i a → StoppedHaveNothing w → StoppedHaveNothing (tick_alone sc me i a w)
+
+abbrev pub StoppedStayEmptyInEach : Type 0
+StoppedStayEmptyInEach = (sc : Scenario) → StoppedStayEmpty sc
 
 -- whatever was chosen, room for so many at each node is enough in a world, too, of which that world is ahead
 abbrev pub PendingBehindIsFew : Type 0
 PendingBehindIsFew =
-    (sc : Scenario) → IsLawful sc → (choices : List Choice) (until : Side → ℕ → ℕ) (w : World) → world_after sc choices ≡ ahead_of sc until w → NothingComesToStopped w
+    (sc : Scenario) → IsLawful sc → (choices : List Choice) (until : Side → ℕ → ℕ) (w : World) → world_after sc choices ≡ ahead_of sc until w → StoppedHaveNothing w
     → (me : Side) (i : ℕ) (s : Site) → slice_get (of_kind me w.sites) i ≡ Some s → length (times_of s) ≤ most_pending sc me
+
+-- node i of kind me, which is this, takes the first tick there once it is swept, and does this: room for so many is enough for what that
+-- makes pending
+pub record TickBehindFits (sc : Scenario) (w : World) (me : Side) (i : ℕ) (a : Timed) (s : Site) (x : Act) : Type 0 where
+  pub own : length (times_of (after_act sc w.ports me i x (swept sc me i (a.time + 1) s))) ≤ most_pending sc me
+  pub message : (m : Message) → x.message ≡ Some m → (j : ℕ) (receiver : Site) → slice_get (of_kind (other me) w.sites) j ≡ Some receiver → receiver.runs ≡ true
+      → length (times_of receiver) + 1 ≤ most_pending sc (other me)
+
+abbrev pub TicksBehindFit : Type 0
+TicksBehindFit =
+    (sc : Scenario) → IsLawful sc → (choices : List Choice) (until : Side → ℕ → ℕ) (w : World) → world_after sc choices ≡ ahead_of sc until w → StoppedHaveNothing w
+    → NeedsEvent sc w → (me : Side) (i : ℕ) (a : Timed) → IsFirstTick w me i a → ((side : Side) (j : ℕ) → until side j ≤ until_tick me i a.time side j)
+    → (s : Site) → slice_get (of_kind me w.sites) i ≡ Some s
+    → TickBehindFits sc w me i a s (pass_and_tick sc w.ports me i a.tick (swept sc me i (a.time + 1) s).core)
