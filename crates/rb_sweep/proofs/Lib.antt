@@ -16,3 +16,4 @@ pub mod HadThere
 pub mod HadOff
 pub mod BehindFew
 pub mod Stopped
+pub mod TickFits

@@ -3,6 +3,7 @@
 #![tactic(none)]
 
 ghost use Rattle.rb_sweep.specs.Laws.{ArrivalsSettleNothing, GoOnPassesASweep, NobodyIsAhead, NothingIsSwept, PushesPassASweep, SomeTickIsFirst, SweepsCompose, SweepsKeepTheRest, TakesLeadToTheFirstTick, WhatIsSentComesLaterInLawful, WorldsGoOnAhead};
+ghost use Rattle.rb_sweep.specs.Room.{PendingBehindIsFew, StoppedStayEmptyInEach, TicksBehindFit};
 
 /// A node that is swept up to a time and then up to a later one is swept up to the later one.
 pub fn sweeps_compose()
@@ -65,4 +66,20 @@ pub fn nobody_is_ahead()
 /// What needs no event is given alike to a world and to one that is ahead of it.
 pub fn go_on_passes_a_sweep()
     ensures { GoOnPassesASweep }
+{}
+
+/// At a node that has stopped nothing is pending, whatever was chosen (`reached`), nor after a tick alone, if it is so before it (`kept`).
+pub fn stopped_stay_empty()
+    ensures { StoppedStayEmptyInEach }
+{}
+
+/// In every lawful scenario, whatever was chosen before: room for `most_pending` events at each node is enough also where a world leaves
+/// arrivals behind, as long as nothing is pending at nodes that have stopped.
+pub fn pending_behind_is_few()
+    ensures { PendingBehindIsFew }
+{}
+
+/// And it is enough for what a tick alone makes pending there: at its own node (`own`), and with the message that it sends (`message`).
+pub fn ticks_behind_fit()
+    ensures { TicksBehindFit }
 {}
