@@ -17,3 +17,4 @@ pub mod HadOff
 pub mod BehindFew
 pub mod Stopped
 pub mod TickFits
+pub mod InTime

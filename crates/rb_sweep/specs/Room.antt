@@ -1,11 +1,13 @@
 -- How much may be pending at a node that leaves arrivals behind.
-use Rattle.std.specs.Prelude.{ℕ, ◌≡◌, ◌+◌, ◌≤◌, true, false, Some, None, List, [], length, slice_get}
+use Rattle.std.specs.Prelude.{ℕ, ◌≡◌, ◌+◌, ◌^◌, ◌<◌, ◌≤◌, All, true, false, Some, None, List, [], length, slice_get}
 use Rattle.rb_base.specs.Nodes.{Side, other}
 use Rattle.rb_rules.specs.declared.message.Message.{Message}
 use Rattle.rb_rules.specs.Book.{of_kind}
+use Rattle.rb_rules.specs.Clock.{time_of}
 use Rattle.rb_rules.specs.Core.{Act}
-use Rattle.rb_rules.specs.Goodness.{Scenario}
+use Rattle.rb_rules.specs.Goodness.{Scenario, clock_of}
 use Rattle.rb_rules.specs.Lawful.{IsLawful}
+use Rattle.rb_rules.specs.Slots.{count_of}
 use Rattle.rb_rules.specs.WorldStep.{Choice, Site, Timed, World, after_act, pass_and_tick, times_of, world_after}
 use Rattle.rb_order.specs.PendingEvents.{most_pending}
 use Rattle.rb_sweep.specs.AheadOf.{IsFirstTick, ahead_of, tick_alone, until_tick}
@@ -43,3 +45,21 @@ TicksBehindFit =
     → NeedsEvent sc w → (me : Side) (i : ℕ) (a : Timed) → IsFirstTick w me i a → ((side : Side) (j : ℕ) → until side j ≤ until_tick me i a.time side j)
     → (s : Site) → slice_get (of_kind me w.sites) i ≡ Some s
     → TickBehindFits sc w me i a s (pass_and_tick sc w.ports me i a.tick (swept sc me i (a.time + 1) s).core)
+
+-- The first tick comes at its time, is one of those that a node may have, and comes after those that its node has had once it is swept. Each
+-- node that runs has a tick that is no earlier, so what is swept there comes by a tick. And all that comes or came to a node is from nodes
+-- that there are
+pub record TickBehindIsInTime (sc : Scenario) (w : World) (me : Side) (i : ℕ) (a : Timed) : Type 0 where
+  pub time : a.time ≡ time_of (clock_of sc me i) a.tick
+  pub small : a.tick < 2 ^ 31
+  pub had : (s : Site) → slice_get (of_kind me w.sites) i ≡ Some s → (swept sc me i (a.time + 1) s).core.had ≤ a.tick
+  pub others : (side : Side) (j : ℕ) (s : Site) → slice_get (of_kind side w.sites) j ≡ Some s → s.runs ≡ true
+      → (k : ℕ) × ((k < 2 ^ 31) × (a.time ≤ time_of (clock_of sc side j) k))
+  pub senders : (side : Side) (j : ℕ) (s : Site) → slice_get (of_kind side w.sites) j ≡ Some s
+      → All (λ c. c.from < count_of (other side) sc.sizes) s.coming × All (λ c. c.from < count_of (other side) sc.sizes) s.got
+
+abbrev pub TicksBehindAreInTime : Type 0
+TicksBehindAreInTime =
+    (sc : Scenario) → IsLawful sc → (choices : List Choice) (until : Side → ℕ → ℕ) (w : World) → world_after sc choices ≡ ahead_of sc until w
+    → NeedsEvent sc w → (me : Side) (i : ℕ) (a : Timed) → IsFirstTick w me i a → ((side : Side) (j : ℕ) → until side j ≤ until_tick me i a.time side j)
+    → TickBehindIsInTime sc w me i a

@@ -3,7 +3,7 @@
 #![tactic(none)]
 
 ghost use Rattle.rb_sweep.specs.Laws.{ArrivalsSettleNothing, GoOnPassesASweep, NobodyIsAhead, NothingIsSwept, PushesPassASweep, SomeTickIsFirst, SweepsCompose, SweepsKeepTheRest, TakesLeadToTheFirstTick, WhatIsSentComesLaterInLawful, WorldsGoOnAhead};
-ghost use Rattle.rb_sweep.specs.Room.{PendingBehindIsFew, StoppedStayEmptyInEach, TicksBehindFit};
+ghost use Rattle.rb_sweep.specs.Room.{PendingBehindIsFew, StoppedStayEmptyInEach, TicksBehindAreInTime, TicksBehindFit};
 
 /// A node that is swept up to a time and then up to a later one is swept up to the later one.
 pub fn sweeps_compose()
@@ -82,4 +82,11 @@ pub fn pending_behind_is_few()
 /// And it is enough for what a tick alone makes pending there: at its own node (`own`), and with the message that it sends (`message`).
 pub fn ticks_behind_fit()
     ensures { TicksBehindFit }
+{}
+
+/// The first tick of a world behind comes at its time (`time`), is one of those that a node may have (`small`) and comes after those that its
+/// node has had once it is swept (`had`). Each node that runs has a tick that is no earlier (`others`), and all that comes or came
+/// to a node is from nodes that there are (`senders`).
+pub fn ticks_behind_are_in_time()
+    ensures { TicksBehindAreInTime }
 {}
