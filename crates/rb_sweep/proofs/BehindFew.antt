@@ -1,5 +1,5 @@
 -- What is pending behind is few.
-use Rattle.std.proofs.Common.{◌≡◌, ℕ, zero, suc, ◌+◌, ◌<◌, ◌≤◌, nat_lt, Bool, true, false, List, [], ◌∷◌, ◌++◌, cond, filter, length, length-append, map, remove, refl, ap, sym, ◌∙◌, subst, arith, inl, inr, Option, Some, None, option_map, option_to_list, slice_get}
+use Rattle.std.proofs.Common.{◌≡◌, ℕ, ◌+◌, ◌≤◌, Bool, true, false, List, [], ◌∷◌, ◌++◌, cond, filter, length, length-append, map, refl, ap, ◌∙◌, arith, inl, inr, Option, Some, None, option_map, option_to_list, slice_get}
 use Rattle.std.proofs.lemmas.Bool.{lt-ltb}
 use Rattle.rb_base.specs.Nodes.{Side, other}
 use Rattle.rb_base.specs.Sizes.{Sizes}
@@ -17,7 +17,6 @@ use Rattle.rb_order.proofs.OneTake.{StandsInRounds}
 use Rattle.rb_order.proofs.TickRooms.{has-room}
 use Rattle.rb_order.proofs.WorldNodes.{Known}
 use Rattle.rb_order.proofs.WorldStands.{IsUp, sent_by}
-use Rattle.rb_sweep.specs.AheadOf.{ahead_of}
 use Rattle.rb_sweep.specs.Room.{PendingBehindIsFew}
 use Rattle.rb_sweep.specs.Sweeping.{Placed, first_of, swept}
 use Rattle.rb_sweep.proofs.Firsts.{first-stands, length-without}

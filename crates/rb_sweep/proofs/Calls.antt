@@ -1,10 +1,7 @@
 -- What a call does besides takes.
-use Rattle.std.proofs.Common.{◌≡◌, ℕ, ◌≤◌, Bool, true, false, List, [], ◌∷◌, ap, ◌∙◌, refl, arith}
-use Rattle.rb_base.specs.Nodes.{Side}
-use Rattle.rb_rules.specs.Book.{map_each}
-use Rattle.rb_rules.specs.Goodness.{Scenario}
+use Rattle.std.proofs.Common.{◌≡◌, ◌≤◌, Bool, true, false, List, [], ◌∷◌, ap, ◌∙◌, refl, arith}
 use Rattle.rb_rules.specs.Hearing.{Coming}
-use Rattle.rb_rules.specs.WorldStep.{Site, World, go_on, settle}
+use Rattle.rb_rules.specs.WorldStep.{World, go_on, settle}
 use Rattle.rb_rules.specs.WorldStep.Way.{ByItself}
 use Rattle.rb_order.proofs.SameHeard.{Every}
 use Rattle.rb_sweep.specs.AheadOf.{ahead_of}

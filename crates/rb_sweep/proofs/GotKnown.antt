@@ -1,17 +1,15 @@
 -- In every world what came to a node came from nodes that there are.
-use Rattle.std.proofs.Common.{◌≡◌, ℕ, zero, suc, ◌+◌, ◌<◌, ◌&&◌, Bool, true, false, List, [], ◌∷◌, ◌++◌, fold, length, refl, ap, sym, ◌∙◌, subst, arith, Option, Some, None, option_map, slice_get}
+use Rattle.std.proofs.Common.{◌≡◌, ℕ, ◌<◌, ◌&&◌, Bool, true, false, List, [], ◌∷◌, ◌++◌, fold, length, refl, ap, sym, ◌∙◌, subst, arith, Option, Some, None, slice_get}
 use Rattle.std.proofs.lemmas.Option.{slice_get_within}
 use Rattle.rb_base.specs.Nodes.{Side, other}
 use Rattle.rb_base.specs.Nodes.Side.{Biu}
-use Rattle.rb_base.specs.Sizes.{Sizes}
 use Rattle.rb_rules.specs.declared.closing.Closed.{Closed}
 use Rattle.rb_rules.specs.declared.message.Message.{Message}
 use Rattle.rb_rules.specs.declared.record.Epoch.{Epoch}
 use Rattle.rb_rules.specs.Book.{Each, each_of, map_each, of_kind}
 use Rattle.rb_rules.specs.Core.{Act}
 use Rattle.rb_rules.specs.Goodness.{Scenario, is_good}
-use Rattle.rb_rules.specs.Hearing.{Coming, Sending, Span, coming_of}
-use Rattle.rb_rules.specs.NodeState.{NodeState}
+use Rattle.rb_rules.specs.Hearing.{Sending, Span, coming_of}
 use Rattle.rb_rules.specs.Ports.{PortState, with_state}
 use Rattle.rb_rules.specs.Slots.{count_of, same_side}
 use Rattle.rb_rules.specs.WorldStep.{Choice, Due, Pending, Site, World, after_act, after_arrival, at_node, await, choose, due_of, enter, first_world, frame_in, fresh_site, go_on, hand, happens, pass_and_tick, proceed, says_in, sent_to, settle, span_from, stop, take, take_if_due, with_act, with_close, with_epoch, with_message, with_pending, world_after}

@@ -45,7 +45,7 @@ use Rattle.rb_rules.specs.declared.record.Epoch.{Epoch}
 use Rattle.rb_rules.specs.Hearing.{Sending, Span}
 use Rattle.rb_rules.specs.Book.{map_each}
 use Rattle.rb_rules.specs.WorldStep.{await, enter, proceed, says_in, sent_to, span_from, stop, with_close, with_epoch}
-use Rattle.rb_rules.proofs.WindowNumbers.{get-each, length-each}
+use Rattle.rb_rules.proofs.WindowNumbers.{get-each}
 use Rattle.rb_sweep.proofs.EachNode.{each-alike}
 use Rattle.rb_sweep.proofs.HadThere.{had-where-it-stands, had_of, is_known}
 use Rattle.rb_sweep.proofs.Settles.{each-fuse}
@@ -292,7 +292,6 @@ tick-small sc lawful q its hands b off sent ports sites h me i s a t there =
           let up : time_of (clock_of sc me i) later.k ≤ time_of (clock_of sc me i) a.tick = times_rise_to (clock_of sc me i) later.k a.tick ge in
           absurd (omega (arith, up, after, ahead.1))
     ]
-
 
 -- What came, after a tick and after an arrival.
 

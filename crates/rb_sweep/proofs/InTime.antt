@@ -1,5 +1,5 @@
 -- The first tick of a world behind is in time.
-use Rattle.std.proofs.Common.{◌≡◌, ℕ, zero, suc, ◌+◌, ◌^◌, ◌<◌, ◌≤◌, Bool, true, false, All, List, [], ◌∷◌, ◌++◌, remove, refl, ap, sym, ◌∙◌, subst, arith, inl, inr, Option, Some, None, option_map, slice_get}
+use Rattle.std.proofs.Common.{◌≡◌, ℕ, zero, suc, ◌+◌, ◌^◌, ◌<◌, ◌≤◌, true, false, List, [], ◌∷◌, ◌++◌, remove, ap, sym, ◌∙◌, subst, arith, inl, inr, Some, option_map, slice_get}
 use Rattle.rb_base.specs.Nodes.{Side, other}
 use Rattle.rb_base.specs.Sizes.{Sizes}
 use Rattle.rb_rules.specs.Book.{of_kind}
@@ -26,9 +26,8 @@ use Rattle.rb_order.proofs.OneTake.{StandsInRounds}
 use Rattle.rb_order.proofs.PendingLists.{StandsAt}
 use Rattle.rb_order.proofs.WorldNodes.{Known, events-due, worlds-known}
 use Rattle.rb_order.proofs.WorldStands.{AllPend, IsUp, sent_by}
-use Rattle.rb_sweep.specs.AheadOf.{GoesOnAhead, IsFirstTick, LeadsToTick, after_takes, ahead_of, each_swept, until_tick}
-use Rattle.rb_sweep.specs.Laws.{NeedsEvent}
-use Rattle.rb_sweep.specs.Room.{TickBehindIsInTime, TicksBehindAreInTime}
+use Rattle.rb_sweep.specs.AheadOf.{GoesOnAhead, LeadsToTick, after_takes, ahead_of, each_swept, until_tick}
+use Rattle.rb_sweep.specs.Room.{TicksBehindAreInTime}
 use Rattle.rb_sweep.specs.Sweeping.{Placed, first_of, swept}
 use Rattle.rb_sweep.proofs.AfterTick.{TicksNow, takes-are, ticks-now}
 use Rattle.rb_sweep.proofs.EachNode.{until-own}

@@ -1,5 +1,5 @@
 -- At a node that has stopped nothing is pending.
-use Rattle.std.proofs.Common.{◌≡◌, ℕ, zero, suc, ◌+◌, ◌<◌, ◌≤◌, ◌&&◌, Bool, true, false, List, [], ◌∷◌, ◌++◌, fold, length, refl, ap, sym, ◌∙◌, subst, arith, Option, Some, None, option_map, slice_get}
+use Rattle.std.proofs.Common.{◌≡◌, ℕ, ◌+◌, ◌<◌, ◌≤◌, ◌&&◌, Bool, true, false, List, [], ◌∷◌, ◌++◌, fold, length, refl, ap, sym, ◌∙◌, subst, arith, Option, Some, None, option_map, slice_get}
 use Rattle.std.proofs.lemmas.Option.{slice_get_within}
 use Rattle.rb_base.specs.Nodes.{Side, other}
 use Rattle.rb_base.specs.Nodes.Side.{Biu}
@@ -12,7 +12,7 @@ use Rattle.rb_rules.specs.Goodness.{Scenario, is_good}
 use Rattle.rb_rules.specs.Hearing.{Coming, Sending, Span, coming_of}
 use Rattle.rb_rules.specs.Ports.{PortState, with_state}
 use Rattle.rb_rules.specs.Slots.{count_of, same_side}
-use Rattle.rb_rules.specs.WorldStep.{Choice, Due, Pending, Site, Timed, World, after_act, after_arrival, at_node, await, choose, due_of, enter, first_world, frame_in, fresh_site, go_on, hand, happens, pass_and_tick, proceed, says_in, sent_to, settle, span_from, stop, take, take_if_due, with_act, with_close, with_epoch, with_message, with_pending, world_after}
+use Rattle.rb_rules.specs.WorldStep.{Choice, Due, Pending, Site, Timed, World, after_act, after_arrival, at_node, await, choose, due_of, enter, first_world, frame_in, fresh_site, go_on, hand, happens, pass_and_tick, proceed, says_in, sent_to, settle, span_from, stop, take, take_if_due, with_act, with_close, with_epoch, with_message, with_pending}
 use Rattle.rb_rules.specs.WorldStep.Choice.{GoOn, Hand, Take}
 use Rattle.rb_rules.specs.WorldStep.Pending.{Arrival, Tick}
 use Rattle.rb_rules.specs.WorldStep.Way.{ByAnEvent, ByItself}
@@ -24,7 +24,7 @@ use Rattle.rb_order.proofs.SameHeard.{Every}
 use Rattle.rb_order.proofs.WorldNodes.{NodesKnown, choose-known, first-counts, first-known, settle-sites}
 use Rattle.rb_order.proofs.WorldStands.{back-from, get-at, is_node, node-is, node-itself}
 use Rattle.rb_sweep.specs.AheadOf.{IsFirstTick, tick_alone}
-use Rattle.rb_sweep.specs.Room.{StoppedHaveNothing, StoppedStayEmpty, StoppedStayEmptyInEach}
+use Rattle.rb_sweep.specs.Room.{StoppedHaveNothing, StoppedStayEmptyInEach}
 use Rattle.rb_sweep.specs.Sweeping.{swept}
 use Rattle.rb_sweep.proofs.Firsts.{some-same}
 use Rattle.rb_sweep.proofs.Sweeps.{sweep-stays, sweeps-keep}

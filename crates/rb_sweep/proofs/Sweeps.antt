@@ -11,7 +11,7 @@ use Rattle.rb_rules.specs.WorldStep.{Site, Timed, after_arrival}
 use Rattle.rb_rules.proofs.QuietTicks.{arrive-same}
 use Rattle.rb_order.proofs.PendingLists.{StandsAt}
 use Rattle.rb_order.proofs.SameHeard.{Every}
-use Rattle.rb_sweep.specs.Laws.{NothingIsSwept, PushesPassASweep, SweepsCompose, SweepsFrom, SweepsKeepTheRest, with_more}
+use Rattle.rb_sweep.specs.Laws.{NothingIsSwept, PushesPassASweep, SweepsCompose, SweepsFrom, SweepsKeepTheRest, SweepsTakeTheFirst, with_more}
 use Rattle.rb_sweep.specs.Sweeping.{Placed, after_first, first_of, swept, swept_by}
 use Rattle.rb_sweep.proofs.Firsts.{every-append, every-so, every-stands, first-append, first-stands, length-without, which-first, without-append}
 
@@ -86,6 +86,9 @@ sweep-of sc me i until P stays takes s = sweep-by sc me i until P stays takes (l
 
 pub nothing-is-swept : NothingIsSwept
 nothing-is-swept sc me i until s late = sweep-stays sc me i until s (all-every (λ c. until ≤ c.time) s.coming late)
+
+pub sweeps-take : SweepsTakeTheFirst
+sweeps-take = sweep-takes
 
 pub sweeps-compose : SweepsCompose
 sweeps-compose sc me i s until later le =

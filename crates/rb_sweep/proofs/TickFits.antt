@@ -1,13 +1,12 @@
 -- What a tick makes pending behind is few, too.
-use Rattle.std.proofs.Common.{◌≡◌, ℕ, suc, ◌+◌, ◌≤◌, ◌&&◌, Bool, true, false, List, [], ◌∷◌, ◌++◌, length, length-append, map, refl, ap, sym, ◌∙◌, subst, arith, Option, Some, None, option_map, option_to_list, slice_get}
+use Rattle.std.proofs.Common.{◌≡◌, ℕ, suc, ◌+◌, ◌≤◌, ◌&&◌, true, false, List, [], ◌∷◌, ◌++◌, length, length-append, map, ap, sym, ◌∙◌, subst, arith, Option, Some, None, option_map, option_to_list, slice_get}
 use Rattle.rb_base.specs.Nodes.{Side, other}
 use Rattle.rb_rules.specs.declared.message.Message.{Message}
 use Rattle.rb_rules.specs.Book.{Each, of_kind}
 use Rattle.rb_rules.specs.Core.{Act}
 use Rattle.rb_rules.specs.Goodness.{Scenario}
 use Rattle.rb_rules.specs.Hearing.{Sending, coming_of}
-use Rattle.rb_rules.specs.Lawful.{IsLawful}
-use Rattle.rb_rules.specs.WorldStep.{Choice, Due, Site, Timed, World, after_act, at_node, happens, pass_and_tick, sent_to, settle, times_of, with_act, with_message, world_after}
+use Rattle.rb_rules.specs.WorldStep.{Choice, Due, Site, Timed, World, after_act, at_node, happens, pass_and_tick, sent_to, times_of, with_act, with_message, world_after}
 use Rattle.rb_rules.specs.WorldStep.Pending.{Tick}
 use Rattle.rb_rules.specs.WorldStep.Way.{ByAnEvent}
 use Rattle.rb_order.specs.PendingEvents.{most_pending}
@@ -16,13 +15,11 @@ use Rattle.rb_order.proofs.OneEvent.{happens-is}
 use Rattle.rb_order.proofs.WorldNodes.{settle-sites}
 use Rattle.rb_order.proofs.WorldStands.{get-at, is_node, kind-itself, node-itself, not-other}
 use Rattle.rb_order.proofs.WorldTicks.{after_tick, get-after, kind-other, reached, reached-not}
-use Rattle.rb_sweep.specs.AheadOf.{GoesOnAhead, IsFirstTick, after_takes, ahead_of, tick_alone, until_tick}
-use Rattle.rb_sweep.specs.Laws.{NeedsEvent}
-use Rattle.rb_sweep.specs.Room.{StoppedHaveNothing, TickBehindFits, TicksBehindFit}
+use Rattle.rb_sweep.specs.AheadOf.{GoesOnAhead, after_takes, ahead_of, tick_alone, until_tick}
+use Rattle.rb_sweep.specs.Room.{TicksBehindFit}
 use Rattle.rb_sweep.specs.Sweeping.{swept}
 use Rattle.rb_sweep.proofs.AfterTick.{takes-are}
 use Rattle.rb_sweep.proofs.BehindFew.{behind-few}
-use Rattle.rb_sweep.proofs.Firsts.{some-same}
 use Rattle.rb_sweep.proofs.GoesOn.{worlds-go-on}
 use Rattle.rb_sweep.proofs.Stopped.{stopped-stay-empty}
 

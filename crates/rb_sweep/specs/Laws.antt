@@ -9,7 +9,7 @@ use Rattle.rb_rules.specs.Slots.{count_of}
 use Rattle.rb_rules.specs.WorldStep.{Choice, Site, Timed, World, after_arrival, at_node, due_of, go_on, needs_no_event, says_in, sent_to, take, world_after}
 use Rattle.rb_rules.specs.WorldStep.Pending.{Arrival}
 use Rattle.rb_sweep.specs.AheadOf.{GoesOnAhead, IsFirstTick, LeadsToTick, ahead_of, until_tick}
-use Rattle.rb_sweep.specs.Sweeping.{swept}
+use Rattle.rb_sweep.specs.Sweeping.{Placed, first_of, swept}
 
 -- Nodes.
 
@@ -18,6 +18,12 @@ abbrev pub SweepsCompose : Type 0
 SweepsCompose =
     (sc : Scenario) (me : Side) (i : ℕ) (s : Site) (until later : ℕ) → until ≤ later
     → swept sc me i later (swept sc me i until s) ≡ swept sc me i later s
+
+-- a sweep takes what comes first, and then the rest
+abbrev pub SweepsTakeTheFirst : Type 0
+SweepsTakeTheFirst =
+    (sc : Scenario) (me : Side) (i until : ℕ) (s : Site) (p : Placed) → first_of s.coming ≡ Some p → p.coming.time < until
+    → swept sc me i until s ≡ swept sc me i until (after_arrival sc me i p.place p.coming s)
 
 -- what a sweep makes of a node: what comes to it, what came, and its core with what that has got and counted. All that is left comes later
 pub record SweepsFrom (sc : Scenario) (me : Side) (i until : ℕ) (s z : Site) : Type 0 where

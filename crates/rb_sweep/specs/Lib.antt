@@ -1,4 +1,4 @@
 pub mod AheadOf
 pub mod Laws
-pub mod Sweeping
 pub mod Room
+pub mod Sweeping

@@ -2,8 +2,13 @@
 //! that does nothing.
 #![tactic(none)]
 
-ghost use Rattle.rb_sweep.specs.Laws.{ArrivalsSettleNothing, GoOnPassesASweep, NobodyIsAhead, NothingIsSwept, PushesPassASweep, SomeTickIsFirst, SweepsCompose, SweepsKeepTheRest, TakesLeadToTheFirstTick, WhatIsSentComesLaterInLawful, WorldsGoOnAhead};
+ghost use Rattle.rb_sweep.specs.Laws.{ArrivalsSettleNothing, GoOnPassesASweep, NobodyIsAhead, NothingIsSwept, PushesPassASweep, SomeTickIsFirst, SweepsCompose, SweepsKeepTheRest, SweepsTakeTheFirst, TakesLeadToTheFirstTick, WhatIsSentComesLaterInLawful, WorldsGoOnAhead};
 ghost use Rattle.rb_sweep.specs.Room.{PendingBehindIsFew, StoppedStayEmptyInEach, TicksBehindAreInTime, TicksBehindFit};
+
+/// A sweep takes what comes first to a node, by time, then by source, then in the order of pushing, and then the rest.
+pub fn sweeps_take_the_first()
+    ensures { SweepsTakeTheFirst }
+{}
 
 /// A node that is swept up to a time and then up to a later one is swept up to the later one.
 pub fn sweeps_compose()
