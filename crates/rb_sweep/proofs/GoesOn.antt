@@ -20,7 +20,7 @@ use Rattle.rb_order.proofs.WorldStands.{back-from, get-at, is_node, node-is, nod
 use Rattle.rb_sweep.specs.AheadOf.{GoesOnAhead, IsFirstTick, LeadsToTick, after_takes, ahead_of, each_swept, is_behind, tick_alone, until_tick}
 use Rattle.rb_sweep.specs.Laws.{NeedsEvent, WorldsGoOnAhead}
 use Rattle.rb_sweep.specs.Sweeping.{swept}
-use Rattle.rb_sweep.proofs.AfterTick.{Later, TicksNow, act-later, ticks-now}
+use Rattle.rb_sweep.proofs.AfterTick.{Later, TicksNow, act-later, takes-are, ticks-now}
 use Rattle.rb_sweep.proofs.EachNode.{KeepsAhead, behind-so-on, each-alike, first-changed, nodes-order, until-behind, until-least, until-most, until-not, until-own}
 use Rattle.rb_sweep.proofs.Firsts.{some-same}
 use Rattle.rb_sweep.proofs.Leads.{leads-to-tick}
@@ -142,7 +142,7 @@ untils-rise me you i n t u (inr same) side j = by (is_behind you n side j) refl
 goes-on : (sc : Scenario) → IsLawful sc → (choices : List Choice) (until : Side → ℕ → ℕ) (w : World) → world_after sc choices ≡ ahead_of sc until w → NeedsEvent sc w
     → (me : Side) (i : ℕ) (a : Timed) → IsFirstTick w me i a → ((side : Side) (j : ℕ) → until side j ≤ until_tick me i a.time side j) → GoesOnAhead sc until w me i a
 unfolding after_takes take with_act
-goes-on sc lawful choices until w is event me i a first le = record { leads = leads; after = after; later = later }
+goes-on sc lawful choices until w is event me i a first le = record { leads = leads; after = after; choices = cs; reached = reached; later = later }
   where
     ahead : World
     ahead = ahead_of sc until w
@@ -242,6 +242,12 @@ goes-on sc lawful choices until w is event me i a first le = record { leads = le
         ∙ ap (settle sc ByAnEvent 2) taken
         ∙ settle-turn sc ByAnEvent 2 (ahead_of sc next (happens sc alone d)) turn
         ∙ settle-changed sc ByAnEvent 2 (sweep_to sc next) (happens sc alone d) (swept-told sc next)
+
+    cs : List Choice
+    cs = (takes-are sc choices (suc n)).0
+
+    reached : world_after sc cs ≡ ahead_of sc next (tick_alone sc me i a w)
+    reached = sym (takes-are sc choices (suc n)).1 ∙ ap (after_takes sc (suc n)) is ∙ after
 
     behind-sites : (tick_alone sc me i a w).sites ≡ (with_act sc alone me i a.tick x).sites
     behind-sites = settle-sites sc ByAnEvent 2 (happens sc alone d) ∙ ap (λ (y : World). y.sites) alone-is

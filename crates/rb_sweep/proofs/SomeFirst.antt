@@ -17,7 +17,9 @@ use Rattle.rb_order.proofs.Progress.{SomePends}
 use Rattle.rb_order.proofs.WorldStands.{IsUp, sent_by}
 use Rattle.rb_sweep.specs.AheadOf.{IsFirstTick, is_behind}
 use Rattle.rb_sweep.specs.Laws.{NeedsEvent, SomeTickIsFirst}
+use Rattle.rb_sweep.proofs.EachNode.{first-back}
 use Rattle.rb_sweep.proofs.Firsts.{some-same}
+use Rattle.rb_sweep.proofs.GoesOn.{swept-ahead, sweep_to}
 
 true-false : {P : Type 0} → true ≡ false → P
 true-false e = absurd (cc)
@@ -143,4 +145,8 @@ some-first w some = by (first-in w.sites.bius) (first-in w.sites.rmus)
     ]
 
 pub some-tick-is-first : SomeTickIsFirst
-some-tick-is-first sc lawful choices event = some-first (world_after sc choices) (some-pends sc lawful (world_after sc choices) (any sc lawful choices) event)
+some-tick-is-first sc lawful choices until w is event =
+    let x : World = world_after sc choices in
+    let needs : NeedsEvent sc x = subst (NeedsEvent sc) (sym is) (record { going = event.going; needs = event.needs }) in
+    let one : SomeFirst x = some-first x (some-pends sc lawful x (any sc lawful choices) needs) in
+    (one.0, (one.1.0, (one.1.1.0, first-back (sweep_to sc until) w x one.0 one.1.0 one.1.1.0 (ap (λ (x : World). x.sites) is) (swept-ahead sc until) one.1.1.1)))

@@ -1,11 +1,11 @@
 -- A world that is ahead of another by arrivals alone, and how both go on from tick to tick.
-use Rattle.std.specs.Prelude.{ℕ, zero, suc, ◌≡◌, ◌+◌, ◌<◌, ◌≤◌, nat_lt, Bool, true, false, if◌then◌else◌, None, Some, slice_get}
+use Rattle.std.specs.Prelude.{ℕ, zero, suc, ◌≡◌, ◌+◌, ◌<◌, ◌≤◌, nat_lt, Bool, true, false, if◌then◌else◌, None, Some, slice_get, List}
 use Rattle.rb_base.specs.Nodes.{Side}
 use Rattle.rb_base.specs.Nodes.Side.{Biu, Rmu}
 use Rattle.rb_rules.specs.Book.{Each, map_each, of_kind}
 use Rattle.rb_rules.specs.Goodness.{Scenario}
 use Rattle.rb_rules.specs.Hearing.{Coming}
-use Rattle.rb_rules.specs.WorldStep.{Site, Timed, World, at_node, due_of, happens, settle, take}
+use Rattle.rb_rules.specs.WorldStep.{Choice, Site, Timed, World, at_node, due_of, happens, settle, take, world_after}
 use Rattle.rb_rules.specs.WorldStep.Pending.{Arrival, Tick}
 use Rattle.rb_rules.specs.WorldStep.Way.{ByAnEvent}
 use Rattle.rb_sweep.specs.Sweeping.{swept}
@@ -73,9 +73,11 @@ pub record LeadsToTick (sc : Scenario) (w : World) (me : Side) (i : ℕ) (a : Ti
   pub tick : slice_get (due_of sc (after_takes sc takes w)) 0 ≡ Some (record { side = me; node = i; pending = Tick a.tick })
 
 -- And one take more, that of the tick, leads from a world that is ahead to one that is ahead of what the tick alone makes of the world
--- behind. What is first there comes no earlier
+-- behind. So some choices lead there, too, and what is first there comes no earlier
 pub record GoesOnAhead (sc : Scenario) (until : Side → ℕ → ℕ) (w : World) (me : Side) (i : ℕ) (a : Timed) : Type 0 where
   pub leads : LeadsToTick sc (ahead_of sc until w) me i a
   pub after : after_takes sc (suc leads.takes) (ahead_of sc until w) ≡ ahead_of sc (until_tick me i a.time) (tick_alone sc me i a w)
+  pub choices : List Choice
+  pub reached : world_after sc choices ≡ ahead_of sc (until_tick me i a.time) (tick_alone sc me i a w)
   pub later : (you : Side) (n : ℕ) (b : Timed) → IsFirstTick (tick_alone sc me i a w) you n b
       → (side : Side) (j : ℕ) → until_tick me i a.time side j ≤ until_tick you n b.time side j

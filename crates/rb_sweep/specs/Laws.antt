@@ -82,11 +82,11 @@ TakesLeadToTheFirstTick =
     (sc : Scenario) → IsLawful sc → (choices : List Choice) → NeedsEvent sc (world_after sc choices)
     → (me : Side) (i : ℕ) (a : Timed) → IsFirstTick (world_after sc choices) me i a → LeadsToTick sc (world_after sc choices) me i a
 
--- some tick is the first
+-- some tick is the first, also of those of a world of which that one is ahead
 abbrev pub SomeTickIsFirst : Type 0
 SomeTickIsFirst =
-    (sc : Scenario) → IsLawful sc → (choices : List Choice) → NeedsEvent sc (world_after sc choices)
-    → (me : Side) × ((i : ℕ) × ((a : Timed) × IsFirstTick (world_after sc choices) me i a))
+    (sc : Scenario) → IsLawful sc → (choices : List Choice) (until : Side → ℕ → ℕ) (w : World) → world_after sc choices ≡ ahead_of sc until w → NeedsEvent sc w
+    → (me : Side) × ((i : ℕ) × ((a : Timed) × IsFirstTick w me i a))
 
 -- A world that is ahead of another goes on as its ticks alone make the other go on. At first no node need be ahead: each time is 0
 abbrev pub WorldsGoOnAhead : Type 0

@@ -50,7 +50,7 @@ pub fn takes_lead_to_the_first_tick()
 {}
 
 /// In every lawful scenario, whatever was chosen before, some tick is pending and one is the first, as long as the run has not ended and its
-/// next record needs an event.
+/// next record needs an event: in a world of which the one that was chosen is ahead.
 pub fn some_tick_is_first()
     ensures { SomeTickIsFirst }
 {}
