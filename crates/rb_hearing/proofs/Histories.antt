@@ -101,13 +101,16 @@ named-one all past line below within is = record {
   where
     after : Option OpenLetter
     after = (read_of all line).after
+
     in_all : line.receiver < length all
     in_all = let many = is.many in omega (arith, many, below)
+
     each-by : (r : ℕ) → r < 16 → (r ≡ line.receiver) ⊎ (r ≡ line.receiver → ⊥) → length (get_or (written all line.receiver line.sender after) r []) ≡ 16
     each-by r few (inl e) =
         subst (λ q. length (get_or (written all line.receiver line.sender after) q []) ≡ 16) (sym e)
         (ap length (row-same all line.receiver line.sender after in_all) ∙ length-set (get_or all line.receiver []) line.sender after ∙ is.each line.receiver below)
     each-by r few (inr ne) = ap length (row-other all line.receiver line.sender r after ne) ∙ is.each r few
+
     known-by : (r s : ℕ) → r < 16 → s < 16 → (r ≡ line.receiver) ⊎ (r ≡ line.receiver → ⊥) → (s ≡ line.sender) ⊎ (s ≡ line.sender → ⊥)
         → get_or (get_or (written all line.receiver line.sender after) r []) s None ≡ open_at r s (past ++ line ∷ [])
     known-by r s few few_s (inr ne) any =

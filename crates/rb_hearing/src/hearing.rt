@@ -52,13 +52,7 @@ fn write_letter<K: Sink>(
     match letter {
         Some(letter) => write_line(
             output,
-            &letter_line(
-                frame,
-                slot,
-                line.receiver,
-                line.sender,
-                letter.as_slice(),
-            ),
+            &letter_line(frame, slot, line.receiver, line.sender, letter.as_slice()),
         ),
         None => Ok(()),
     }

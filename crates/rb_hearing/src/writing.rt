@@ -8,7 +8,10 @@ use arrayvec::ArrayString;
 use rb_outside::{Failed, Sink, write_all};
 
 // Writes the line.
-pub(crate) fn write_line<const N: usize, K: Sink>(output: &mut K, line: &ArrayString<N>) -> Result<(), Failed>
+pub(crate) fn write_line<const N: usize, K: Sink>(
+    output: &mut K,
+    line: &ArrayString<N>,
+) -> Result<(), Failed>
     ensures all { OnOk result (Appends (K.held output.old) (K.held output.new) line.now.bytes) }
     ensures part { OnErr result (AppendsPart (K.held output.old) (K.held output.new) line.now.bytes) }
     ensures cause { HasCause (K.faults output.old) (K.faults output.new) result }

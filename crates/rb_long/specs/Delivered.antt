@@ -1,5 +1,5 @@
 -- The letters among what ports deliver.
-use Rattle.std.specs.Prelude.{ℕ, ◌==◌, nat_lt, ◌&&◌, Bool, Option, None, List, [], ◌∷◌, ◌++◌, filter, map, if◌then◌else◌}
+use Rattle.std.specs.Prelude.{ℕ, ◌==◌, nat_lt, ◌&&◌, Bool, Option, None, List, [], filter, map, if◌then◌else◌}
 use Rattle.std.specs.List.{flat_map}
 use Rattle.rb_base.specs.declared.values.Heard.{Heard}
 use Rattle.rb_rules.specs.declared.record.SlotLine.{SlotLine}

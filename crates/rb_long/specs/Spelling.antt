@@ -1,5 +1,5 @@
 -- How a letter of 1 to 255 bytes is spelled as words.
-use Rattle.std.specs.Prelude.{ℕ, ◌+◌, ◌*◌, ◌-◌, ◌/◌, ◌%◌, ◌^◌, nat_le, nat_lt, ◌&&◌, Bool, List, [], ◌∷◌, length, map, get_or}
+use Rattle.std.specs.Prelude.{ℕ, ◌+◌, ◌*◌, ◌/◌, ◌%◌, ◌^◌, nat_le, nat_lt, ◌&&◌, Bool, List, [], ◌∷◌, length, map, get_or}
 use Rattle.rb_base.specs.Counting.{numbers}
 
 -- so many bytes make a letter

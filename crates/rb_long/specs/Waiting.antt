@@ -1,5 +1,5 @@
 -- The letters that a sender has not wholly sent, each as its words that are still to come.
-use Rattle.std.specs.Prelude.{⊤, ℕ, nat_le, nat_lt, Result, Ok, Err, List, [], ◌∷◌, ◌++◌, drop, length, map, get_or, Option, Some, None, if◌then◌else◌}
+use Rattle.std.specs.Prelude.{⊤, ℕ, nat_le, nat_lt, Result, Ok, Err, List, [], ◌∷◌, ◌++◌, drop, length, get_or, Option, Some, None, if◌then◌else◌}
 use Rattle.rb_long.specs.Spelling.{is_length, spelling_of}
 use Rattle.rb_long.specs.declared.refusal.LongRefusal.{LongRefusal}
 use Rattle.rb_long.specs.declared.refusal.LongRefusal.TheVariants.{Length, Full}
