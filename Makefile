@@ -1,10 +1,19 @@
 # make run SCENARIO=examples/one_silent_rmu.toml   runs a scenario
 # make build                                       proves and builds the program
-# make test                                        the gate: every proof, must-fail edit, test and program
+# make test                                        the gate: every proof, must-fail edit, test and program, and the documents
 # make bench                                       builds the programs and measures them
 # make examples                                    runs each example, and looks for the lines that its page names
+# make tutorial                                    runs the commands of docs/TUTORIAL.md, and compares what they print
+# make compare COUNT=1000 SEED=1                   gives so many cases to the program and to a second model of the bus
+# make install PREFIX=/usr/local                   puts the program that was built, manual pages, documents and examples there
 
-.PHONY: run build test bench examples
+PREFIX ?= /usr/local
+ROBUS = crates/robus/out/robus
+AT = $(DESTDIR)$(PREFIX)
+COUNT = 1000
+SEED = 1
+
+.PHONY: run build test bench examples tutorial compare install uninstall
 
 run:
 	@test -n "$(SCENARIO)" || { echo "usage: make run SCENARIO=examples/one_silent_rmu.toml (or another of examples/)" >&2; exit 2; }
@@ -22,3 +31,22 @@ bench: build
 
 examples: build
 	tools/examples
+
+tutorial: build
+	tools/tutorial
+
+compare: build
+	tools/compare_models $(COUNT) $(SEED)
+
+install:
+	@tools/proved $(ROBUS) || { echo "make install: no proved program is up to date: make build first" >&2; exit 2; }
+	install -d "$(AT)/bin" "$(AT)/share/man/man1" "$(AT)/share/man/man5" "$(AT)/share/doc/robus"
+	install -m 755 $(ROBUS) "$(AT)/bin/robus"
+	tools/manual docs/robus.md robus 1 > "$(AT)/share/man/man1/robus.1"
+	tools/manual docs/SCENARIOS.md robus_scenario 5 "scenarios of a fault-tolerant broadcast bus" > "$(AT)/share/man/man5/robus_scenario.5"
+	tools/manual docs/FORMATS.md robus_formats 5 "messages and logs of a fault-tolerant broadcast bus" > "$(AT)/share/man/man5/robus_formats.5"
+	cp -R README.md docs examples "$(AT)/share/doc/robus"
+
+uninstall:
+	rm -f "$(AT)/bin/robus" "$(AT)/share/man/man1/robus.1" "$(AT)/share/man/man5/robus_scenario.5" "$(AT)/share/man/man5/robus_formats.5"
+	rm -rf "$(AT)/share/doc/robus"

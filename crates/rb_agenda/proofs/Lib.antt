@@ -4,6 +4,7 @@ pub mod Dues
 pub mod Which
 pub mod Keeping
 pub mod Scans
+pub mod Fronts
 pub mod Places
 pub mod Changes
 pub mod Taking

@@ -1,5 +1,5 @@
 //! The agenda of all nodes.
-ghost use Rattle.std.specs.Prelude.{◌≡◌, ◌<◌, ◌≤◌, [], length, IfOk, Some};
+ghost use Rattle.std.specs.Prelude.{◌≡◌, ◌<◌, ◌≤◌, [], length, IfOk, Some, IsTrue, ◌↔◌};
 ghost use Rattle.std.proofs.Math.ListN.{replicate};
 ghost use Rattle.rb_rules.specs.Book.{each_of};
 ghost use Rattle.rb_rules.specs.Goodness.{Scenario};
@@ -8,7 +8,9 @@ ghost use Rattle.rb_queue.specs.Waiting.{HasLane, empty_lane, head_of, lane_of, 
 ghost use Rattle.rb_agenda.specs.Agenda.{IsDue, StandsAt, Takes, TakesDue, due_now, first_time, how_many};
 ghost use Rattle.rb_agenda.specs.Holding.{HoldsSites};
 
-use crate::scan::{due_count, key_of, least_key, locate, position_of};
+use crate::scan::{
+    Front, are_some, due_count, front_of, is_at_front, key_of, locate, position_of, put_key,
+};
 use rb_base::{Event, NodeName, OutOfMemory, Shape};
 use rb_queue::Lanes;
 use std::alloc::Global;
@@ -20,18 +22,21 @@ pub struct Agenda {
     lanes: Lanes,
     keys: Vec<u64>,
     bius: usize,
+    // Where the least of the keys stands.
+    front: Front,
 }
 
 impl Model for Agenda {
     ghost use Rattle.rb_rules.specs.Book.{Each};
     ghost use Rattle.rb_queue.specs.Waiting.{Held};
     ghost use Rattle.rb_agenda.specs.Agenda.{AreKept};
+    ghost use Rattle.rb_agenda.specs.Fronts.{IsFront};
 
     ghost Value = { Each Held };
 
     ghost view = { λ a. a.lanes };
 
-    ghost invariant = { λ a. AreKept a.lanes a.keys.items a.bius };
+    ghost invariant = { λ a. AreKept a.lanes a.keys.items a.bius × IsFront a.keys.items a.front };
 }
 
 // So many least times of nodes at which nothing is pending.
@@ -50,7 +55,13 @@ impl Agenda {
         let lanes = Lanes::new(alloc, shape, room)?;
         let bius = usize::from(shape.biu());
         let keys = no_times(alloc, bius + usize::from(shape.rmu()))?;
-        Ok(Agenda { lanes, keys, bius })
+        let front = front_of(&keys);
+        Ok(Agenda {
+            lanes,
+            keys,
+            bius,
+            front,
+        })
     }
 
     /// How many events more there is room for at the node.
@@ -72,14 +83,15 @@ impl Agenda {
         let node = event.node;
         self.lanes.push(time, event);
         let key = key_of(&self.lanes, node);
-        self.keys[position_of(self.bius, node)] = key;
+        let place = position_of(self.bius, node);
+        self.front = put_key(&mut self.keys, self.front, place, key);
     }
 
     /// The least time of all events, in reference units; 2^64 - 1 where there is none.
     pub fn first_time(&self) -> u64
         ensures value { result ≡ first_time self.now }
     {
-        least_key(&self.keys)
+        self.front.least
     }
 
     /// How many events are due: those of the least time that may be taken.
@@ -87,7 +99,19 @@ impl Agenda {
         ensures value { result ≡ how_many self.now }
         ensures world { (sc : Scenario) → (w : World) → HoldsSites sc.sizes self.now w.sites → result ≡ length (due_now sc w) }
     {
-        due_count(&self.lanes, &self.keys, self.bius, least_key(&self.keys))
+        due_count(&self.lanes, &self.keys, self.bius, self.front.least)
+    }
+
+    /// Whether an event is due.
+    pub fn is_due(&self) -> bool
+        ensures value { IsTrue result ↔ 0 < how_many self.now }
+        ensures world { (sc : Scenario) → (w : World) → HoldsSites sc.sizes self.now w.sites → IsTrue result ↔ 0 < length (due_now sc w) }
+    {
+        if is_at_front(&self.lanes, &self.keys, self.bius, self.front) {
+            true
+        } else {
+            are_some(self.due())
+        }
     }
 
     /// The node at which the i-th due event waits, counted from 0, and the event's place among those that are ready there.
@@ -96,7 +120,7 @@ impl Agenda {
         ensures stands { StandsAt self.now (first_time self.now) i result.0 result.1 }
         ensures world { (sc : Scenario) → (w : World) → HoldsSites sc.sizes self.now w.sites → IsDue sc w self.now i result.0 result.1 }
     {
-        locate(&self.lanes, &self.keys, self.bius, least_key(&self.keys), i)
+        locate(&self.lanes, &self.keys, self.bius, self.front, i)
     }
 
     /// The event at this place among those that are ready at the node.
@@ -115,10 +139,11 @@ impl Agenda {
         ensures world { (sc : Scenario) → (w : World) → HoldsSites sc.sizes self.old w.sites
             → TakesDue sc w i (first_time self.old) result.0 result.1 self.new }
     {
-        let (node, place) = locate(&self.lanes, &self.keys, self.bius, least_key(&self.keys), i);
+        let (node, place) = locate(&self.lanes, &self.keys, self.bius, self.front, i);
         let event = self.lanes.take(node, place);
         let key = key_of(&self.lanes, node);
-        self.keys[position_of(self.bius, node)] = key;
+        let place = position_of(self.bius, node);
+        self.front = put_key(&mut self.keys, self.front, place, key);
         (node, event)
     }
 
@@ -128,6 +153,7 @@ impl Agenda {
         ensures after { self.new ≡ with_lane node (without_events (lane_of self.old node)) self.old }
     {
         self.lanes.drop_all(node);
-        self.keys[position_of(self.bius, node)] = u64::MAX;
+        let place = position_of(self.bius, node);
+        self.front = put_key(&mut self.keys, self.front, place, u64::MAX);
     }
 }

@@ -1,8 +1,9 @@
 //! What is looked up among the least times of all nodes.
-ghost use Rattle.std.specs.Prelude.{◌≡◌, ℕ, ◌+◌, ◌<◌, ◌≤◌, length};
+ghost use Rattle.std.specs.Prelude.{◌≡◌, ℕ, ◌+◌, ◌<◌, ◌≤◌, length, nat_lt, slice_set, if◌then◌else◌, IsTrue, ◌↔◌};
 ghost use Rattle.rb_rules.specs.Book.{in_order};
 ghost use Rattle.rb_queue.specs.Waiting.{HasLane, lane_of};
-ghost use Rattle.rb_agenda.specs.Agenda.{AreKept, StandsAt, due_count, due_in, key_of, least_key, node_at, position_of};
+ghost use Rattle.rb_agenda.specs.Agenda.{AreKept, StandsAt, due_count, due_in, key_of, node_at, position_of};
+ghost use Rattle.rb_agenda.specs.Fronts.{IsFront, lowered};
 
 use rb_base::NodeName;
 use rb_queue::Lanes;
@@ -39,14 +40,73 @@ pub(crate) fn key_of(lanes: &Lanes, node: NodeName) -> u64
     lanes.head(node).unwrap_or(u64::MAX)
 }
 
-pub(crate) fn least_key(keys: &[u64]) -> u64
-    ensures { result ≡ least_key keys.now }
+/// The least of the keys, and the first place at which it stands.
+#[derive(Clone, Copy)]
+pub struct Front {
+    pub(crate) first: usize,
+    pub(crate) least: u64,
+}
+
+// One key more is looked at.
+fn with_key(front: Front, place: usize, key: u64) -> Front
+    ensures { result ≡ (if nat_lt key front.least then record { first = place; least = key } else front) }
 {
-    let mut least = u64::MAX;
-    for key in keys {
-        least = least.min(*key);
+    if key < front.least {
+        Front {
+            first: place,
+            least: key,
+        }
+    } else {
+        front
     }
-    least
+}
+
+pub(crate) fn front_of(keys: &[u64]) -> Front
+    ensures { IsFront keys.now result }
+{
+    let mut front = Front {
+        first: 0,
+        least: u64::MAX,
+    };
+    for (place, key) in keys.iter().enumerate() {
+        front = with_key(front, place, *key);
+    }
+    front
+}
+
+// The front after the key at a place was changed to one that is no greater.
+fn front_lowered(front: Front, place: usize, key: u64) -> Front
+    ensures { result ≡ lowered front place key }
+{
+    if front.least > key {
+        Front {
+            first: place,
+            least: key,
+        }
+    } else if key == front.least && place < front.first {
+        Front {
+            first: place,
+            least: key,
+        }
+    } else {
+        front
+    }
+}
+
+// The key at a place changes.
+pub(crate) fn put_key(keys: &mut Vec<u64>, front: Front, place: usize, key: u64) -> Front
+    requires within { place < length keys.old.items }
+    requires front { IsFront keys.old.items front }
+    ensures keys { keys.new.items ≡ slice_set keys.old.items place key }
+    ensures front { IsFront keys.new.items result }
+{
+    let before = keys[place];
+    keys[place] = key;
+    if before < key {
+        front_of(keys)
+    } else {
+        front_lowered(front, place, key)
+    }
 }
 
 // How many events of a node are due at a time, where the node has this least time.
@@ -58,6 +118,29 @@ fn due_in(lanes: &Lanes, node: NodeName, key: u64, time: u64) -> usize
     ensures few { result ≤ 65536 }
 {
     if key == time { lanes.ready(node) } else { 0 }
+}
+
+// Whether an event is due at the node of the least key.
+pub(crate) fn is_at_front(lanes: &Lanes, keys: &[u64], bius: usize, front: Front) -> bool
+    requires kept { AreKept lanes.now keys.now bius }
+    requires front { IsFront keys.now front }
+    ensures stands { IsTrue result → StandsAt lanes.now front.least 0 (node_at bius front.first) 0 }
+    ensures some { IsTrue result → 0 < due_count front.least (in_order lanes.now) }
+{
+    if front.first >= keys.len() {
+        return false;
+    }
+    if keys[front.first] != front.least {
+        return false;
+    }
+    lanes.is_ready(node_at(bius, front.first))
+}
+
+// Whether there are any.
+pub(crate) fn are_some(count: usize) -> bool
+    ensures { IsTrue result ↔ 0 < count }
+{
+    count > 0
 }
 
 // How many events are due at a time.
@@ -72,14 +155,29 @@ pub(crate) fn due_count(lanes: &Lanes, keys: &[u64], bius: usize, time: u64) -> 
     count
 }
 
-// The node of the i-th event that is due at a time, and the event's place among those that are ready there.
+// The node of the i-th event that is due, and the event's place among those that are ready there. The first is mostly looked for.
+#[inline(always)]
 pub(crate) fn locate(
     lanes: &Lanes,
     keys: &[u64],
     bius: usize,
-    time: u64,
+    front: Front,
     i: usize,
 ) -> (NodeName, usize)
+    requires kept { AreKept lanes.now keys.now bius }
+    requires front { IsFront keys.now front }
+    requires below { i < due_count front.least (in_order lanes.now) }
+    ensures { StandsAt lanes.now front.least i result.0 result.1 }
+{
+    if i == 0 && is_at_front(lanes, keys, bius, front) {
+        return (node_at(bius, front.first), 0);
+    }
+    locate_among(lanes, keys, bius, front.least, i)
+}
+
+// The same, node by node.
+#[inline(never)]
+fn locate_among(lanes: &Lanes, keys: &[u64], bius: usize, time: u64, i: usize) -> (NodeName, usize)
     requires kept { AreKept lanes.now keys.now bius }
     requires below { i < due_count time (in_order lanes.now) }
     ensures { StandsAt lanes.now time i result.0 result.1 }

@@ -314,3 +314,11 @@ settles-two sc k l between after w t u due passes quiet more second =
     none : (r : Option Record) → is_none r ≡ true → r ≡ None
     none None e = refl
     none (Some r) e = absurd (cc)
+
+-- a turn without a record is Quiet
+pub quiet-is : (t : Turn) → is_none (record_of t) ≡ true → t ≡ turn.Quiet
+quiet-is turn.Quiet e = refl
+quiet-is (turn.Frame f) e = absurd (cc)
+quiet-is (turn.Slot s) e = absurd (cc)
+quiet-is turn.Ended e = absurd (cc)
+quiet-is (turn.Breach place cause) e = absurd (cc)

@@ -9,6 +9,7 @@ ghost use Rattle.rb_onset.specs.Faults.{faults_of};
 ghost use Rattle.rb_book.specs.Changing.{changed_at, count_for, number_in, row_shown, side_in, with_begun, with_row};
 ghost use Rattle.rb_book.specs.Holding.{Holds};
 ghost use Rattle.rb_book.specs.Records.{milestone_of, way_of};
+ghost use Rattle.rb_book.specs.declared.turn.Turn.{Turn};
 ghost use Rattle.rb_book.specs.Settling.{Settles};
 
 use crate::ledger::Ledger;
@@ -91,6 +92,16 @@ impl Book {
         ensures shape { self.new.shape ≡ self.old.shape }
     {
         self.ledger.settle(way)
+    }
+
+    /// The same in place, for a turn that is `Quiet`: it is written over where something is due. Else that costs next to nothing.
+    #[inline(always)]
+    pub fn settle_into(&mut self, way: Way, turn: &mut Turn)
+        requires quiet { turn.old ≡ Turn.Quiet }
+        ensures settled { (sc : Scenario) (w : World) → Holds sc self.old w → Settles sc (way_of way) w self.new turn.new }
+        ensures shape { self.new.shape ≡ self.old.shape }
+    {
+        self.ledger.settle_into(way, turn);
     }
 
     /// The first milestone that is not settled.

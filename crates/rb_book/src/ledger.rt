@@ -1,5 +1,5 @@
 //! The book of a run, as it is kept.
-ghost use Rattle.std.specs.Prelude.{◌≡◌, ◌+◌, ◌-◌, ◌^◌, ◌<◌, ◌≤◌, ◌==◌, ◌++◌, ℕ, false, is_none, get_or, Some, None, if◌then◌else◌};
+ghost use Rattle.std.specs.Prelude.{◌≡◌, true, ◌+◌, ◌-◌, ◌^◌, ◌<◌, ◌≤◌, ◌==◌, ◌++◌, ℕ, false, is_none, get_or, Some, None, if◌then◌else◌};
 ghost use Rattle.rb_base.specs.Nodes.{has, other};
 ghost use Rattle.rb_base.specs.declared.values.See.TheVariants.{Nothing};
 ghost use Rattle.rb_rules.specs.Slots.{count_of};
@@ -12,6 +12,7 @@ ghost use Rattle.rb_onset.specs.Faults.{faults_of};
 ghost use Rattle.rb_book.specs.Changing.{changed_at, count_for, line_from, number_in, row_shown, side_in, with_begun, with_row};
 ghost use Rattle.rb_book.specs.Holding.{Holds, Passes, StaysUntil, TurnsTo, frame_record, good_for, slot_record};
 ghost use Rattle.rb_book.specs.Settling.{GoesPast, JudgesStage, Settles, after_begin, comes_when, is_due, is_free, rows_found};
+ghost use Rattle.rb_book.specs.declared.turn.Turn.{Turn};
 ghost use Rattle.rb_book.specs.declared.milestone.Milestone.TheVariants as coming;
 ghost use Rattle.rb_book.specs.Records.{milestone_of, record_of, way_of};
 ghost use Rattle.rb_book.specs.Waiting.{found_of, line_of, node_line_of, port_line_of};
@@ -248,40 +249,41 @@ impl Ledger {
         })
     }
 
-    // The record of a slot, which comes with its stage 3.
-    fn slot_turn(&self, place: Place) -> Turn
-        ensures { record_of result ≡ slot_record self.now.shape place self.now.lines.items }
+    // The record of a slot, which comes with its stage 3. The turn is `Quiet` before, here and in what follows, and is written over
+    // where a record comes.
+    fn slot_turn(&self, place: Place, turn: &mut Turn)
+        requires { turn.old ≡ Turn.Quiet }
+        ensures { record_of turn.new ≡ slot_record self.now.shape place self.now.lines.items }
     {
         if place.stage == 3 && place.slot < self.shape.sync_slot() {
-            Turn::Slot(SlotRecord {
+            *turn = Turn::Slot(SlotRecord {
                 frame: place.frame,
                 slot: place.slot,
                 lines: self.lines.clone().unwrap(),
-            })
-        } else {
-            Turn::Quiet
+            });
         }
     }
 
     // The begin of a frame is settled.
-    fn pass_begin(&mut self, frame: u32) -> Turn
-        ensures passes { (sc : Scenario) (w : World) → Holds sc self.old w → self.old.ended ≡ false → self.old.upcoming ≡ coming.Begin frame → Passes sc w self.new result }
+    fn pass_begin(&mut self, frame: u32, turn: &mut Turn)
+        ensures passes { (sc : Scenario) (w : World) → Holds sc self.old w → self.old.ended ≡ false → self.old.upcoming ≡ coming.Begin frame → Passes sc w self.new turn.new }
         ensures shape { self.new.shape ≡ self.old.shape }
     {
-        let turn = self.frame_turn(frame);
+        let given = self.frame_turn(frame);
         let sync_slot = self.shape.sync_slot();
         self.judge.frame();
         self.lines = ArrayVec::new();
         self.bius.lasting = self.onsets.good_biu(frame, sync_slot);
         self.rmus.lasting = self.onsets.good_rmu(frame, sync_slot);
         self.turn_to(after_begin(frame, self.frames));
-        turn
+        *turn = given;
     }
 
     // A stage is settled, of which all good nodes have told.
-    fn pass_stage(&mut self, place: Place) -> Turn
+    fn pass_stage(&mut self, place: Place, turn: &mut Turn)
+        requires { turn.old ≡ Turn.Quiet }
         ensures passes { (sc : Scenario) (w : World) → Holds sc self.old w → self.old.ended ≡ false → self.old.upcoming ≡ coming.Stage place
-            → self.old.bius.waiting ≡ 0 → self.old.rmus.waiting ≡ 0 → Passes sc w self.new result }
+            → self.old.bius.waiting ≡ 0 → self.old.rmus.waiting ≡ 0 → Passes sc w self.new turn.new }
         ensures shape { self.new.shape ≡ self.old.shape }
     {
         judge_stage(
@@ -295,17 +297,18 @@ impl Ledger {
         match self.judge.verdict() {
             Some(cause) => {
                 self.ended = true;
-                Turn::Breach(place, cause)
+                *turn = Turn::Breach(place, cause);
             }
-            None => self.pass_judged(place),
+            None => self.pass_judged(place, turn),
         }
     }
 
     // A stage is settled, and the premise holds.
-    fn pass_judged(&mut self, place: Place) -> Turn
-        ensures { GoesPast self.old self.new place result }
+    fn pass_judged(&mut self, place: Place, turn: &mut Turn)
+        requires { turn.old ≡ Turn.Quiet }
+        ensures { GoesPast self.old self.new place turn.new }
     {
-        let turn = self.slot_turn(place);
+        self.slot_turn(place, turn);
         keep_lines(&mut self.lines, &self.shape, place, &self.bius);
         let next = after_stage(&self.shape, place);
         if place.stage < 3 {
@@ -313,21 +316,21 @@ impl Ledger {
         } else {
             self.turn_to(next);
         }
-        turn
     }
 
     // The upcoming milestone is settled, of which all good nodes have told.
-    fn pass(&mut self) -> Turn
+    fn pass(&mut self, turn: &mut Turn)
+        requires { turn.old ≡ Turn.Quiet }
         ensures passes { (sc : Scenario) (w : World) → Holds sc self.old w → self.old.ended ≡ false → self.old.bius.waiting ≡ 0 → self.old.rmus.waiting ≡ 0
-            → Passes sc w self.new result }
+            → Passes sc w self.new turn.new }
         ensures shape { self.new.shape ≡ self.old.shape }
     {
         match self.upcoming {
-            Milestone::Begin(frame) => self.pass_begin(frame),
-            Milestone::Stage(place) => self.pass_stage(place),
+            Milestone::Begin(frame) => self.pass_begin(frame, turn),
+            Milestone::Stage(place) => self.pass_stage(place, turn),
             Milestone::End => {
                 self.ended = true;
-                Turn::Ended
+                *turn = Turn::Ended;
             }
         }
     }
@@ -409,18 +412,39 @@ impl Ledger {
             .begin(i, self.upcoming, Begin { frame, line, port });
     }
 
-    // What is due is settled, up to the first record, and at most two milestones.
+    // What is due is settled in place, up to the first record, and at most two milestones.
+    #[inline(never)]
+    fn settle_due(&mut self, way: Way, turn: &mut Turn)
+        requires quiet { turn.old ≡ Turn.Quiet }
+        requires due { is_due way self.old ≡ true }
+        ensures settled { (sc : Scenario) (w : World) → Holds sc self.old w → Settles sc (way_of way) w self.new turn.new }
+        ensures shape { self.new.shape ≡ self.old.shape }
+    {
+        self.pass(turn);
+        if is_quiet(turn) && self.is_due(way) {
+            self.pass(turn);
+        }
+    }
+
+    // What is due is settled in place. Where nothing is, the turn stays `Quiet`.
+    #[inline(always)]
+    pub(crate) fn settle_into(&mut self, way: Way, turn: &mut Turn)
+        requires { turn.old ≡ Turn.Quiet }
+        ensures settled { (sc : Scenario) (w : World) → Holds sc self.old w → Settles sc (way_of way) w self.new turn.new }
+        ensures shape { self.new.shape ≡ self.old.shape }
+    {
+        if self.is_due(way) {
+            self.settle_due(way, turn);
+        }
+    }
+
+    // The same, given.
     pub(crate) fn settle(&mut self, way: Way) -> Turn
         ensures settled { (sc : Scenario) (w : World) → Holds sc self.old w → Settles sc (way_of way) w self.new result }
         ensures shape { self.new.shape ≡ self.old.shape }
     {
-        if !self.is_due(way) {
-            return Turn::Quiet;
-        }
-        let turn = self.pass();
-        if is_quiet(&turn) && self.is_due(way) {
-            return self.pass();
-        }
+        let mut turn = Turn::Quiet;
+        self.settle_into(way, &mut turn);
         turn
     }
 }

@@ -154,14 +154,18 @@ pub record IsLeft (time : ℕ) (events : List Pending) (i first left : ℕ) : Ty
   pub some : left < length (from_on time events first (257 - first))
   pub same : slice_get (from_on time events first (257 - first)) left ≡ slice_get (ready_at time events) i
 
-pub all_left : (time : ℕ) (events : List Pending) (i : ℕ) → i < length (ready_at time events) → IsLeft time events i 0 i
-all_left time events i h =
-    let both = unless_any-get (arrivals_at time events) (ticks_at time events) i h in
-    let e : from_on time events 0 (257 - 0) ≡ arrivals_at time events ++ ticks_at time events =
+-- from all sources come the arrivals, and behind them the ticks
+pub all_sources : (time : ℕ) (events : List Pending) → from_on time events 0 (257 - 0) ≡ arrivals_at time events ++ ticks_at time events
+all_sources time events =
     ap (from_on time events 0) (let n : 257 - 0 ≡ 256 + 1 = omega arith in n) ∙ from_on-split time events 0 256 1
     ∙ ap (λ l. l ++ from_on time events (0 + 256) 1) (sym (arrivals_are time events))
     ∙ ap (λ a. arrivals_at time events ++ from_on time events a 1) (let n : 0 + 256 ≡ 256 = omega arith in n)
-    ∙ ap (λ l. arrivals_at time events ++ l) (sym (ticks_are time events)) in
+    ∙ ap (λ l. arrivals_at time events ++ l) (sym (ticks_are time events))
+
+pub all_left : (time : ℕ) (events : List Pending) (i : ℕ) → i < length (ready_at time events) → IsLeft time events i 0 i
+all_left time events i h =
+    let both = unless_any-get (arrivals_at time events) (ticks_at time events) i h in
+    let e = all_sources time events in
     record { small = omega arith; some = subst (λ l. i < length l) (sym e) both.0; same = ap (λ l. slice_get l i) e ∙ both.1 }
 
 -- it is not of the next source

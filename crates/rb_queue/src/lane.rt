@@ -1,31 +1,33 @@
 //! The pending events of one node.
-ghost use Rattle.std.specs.Prelude.{◌≡◌, ◌<◌, ◌≤◌, length, [], Some, IfOk, IsNone, ◌↔◌};
+ghost use Rattle.std.specs.Prelude.{◌≡◌, ◌<◌, ◌≤◌, length, [], Some, IfOk, IsNone, IsTrue, ◌↔◌};
 ghost use Rattle.rb_queue.specs.Waiting.{ready_event, empty_lane, without_events, head_of, with_event, ready_of, spare_of, without_ready};
 
 use crate::pending::Pending;
-use crate::scan::{count_ready, earlier, least_time, place_of};
+use crate::scan::{count_ready, earlier, first_of, first_with, least_time, place_ready};
 use rb_base::{Event, OutOfMemory};
 use std::alloc::Global;
 use std::marker::Model;
 
-// The events in the order of pushing, beside their least time. The room is taken from memory at the start.
+// The events in the order of pushing, beside their least time and the place of the first that is ready. The room is taken from
+// memory at the start.
 #[derive(Drop)]
 pub(crate) struct Lane {
     events: Vec<Pending>,
     room: usize,
     head: Option<u64>,
+    first: usize,
 }
 
 impl Model for Lane {
-    ghost use Rattle.std.specs.Prelude.{◌≡◌, ◌≤◌, length, map, vec_capacity};
-    ghost use Rattle.rb_rules.specs.WorldStep.{least};
+    ghost use Rattle.std.specs.Prelude.{vec_capacity};
     ghost use Rattle.rb_queue.specs.Waiting.{Held};
+    ghost use Rattle.rb_queue.specs.Keeping.{IsLane};
 
     ghost Value = { Held };
 
     ghost view = { λ l. record { events = l.events.items; room = l.room } };
 
-    ghost invariant = { λ l. (length l.events.items ≤ l.room) × (l.room ≤ vec_capacity l.events) × (l.head ≡ least (map (λ p. p.time) l.events.items)) };
+    ghost invariant = { λ l. IsLane l.events.items l.room (vec_capacity l.events) l.head l.first };
 }
 
 impl Lane {
@@ -37,6 +39,7 @@ impl Lane {
             events,
             room,
             head: None,
+            first: 0,
         })
     }
 
@@ -51,6 +54,7 @@ impl Lane {
         requires { 1 ≤ spare_of self.old }
         ensures { self.new ≡ with_event pending self.old }
     {
+        self.first = first_with(&self.events, self.first, &pending);
         self.head = Some(earlier(self.head, pending.time));
         // There is room, so this takes no memory and can't fail.
         let _ = self.events.push(pending);
@@ -62,6 +66,13 @@ impl Lane {
         ensures none { IsNone result ↔ (self.now.events ≡ []) }
     {
         self.head
+    }
+
+    // Whether an event is ready.
+    pub(crate) fn is_ready(&self) -> bool
+        ensures { IsTrue result ↔ 0 < length (ready_of self.now) }
+    {
+        self.head.is_some()
     }
 
     pub(crate) fn ready(&self) -> usize
@@ -78,8 +89,7 @@ impl Lane {
         requires { i < length (ready_of self.now) }
         ensures { ready_event i self.now ≡ Some result.now }
     {
-        let time = self.head.unwrap_or(0);
-        &self.events[place_of(&self.events, time, i)].event
+        &self.events[place_ready(&self.events, self.head, self.first, i)].event
     }
 
     pub(crate) fn take(&mut self, i: usize) -> Event
@@ -87,10 +97,10 @@ impl Lane {
         ensures event { ready_event i self.old ≡ Some result }
         ensures after { self.new ≡ without_ready i self.old }
     {
-        let time = self.head.unwrap_or(0);
-        let place = place_of(&self.events, time, i);
+        let place = place_ready(&self.events, self.head, self.first, i);
         let pending = self.events.remove(place);
-        self.head = least_time(&self.events);
+        self.first = first_of(&self.events);
+        self.head = least_time(&self.events, self.first);
         pending.event
     }
 
@@ -99,5 +109,6 @@ impl Lane {
     {
         self.events.clear();
         self.head = None;
+        self.first = 0;
     }
 }

@@ -1,5 +1,5 @@
 //! The pending events of all nodes.
-ghost use Rattle.std.specs.Prelude.{◌≡◌, ◌<◌, ◌≤◌, [], ◌∷◌, ◌++◌, length, map, Some, IfOk, IsNone, ◌↔◌};
+ghost use Rattle.std.specs.Prelude.{◌≡◌, ◌<◌, ◌≤◌, [], ◌∷◌, ◌++◌, length, map, Some, IfOk, IsNone, IsTrue, ◌↔◌};
 ghost use Rattle.rb_base.specs.Counting.{numbers};
 ghost use Rattle.rb_rules.specs.Book.{each_of};
 ghost use Rattle.rb_queue.specs.Waiting.{HasLane, empty_lane, without_events, head_of, lane_of, with_event, ready_event, ready_of, spare_of, with_lane, without_ready};
@@ -96,6 +96,14 @@ impl Lanes {
         ensures none { IsNone result ↔ ((lane_of self.now node).events ≡ []) }
     {
         self.lane(node).head()
+    }
+
+    /// Whether an event of the node is ready.
+    pub fn is_ready(&self, node: NodeName) -> bool
+        requires in_shape { HasLane self.now node }
+        ensures value { IsTrue result ↔ 0 < length (ready_of (lane_of self.now node)) }
+    {
+        self.lane(node).is_ready()
     }
 
     /// How many events of the node are ready: the arrivals of its least time or, where there are none, its ticks of that time.

@@ -1,6 +1,7 @@
 //! A pending event.
 ghost use Rattle.std.specs.Prelude.{◌≡◌, ◌≤◌};
 ghost use Rattle.rb_queue.specs.Waiting.{comes, source_of};
+ghost use Rattle.rb_queue.specs.Scanning.{comes_before};
 
 use rb_base::{Event, EventKind};
 
@@ -27,5 +28,13 @@ impl Pending {
         ensures { result ≡ comes time source self.now }
     {
         self.source() == source && self.time == time
+    }
+
+    // Whether it comes at an earlier time than the other, or at that time from a lower source.
+    #[inline(always)]
+    pub(crate) fn comes_before(&self, other: &Pending) -> bool
+        ensures { result ≡ comes_before self.now other.now }
+    {
+        self.time < other.time || (self.time == other.time && self.source() < other.source())
     }
 }

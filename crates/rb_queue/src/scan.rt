@@ -1,9 +1,9 @@
 //! What is looked up among the events of one lane.
-ghost use Rattle.std.specs.Prelude.{◌≡◌, ℕ, ◌+◌, ◌<◌, ◌≤◌, length, map, MatchResult};
+ghost use Rattle.std.specs.Prelude.{◌≡◌, ℕ, ◌+◌, ◌<◌, ◌≤◌, ◌++◌, ◌∷◌, [], length, map, MatchResult, Option};
 ghost use Rattle.rb_base.specs.Counting.{count_if};
 ghost use Rattle.rb_rules.specs.WorldStep.{least};
-ghost use Rattle.rb_queue.specs.Waiting.{coming_at, comes, ready_at};
-ghost use Rattle.rb_queue.specs.Scanning.{StandsAt, earlier, is_between};
+ghost use Rattle.rb_queue.specs.Waiting.{coming_at, comes, ready_at, ready_from};
+ghost use Rattle.rb_queue.specs.Scanning.{HasFirst, StandsAt, earlier, is_between};
 
 use crate::pending::Pending;
 
@@ -16,15 +16,44 @@ pub(crate) fn earlier(other: Option<u64>, time: u64) -> u64
     }
 }
 
-// The least time of the events.
-pub(crate) fn least_time(events: &[Pending]) -> Option<u64>
+// The place of the first event, with one more behind the others.
+#[inline(always)]
+pub(crate) fn first_with(events: &[Pending], first: usize, pending: &Pending) -> usize
+    requires { HasFirst events.now first }
+    ensures { HasFirst (events.now ++ pending.now ∷ []) result }
+{
+    let _source = pending.source();
+    if first >= events.len() {
+        return events.len();
+    }
+    if pending.comes_before(&events[first]) {
+        events.len()
+    } else {
+        first
+    }
+}
+
+// The place of the first event.
+pub(crate) fn first_of(events: &[Pending]) -> usize
+    ensures { HasFirst events.now result }
+{
+    let mut first = 0;
+    for (place, pending) in events.iter().enumerate() {
+        first = first_with(&events[..place], first, pending);
+    }
+    first
+}
+
+// The least time of the events, the first of which stands at this place.
+pub(crate) fn least_time(events: &[Pending], first: usize) -> Option<u64>
+    requires { HasFirst events.now first }
     ensures { result ≡ least (map (λ p. p.time) events.now) }
 {
-    let mut least = None;
-    for pending in events {
-        least = Some(earlier(least, pending.time));
+    if first < events.len() {
+        Some(events[first].time)
+    } else {
+        None
     }
-    least
 }
 
 fn is_between(pending: &Pending, time: u64, first: u16, end: u16) -> bool
@@ -108,5 +137,19 @@ pub(crate) fn place_of(events: &[Pending], time: u64, i: usize) -> usize
                 first = source + 1;
             }
         }
+    }
+}
+
+// The place of the i-th event that is ready, where the least time is this one and the first event stands at this place.
+pub(crate) fn place_ready(events: &[Pending], head: Option<u64>, first: usize, i: usize) -> usize
+    requires head { head ≡ least (map (λ p. p.time) events.now) }
+    requires first { HasFirst events.now first }
+    requires below { i < length (ready_from head events.now) }
+    ensures { StandsAt (ready_from head events.now) i events.now result }
+{
+    if i == 0 {
+        first
+    } else {
+        place_of(events, head.unwrap_or(0), i)
     }
 }

@@ -1,5 +1,6 @@
 -- When nothing may be taken.
-use Rattle.std.proofs.Common.{◌≡◌, ℕ, ◌<◌, ◌||◌, Bool, true, false, List, [], length, refl, sym, ap, ◌∙◌, arith}
+use Rattle.std.proofs.Common.{◌≡◌, ℕ, ◌<◌, ◌||◌, Bool, true, false, List, [], length, refl, sym, ap, ◌∙◌, subst, arith, inl, inr, IsTrue, ◌↔◌}
+use Rattle.std.proofs.lemmas.Bool.{cases_lt}
 use Rattle.rb_rules.specs.WorldStep.{Due, World, due_of, needs_no_event}
 use Rattle.rb_agenda.specs.Agenda.{due_now, how_many}
 use Rattle.rb_book.specs.Settling.{is_free}
@@ -36,6 +37,20 @@ none-due-then k w is e = ap (λ b. length (elim b as (λ _. List Due) [ true ↦
 -- else all that is pending at the least time
 pub length-due : (k : Kept) (w : World) (n : ℕ) → (w.book.ended || needs_no_event k.bus w.book.upcoming) ≡ false → n ≡ length (due_now k.bus w) → n ≡ length (due_of k.bus w)
 length-due k w n e all = all ∙ sym (ap length (due-is-now k.bus w e))
+
+pub none-some : {n : ℕ} → n ≡ 0 → IsTrue false ↔ 0 < n
+none-some none = (λ yes. absurd (cc), λ some. absurd (omega (arith, none, some)))
+
+pub some-due : (k : Kept) (w : World) (b : Bool) → (w.book.ended || needs_no_event k.bus w.book.upcoming) ≡ false → IsTrue b ↔ 0 < length (due_now k.bus w)
+    → IsTrue b ↔ 0 < length (due_of k.bus w)
+some-due k w b e is = subst (λ l. IsTrue b ↔ 0 < length l) (sym (due-is-now k.bus w e)) is
+
+pub no-more : {n : ℕ} {b : Bool} → b ≡ false → (0 < n → IsTrue b) → n ≡ 0
+no-more {n} {b} none some =
+    elim (cases_lt 0 n) [
+      | inl more ↦ let yes : b ≡ true = some more in absurd (cc)
+      | inr zero_at ↦ omega (arith, zero_at)
+    ]
 
 -- where something is due by what is kept, the world is not idle
 pub due-busy : (k : Kept) (w : World) (i : ℕ) → Stands k w → i < due_in k → (w.book.ended || needs_no_event k.bus w.book.upcoming) ≡ false

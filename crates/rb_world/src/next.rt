@@ -1,8 +1,10 @@
 //! How a run comes to its next record.
-ghost use Rattle.std.specs.Prelude.{◌≡◌, true, Option, is_some};
+ghost use Rattle.std.specs.Prelude.{◌≡◌, ℕ, true, Option, is_some};
 ghost use Rattle.rb_rules.specs.Book.{Record};
 ghost use Rattle.rb_rules.specs.WorldStep.{World as RunWorld, go_on};
+ghost use Rattle.rb_book.specs.declared.turn.Turn.{Turn};
 ghost use Rattle.rb_book.specs.Records.{record_of};
+ghost use Rattle.rb_world.specs.declared.ties.Ties.TheVariants.{First};
 ghost use Rattle.rb_world.specs.Nexts.{GoesToNext, RunsOn, TakesStep, is_last};
 ghost use Rattle.rb_world.specs.Numbering.{GoesInRounds};
 ghost use Rattle.rb_world.specs.Turning.{Gives};
@@ -27,43 +29,77 @@ fn last_turn(last: Last) -> Turn
 }
 
 impl World {
-    // Gives what needs no event, and after the last record that record again.
-    fn go_on(&mut self) -> Turn
-        ensures world { (w : RunWorld) → Stands self.old w → Gives self.new result (go_on self.old.bus w) }
+    // Gives what needs no event, and after the last record that record again. The turn is `Quiet` before, here and in what follows,
+    // and is written over where a record is given.
+    fn go_on(&mut self, turn: &mut Turn)
+        requires { turn.old ≡ Turn.Quiet }
+        ensures world { (w : RunWorld) → Stands self.old w → Gives self.new turn.new (go_on self.old.bus w) }
         ensures bus { self.new.bus ≡ self.old.bus }
     {
         if self.scene.book.has_ended() {
-            return last_turn(self.last);
+            *turn = last_turn(self.last);
+            return;
         }
-        let turn = self.scene.book.settle(Way::ByItself);
-        self.last = last_of(&turn);
-        turn
+        self.scene.book.settle_into(Way::ByItself, turn);
+        self.last = last_of(turn);
     }
 
-    // Takes an event that is due, and where none is, goes on without one.
-    fn step(&mut self, apps: &Apps, ties: Ties, draws: &mut Draws) -> Turn
-        ensures world { (w : RunWorld) → Stands self.old w → TakesStep ties draws.old.state draws.new.state self.old self.new result w }
+    // Takes the first event that is due, and where none is, goes on without one.
+    #[inline(always)]
+    fn step_first(&mut self, apps: &Apps, turn: &mut Turn)
+        requires { turn.old ≡ Turn.Quiet }
+        ensures world { (w : RunWorld) (state : ℕ) → Stands self.old w → TakesStep First state state self.old self.new turn.new w }
+        ensures bus { self.new.bus ≡ self.old.bus }
+    {
+        if self.is_due() {
+            self.take_into(apps, 0, turn);
+        } else {
+            self.go_on(turn);
+        }
+    }
+
+    // The same, where how many are due tells which of them is taken.
+    #[inline(never)]
+    fn step_counted(&mut self, apps: &Apps, ties: Ties, draws: &mut Draws, turn: &mut Turn)
+        requires { turn.old ≡ Turn.Quiet }
+        ensures world { (w : RunWorld) → Stands self.old w → TakesStep ties draws.old.state draws.new.state self.old self.new turn.new w }
         ensures bus { self.new.bus ≡ self.old.bus }
     {
         let due = self.due();
         if due == 0 {
-            return self.go_on();
+            self.go_on(turn);
+            return;
         }
         let i = choose(ties, draws, due);
-        self.take(apps, i)
+        self.take_into(apps, i, turn);
+    }
+
+    // The same for any choices.
+    #[inline(always)]
+    fn step(&mut self, apps: &Apps, ties: Ties, draws: &mut Draws, turn: &mut Turn)
+        requires { turn.old ≡ Turn.Quiet }
+        ensures world { (w : RunWorld) → Stands self.old w → TakesStep ties draws.old.state draws.new.state self.old self.new turn.new w }
+        ensures bus { self.new.bus ≡ self.old.bus }
+    {
+        match ties {
+            Ties::First => self.step_first(apps, turn),
+            _ => self.step_counted(apps, ties, draws, turn),
+        }
     }
 
     // Takes steps up to the next record. A run has fewer than 2^64 - 1 events.
-    fn run_on(&mut self, apps: &Apps, ties: Ties, draws: &mut Draws) -> Turn
-        requires { (w : RunWorld) × Stands self.old w }
-        ensures world { (w : RunWorld) → Stands self.old w → RunsOn ties draws.old.state draws.new.state self.old self.new result w }
+    fn run_on(&mut self, apps: &Apps, ties: Ties, draws: &mut Draws, turn: &mut Turn)
+        requires stands { (w : RunWorld) × Stands self.old w }
+        requires quiet { turn.old ≡ Turn.Quiet }
+        ensures world { (w : RunWorld) → Stands self.old w → RunsOn ties draws.old.state draws.new.state self.old self.new turn.new w }
         ensures bus { self.new.bus ≡ self.old.bus }
     {
         for passed in 0..u64::MAX {
-            let turn = self.step(apps, ties, draws);
-            let Turn::Quiet = turn else {
-                return turn;
-            };
+            self.step(apps, ties, draws, turn);
+            if let Turn::Quiet = turn {
+                continue;
+            }
+            return;
         }
         unreachable!()
     }
@@ -77,7 +113,8 @@ impl World {
         ensures rounds { (w : RunWorld) → Stands self.old w → GoesInRounds self.old self.new result w }
     {
         let mut seeding = self.seeding.begin(ties);
-        let turn = self.run_on(apps, ties, &mut seeding.draws);
+        let mut turn = Turn::Quiet;
+        self.run_on(apps, ties, &mut seeding.draws, &mut turn);
         self.seeding = seeding;
         turn
     }

@@ -8,6 +8,7 @@ ghost use Rattle.rb_world.specs.Numbering.{TakesInRounds};
 ghost use Rattle.rb_world.specs.Steps.{Happens, MayHappen, MayTick, Ticks, act_at};
 ghost use Rattle.rb_world.specs.Turning.{Gives};
 ghost use Rattle.rb_world.specs.Worlds.{Stands, due_in, last_of};
+ghost use Rattle.rb_book.specs.declared.turn.Turn.{Turn};
 ghost use Rattle.rb_book.specs.Records.{record_of};
 
 use crate::bus::Bus;
@@ -87,14 +88,14 @@ fn happen(
 }
 
 impl World {
-    /// Takes the i-th of the events that are due, counted from 0: the node has its quiet ticks, and then its tick or the arrival. The
-    /// turn is the record that comes with it, and `Quiet` where none does.
-    pub fn take(&mut self, apps: &Apps, i: usize) -> Turn
+    // Takes an event, as `take` does. The turn is `Quiet` before, and is written over where a record comes with the event.
+    pub(crate) fn take_into(&mut self, apps: &Apps, i: usize, turn: &mut Turn)
         requires below { i < due_in self.old }
-        ensures world { (w : RunWorld) → Stands self.old w → Gives self.new result (take self.old.bus w i) }
+        requires quiet { turn.old ≡ Turn.Quiet }
+        ensures world { (w : RunWorld) → Stands self.old w → Gives self.new turn.new (take self.old.bus w i) }
         ensures bus { self.new.bus ≡ self.old.bus }
         ensures seeding { self.new.seeding ≡ self.old.seeding }
-        ensures rounds { (w : RunWorld) → Stands self.old w → TakesInRounds self.old.bus w (take self.old.bus w i) (record_of result) }
+        ensures rounds { (w : RunWorld) → Stands self.old w → TakesInRounds self.old.bus w (take self.old.bus w i) (record_of turn.new) }
     {
         let time = self.scene.agenda.first_time();
         let (node, event) = self.scene.agenda.take(i);
@@ -108,8 +109,21 @@ impl World {
             node,
             &event,
         );
-        let turn = self.scene.book.settle(Way::ByAnEvent);
-        self.last = last_of(&turn);
+        self.scene.book.settle_into(Way::ByAnEvent, turn);
+        self.last = last_of(turn);
+    }
+
+    /// Takes the i-th of the events that are due, counted from 0: the node has its quiet ticks, and then its tick or the arrival. The
+    /// turn is the record that comes with it, and `Quiet` where none does.
+    pub fn take(&mut self, apps: &Apps, i: usize) -> Turn
+        requires below { i < due_in self.old }
+        ensures world { (w : RunWorld) → Stands self.old w → Gives self.new result (take self.old.bus w i) }
+        ensures bus { self.new.bus ≡ self.old.bus }
+        ensures seeding { self.new.seeding ≡ self.old.seeding }
+        ensures rounds { (w : RunWorld) → Stands self.old w → TakesInRounds self.old.bus w (take self.old.bus w i) (record_of result) }
+    {
+        let mut turn = Turn::Quiet;
+        self.take_into(apps, i, &mut turn);
         turn
     }
 }

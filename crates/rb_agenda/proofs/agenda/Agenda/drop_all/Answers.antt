@@ -1,6 +1,6 @@
 use Rattle.std.proofs.Common.{sym, ap, subst, ◌∙◌, arith}
 use Rattle.rb_queue.specs.Waiting.{HasLane, lane_of, without_events}
-use Rattle.rb_agenda.specs.Agenda.{key_of}
+use Rattle.rb_agenda.specs.Agenda.{AreKept, key_of}
 use Rattle.rb_agenda.proofs.Keeping.{kept-with, lane-with, room-of}
 use Rattle.rb_agenda.proofs.agenda.Agenda.drop_all.Goals as goal
 
@@ -12,6 +12,10 @@ invariant_of-self c =
     let name = c.args.node in
     let empty = without_events (lane_of lanes name) in
     let h : HasLane lanes name = subst (λ x. HasLane x name) (sym c.self.view_is) c.requires.in_shape in
-    kept-with lanes c.drop_all.new.self keys bius c.position_of.result name empty 18446744073709551615 c.position_of.ensures c.self.invariant h c.drop_all.ensures.after
-    (room-of lanes keys bius name c.self.invariant h) (sym (ap (λ x. key_of (lane_of x name)) c.drop_all.ensures.after ∙ ap key_of (lane-with lanes name empty h)))
-    (omega arith)
+    let call = c.put_key-self-inside in (
+      subst (λ ks. AreKept c.drop_all.new.self ks bius) (sym call.ensures.keys)
+          (kept-with lanes c.drop_all.new.self keys bius c.position_of-place.result name empty 18446744073709551615 c.position_of-place.ensures c.self.invariant.0 h c.drop_all.ensures.after
+          (room-of lanes keys bius name c.self.invariant.0 h) (sym (ap (λ x. key_of (lane_of x name)) c.drop_all.ensures.after ∙ ap key_of (lane-with lanes name empty h)))
+          (omega arith)),
+      call.ensures.front,
+    )

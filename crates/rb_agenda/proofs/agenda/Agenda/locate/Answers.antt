@@ -8,9 +8,9 @@ use Rattle.rb_agenda.proofs.agenda.Agenda.locate.Goals as goal
 pub returns-clause-world : goal.returns-clause-world
 returns-clause-world c =
     let lanes = c.self.inside.lanes in
-    let first : c.least_key.result ≡ first_time lanes = c.least_key.ensures ∙ ap least_key (c.deref-2.ensures.value ∙ c.self.invariant.each) in
+    let first : c.self.inside.front.least ≡ first_time lanes = c.self.invariant.1.least_is ∙ ap least_key c.self.invariant.0.each in
     λ sc w holds.
     subst (λ x. IsDue sc w x c.args.i c.locate.result.0 c.locate.result.1) c.self.view_is
     (is-due sc w lanes c.args.i c.locate.result.0 c.locate.result.1 (subst (λ x. HoldsSites sc.sizes x w.sites) (sym c.self.view_is) holds)
-    (kept-times lanes c.self.inside.keys.items c.self.inside.bius c.self.invariant)
+    (kept-times lanes c.self.inside.keys.items c.self.inside.bius c.self.invariant.0)
     (subst (λ t. StandsAt lanes t c.args.i c.locate.result.0 c.locate.result.1) first c.locate.ensures))

@@ -1,6 +1,6 @@
 use Rattle.std.proofs.Common.{◌≡◌, sym, ap, subst, ◌∙◌}
 use Rattle.rb_queue.specs.Waiting.{lane_of, without_ready}
-use Rattle.rb_agenda.specs.Agenda.{StandsAt, TakesDue, first_time, least_key}
+use Rattle.rb_agenda.specs.Agenda.{AreKept, StandsAt, TakesDue, first_time, least_key}
 use Rattle.rb_agenda.specs.Holding.{HoldsSites}
 use Rattle.rb_agenda.proofs.Keeping.{kept-times, kept-with, room-of, room-without}
 use Rattle.rb_agenda.proofs.Taking.{takes-due}
@@ -13,17 +13,21 @@ invariant_of-self c =
     let bius = c.self.inside.bius in
     let name = c.locate-node.result.0 in
     let place = c.locate-node.result.1 in
-    kept-with lanes c.take-event.new.self keys bius c.position_of.result name (without_ready place (lane_of lanes name)) c.key_of-key.result c.position_of.ensures
-    c.self.invariant c.locate-node.ensures.lane c.take-event.ensures.after
-    (room-without place (lane_of lanes name) (room-of lanes keys bius name c.self.invariant c.locate-node.ensures.lane))
-    c.key_of-key.ensures.value c.key_of-key.ensures.small
+    let call = c.put_key-self-inside in (
+      subst (λ ks. AreKept c.take-event.new.self ks bius) (sym call.ensures.keys)
+          (kept-with lanes c.take-event.new.self keys bius c.position_of-place.result name (without_ready place (lane_of lanes name)) c.key_of-key.result c.position_of-place.ensures
+          c.self.invariant.0 c.locate-node.ensures.lane c.take-event.ensures.after
+          (room-without place (lane_of lanes name) (room-of lanes keys bius name c.self.invariant.0 c.locate-node.ensures.lane))
+          c.key_of-key.ensures.value c.key_of-key.ensures.small),
+      call.ensures.front,
+    )
 
 pub returns-clause-world : goal.returns-clause-world
 returns-clause-world c =
     let lanes = c.self.inside.lanes in
-    let first : c.least_key.result ≡ first_time lanes = c.least_key.ensures ∙ ap least_key (c.deref-2.ensures.value ∙ c.self.invariant.each) in
+    let first : c.self.inside.front.least ≡ first_time lanes = c.self.invariant.1.least_is ∙ ap least_key c.self.invariant.0.each in
     λ sc w holds.
     subst (λ x. TakesDue sc w c.args.i (first_time x) c.locate-node.result.0 c.take-event.result c.take-event.new.self) c.self.view_is
     (takes-due sc w lanes c.take-event.new.self c.args.i c.take-event.result c.locate-node.result.0 c.locate-node.result.1
-    (subst (λ x. HoldsSites sc.sizes x w.sites) (sym c.self.view_is) holds) (kept-times lanes c.self.inside.keys.items c.self.inside.bius c.self.invariant)
+    (subst (λ x. HoldsSites sc.sizes x w.sites) (sym c.self.view_is) holds) (kept-times lanes c.self.inside.keys.items c.self.inside.bius c.self.invariant.0)
     (subst (λ t. StandsAt lanes t c.args.i c.locate-node.result.0 c.locate-node.result.1) first c.locate-node.ensures) c.take-event.ensures.value c.take-event.ensures.after)

@@ -50,4 +50,4 @@ returns-clause-passes c = λ sc w h ended next.
           (record { all = rmus.all; rows = rmus.rows; begins = rmus.begins; within = rmus.within; good = rmus.good; waiting = rmus.waiting; lasting = λ p e. absurd (cc) })
           turns.rmus (turns.good_rmus sc h.fits.onsets)
           (λ p is. turns.rmus.lasting ∙ c.good_rmu-self.ensures sc h.fits.onsets ∙ ap (good_at sc Rmu frame) sync ∙ ap (λ f. good_at sc Rmu f (sync_slot_of sc.sizes)) (sym (coming.1 p (turns.upcoming ∙ is)))));
-    }) refl (c.frame_turn-turn.ensures ∙ frame-record sc frame c.args.self.now.bius c.args.self.now.rmus w.sites c.args.self.now.shape h.fits.sizes h.fits.is_shape bius rmus)
+    }) refl (c.frame_turn-given.ensures ∙ frame-record sc frame c.args.self.now.bius c.args.self.now.rmus w.sites c.args.self.now.shape h.fits.sizes h.fits.is_shape bius rmus)

@@ -20,15 +20,15 @@ invariant_of-self c =
     let is : Stands k w = c.self.invariant.1 in
     let going : w.book.ended ≡ false = sym (c.has_ended.ensures k.bus w is.scene.book) ∙ c.if-has_ended.false in (
       go_on k.bus w,
-      (going-gives k w c.settle-turn.new.self c.settle-turn.result c.last_of-self-inside.result is going
-          (c.settle-turn.ensures.settled k.bus w is.scene.book) c.last_of-self-inside.ensures).stands,
+      (going-gives k w c.settle_into.new.self c.settle_into.new.turn c.last_of-self-inside.result is going
+          (c.settle_into.ensures.settled k.bus w is.scene.book) c.last_of-self-inside.ensures).stands,
     )
 
 pub returns-clause-world : goal.returns-clause-world
 returns-clause-world c =
     let k : Kept = record { bus = c.self.inside.bus; nodes = record { bius = c.self.inside.bius.items; rmus = c.self.inside.rmus.items }; scene = c.self.inside.scene; seeding = c.self.inside.seeding; last = c.self.inside.last } in
-    let after : Kept = record k { scene = record k.scene { book = c.settle-turn.new.self }; last = c.last_of-self-inside.result } in
-    subst (λ (x : Kept). (w : RunWorld) → Stands x w → Gives after c.settle-turn.result (go_on x.bus w)) c.self.view_is (λ w is.
+    let after : Kept = record k { scene = record k.scene { book = c.settle_into.new.self }; last = c.last_of-self-inside.result } in
+    subst (λ (x : Kept). (w : RunWorld) → Stands x w → Gives after c.settle_into.new.turn (go_on x.bus w)) c.self.view_is (λ w is.
     let going : w.book.ended ≡ false = sym (c.has_ended.ensures k.bus w is.scene.book) ∙ c.if-has_ended.false in
-    going-gives k w c.settle-turn.new.self c.settle-turn.result c.last_of-self-inside.result is going
-    (c.settle-turn.ensures.settled k.bus w is.scene.book) c.last_of-self-inside.ensures)
+    going-gives k w c.settle_into.new.self c.settle_into.new.turn c.last_of-self-inside.result is going
+    (c.settle_into.ensures.settled k.bus w is.scene.book) c.last_of-self-inside.ensures)

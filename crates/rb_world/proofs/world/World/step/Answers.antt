@@ -1,12 +1,8 @@
-use Rattle.rb_world.proofs.NextRecord.{busy-step, idle-step}
+use Rattle.std.proofs.Common.{sym, subst}
+use Rattle.rb_world.specs.Nexts.{TakesStep}
 use Rattle.rb_world.proofs.world.World.step.Goals as goal
 
-pub returns-then-due-eq0-clause-world : goal.returns-then-due-eq0-clause-world
-returns-then-due-eq0-clause-world g c = λ w is.
-    idle-step c.args.ties c.args.draws.now.state c.due-due.result c.args.self.now c.go_on.new.self c.go_on.result w
-    (c.due-due.ensures.world w is) c.if-due-eq0.true (c.go_on.ensures.world w is)
-
-pub returns-clause-world : goal.returns-clause-world
-returns-clause-world g c = λ w is.
-    busy-step c.args.ties c.args.draws.now.state c.choose-i.new.draws.state c.due-due.result c.choose-i.result c.args.self.now c.take.new.self c.take.result w
-    (c.due-due.ensures.world w is) c.if-due-eq0.false c.choose-i.ensures.state c.choose-i.ensures.place (c.take.ensures.world w is)
+pub returns-in-First-clause-world : goal.returns-in-First-clause-world
+returns-in-First-clause-world g c = λ w is.
+    subst (λ t. TakesStep t c.args.draws.now.state c.args.draws.now.state c.args.self.now c.step_first.new.self c.step_first.new.turn w) (sym c.in-First.is)
+    (c.step_first.ensures.world w c.args.draws.now.state is)

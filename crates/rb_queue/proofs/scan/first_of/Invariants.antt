@@ -1,0 +1,7 @@
+use Rattle.std.proofs.Common.{take}
+use Rattle.rb_queue.specs.Scanning.{HasFirst}
+use Rattle.rb_queue.proofs.scan.first_of.Given as goal
+
+-- the first of the events so far
+abbrev pub invariant-loop-place : goal.invariant-loop-place
+invariant-loop-place l = HasFirst (take l.place l.events) l.first

@@ -1,0 +1,4 @@
+pub mod AheadOf
+pub mod Laws
+pub mod Room
+pub mod Sweeping
