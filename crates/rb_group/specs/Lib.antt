@@ -1,0 +1,4 @@
+pub mod Groups
+pub mod Answering
+pub mod Keeping
+pub mod Portions

@@ -1,0 +1,4 @@
+pub mod Beyond
+pub mod Held
+pub mod Texts
+pub mod Written

@@ -1,0 +1,56 @@
+-- Lines that are written one after another, one for each number.
+use Rattle.std.proofs.Common.{◌≡◌, ℕ, zero, suc, ◌+◌, ◌≤◌, ◌-◌, List, [], ◌∷◌, ◌++◌, Option, Result, Ok, Err, OnErr, OnOk, sym, ap, ◌∙◌, subst, arith}
+use Rattle.std.proofs.lemmas.Grind.{flat_map-append}
+use Rattle.std.proofs.lemmas.List.{append-nil}
+use Rattle.std.specs.Io.KnownBytes.{Appends}
+use Rattle.std.specs.List.{flat_map, range_with_len}
+use Rattle.rb_base.specs.Counting.{numbers}
+use Rattle.rb_outside.specs.Bytes.{AppendsPart}
+use Rattle.rb_outside.proofs.Known.{appends_join, part_join, part_widens}
+
+last : (a n j : ℕ) → a + n ≡ j → range_with_len a (suc n) ≡ range_with_len a n ++ j ∷ []
+last a zero j e = let same : a ≡ j = omega arith in ap (λ k. k ∷ []) same
+last a (suc n) j e = ap (λ l. a ∷ l) (last (a + 1) n j (omega arith))
+
+numbers_more : (n : ℕ) → numbers (n + 1) ≡ numbers n ++ n ∷ []
+numbers_more n = let on : n + 1 ≡ suc n = omega arith in ap numbers on ∙ last 0 n n (omega arith)
+
+one_line : (line : ℕ → List ℕ) (n : ℕ) → flat_map line (numbers (n + 1)) ≡ flat_map line (numbers n) ++ line n
+one_line line n =
+    ap (flat_map line) (numbers_more n)
+    ∙ flat_map-append line (numbers n) (n ∷ [])
+    ∙ ap (λ t. flat_map line (numbers n) ++ t) (append-nil (line n))
+
+-- that of the next number is written
+pub lines_more : (line : ℕ → List ℕ) (n : ℕ) (old mid new : Option (List ℕ)) → Appends old mid (flat_map line (numbers n)) → Appends mid new (line n)
+    → Appends old new (flat_map line (numbers (n + 1)))
+lines_more line n old mid new before now = subst (λ t. Appends old new t) (sym (one_line line n)) (appends_join old mid new _ _ before now)
+
+widened : (line : ℕ → List ℕ) (k d n : ℕ) (old new : Option (List ℕ)) → n ≡ k + d → AppendsPart old new (flat_map line (numbers k)) → AppendsPart old new (flat_map line (numbers n))
+widened line k zero n old new is part = subst (λ m. AppendsPart old new (flat_map line (numbers m))) (omega (arith, is)) part
+widened line k (suc d) n old new is part =
+    let so_far : AppendsPart old new (flat_map line (numbers (k + d))) = widened line k d (k + d) old new (omega arith) part in
+    let next : AppendsPart old new (flat_map line (numbers ((k + d) + 1))) =
+    subst (λ t. AppendsPart old new t) (sym (one_line line (k + d))) (part_widens old new (flat_map line (numbers (k + d))) (line (k + d)) so_far) in
+    subst (λ m. AppendsPart old new (flat_map line (numbers m))) (omega (arith, is)) next
+
+-- or a first part of it
+pub lines_part : (line : ℕ → List ℕ) (n all : ℕ) (old mid new : Option (List ℕ)) → n + 1 ≤ all → Appends old mid (flat_map line (numbers n)) → AppendsPart mid new (line n)
+    → AppendsPart old new (flat_map line (numbers all))
+lines_part line n all old mid new below before now =
+    widened line (n + 1) (all - (n + 1)) all old new (omega (arith, below))
+    (subst (λ t. AppendsPart old new t) (sym (one_line line n)) (part_join old mid new _ _ before now))
+
+-- what holds anyway holds of an error
+pub on_err : {T E P : Type 0} (r : Result T E) → P → OnErr r P
+on_err (Ok x) p = tt
+on_err (Err e) p = p
+
+-- what follows of it holds where it did
+pub on_ok_by : {T E P Q : Type 0} (r : Result T E) → (P → Q) → OnOk r P → OnOk r Q
+on_ok_by (Ok x) f p = f p
+on_ok_by (Err e) f p = tt
+
+pub on_err_by : {T E P Q : Type 0} (r : Result T E) → (P → Q) → OnErr r P → OnErr r Q
+on_err_by (Ok x) f p = tt
+on_err_by (Err e) f p = f p
