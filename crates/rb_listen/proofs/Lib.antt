@@ -1,0 +1,2 @@
+pub mod Soon
+pub mod Passing
