@@ -50,7 +50,7 @@ AreFirst sc hands records = IsFirstPart records (records_of sc hands)
 pub record ReceiveAlike (i j sender : ℕ) (records : List Record) : Type 0 where
   pub values : values_of i sender (deliveries_in records) ≡ values_of j sender (deliveries_in records)
   pub letters : letters_of i sender (deliveries_in records) ≡ letters_of j sender (deliveries_in records)
-  pub open : open_at i sender (deliveries_in records) ≡ open_at j sender (deliveries_in records)
+  pub left_open : open_at i sender (deliveries_in records) ≡ open_at j sender (deliveries_in records)
 
 -- So is it at BIUs that are good in each slot of these records, after each record: they receive the same letters in the same slots. A
 -- breach is no slot: all that is recorded was delivered before it
