@@ -250,7 +250,7 @@ letters-read letter is =
 
 -- Letters.
 
-heard-append : (xs ys : List ℕ) → heard_words (xs ++ ys) ≡ heard_words xs ++ heard_words ys
+pub heard-append : (xs ys : List ℕ) → heard_words (xs ++ ys) ≡ heard_words xs ++ heard_words ys
 heard-append xs ys = map-append (λ w. Word w) xs ys
 
 pub reads-all : (letters : List (List ℕ)) → All IsLetter letters → (given_with None (heard_words (words_of letters)) ≡ letters)

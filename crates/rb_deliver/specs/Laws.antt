@@ -1,5 +1,5 @@
 -- What is proved of letters: what a reader makes of words, and what ports receive.
-use Rattle.std.specs.Prelude.{ℕ, ◌≡◌, All, true, None, List, [], ◌∷◌, length}
+use Rattle.std.specs.Prelude.{ℕ, ◌≡◌, ◌<◌, All, true, None, List, [], ◌∷◌, length}
 use Rattle.rb_rules.specs.Book.{Record}
 use Rattle.rb_rules.specs.Goodness.{Scenario}
 use Rattle.rb_rules.specs.Lawful.{IsLawful}
@@ -73,3 +73,18 @@ abbrev pub GoodSendersAreReceived : Type 0
 GoodSendersAreReceived =
     (sc : Scenario) (hands : List HandIn) → IsLawful sc → (records : List Record) → AreFirst sc hands records
     → (receiver sender : ℕ) → IsGoodThrough sc receiver records → IsGoodThrough sc sender records → ReceivesFrom sc hands records receiver sender
+
+-- So a port receives the letters that were pushed: where the words that a good sender offers are those that it was given by what it keeps
+-- its letters in, its letters arrive at a good port, the first of those that were taken, each whole and once; and all of them where none
+-- waits any more
+pub record ReceivesTheLetters (records : List Record) (receiver sender : ℕ) (s : Sent) : Type 0 where
+  pub first : IsFirstPart (letters_of receiver sender (deliveries_in records)) s.taken
+  pub all : s.waiting ≡ [] → letters_of receiver sender (deliveries_in records) ≡ s.taken
+
+abbrev pub LettersArrive : Type 0
+LettersArrive =
+    (sc : Scenario) (hands : List HandIn) → IsLawful sc → (records : List Record) → AreFirst sc hands records
+    → (receiver sender : ℕ) → IsGoodThrough sc receiver records → IsGoodThrough sc sender records
+    → (calls : List Call) → offered_by sc hands sender records ≡ (after_calls calls nothing_sent).words
+    → All (λ l. All (λ b. b < 256) l) (after_calls calls nothing_sent).taken
+    → ReceivesTheLetters records receiver sender (after_calls calls nothing_sent)

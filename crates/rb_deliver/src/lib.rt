@@ -1,7 +1,7 @@
 //! Laws of letters over the bus. Each law is the contract of a function that does nothing.
 #![tactic(auto)]
 
-ghost use Rattle.rb_deliver.specs.Laws.{GoodPortsReceiveAlike, GoodSendersAreReceived, LettersAreRead, SendersSendTheirLetters, WordsGiveTheirLetters};
+ghost use Rattle.rb_deliver.specs.Laws.{GoodPortsReceiveAlike, GoodSendersAreReceived, LettersAreRead, LettersArrive, SendersSendTheirLetters, WordsGiveTheirLetters};
 
 /// The words of a letter, where none is open before them, give this letter alone, and leave none open.
 pub fn letters_are_read()
@@ -31,4 +31,10 @@ pub fn good_ports_receive_alike()
 /// all of them once all their words were delivered.
 pub fn good_senders_are_received()
     ensures { GoodSendersAreReceived }
+{}
+
+/// So letters arrive: where the words that a good sender offers are what the calls to a sender of letters gave, zeros among them, a good port
+/// receives the first of the letters that this had taken, each whole and once, and all of them where none waits any more.
+pub fn letters_arrive()
+    ensures { LettersArrive }
 {}
