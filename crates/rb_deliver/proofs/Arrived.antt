@@ -1,9 +1,6 @@
 -- The letters that a sender of letters has taken, at a good port.
 use Rattle.std.proofs.Common.{◌≡◌, ℕ, ◌<◌, All, true, List, [], ◌∷◌, length, sym, ap, ◌∙◌, subst}
 use Rattle.std.proofs.lemmas.List.Elements.{All-cons, All-head, All-nil, All-tail}
-use Rattle.rb_rules.specs.Book.{Record}
-use Rattle.rb_rules.specs.Goodness.{Scenario}
-use Rattle.rb_rules.specs.Ports.{HandIn}
 use Rattle.rb_long.specs.Spelling.{is_length}
 use Rattle.rb_deliver.specs.Laws.{LettersArrive, ReceivesFrom, ReceivesTheLetters, SendsItsLetters}
 use Rattle.rb_deliver.specs.Offers.{offered_by}

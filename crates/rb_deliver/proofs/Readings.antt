@@ -1,6 +1,6 @@
 -- What a reader makes of the words of letters.
-use Rattle.std.proofs.Common.{◌≡◌, ℕ, zero, suc, ◌+◌, ◌-◌, ◌*◌, ◌/◌, ◌%◌, ◌^◌, ◌<◌, ◌≤◌, ◌==◌, ◌&&◌, nat_le, nat_lt, not, All, Bool, true, false, cond, Option, Some, None, List, [], ◌∷◌, ◌++◌, drop, take, filter, length, map, get_or, append_assoc, refl, sym, ap, ◌∙◌, subst, arith}
-use Rattle.std.specs.List.{flat_map, list_all, range_with_len}
+use Rattle.std.proofs.Common.{◌≡◌, ℕ, zero, suc, ◌+◌, ◌-◌, ◌*◌, ◌/◌, ◌%◌, ◌^◌, ◌<◌, ◌≤◌, ◌==◌, ◌&&◌, nat_le, nat_lt, not, All, Bool, true, false, cond, Option, Some, None, List, [], ◌∷◌, ◌++◌, drop, take, length, map, get_or, append_assoc, refl, sym, ap, ◌∙◌, subst, arith}
+use Rattle.std.specs.List.{list_all, range_with_len}
 use Rattle.std.specs.Option.{option_to_list}
 use Rattle.std.proofs.lemmas.Bool.{le-leb, le-ltb, lt-ltb}
 use Rattle.std.proofs.lemmas.Bool.Decides.{nat_tests}
@@ -10,8 +10,8 @@ use Rattle.rb_base.specs.declared.values.Heard.{Heard}
 use Rattle.rb_base.specs.declared.values.Heard.TheVariants.{Word}
 use Rattle.rb_long.specs.Reading.{OpenLetter, Read, given_with, is_zero, keeps, open_after, with_bytes, with_last, with_part, with_value, with_word}
 use Rattle.rb_long.specs.Spelling.{bytes_in, first_word, is_first, is_length, is_part, part_at, part_word, parts_in, parts_of, spelling_of}
-use Rattle.rb_deliver.specs.Laws.{GivesTheFirst, IsRead, LettersAreRead, WordsGiveTheirLetters}
-use Rattle.rb_deliver.specs.Sent.{IsFirstPart, IsLetter, heard_words, without_zeros, words_of}
+use Rattle.rb_deliver.specs.Laws.{IsRead, LettersAreRead, WordsGiveTheirLetters}
+use Rattle.rb_deliver.specs.Sent.{IsLetter, heard_words, without_zeros, words_of}
 
 -- Words one after another.
 
@@ -270,8 +270,8 @@ words-give letters words all part =
       first = (
         given_with (open_after None (heard_words some)) (heard_words part.0),
         sym (reads-all letters all) ∙ ap (λ l. given_with None (heard_words l)) part.1 ∙ ap (given_with None) (heard-append some part.0)
-        ∙ given-append None (heard_words some) (heard_words part.0)
-        ∙ ap (λ l. l ++ given_with (open_after None (heard_words some)) (heard_words part.0)) (sym (given-no-zeros None words)),
+            ∙ given-append None (heard_words some) (heard_words part.0)
+            ∙ ap (λ l. l ++ given_with (open_after None (heard_words some)) (heard_words part.0)) (sym (given-no-zeros None words)),
       );
       all = λ e. given-no-zeros None words ∙ ap (λ l. given_with None (heard_words l)) e ∙ reads-all letters all;
     }

@@ -1,12 +1,11 @@
 -- What the ports of good BIUs receive of a sender.
-use Rattle.std.proofs.Common.{◌≡◌, ℕ, zero, suc, ◌+◌, ◌<◌, ◌≤◌, ◌==◌, ◌&&◌, ◌⊎◌, All, Bool, true, false, cond, Option, Some, None, List, [], ◌∷◌, ◌++◌, filter, length, map, get_or, append_assoc, if◌then◌else◌, inl, inr, refl, sym, ap, ◌∙◌, subst, arith}
+use Rattle.std.proofs.Common.{◌≡◌, ℕ, zero, suc, ◌+◌, ◌<◌, ◌≤◌, ◌==◌, ◌&&◌, ◌⊎◌, All, Bool, true, false, cond, Option, Some, None, List, [], ◌∷◌, ◌++◌, filter, length, map, if◌then◌else◌, inl, inr, refl, sym, ap, ◌∙◌, subst, arith}
 use Rattle.std.specs.List.{range_with_len}
 use Rattle.std.proofs.lemmas.Bool.{cases_lt}
 use Rattle.std.proofs.lemmas.Bool.Decides.{nat_tests}
 use Rattle.std.proofs.lemmas.List.{append-nil}
 use Rattle.std.proofs.lemmas.List.Elements.{All-cons, All-head, All-nil, All-tail}
 use Rattle.std.proofs.lemmas.Option.{slice_get-get_or}
-use Rattle.rb_base.specs.Counting.{numbers}
 use Rattle.rb_base.specs.Nodes.Side.{Biu}
 use Rattle.rb_base.specs.Sizes.{sync_slot_of}
 use Rattle.rb_base.specs.declared.values.Heard.{Heard}
@@ -21,15 +20,14 @@ use Rattle.rb_rules.specs.Moments.{IsGoodBefore, before_slot, offered_in}
 use Rattle.rb_rules.specs.NodeState.{NodeState, first_state}
 use Rattle.rb_rules.specs.NodeSteps.{owner_at}
 use Rattle.rb_rules.specs.Ports.{HandIn}
-use Rattle.rb_rules.specs.Rounds.{records_of}
 use Rattle.rb_agree.proofs.Places.{complete_before, placed}
 use Rattle.rb_order.proofs.RoundNodes.{good-counts}
 use Rattle.rb_bus.proofs.Promise.{promise}
-use Rattle.rb_long.specs.Delivered.{deliveries_in, is_from, letters_of, lines_in, open_at, values_of}
+use Rattle.rb_long.specs.Delivered.{deliveries_in, is_from, lines_in, values_of}
 use Rattle.rb_long.specs.Reading.{given_with, open_after}
-use Rattle.rb_deliver.specs.Laws.{AreFirst, GoodPortsReceiveAlike, GoodSendersAreReceived, ReceivesFrom}
+use Rattle.rb_deliver.specs.Laws.{AreFirst, GoodPortsReceiveAlike, GoodSendersAreReceived}
 use Rattle.rb_deliver.specs.Offers.{IsGoodThrough, is_good_in, is_owner, offered_by, offers, state_before}
-use Rattle.rb_deliver.specs.Sent.{IsFirstPart, IsLetter, heard_words, without_zeros, words_of}
+use Rattle.rb_deliver.specs.Sent.{IsFirstPart, heard_words, without_zeros}
 use Rattle.rb_deliver.proofs.Readings.{heard-append, words-give}
 use Rattle.rb_deliver.proofs.Recorded.{IsOfSlot, IsRecorded, all-recorded}
 

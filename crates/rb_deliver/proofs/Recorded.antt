@@ -1,5 +1,5 @@
 -- Each record of a slot is that of a complete slot: its lines are the last that are given with it.
-use Rattle.std.proofs.Common.{◌≡◌, ℕ, zero, suc, ◌+◌, ◌-◌, ◌*◌, ◌/◌, ◌%◌, ◌<◌, ◌≤◌, ◌==◌, ◌&&◌, ◌⊎◌, min, nat_lt, All, Bool, true, false, Option, Some, None, List, [], ◌∷◌, ◌++◌, slice_get, if◌then◌else◌, inl, inr, refl, sym, ap, ◌∙◌, subst, arith}
+use Rattle.std.proofs.Common.{◌≡◌, ℕ, zero, suc, ◌+◌, ◌-◌, ◌*◌, ◌%◌, ◌<◌, ◌==◌, ◌&&◌, ◌⊎◌, nat_lt, All, Bool, true, false, Option, Some, None, List, [], ◌∷◌, ◌++◌, slice_get, if◌then◌else◌, inl, inr, refl, sym, ap, ◌∙◌, subst, arith}
 use Rattle.std.specs.Prelude.{⊤}
 use Rattle.std.proofs.lemmas.Bool.{cases_lt}
 use Rattle.std.proofs.lemmas.Bool.Decides.{nat_tests}
@@ -10,14 +10,14 @@ use Rattle.rb_base.specs.declared.values.Place.{Place}
 use Rattle.rb_rules.specs.declared.cause.Cause.{Cause}
 use Rattle.rb_rules.specs.declared.plan.Window.{Window}
 use Rattle.rb_rules.specs.declared.record.SlotLine.{SlotLine}
-use Rattle.rb_rules.specs.Book.{Begun, Book, Each, Record, Row, after_verdict, frame_records, judged_of, slot_records, with_end, with_frame, with_stage}
+use Rattle.rb_rules.specs.Book.{Begun, Book, Each, Record, Row, after_verdict, frame_records, judged_of, with_end, with_frame, with_stage}
 use Rattle.rb_rules.specs.Book.Milestone.{End, Stage}
 use Rattle.rb_rules.specs.Book.Record.{Frame, Slot, Ended, Breach}
 use Rattle.rb_rules.specs.Goodness.{Scenario}
 use Rattle.rb_rules.specs.Judging.{JudgedStage, verdict_of}
 use Rattle.rb_rules.specs.Moments.{IsComplete, after_slot}
 use Rattle.rb_rules.specs.Ports.{HandIn}
-use Rattle.rb_rules.specs.Rounds.{Moment, after_window, begin_frame, book_after, moment, next_frame, records_of, results_of, step, steps_of, windows_in}
+use Rattle.rb_rules.specs.Rounds.{Moment, after_window, begin_frame, book_after, moment, records_of, step, steps_of, windows_in}
 use Rattle.rb_rules.specs.Windows.{windows_of_frame}
 use Rattle.rb_rules.proofs.Books.{records-are, stepped}
 use Rattle.rb_order.specs.Closing.{stages_in}
@@ -74,7 +74,7 @@ adds-verdict sizes frame n w rows stages b None slot stage = by (w.stage == 3) (
           Slot frame w.slot b.lines,
           (
             ap (λ c. b.given ++ (if c && nat_lt w.slot (sync_slot_of sizes) then Slot frame w.slot b.lines ∷ [] else [])) e
-            ∙ ap (λ d. b.given ++ (if true && d then Slot frame w.slot b.lines ∷ [] else [])) f,
+                ∙ ap (λ d. b.given ++ (if true && d then Slot frame w.slot b.lines ∷ [] else [])) f,
             record { frame_is = refl; window = numbered sizes n third_is below ∙ ap (λ s. 3 * s + 2) (sym slot); below = lt; going = refl },
           ),
         )

@@ -1,5 +1,5 @@
 -- The words of letters, and what a sender has made of its letters.
-use Rattle.std.specs.Prelude.{ℕ, ◌≡◌, ◌<◌, ◌==◌, not, All, Bool, true, Option, Some, None, List, [], ◌∷◌, ◌++◌, filter, length, map}
+use Rattle.std.specs.Prelude.{ℕ, ◌≡◌, ◌<◌, ◌==◌, not, All, true, Option, Some, None, List, [], ◌∷◌, ◌++◌, filter, length, map}
 use Rattle.std.specs.List.{flat_map}
 use Rattle.rb_base.specs.declared.values.Heard.{Heard}
 use Rattle.rb_base.specs.declared.values.Heard.TheVariants.{Word}
