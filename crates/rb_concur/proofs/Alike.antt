@@ -1,5 +1,5 @@
 -- What good ports deliver is the same, so groups come to the same there.
-use Rattle.std.proofs.Common.{◌≡◌, ℕ, zero, suc, ◌+◌, ◌*◌, ◌<◌, ◌≤◌, ◌==◌, Bool, true, false, inl, inr, Option, Some, None, List, [], ◌∷◌, ◌++◌, if◌then◌else◌, refl, sym, ◌∙◌, ap, arith}
+use Rattle.std.proofs.Common.{◌≡◌, ℕ, zero, suc, ◌==◌, Bool, true, false, inl, inr, Option, Some, None, List, [], ◌++◌, if◌then◌else◌, refl, sym, ◌∙◌, ap, arith}
 use Rattle.std.proofs.lemmas.Bool.{cases_lt}
 use Rattle.rb_base.specs.Nodes.Side.{Biu}
 use Rattle.rb_base.specs.declared.values.Delivery.{Delivery}
@@ -8,7 +8,7 @@ use Rattle.rb_rules.specs.Book.Record.{Slot}
 use Rattle.rb_rules.specs.Goodness.{Scenario, is_good}
 use Rattle.rb_rules.specs.Lawful.{IsLawful}
 use Rattle.rb_rules.specs.Ports.{HandIn}
-use Rattle.rb_rules.specs.Rounds.{moment, records_of, steps_of}
+use Rattle.rb_rules.specs.Rounds.{moment, steps_of}
 use Rattle.rb_rules.specs.Slots.{role_of}
 use Rattle.rb_rules.proofs.Books.{records-are}
 use Rattle.rb_agree.specs.Values.{lines_in}

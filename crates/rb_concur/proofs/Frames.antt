@@ -1,19 +1,16 @@
 -- What a port has delivered of each BIU in a frame whose data slots are served.
-use Rattle.std.proofs.Common.{◌≡◌, ℕ, zero, suc, ◌+◌, ◌-◌, ◌*◌, ◌<◌, ◌≤◌, ◌==◌, nat_lt, Bool, true, false, inl, inr, Option, Some, None, slice_get, List, [], ◌∷◌, ◌++◌, refl, sym, ◌∙◌, ap, subst, arith}
+use Rattle.std.proofs.Common.{◌≡◌, ℕ, zero, suc, ◌+◌, ◌-◌, ◌*◌, ◌<◌, ◌≤◌, ◌==◌, nat_lt, true, false, inl, inr, Option, Some, None, slice_get, List, [], ◌∷◌, ◌++◌, refl, sym, ◌∙◌, ap, subst, arith}
 use Rattle.std.specs.List.{range_with_len}
 use Rattle.std.proofs.lemmas.Bool.{cases_lt, cases_order}
 use Rattle.std.proofs.Math.Nat.{add-sub_of_le, mul-le-mul_right}
-use Rattle.rb_base.specs.Nodes.{Side}
 use Rattle.rb_base.specs.Nodes.Side.{Biu}
 use Rattle.rb_base.specs.Sizes.{sync_slot_of}
-use Rattle.rb_base.specs.declared.values.Delivery.{Delivery}
-use Rattle.rb_base.specs.declared.values.Heard.{Heard}
 use Rattle.rb_rules.specs.declared.role.Role.{Role}
 use Rattle.rb_rules.specs.declared.role.Role.TheVariants.{Schedule, Data, DiagBiu, DiagRmu, Sync}
 use Rattle.rb_rules.specs.Book.{of_kind}
-use Rattle.rb_rules.specs.Goodness.{Scenario, is_good}
+use Rattle.rb_rules.specs.Goodness.{Scenario}
 use Rattle.rb_rules.specs.Lawful.{IsLawful}
-use Rattle.rb_rules.specs.Moments.{before_slot, after_slot, IsComplete, IsGoodBefore, IsRunning}
+use Rattle.rb_rules.specs.Moments.{before_slot, IsComplete, IsRunning}
 use Rattle.rb_rules.specs.NodeState.{NodeState}
 use Rattle.rb_rules.specs.NodeSteps.{owner_at, owner_for}
 use Rattle.rb_rules.specs.Ports.{HandIn}
@@ -112,13 +109,13 @@ data-slots sc hands law frame are owner schedule port good (suc n) le i =
     let before : IsDeliveredOf sc hands frame i (first_among owner i (range_with_len sc.sizes.bius n)) (first_of i (told_in frame port (before_slot sc hands frame slot).book)) =
     data-slots sc hands law frame are owner schedule port good n (omega (arith, le)) i in
     let both : IsDeliveredOf sc hands frame i (or_else (first_among owner i (range_with_len sc.sizes.bius n)) (first_among owner i (slot ∷ [])))
-      (or_else (first_of i (told_in frame port (before_slot sc hands frame slot).book)) (first_of i adds.more)) =
+    (or_else (first_of i (told_in frame port (before_slot sc hands frame slot).book)) (first_of i adds.more)) =
     delivered-more sc hands frame i (first_among owner i (range_with_len sc.sizes.bius n)) (first_among owner i (slot ∷ []))
     (first_of i (told_in frame port (before_slot sc hands frame slot).book)) (first_of i adds.more) before (adds.each i) in
     let slots : or_else (first_among owner i (range_with_len sc.sizes.bius n)) (first_among owner i (slot ∷ [])) ≡ first_among owner i (range_with_len sc.sizes.bius (suc n)) =
     sym (first_among-append owner i (range_with_len sc.sizes.bius n) (slot ∷ [])) ∙ ap (first_among owner i) (sym (range_more sc.sizes.bius n)) in
     let values : or_else (first_of i (told_in frame port (before_slot sc hands frame slot).book)) (first_of i adds.more)
-      ≡ first_of i (told_in frame port (before_slot sc hands frame (sc.sizes.bius + suc n)).book) =
+    ≡ first_of i (told_in frame port (before_slot sc hands frame (sc.sizes.bius + suc n)).book) =
     sym (first_of-append i (told_in frame port (before_slot sc hands frame slot).book) adds.more) ∙ ap (first_of i) (sym adds.told)
     ∙ ap (λ k. first_of i (told_in frame port (moment sc hands k).book)) (next (frame * (windows_in sc.sizes + 1)) sc.sizes.bius n) in
     subst (λ o. IsDeliveredOf sc hands frame i (first_among owner i (range_with_len sc.sizes.bius (suc n))) o) values

@@ -1,41 +1,33 @@
 -- What a port delivers of each BIU: nothing of one that owns no data slot, something of one that does, and of a good one its word.
-use Rattle.std.proofs.Common.{◌≡◌, ℕ, zero, suc, ◌+◌, ◌-◌, ◌*◌, ◌<◌, ◌≤◌, ◌==◌, ◌⊎◌, Bool, true, false, inl, inr, Option, Some, None, is_some, slice_get, List, [], ◌∷◌, ◌++◌, if◌then◌else◌, refl, sym, ◌∙◌, ap, subst, arith}
-use Rattle.std.specs.List.{range_with_len}
-use Rattle.std.proofs.lemmas.Bool.{cases_lt}
+use Rattle.std.proofs.Common.{◌≡◌, ℕ, zero, suc, ◌+◌, ◌*◌, ◌<◌, ◌≤◌, ◌==◌, ◌⊎◌, Bool, true, false, inl, inr, Option, Some, None, is_some, slice_get, List, [], ◌∷◌, ◌++◌, if◌then◌else◌, refl, sym, ◌∙◌, ap, subst, arith}
 use Rattle.std.proofs.lemmas.List.{append-nil}
-use Rattle.rb_base.specs.Nodes.{Side}
 use Rattle.rb_base.specs.Nodes.Side.{Biu}
 use Rattle.rb_base.specs.Sizes.{sync_slot_of}
 use Rattle.rb_base.specs.declared.values.Delivery.{Delivery}
 use Rattle.rb_base.specs.declared.values.Heard.{Heard}
 use Rattle.rb_base.specs.declared.values.Heard.TheVariants.{Word, Fault}
 use Rattle.rb_rules.specs.Book.{of_kind}
-use Rattle.rb_rules.specs.Book.Record.{Slot}
 use Rattle.rb_rules.specs.Goodness.{Scenario, is_good}
 use Rattle.rb_rules.specs.Headline.{DeliversOneValue, HasRecord, lines_of}
 use Rattle.rb_rules.specs.Lawful.{IsLawful}
-use Rattle.rb_rules.specs.Moments.{before_slot, after_slot, IsComplete, IsGoodBefore, IsRunning, offered_in}
+use Rattle.rb_rules.specs.Moments.{before_slot, after_slot, IsComplete, IsGoodBefore, offered_in}
 use Rattle.rb_rules.specs.NodeState.{NodeState}
 use Rattle.rb_rules.specs.NodeSteps.{owner_at}
 use Rattle.rb_rules.specs.Ports.{HandIn}
-use Rattle.rb_rules.specs.Rounds.{Moment, moment, records_of, step, steps_of, windows_in}
+use Rattle.rb_rules.specs.Rounds.{Moment, moment, windows_in}
 use Rattle.rb_rules.specs.Slots.{role_of}
-use Rattle.rb_rules.proofs.Books.{records-are, stepped}
 use Rattle.rb_agree.specs.Values.{lines_in}
-use Rattle.rb_agree.proofs.Agreement.{IsAgreed, agreement, ended-end}
 use Rattle.rb_agree.proofs.Deliveries.{owner_sending}
-use Rattle.rb_agree.proofs.Goodnesses.{good_earlier}
 use Rattle.rb_agree.proofs.Invariant.{is_good_now}
-use Rattle.rb_agree.proofs.Places.{running_earlier}
 use Rattle.rb_agree.proofs.Promises.{deliver-alike, deliver-word}
 use Rattle.rb_agree.proofs.Settings.{good_state}
 use Rattle.rb_agree.proofs.SlotRuns.{IsSlot, slot_runs, good_in_stage}
-use Rattle.rb_agree.proofs.Tests.{Present, equal_from, so_not, true_or_false}
+use Rattle.rb_agree.proofs.Tests.{Present, equal_from, true_or_false}
 use Rattle.rb_base.proofs.Sets.{eq_self}
 use Rattle.rb_group.specs.Groups.{first_of}
-use Rattle.rb_group.specs.Portions.{deliveries_in, port_deliveries, told_of}
-use Rattle.rb_concur.specs.Laws.{AreServed, IsGoodPort, IsSchedule, first_among, first_slot, is_number, last_data_slot}
-use Rattle.rb_concur.proofs.Added.{first-told, step-adds, told-more, told_in}
+use Rattle.rb_group.specs.Portions.{deliveries_in, port_deliveries}
+use Rattle.rb_concur.specs.Laws.{first_among, is_number}
+use Rattle.rb_concur.proofs.Added.{step-adds, told-more, told_in}
 use Rattle.rb_concur.proofs.Alike.{no-lines}
 use Rattle.rb_concur.proofs.Served.{IsServed, no-owner, one-delivery, served}
 

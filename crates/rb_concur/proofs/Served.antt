@@ -1,5 +1,5 @@
 -- The slots of which a run gives a record: each is complete, and its lines are one value at all good BIUs.
-use Rattle.std.proofs.Common.{◌≡◌, ℕ, zero, suc, ◌+◌, ◌-◌, ◌*◌, ◌<◌, ◌≤◌, ◌==◌, nat_lt, Bool, true, false, ◌⊎◌, inl, inr, cond, Option, Some, None, List, [], ◌∷◌, ◌++◌, filter, map, if◌then◌else◌, refl, sym, ◌∙◌, ap, subst, arith}
+use Rattle.std.proofs.Common.{◌≡◌, ℕ, zero, suc, ◌+◌, ◌-◌, ◌*◌, ◌<◌, ◌≤◌, ◌==◌, nat_lt, Bool, true, false, ◌⊎◌, inl, inr, cond, None, List, [], ◌∷◌, ◌++◌, filter, map, if◌then◌else◌, refl, sym, ◌∙◌, ap, arith}
 use Rattle.std.specs.List.{range_with_len}
 use Rattle.std.proofs.lemmas.Bool.{cases_lt}
 use Rattle.std.proofs.lemmas.Bool.Decides.{nat_tests}
@@ -27,7 +27,7 @@ use Rattle.rb_agree.proofs.SlotRuns.{IsSlot, slot_runs}
 use Rattle.rb_agree.proofs.SlotValues.{slot-lines, value_of_slot}
 use Rattle.rb_agree.proofs.Tests.{less_false, less_true}
 use Rattle.rb_base.proofs.Sets.{eq_self}
-use Rattle.rb_group.specs.Portions.{deliveries_in, delivery_of}
+use Rattle.rb_group.specs.Portions.{deliveries_in}
 use Rattle.rb_concur.proofs.Added.{AddsSlot}
 
 -- The record.
@@ -91,7 +91,7 @@ no-owner sizes slot sender (inr late) = by (nat_lt slot sizes.bius) (nat_lt slot
         else (if b then Data (slot - sizes.bius)
         else (if c then DiagBiu (slot - first_diagnosis_of Biu sizes)
         else (if d then DiagRmu (slot - first_diagnosis_of Rmu sizes) else Sync)))
-      ) sender ≡ None
+        ) sender ≡ None
     by true b c d e f = cc
     by false true c d e f = cc
     by false false true d e f = refl

@@ -1,7 +1,6 @@
 -- What the voters find for a group, by what is delivered of its members.
-use Rattle.std.proofs.Common.{◌≡◌, ℕ, ◌+◌, ◌<◌, ◌≤◌, ◌==◌, ◌&&◌, not, Bool, true, false, cond, Option, Some, None, is_some, List, [], ◌∷◌, length, filter, map, get_or, if◌then◌else◌, refl, sym, ◌∙◌, ap, subst, arith}
-use Rattle.std.specs.Prelude.{All}
-use Rattle.std.specs.List.{cons_option, filter_map}
+use Rattle.std.proofs.Common.{◌≡◌, ℕ, ◌+◌, ◌<◌, ◌≤◌, ◌&&◌, not, Bool, true, false, cond, Option, Some, None, is_some, List, [], ◌∷◌, length, filter, map, get_or, if◌then◌else◌, refl, sym, ◌∙◌, ap, subst, arith}
+use Rattle.std.specs.List.{cons_option}
 use Rattle.std.proofs.lemmas.List.{length-map}
 use Rattle.std.proofs.lemmas.List.Elements.{All-from_get_or}
 use Rattle.rb_base.specs.Counting.{count_if, numbers}
@@ -13,7 +12,7 @@ use Rattle.rb_base.specs.declared.values.Heard.TheVariants.{Word, Fault}
 use Rattle.rb_base.proofs.Counts.{count_if-le, count_if-le_length}
 use Rattle.rb_rules.specs.ExactStage.{present}
 use Rattle.rb_rules.specs.Goodness.{Scenario, is_good}
-use Rattle.rb_rules.specs.Middle.{IsMiddle, middle_of}
+use Rattle.rb_rules.specs.Middle.{middle_of}
 use Rattle.rb_rules.specs.Moments.{offered_in}
 use Rattle.rb_rules.specs.Ports.{HandIn, word_in, word_or_0}
 use Rattle.rb_rules.specs.Rounds.{records_of}
@@ -22,7 +21,7 @@ use Rattle.rb_rules.proofs.Votes.{vote_is}
 use Rattle.rb_agree.proofs.Tests.{Present, and_both, and_first, and_second, equal_from, present_if}
 use Rattle.rb_group.specs.Groups.{first_of, heard_of, value_of, values_of, words_in}
 use Rattle.rb_group.specs.Portions.{port_deliveries}
-use Rattle.rb_concur.specs.Laws.{MidStaysBetween, MostFindsTheWord, OffersAreWithin, Outnumber, first_slot, has_slot, is_good_owner, is_number, offer_in, offer_of, offers}
+use Rattle.rb_concur.specs.Laws.{MidStaysBetween, MostFindsTheWord, Outnumber, first_slot, has_slot, is_good_owner, is_number, offer_in, offer_of, offers}
 use Rattle.rb_concur.proofs.Frames.{delivered-of}
 use Rattle.rb_concur.proofs.Owned.{IsDeliveredOf}
 
