@@ -48,7 +48,7 @@ fn lines_in(text: &[u8]) -> usize {
 // How many nodes are convicted, by the first line of a frame.
 fn convicted_in(frame: &FrameRecord) -> u32 {
     match frame.nodes.first() {
-        Some(line) => line.biu.count_ones() + line.rmu.count_ones(),
+        Some(line) => line.biu.count_ones().saturating_add(line.rmu.count_ones()),
         None => 0,
     }
 }
