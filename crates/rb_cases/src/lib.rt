@@ -6,9 +6,13 @@ mod applications;
 #[cfg(test)]
 mod breaches;
 #[cfg(test)]
+mod calls;
+#[cfg(test)]
 mod faulty_bius;
 #[cfg(test)]
 mod faulty_rmus;
+#[cfg(test)]
+mod load;
 #[cfg(test)]
 mod logs;
 #[cfg(test)]

@@ -90,8 +90,8 @@ fn bytes_of(alloc: Global, pieces: &[&str]) -> Result<Vec<u8>, AllocError> {
     Ok(bytes)
 }
 
-// The checksum FNV-1a of 64 bits.
-fn checksum(bytes: &[u8]) -> u64 {
+/// The checksum FNV-1a of 64 bits.
+pub(crate) fn checksum(bytes: &[u8]) -> u64 {
     let mut sum: u64 = 14695981039346656037;
     for byte in bytes {
         sum = (sum ^ u64::from(*byte)).wrapping_mul(1099511628211);

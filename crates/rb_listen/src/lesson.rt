@@ -125,8 +125,12 @@ pub(crate) fn note(lesson: &mut Lesson, shape: &Shape, j: u8, at: u64, message: 
     if has_place(shape, lesson.frame, message) {
         let slot = message.slot;
         let before = record_of(&lesson.records, slot, j);
-        lesson.records[16 * usize::from(slot) + usize::from(j)] =
-            with_message(slot == calls, at, message, before);
+        lesson.records[16 * usize::from(slot) + usize::from(j)] = with_message(
+            slot == calls,
+            at,
+            message,
+            before,
+        );
     }
 }
 
@@ -255,12 +259,7 @@ fn stamp_in(sense: Sense) -> Option<u64>
 }
 
 // The value that is recorded in a slot of RMU `j`, if it is in the set.
-fn recorded_value(
-    records: &[Sense; 1808],
-    rmus: NodeSet<Rmu>,
-    slot: u16,
-    j: u8,
-) -> Option<Heard>
+fn recorded_value(records: &[Sense; 1808], rmus: NodeSet<Rmu>, slot: u16, j: u8) -> Option<Heard>
     requires slot { slot ≤ 112 }
     requires rmu { j < 16 }
     ensures { result ≡ recorded_of value_in records.now rmus slot j }
@@ -319,11 +318,7 @@ fn ballot_of<S: Kind>(
 {
     let mut ballot = Ballot::new(others);
     for i in 0..16u8 {
-        enter(
-            &mut ballot,
-            i,
-            vote_on(records, rmus, first + u16::from(i)),
-        );
+        enter(&mut ballot, i, vote_on(records, rmus, first + u16::from(i)));
     }
     ballot
 }

@@ -1,5 +1,5 @@
 -- What a form reads, and how its input is refused or not read to its end.
-use Rattle.std.specs.Prelude.{ℕ, ◌≡◌, ◌≤◌, ◌<◌, ◌⊎◌, List, [], Option, Some, None, IsSome, unwrap_or, Result, Err, false, true}
+use Rattle.std.specs.Prelude.{ℕ, ◌≡◌, ◌≤◌, ◌<◌, ◌⊎◌, List, [], Option, Some, None, IsSome, unwrap_or, Err, false, true}
 use Rattle.rb_outside.specs.Bytes.{Gave, ReadsToEnd}
 use Rattle.rb_outside.specs.Causes.{Rose}
 use Rattle.rb_base.specs.declared.node.NodeName.{NodeName}

@@ -12,8 +12,6 @@ mod opening;
 mod proceeding;
 mod scene;
 mod taking;
-#[cfg(test)]
-mod tests;
 mod ticking;
 pub mod ties;
 pub mod world;

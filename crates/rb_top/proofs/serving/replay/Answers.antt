@@ -1,5 +1,4 @@
-use Rattle.std.proofs.Common.{subst}
-use Rattle.rb_top.proofs.FormAnswers.{Replays, logs_write, replay_answers, unread_answers}
+use Rattle.rb_top.proofs.FormAnswers.{unread_answers}
 use Rattle.rb_top.proofs.serving.replay.Goals as goal
 
 pub returns-in-Err-clause-answers : goal.returns-in-Err-clause-answers

@@ -1,0 +1,116 @@
+-- Replicas: what a group of BIUs comes to at every good port.
+use Rattle.std.specs.Prelude.{ℕ, ◌≡◌, ◌+◌, ◌-◌, ◌<◌, ◌≤◌, ◌==◌, ◌&&◌, not, Bool, true, false, if◌then◌else◌, Option, Some, None, is_some, List, [], ◌∷◌}
+use Rattle.std.specs.List.{range_with_len}
+use Rattle.rb_base.specs.Counting.{count_if, numbers}
+use Rattle.rb_base.specs.Nodes.{Side, has}
+use Rattle.rb_base.specs.Nodes.Side.{Biu}
+use Rattle.rb_base.specs.Sizes.{Sizes}
+use Rattle.rb_base.specs.declared.values.Heard.TheVariants.{Word}
+use Rattle.rb_rules.specs.Goodness.{Scenario, is_good}
+use Rattle.rb_rules.specs.Lawful.{IsLawful}
+use Rattle.rb_rules.specs.Moments.{IsComplete, IsGoodBefore, offered_in}
+use Rattle.rb_rules.specs.NodeState.{NodeState}
+use Rattle.rb_rules.specs.NodeSteps.{owner_at}
+use Rattle.rb_rules.specs.Ports.{HandIn}
+use Rattle.rb_rules.specs.Rounds.{records_of}
+use Rattle.rb_group.specs.declared.voters.Which.{Which}
+use Rattle.rb_group.specs.declared.voters.Which.TheVariants.{Most, Mid}
+use Rattle.rb_group.specs.Portions.{value_at}
+
+-- The data slots of a frame.
+
+abbrev pub last_data_slot : Sizes → ℕ
+last_data_slot sizes = sizes.bius + sizes.data_slots - 1
+
+-- BIU i is good up to the end of the data slots
+abbrev pub IsGoodPort : Scenario → ℕ → ℕ → Type 0
+IsGoodPort sc frame i = is_good sc Biu i frame (last_data_slot sc.sizes) ≡ true
+
+-- the data slots are complete without a breach
+abbrev pub AreServed : Scenario → List HandIn → ℕ → Type 0
+AreServed sc hands frame = IsComplete sc hands frame (last_data_slot sc.sizes)
+
+-- these are the owners of the data slots, by whichever good node's schedule
+abbrev pub IsSchedule : Scenario → List HandIn → ℕ → (ℕ → Option ℕ) → Type 0
+IsSchedule sc hands frame owner =
+    (slot : ℕ) → sc.sizes.bius ≤ slot → slot ≤ last_data_slot sc.sizes
+    → (me : Side) (i : ℕ) (st : NodeState) → IsGoodBefore sc hands frame slot me i st → owner_at sc.sizes st slot ≡ owner slot
+
+-- Those who own a slot.
+
+-- the answer is this number
+abbrev pub is_number : ℕ → Option ℕ → Bool
+is_number i None = false
+is_number i (Some n) = n == i
+
+-- the first of these slots that is BIU i's
+abbrev pub first_among : (ℕ → Option ℕ) → ℕ → List ℕ → Option ℕ
+first_among owner i [] = None
+first_among owner i (slot ∷ slots) = if is_number i (owner slot) then Some slot else first_among owner i slots
+
+-- the first data slot of BIU i, if it owns one
+abbrev pub first_slot : Sizes → (ℕ → Option ℕ) → ℕ → Option ℕ
+first_slot sizes owner i = first_among owner i (range_with_len sizes.bius sizes.data_slots)
+
+-- what BIU i offers in its first data slot, if it owns one and is good there
+abbrev pub offer_in : Scenario → List HandIn → ℕ → ℕ → Option ℕ → Option ℕ
+offer_in sc hands frame i None = None
+offer_in sc hands frame i (Some slot) = if is_good sc Biu i frame slot then Some (offered_in sc hands frame slot i) else None
+
+abbrev pub offer_of : Scenario → List HandIn → ℕ → (ℕ → Option ℕ) → ℕ → Option ℕ
+offer_of sc hands frame owner i = offer_in sc hands frame i (first_slot sc.sizes owner i)
+
+-- Members, with the owners of the data slots.
+
+-- a member that owns a slot
+abbrev pub has_slot : Scenario → (ℕ → Option ℕ) → ℕ → ℕ → Bool
+has_slot sc owner members i = has members i && is_some (first_slot sc.sizes owner i)
+
+-- a member that is a good owner
+abbrev pub is_good_owner : Scenario → List HandIn → ℕ → (ℕ → Option ℕ) → ℕ → ℕ → Bool
+is_good_owner sc hands frame owner members i = has members i && is_some (offer_of sc hands frame owner i)
+
+-- a member that is a good owner and offers this word
+abbrev pub offers : Scenario → List HandIn → ℕ → (ℕ → Option ℕ) → ℕ → ℕ → ℕ → Bool
+offers sc hands frame owner members word i = has members i && is_number word (offer_of sc hands frame owner i)
+
+-- of the 16 BIUs that there may be more pass the first test than the second alone
+unfoldable pub Outnumber : (ℕ → Bool) → (ℕ → Bool) → Type 0
+Outnumber chosen all = count_if (λ i. not (chosen i) && all i) (numbers 16) < count_if chosen (numbers 16)
+
+-- The laws.
+
+-- good ports hold equal values of each group
+abbrev pub GroupsAgree : Type 0
+GroupsAgree =
+    (sc : Scenario) (hands : List HandIn) → IsLawful sc → (which : Which) (members frame i j : ℕ) → IsGoodPort sc frame i → IsGoodPort sc frame j
+    → value_at which members (records_of sc hands) frame i ≡ value_at which members (records_of sc hands) frame j
+
+-- each frame with a good port has one schedule
+abbrev pub FramesHaveASchedule : Type 0
+FramesHaveASchedule =
+    (sc : Scenario) (hands : List HandIn) → IsLawful sc → (frame : ℕ) → AreServed sc hands frame → (port : ℕ) → IsGoodPort sc frame port
+    → (owner : ℕ → Option ℕ) × IsSchedule sc hands frame owner
+
+-- a word that more members offer as good owners than other members own a slot is the value of the group
+abbrev pub MostFindsTheWord : Type 0
+MostFindsTheWord =
+    (sc : Scenario) (hands : List HandIn) → IsLawful sc → (frame : ℕ) → AreServed sc hands frame
+    → (owner : ℕ → Option ℕ) → IsSchedule sc hands frame owner → (members word : ℕ)
+    → Outnumber (offers sc hands frame owner members word) (has_slot sc owner members)
+    → (port : ℕ) → IsGoodPort sc frame port → value_at Most members (records_of sc hands) frame port ≡ Word word
+
+-- the words of the good owners among the members lie between these
+abbrev pub OffersAreWithin : Scenario → List HandIn → ℕ → (ℕ → Option ℕ) → ℕ → ℕ → ℕ → Type 0
+OffersAreWithin sc hands frame owner members low high =
+    (i word : ℕ) → has members i ≡ true → offer_of sc hands frame owner i ≡ Some word → (low ≤ word) × (word ≤ high)
+
+-- where the good owners among the members outnumber the others that own a slot, the middle word lies between theirs
+abbrev pub MidStaysBetween : Type 0
+MidStaysBetween =
+    (sc : Scenario) (hands : List HandIn) → IsLawful sc → (frame : ℕ) → AreServed sc hands frame
+    → (owner : ℕ → Option ℕ) → IsSchedule sc hands frame owner → (members : ℕ)
+    → Outnumber (is_good_owner sc hands frame owner members) (has_slot sc owner members)
+    → (low high : ℕ) → OffersAreWithin sc hands frame owner members low high
+    → (port : ℕ) → IsGoodPort sc frame port
+    → (word : ℕ) × ((value_at Mid members (records_of sc hands) frame port ≡ Word word) × ((low ≤ word) × (word ≤ high)))

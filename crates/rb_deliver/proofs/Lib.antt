@@ -1,0 +1,5 @@
+pub mod Readings
+pub mod Recorded
+pub mod Received
+pub mod Senders
+pub mod Arrived

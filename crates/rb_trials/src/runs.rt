@@ -1,0 +1,84 @@
+//! How a run is taken, record by record.
+use rb_port::{App, Apps};
+use rb_scenario::read;
+use rb_world::{Ties, Turn, World};
+use std::alloc::{AllocError, Global};
+use std::test::Fail;
+
+/// The three applications. They are made where they are used, since nobody else may hand them on.
+macro_rules! applications {
+    ($alloc:expr) => {
+        Apps::new(
+            App {
+                offer: Box::new($alloc, |state: u64, _slot: u16| (state % 4294967296) as u32)?,
+                learn: Box::new(
+                    $alloc,
+                    |state: u64, _slot: u16, _sender: u8, _value: Option<u32>| state,
+                )?,
+            },
+            App {
+                offer: Box::new($alloc, |state: u64, _slot: u16| (state % 4294967296) as u32)?,
+                learn: Box::new(
+                    $alloc,
+                    |state: u64, _slot: u16, _sender: u8, _value: Option<u32>| state.wrapping_add(1),
+                )?,
+            },
+            App {
+                offer: Box::new($alloc, |state: u64, slot: u16| {
+                    ((u128::from(state) + u128::from(slot)) % 4294967296) as u32
+                })?,
+                learn: Box::new(
+                    $alloc,
+                    |state: u64, _slot: u16, _sender: u8, value: Option<u32>| {
+                        ((31 * u128::from(state) + u128::from(value.unwrap_or(0)))
+                            % 18446744073709551616) as u64
+                    },
+                )?,
+            },
+        )
+    };
+}
+
+/// The run of a document before its first event.
+pub(crate) fn opened(alloc: Global, document: &[u8]) -> Result<World, Fail> {
+    let Ok(scenario) = read(alloc, document) else {
+        return Err("refused".into());
+    };
+    Ok(World::open(alloc, scenario)?)
+}
+
+// The next record of a run.
+fn next_turn(alloc: Global, world: &mut World, ties: Ties) -> Result<Turn, AllocError> {
+    let apps = applications!(alloc);
+    Ok(world.next(&apps, ties))
+}
+
+// Whether no record follows.
+fn is_last(turn: &Turn) -> bool {
+    matches!(turn, Turn::Ended | Turn::Breach(..))
+}
+
+/// The next records of a run, so many or up to its last.
+pub(crate) fn records(
+    alloc: Global,
+    world: &mut World,
+    ties: Ties,
+    most: usize,
+) -> Result<Vec<Turn>, AllocError> {
+    let mut records = Vec::new(alloc);
+    for _ in 0..most {
+        let turn = next_turn(alloc, world, ties)?;
+        let ends = is_last(&turn);
+        records.push(turn)?;
+        if ends {
+            break;
+        }
+    }
+    Ok(records)
+}
+
+/// All records of a document's run.
+pub(crate) fn run_of(alloc: Global, document: &[u8], ties: Ties) -> Result<Vec<Turn>, Fail> {
+    let mut world = opened(alloc, document)?;
+    Ok(records(alloc, &mut world, ties, 20000)?)
+}
