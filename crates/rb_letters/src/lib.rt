@@ -1,0 +1,10 @@
+//! The letters that the ports of a bus receive in a run, written as they are received whole.
+#![tactic(auto)]
+
+mod ending;
+mod letters;
+#[cfg(test)]
+mod tests;
+mod writing;
+
+pub use letters::write_letters;
