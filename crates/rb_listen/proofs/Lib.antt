@@ -1,2 +1,4 @@
 pub mod Soon
 pub mod Passing
+pub mod Searches
+pub mod Listeners
