@@ -1,10 +1,11 @@
 //! A listener that follows the bus.
-ghost use Rattle.std.specs.Prelude.{◌≡◌, ◌+◌, ◌<◌, ◌≤◌, ◌^◌, false, IfSome, unwrap_or};
+ghost use Rattle.std.specs.Prelude.{ℕ, ◌≡◌, ◌+◌, ◌<◌, ◌≤◌, ◌^◌, false, IfSome, unwrap_or};
 ghost use Rattle.rb_rules.specs.Core.{Core, pass_to};
 ghost use Rattle.rb_slot.specs.Engines.{nothing_shown};
 ghost use Rattle.rb_node.specs.Acts.{IsAct};
 ghost use Rattle.rb_node.specs.Cores.{IsCore, IsSameNode};
 ghost use Rattle.rb_follow.specs.Following.{arrive_at, core_from, follow_at, follows_at, next_wake_at, passing_end};
+ghost use Rattle.rb_follow.specs.Waking.{wakes_at};
 
 use crate::ahead::{Ahead, MOST_TICKS, bounds, look_ahead};
 use crate::parts::{close_at, epoch_at, nothing, turn_at};
@@ -169,6 +170,8 @@ impl Follower {
         ensures value { self.new ≡ record self.old { had = self.old.had + ticks } }
         ensures core { (c : Core) → IsCore self.old c → IsCore self.new (follows_at self.old ticks c) }
         ensures counted { (c : Core) → IsCore self.old c → IsCore self.new (pass_to (self.old.had + ticks) c) }
+        ensures quiet { (k : ℕ) → self.old.had ≤ k → k < self.old.had + ticks → wakes_at self.old.seat k ≡ false }
+        ensures most { self.old.had + ticks ≤ 2 ^ 31 }
     {
         self.had += ticks;
     }

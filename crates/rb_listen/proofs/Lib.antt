@@ -2,3 +2,4 @@ pub mod Soon
 pub mod Passing
 pub mod Searches
 pub mod Listeners
+pub mod Stages

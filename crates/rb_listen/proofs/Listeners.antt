@@ -10,11 +10,14 @@ use Rattle.rb_rules.specs.Core.{Act, Core, arrive, is_tick}
 use Rattle.rb_node.specs.Acts.{IsAct}
 use Rattle.rb_node.specs.Cores.{IsCore, IsSameNode, Running}
 use Rattle.rb_node.specs.declared.act.Step.{Step}
-use Rattle.rb_follow.specs.Following.{arrive_at, follow, follow_at, follows, follows_at, next_wake, next_wake_at}
+use Rattle.rb_rules.proofs.QuietTicks.{nothing}
+use Rattle.rb_follow.specs.Following.{arrive_at, follow, follow_at, follows, follows_at, next_wake, next_wake_at, wakes}
+use Rattle.rb_follow.specs.Waking.{wakes_at}
+use Rattle.rb_follow.proofs.Waking.{quiet-tick}
 use Rattle.rb_listen.specs.Lessons.{first_of}
 use Rattle.rb_listen.specs.Listeners.{ComesTo, IsAhead, IsListeningIn, IsWaiting}
-use Rattle.rb_listen.specs.Listening.{Heeding, Listening, decided, decision_of, first_core, followed, frame_of, had_by, hear, heed, heeds, in_time, is_deciding, is_over, later, next_heed, search_on, searching, told, untold, wait_on}
-use Rattle.rb_listen.specs.Listening.Listening as now
+use Rattle.rb_listen.specs.Listening.{Heeding, Listening, TellNothing, decided, decision_of, first_core, followed, frame_of, had_by, hear, heed, heeds, in_time, is_deciding, is_over, later, next_heed, search_on, searching, told, untold, wait_on}
+use Rattle.rb_listen.specs.Listening as now
 use Rattle.rb_listen.specs.declared.heed.Heed.{Heed}
 use Rattle.rb_listen.specs.declared.lesson.First.{First}
 use Rattle.rb_listen.specs.declared.listener.Stage.{Stage}
@@ -211,6 +214,52 @@ passes-following sizes plan ticks s n m l e f cores (c, core, at) = (
   ap (heeds sizes plan ticks) at ∙ follows-on sizes plan ticks c
   ∙ ap (λ x. now.Following (follows x plan ticks c)) (sym e) ∙ ap (λ p. now.Following (follows n.seat.sizes p ticks c)) (sym f),
 )
+
+-- And they tell nothing.
+
+pub nothing-searching : (sizes : Sizes) (plan : Plan) (n : ℕ) (s : Search) → s.had + n ≤ unwrap_or (in_time (decision_of s)) (2 ^ 31)
+    → TellNothing sizes plan n (now.Searching s)
+nothing-searching sizes plan zero s h = tt
+nothing-searching sizes plan (suc n) s h =
+    let quiet = before-end s.had (decision_of s) (omega arith) in
+    let one : heed sizes plan (now.Searching s) ≡ untold (now.Searching (later s)) =
+    heeds-searching sizes plan s (now.Searching s) quiet.1 refl
+    ∙ ap untold (search-quiet sizes plan s (deciding-by s.learns s.lesson.decides s.had quiet.0)) in (
+      ap (λ (x : Heeding). x.heed) one,
+      subst (λ (x : Heeding). TellNothing sizes plan n x.listening) (sym one) (nothing-searching sizes plan n (later s) (omega arith)),
+    )
+
+pub nothing-waiting : (sizes : Sizes) (plan : Plan) (n had : ℕ) (first : First) → had + n ≤ unwrap_or (in_time (Some first.epoch)) (2 ^ 31)
+    → TellNothing sizes plan n (now.Waiting had first)
+nothing-waiting sizes plan zero had first h = tt
+nothing-waiting sizes plan (suc n) had first h =
+    let quiet = before-end had (Some first.epoch) (omega arith) in
+    let one : heed sizes plan (now.Waiting had first) ≡ untold (now.Waiting (had + 1) first) =
+    heeds-waiting sizes plan had first (now.Waiting had first) false quiet.1 refl quiet.0 in (
+      ap (λ (x : Heeding). x.heed) one,
+      subst (λ (x : Heeding). TellNothing sizes plan n x.listening) (sym one) (nothing-waiting sizes plan n (had + 1) first (omega arith)),
+    )
+
+nothing-of : (sizes : Sizes) (plan : Plan) (n : ℕ) (c : Core) → ((k : ℕ) → c.had ≤ k → k < c.had + n → wakes sizes plan c.state k ≡ false)
+    → c.had + n ≤ 2 ^ 31 → TellNothing sizes plan n (now.Following c)
+nothing-of sizes plan zero c q h = tt
+nothing-of sizes plan (suc n) c q h =
+    let one : heed sizes plan (now.Following c) ≡ followed (nothing c) =
+    follows-now sizes plan c (now.Following c) refl ∙ ap followed (quiet-tick sizes plan c (q c.had (omega arith) (omega arith)) (omega arith)) in (
+      ap (λ (x : Heeding). x.heed) one,
+      subst (λ (x : Heeding). TellNothing sizes plan n x.listening) (sym one)
+      (nothing-of sizes plan n (nothing c).core (λ k lo hi. q k (omega arith) (omega arith)) (omega arith)),
+    )
+
+pub nothing-following : (sizes : Sizes) (plan : Plan) (ticks : ℕ) (s : Search) (n : Running) (l : Listening) → n.seat.sizes ≡ sizes → n.seat.plan ≡ plan
+    → ((k : ℕ) → n.had ≤ k → k < n.had + ticks → wakes_at n.seat k ≡ false) → n.had + ticks ≤ 2 ^ 31 → IsListeningIn Following s n l
+    → TellNothing sizes plan ticks l
+nothing-following sizes plan ticks s n l e f quiet most (c, core, at) =
+    let had : c.had ≡ n.had = core.had in
+    subst (TellNothing sizes plan ticks) (sym at)
+    (nothing-of sizes plan ticks c
+    (λ k lo hi. ap (λ st. wakes sizes plan st k) core.state ∙ ap (λ x. wakes x plan n.seat.state k) (sym e) ∙ ap (λ p. wakes n.seat.sizes p n.seat.state k) (sym f)
+    ∙ quiet k (omega arith) (omega arith)) (omega arith))
 
 -- a tick that may pass doesn't come after the tick that is fixed
 pub ahead-after : (had ticks : ℕ) (tick : Option ℕ) → had + ticks ≤ unwrap_or (in_time tick) (2 ^ 31) → IsAhead (had + ticks) tick

@@ -1,5 +1,5 @@
 -- What holds of a search between two calls, and what a tick makes of it.
-use Rattle.std.proofs.Common.{◌≡◌, ℕ, ◌+◌, ◌%◌, ◌<◌, ◌≤◌, ◌^◌, ◌==◌, ◌&&◌, nat_lt, nat_le, Bool, true, false, refl, ap, sym, ◌∙◌, subst, arith, Option, Some, None, IfSome, is_some, option_map, List, mod-lt, zero-lt-suc}
+use Rattle.std.proofs.Common.{◌≡◌, ℕ, ◌+◌, ◌%◌, ◌<◌, ◌≤◌, ◌^◌, ◌==◌, ◌&&◌, nat_lt, nat_le, Bool, true, false, refl, ap, sym, ◌∙◌, subst, arith, Option, Some, None, IfSome, is_some, option_map, List, mod-lt, if◌then◌else◌}
 use Rattle.std.proofs.lemmas.Bool.Decides.{nat_tests}
 use Rattle.rb_base.specs.Sizes.{Sizes}
 use Rattle.rb_node.specs.Cores.{Running}
@@ -10,7 +10,7 @@ use Rattle.rb_rules.specs.Spelling.{message_in}
 use Rattle.rb_listen.specs.Lessons.{first_by, first_of, frame_after, has_place, lesson_on, middle_in, noted, nothing_recorded, trusted_bius, trusted_rmus, with_record}
 use Rattle.rb_listen.specs.Listeners.{ComesTo, IsAhead, IsSearching}
 use Rattle.rb_listen.specs.Listening.{Listening, decided, decision_of, first_search, if_after, if_call, if_message, if_pass, in_time, is_deciding, later, learning, newest_with, passing, recorded, search_on, searching, timed, with_message, with_pass}
-use Rattle.rb_listen.specs.Listening.Listening as now
+use Rattle.rb_listen.specs.Listening as now
 use Rattle.rb_listen.specs.Passes.{is_call, pass_of, reach_of}
 use Rattle.rb_listen.specs.Stamps.{AreSoon}
 use Rattle.rb_listen.specs.declared.lesson.First.{First}
@@ -68,7 +68,7 @@ may-pass-stays k plan (Some frame) s h = pass-stays k plan frame s h
 noted-decides : (sizes : Sizes) (j at : ℕ) (m : Message) (lesson : Lesson) → (noted sizes j at m lesson).decides ≡ lesson.decides
 noted-decides sizes j at m lesson = by (has_place sizes lesson.frame m)
   where
-    by : (b : Bool) → (elim b as (λ _. Lesson) [ true ↦ record lesson { records = with_record sizes j at m lesson.records } | false ↦ lesson ]).decides ≡ lesson.decides
+    by : (b : Bool) → (if b then record lesson { records = with_record sizes j at m lesson.records } else lesson).decides ≡ lesson.decides
     by true = refl
     by false = refl
 
@@ -218,3 +218,15 @@ first-below sizes plan lesson bius rmus (Some x) first e =
 pub first-frame : (sizes : Sizes) (plan : Plan) (lesson : Lesson) (first : First) → Some first ≡ first_of sizes plan lesson → first.frame < 65536
 unfolding first_of
 first-frame sizes plan lesson first e = first-below sizes plan lesson _ _ _ first e
+
+-- What holds of the parts of a search that has had so many ticks.
+
+pub stays-search : (k : ℕ) (s : Search) → Stays k s → IsSearching s
+stays-search k s h = record { most = subst (λ n. n ≤ 2 ^ 31) (sym h.had) h.most; soon = h.soon }
+
+pub stays-ahead : (k : ℕ) (s : Search) → Stays k s → IsAhead s.had (decision_of s)
+stays-ahead k s h = subst (λ n. IsAhead n (decision_of s)) (sym h.had) h.ahead
+
+-- so many it has had
+pub stays-now : (s : Search) → IsSearching s → IsAhead s.had (decision_of s) → Stays s.had s
+stays-now s is ahead = record { had = refl; most = is.most; soon = is.soon; ahead = ahead }

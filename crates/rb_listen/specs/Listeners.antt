@@ -6,7 +6,7 @@ use Rattle.rb_rules.specs.Core.{Core}
 use Rattle.rb_node.specs.Cores.{IsCore, Running}
 use Rattle.rb_follow.specs.Following.{passing_end as follows_to}
 use Rattle.rb_listen.specs.Listening.{Listening, decision_of, in_time}
-use Rattle.rb_listen.specs.Listening.Listening as now
+use Rattle.rb_listen.specs.Listening as now
 use Rattle.rb_listen.specs.Stamps.{AreSoon}
 use Rattle.rb_listen.specs.declared.lesson.First.{First}
 use Rattle.rb_listen.specs.declared.listener.Stage.{Stage}

@@ -1,7 +1,7 @@
 -- A passive listener. It starts at any time and knows nothing but the plan. First it seeks: at the first pass it begins to learn the
 -- frame after that of the pass. From one whole frame it learns whom the bus trusts and when the next frame begins, and from there
 -- it follows.
-use Rattle.std.specs.Prelude.{ℕ, zero, suc, ◌+◌, ◌^◌, ◌==◌, ◌&&◌, nat_le, nat_lt, Bool, true, false, if◌then◌else◌, Option, Some, None, is_some, option_and_then, List, [], ◌∷◌, replicate, slice_set}
+use Rattle.std.specs.Prelude.{ℕ, zero, suc, ◌≡◌, ◌+◌, ◌^◌, ◌==◌, ◌&&◌, nat_le, nat_lt, Bool, true, false, if◌then◌else◌, Option, Some, None, is_some, option_and_then, List, [], ◌∷◌, replicate, slice_set}
 use Rattle.rb_base.specs.Nodes.Side.{Biu}
 use Rattle.rb_base.specs.Sizes.{Sizes}
 use Rattle.rb_rules.specs.declared.message.Message.{Message}
@@ -147,6 +147,11 @@ heed sizes plan (Following c) = followed (follow sizes plan c)
 abbrev pub heeds : Sizes → Plan → ℕ → Listening → Listening
 heeds sizes plan zero l = l
 heeds sizes plan (suc n) l = heeds sizes plan n (heed sizes plan l).listening
+
+-- so many ticks tell nothing
+abbrev pub TellNothing : Sizes → Plan → ℕ → Listening → Type 0
+TellNothing sizes plan zero l = Unit {0}
+TellNothing sizes plan (suc n) l = ((heed sizes plan l).heed ≡ no_heed) × TellNothing sizes plan n (heed sizes plan l).listening
 
 -- What can be asked.
 

@@ -4,7 +4,7 @@ ghost use Rattle.rb_rules.specs.Core.{Core};
 ghost use Rattle.rb_node.specs.Cores.{IsCore, IsSameNode};
 ghost use Rattle.rb_follow.specs.Following.{follow_at};
 ghost use Rattle.rb_listen.specs.Listeners.{IsListening, IsSameBus, had_at, passing_end};
-ghost use Rattle.rb_listen.specs.Listening.{Listening, first_search, frame_of, had_by, hear, heed, heeds, next_heed, no_heed, told};
+ghost use Rattle.rb_listen.specs.Listening.{Listening, TellNothing, first_search, frame_of, had_by, hear, heed, heeds, next_heed, no_heed, told};
 ghost use Rattle.rb_listen.specs.Listening.Listening.{Searching};
 ghost use Rattle.rb_listen.specs.declared.listener.Stage.TheVariants as stage;
 
@@ -163,6 +163,21 @@ impl Listener {
         }
     }
 
+    // A tick while the listener seeks or learns.
+    fn seek(&mut self) -> Heed
+        requires { self.old.stage ≡ stage.Searching }
+        ensures stands { (l : Listening) → IsListening self.old l
+            → IsListening self.new (heed self.old.sizes self.old.plan l).listening }
+        ensures heed { (l : Listening) → IsListening self.old l → result ≡ (heed self.old.sizes self.old.plan l).heed }
+        ensures same { IsSameBus self.old self.new }
+    {
+        if self.search.had >= MOST_TICKS {
+            return no_heed();
+        }
+        self.stage = search_on(&mut self.search, &self.plan);
+        no_heed()
+    }
+
     // A tick while the listener waits for its first frame.
     fn wait(&mut self, first: First) -> Heed
         requires { self.old.stage ≡ stage.Waiting first }
@@ -201,12 +216,7 @@ impl Listener {
         ensures same { IsSameBus self.old self.new }
     {
         match self.stage {
-            Stage::Searching => {
-                if self.search.had < MOST_TICKS {
-                    self.stage = search_on(&mut self.search, &self.plan);
-                }
-                no_heed()
-            }
+            Stage::Searching => self.seek(),
             Stage::Waiting(first) => self.wait(first),
             Stage::Following => follow(&mut self.follower),
         }
@@ -218,6 +228,7 @@ impl Listener {
         requires { had_at self.old + ticks ≤ passing_end self.old }
         ensures stands { (l : Listening) → IsListening self.old l
             → IsListening self.new (heeds self.old.sizes self.old.plan ticks l) }
+        ensures quiet { (l : Listening) → IsListening self.old l → TellNothing self.old.sizes self.old.plan ticks l }
         ensures had { had_at self.new ≡ had_at self.old + ticks }
         ensures same { IsSameBus self.old self.new }
     {

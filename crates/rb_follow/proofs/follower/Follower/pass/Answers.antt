@@ -31,3 +31,13 @@ returns-clause-core c =
     rw (← c.self.view_is) (λ d is. subst (IsCore (record n { had = n.had + c.args.ticks }))
     (sym (passes n.seat d n.had _ c.args.ticks is.state is.had c.self.invariant.ahead.next (up-to-1 c)))
     (record { state = is.state; had = ap (λ k. k + c.args.ticks) is.had; inbox = is.inbox }))
+
+pub returns-clause-quiet : goal.returns-clause-quiet
+returns-clause-quiet c =
+    rw (← c.self.view_is) (λ k lo hi. let to : c.self.inside.had + c.args.ticks ≤ c.self.inside.ahead.tick = up-to-1 c in c.self.invariant.ahead.next.quiet k lo (omega arith))
+
+pub returns-clause-most : goal.returns-clause-most
+returns-clause-most c =
+    let most : c.self.inside.ahead.tick ≤ 2 ^ 31 = c.self.invariant.ahead.next.most in
+    let to : c.self.inside.had + c.args.ticks ≤ c.self.inside.ahead.tick = up-to-1 c in
+    rw (← c.self.view_is) (omega arith)
