@@ -52,10 +52,9 @@ pub hears-following : (sizes : Sizes) (plan : Plan) (from : ℕ) (bytes : List �
     → ((c : Core) → IsCore n c → IsCore m (arrive_at n c from bytes)) → IsListeningIn Following s n l
     → IsListeningIn Following s m (hear sizes plan from bytes l)
 unfolding hear
-hears-following sizes plan from bytes s n m l same cores (c, is, at) = (
+hears-following sizes plan from bytes s n m l same cores (c, (is, at)) = (
   arrive_at n c from bytes,
-  cores c is,
-  ap (hear sizes plan from bytes) at ∙ ap (λ x. now.Following (arrive x Biu c from bytes)) (sym same),
+  (cores c is, ap (hear sizes plan from bytes) at ∙ ap (λ x. now.Following (arrive x Biu c from bytes)) (sym same)),
 )
 
 -- Ticks.
@@ -110,7 +109,7 @@ begins-following sizes plan had first s n m l h below at is e f core cores tells
     let c : Core = first_core sizes first in
     let all : heed sizes plan l ≡ followed (follow sizes plan c) = heeds-begin sizes plan had first l below at is in
     let acts : follow_at n c ≡ follow sizes plan c = ap (λ x. follow x n.seat.plan c) e ∙ ap (λ p. follow sizes p c) f in (
-      ((follow_at n c).core, cores c core, ap (λ (x : Heeding). x.listening) all ∙ ap (λ (x : Act). now.Following x.core) (sym acts)),
+      ((follow_at n c).core, (cores c core, ap (λ (x : Heeding). x.listening) all ∙ ap (λ (x : Act). now.Following x.core) (sym acts))),
       tells c core ∙ ap told acts ∙ sym (ap (λ (x : Heeding). x.heed) all),
     )
 
@@ -122,10 +121,10 @@ follows-now sizes plan c l at = ap (heed sizes plan) at
 pub goes-on-following : (sizes : Sizes) (plan : Plan) (s : Search) (n m : Running) (l : Listening) (h : Heed) → n.seat.sizes ≡ sizes → n.seat.plan ≡ plan
     → ((c : Core) → IsCore n c → IsCore m (follow_at n c).core) → ((c : Core) → IsCore n c → h ≡ told (follow_at n c)) → IsListeningIn Following s n l
     → IsListeningIn Following s m (heed sizes plan l).listening × (h ≡ (heed sizes plan l).heed)
-goes-on-following sizes plan s n m l h e f cores tells (c, core, at) =
+goes-on-following sizes plan s n m l h e f cores tells (c, (core, at)) =
     let all : heed sizes plan l ≡ followed (follow sizes plan c) = follows-now sizes plan c l at in
     let acts : follow_at n c ≡ follow sizes plan c = ap (λ x. follow x n.seat.plan c) e ∙ ap (λ p. follow sizes p c) f in (
-      ((follow_at n c).core, cores c core, ap (λ (x : Heeding). x.listening) all ∙ ap (λ (x : Act). now.Following x.core) (sym acts)),
+      ((follow_at n c).core, (cores c core, ap (λ (x : Heeding). x.listening) all ∙ ap (λ (x : Act). now.Following x.core) (sym acts))),
       tells c core ∙ ap told acts ∙ sym (ap (λ (x : Heeding). x.heed) all),
     )
 
@@ -141,22 +140,6 @@ tells shown step x d is e =
     ∙ ap (λ y. let h : Heed = record { epoch = y; delivered = option_and_then (λ (c : Closed). c.delivered) x.closed } in h) is.epoch
 
 -- Quiet ticks.
-
-pub soon-later : (had : ℕ) (tick : Option ℕ) → IsAhead had tick → IfSome (in_time tick) (λ k. had ≤ k)
-soon-later had None h = tt
-soon-later had (Some tick) h = by (nat_lt tick (2 ^ 31))
-  where
-    by : (b : Bool) → IfSome (elim b as (λ _. Option ℕ) [ true ↦ Some tick | false ↦ None ]) (λ k. had ≤ k)
-    by true = h
-    by false = tt
-
-pub soon-below : (tick : Option ℕ) → IfSome (in_time tick) (λ k. k < 2 ^ 31)
-soon-below None = tt
-soon-below (Some tick) = by (nat_lt tick (2 ^ 31)) refl
-  where
-    by : (b : Bool) → nat_lt tick (2 ^ 31) ≡ b → IfSome (elim b as (λ _. Option ℕ) [ true ↦ Some tick | false ↦ None ]) (λ k. k < 2 ^ 31)
-    by true e = grind (arith, nat_tests)
-    by false e = tt
 
 -- a tick before the end of what may pass comes before the tick that is fixed
 before-end : (had : ℕ) (tick : Option ℕ) → had < unwrap_or (in_time tick) (2 ^ 31) → (is_tick tick had ≡ false) × (had < 2 ^ 31)
@@ -208,11 +191,13 @@ follows-on sizes plan (suc n) c =
 
 pub passes-following : (sizes : Sizes) (plan : Plan) (ticks : ℕ) (s : Search) (n m : Running) (l : Listening) → n.seat.sizes ≡ sizes → n.seat.plan ≡ plan
     → ((c : Core) → IsCore n c → IsCore m (follows_at n ticks c)) → IsListeningIn Following s n l → IsListeningIn Following s m (heeds sizes plan ticks l)
-passes-following sizes plan ticks s n m l e f cores (c, core, at) = (
+passes-following sizes plan ticks s n m l e f cores (c, (core, at)) = (
   follows_at n ticks c,
-  cores c core,
-  ap (heeds sizes plan ticks) at ∙ follows-on sizes plan ticks c
-  ∙ ap (λ x. now.Following (follows x plan ticks c)) (sym e) ∙ ap (λ p. now.Following (follows n.seat.sizes p ticks c)) (sym f),
+  (
+    cores c core,
+    ap (heeds sizes plan ticks) at ∙ follows-on sizes plan ticks c
+    ∙ ap (λ x. now.Following (follows x plan ticks c)) (sym e) ∙ ap (λ p. now.Following (follows n.seat.sizes p ticks c)) (sym f),
+  ),
 )
 
 -- And they tell nothing.
@@ -254,41 +239,9 @@ nothing-of sizes plan (suc n) c q h =
 pub nothing-following : (sizes : Sizes) (plan : Plan) (ticks : ℕ) (s : Search) (n : Running) (l : Listening) → n.seat.sizes ≡ sizes → n.seat.plan ≡ plan
     → ((k : ℕ) → n.had ≤ k → k < n.had + ticks → wakes_at n.seat k ≡ false) → n.had + ticks ≤ 2 ^ 31 → IsListeningIn Following s n l
     → TellNothing sizes plan ticks l
-nothing-following sizes plan ticks s n l e f quiet most (c, core, at) =
+nothing-following sizes plan ticks s n l e f quiet most (c, (core, at)) =
     let had : c.had ≡ n.had = core.had in
     subst (TellNothing sizes plan ticks) (sym at)
     (nothing-of sizes plan ticks c
     (λ k lo hi. ap (λ st. wakes sizes plan st k) core.state ∙ ap (λ x. wakes x plan n.seat.state k) (sym e) ∙ ap (λ p. wakes n.seat.sizes p n.seat.state k) (sym f)
     ∙ quiet k (omega arith) (omega arith)) (omega arith))
-
--- a tick that may pass doesn't come after the tick that is fixed
-pub ahead-after : (had ticks : ℕ) (tick : Option ℕ) → had + ticks ≤ unwrap_or (in_time tick) (2 ^ 31) → IsAhead (had + ticks) tick
-ahead-after had ticks None h = tt
-ahead-after had ticks (Some tick) h = by (nat_lt tick (2 ^ 31)) refl h
-  where
-    by : (b : Bool) → nat_lt tick (2 ^ 31) ≡ b → had + ticks ≤ unwrap_or (elim b as (λ _. Option ℕ) [ true ↦ Some tick | false ↦ None ]) (2 ^ 31) → had + ticks ≤ tick
-    by true e le = le
-    by false e le = let most : 2 ^ 31 ≤ tick = grind (arith, nat_tests) in let all : had + ticks ≤ 2 ^ 31 = le in omega arith
-
-pub most-after : (had ticks : ℕ) (tick : Option ℕ) → had + ticks ≤ unwrap_or (in_time tick) (2 ^ 31) → had + ticks ≤ 2 ^ 31
-most-after had ticks None h = h
-most-after had ticks (Some tick) h = by (nat_lt tick (2 ^ 31)) refl h
-  where
-    by : (b : Bool) → nat_lt tick (2 ^ 31) ≡ b → had + ticks ≤ unwrap_or (elim b as (λ _. Option ℕ) [ true ↦ Some tick | false ↦ None ]) (2 ^ 31) → had + ticks ≤ 2 ^ 31
-    by true e le = let most : tick < 2 ^ 31 = grind (arith, nat_tests) in let all : had + ticks ≤ tick = le in omega arith
-    by false e le = le
-
--- What can be asked.
-
-pub next-following : (sizes : Sizes) (plan : Plan) (s : Search) (n : Running) (l : Listening) (o : Option ℕ) → n.seat.sizes ≡ sizes → n.seat.plan ≡ plan
-    → ((c : Core) → IsCore n c → o ≡ next_wake_at n c) → IsListeningIn Following s n l → o ≡ next_heed sizes plan l
-next-following sizes plan s n l o e f next (c, core, at) =
-    next c core ∙ ap (λ x. next_wake x n.seat.plan c) e ∙ ap (λ p. next_wake sizes p c) f ∙ sym (ap (next_heed sizes plan) at)
-
-pub frame-following : (s : Search) (n : Running) (l : Listening) (frame : ℕ) → frame ≡ n.seat.state.frame → IsListeningIn Following s n l
-    → Some frame ≡ frame_of l
-frame-following s n l frame is (c, core, at) =
-    ap (λ k. Some k) (is ∙ sym (ap (λ st. st.frame) core.state)) ∙ sym (ap frame_of at)
-
-pub had-following : (s : Search) (n : Running) (l : Listening) (had : ℕ) → had ≡ n.had → IsListeningIn Following s n l → had ≡ had_by l
-had-following s n l had is (c, core, at) = is ∙ sym core.had ∙ sym (ap had_by at)

@@ -32,7 +32,7 @@ pub some-waiting : (st : Stage) (s : Search) (n : Running) (first : First) → s
 some-waiting st s n first e = (now.Waiting s.had first, from-stage st (Waiting first) s n (now.Waiting s.had first) e refl)
 
 pub some-following : (st : Stage) (s : Search) (n : Running) → st ≡ Following → (c : Core) × IsCore n c → (l : Listening) × IsListeningIn st s n l
-some-following st s n e (c, core) = (now.Following c, from-stage st Following s n (now.Following c) e (c, core, refl))
+some-following st s n e (c, core) = (now.Following c, from-stage st Following s n (now.Following c) e (c, (core, refl)))
 
 -- Arrivals.
 
@@ -100,18 +100,6 @@ pub comes-searching : (sizes : Sizes) (plan : Plan) (st after : Stage) (s t : Se
     → ComesTo s (search_on sizes plan s) after t → IsListeningIn st s n l → Heeds sizes plan l after t n h
 comes-searching sizes plan st after s t n l h e below none comes at =
     by-untold sizes plan l (search_on sizes plan s) after t n h (heeds-searching sizes plan s l below (in-stage st Searching s n l e at)) none (comes.stands n)
-
--- what holds of a listener after such a tick
-pub comes-sound : (sizes : Sizes) (plan : Plan) (after : Stage) (s t : Search) (n : Running) (l : Listening) → s.had < 2 ^ 31 → ComesTo s l after t
-    → IsSound sizes plan after t n
-comes-sound sizes plan after s t n l below comes =
-    let had : t.had ≡ s.had + 1 = comes.had in
-    record { search = record { most = omega arith; soon = comes.soon }; inside = comes.inside sizes plan n }
-
--- the tick of the decision is to come
-pub ahead-searching : (sizes : Sizes) (plan : Plan) (st : Stage) (s : Search) (n : Running) → st ≡ Searching → IsSound sizes plan st s n
-    → IsAhead s.had (decision_of s)
-ahead-searching sizes plan st s n e sound = subst (λ y. IsInStage sizes plan y s n) e sound.inside
 
 pub spent-waiting : (sizes : Sizes) (plan : Plan) (st : Stage) (s : Search) (n : Running) (first : First) (l : Listening) (h : Heed) → st ≡ Waiting first
     → 2 ^ 31 ≤ s.had → h ≡ no_heed → IsListeningIn st s n l → Heeds sizes plan l st s n h

@@ -27,7 +27,7 @@ use Rattle.rb_overheard.proofs.Quiet.{Counts, heed-counts, quiet-text, text-step
 had-in : (st : Stage) (s : Search) (n : Running) (l : Listening) → IsListeningIn st s n l → had_by l ≡ had_in st s n
 had-in stage.Searching s n l at = ap had_by at
 had-in (stage.Waiting first) s n l at = ap had_by at
-had-in stage.Following s n l (c, core, at) = ap had_by at ∙ core.had
+had-in stage.Following s n l (c, (core, at)) = ap had_by at ∙ core.had
 
 pub had-is : (h : Hearer) (l : Listening) → IsListening h l → had_by l ≡ had_at h
 had-is h l at = had-in h.stage h.search h.follower l at
