@@ -1,6 +1,5 @@
-use Rattle.std.proofs.Common.{◌≡◌, ◌-◌, ◌≤◌, ap, arith}
+use Rattle.std.proofs.Common.{◌-◌, ◌≤◌, ap, arith}
 use Rattle.rb_log.specs.Cursor.{shown}
-use Rattle.rb_overheard.specs.Overhearing.{from_tick}
 use Rattle.rb_overheard.proofs.Events.{first-is, none-left}
 use Rattle.rb_overheard.proofs.Skips.{finds, goes-past, is-over, leaves-out, passes-over}
 use Rattle.rb_overheard.proofs.overhearing.find_tick.Goals as goal
@@ -11,12 +10,12 @@ returns-then-left-eq0-clause-found c =
     λ _. (
       c.in-Some-Tick.field-0-0,
       finds c.args.skip (c.events.left - c.skip-left.result) c.in-Some-Tick.field-0-0 c.args.log.now.events c.skip-left.new.self.events c.next.new.self.events
-      (shown c.in-Some-Tick.field-0)
-      (passes-over c.args.skip c.events.left c.skip-left.result c.args.log.now.events c.events.log.events c.skip-left.new.self.events c.events.invariant
-      c.skip-left.ensures.passed most)
-      c.if-left-eq0.true
-      (first-is (shown c.in-Some-Tick.field-0) c.skip-left.new.self.events c.next.new.self.events c.in-Some-Tick.ensures.event c.in-Some-Tick.ensures.rest)
-      (ap shown c.in-Some-Tick.field-0-is),
+          (shown c.in-Some-Tick.field-0)
+          (passes-over c.args.skip c.events.left c.skip-left.result c.args.log.now.events c.events.log.events c.skip-left.new.self.events c.events.invariant
+          c.skip-left.ensures.passed most)
+          c.if-left-eq0.true
+          (first-is (shown c.in-Some-Tick.field-0) c.skip-left.new.self.events c.next.new.self.events c.in-Some-Tick.ensures.event c.in-Some-Tick.ensures.rest)
+          (ap shown c.in-Some-Tick.field-0-is),
     )
 
 pub events-preserved-in-Some-Tick : goal.events-preserved-in-Some-Tick
