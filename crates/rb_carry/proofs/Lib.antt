@@ -1,0 +1,5 @@
+pub mod Counted
+pub mod Later
+pub mod Handed
+pub mod Told
+pub mod Ports
