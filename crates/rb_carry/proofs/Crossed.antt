@@ -1,5 +1,5 @@
 -- Words cross a bridge: sound pairs carry the near bus's word, offer it on the far bus, and outvote the others.
-use Rattle.std.proofs.Common.{◌≡◌, ℕ, zero, suc, ◌+◌, ◌-◌, ◌*◌, ◌^◌, ◌<◌, ◌≤◌, ◌==◌, ◌&&◌, not, All, Bool, true, false, ◌⊎◌, inl, inr, Option, Some, None, is_some, List, [], ◌∷◌, if◌then◌else◌, refl, sym, ◌∙◌, ap, subst, arith}
+use Rattle.std.proofs.Common.{◌≡◌, ℕ, zero, suc, ◌+◌, ◌-◌, ◌*◌, ◌^◌, ◌<◌, ◌≤◌, ◌==◌, ◌&&◌, not, All, Bool, true, false, inl, inr, Option, Some, None, is_some, List, [], ◌∷◌, if◌then◌else◌, refl, sym, ◌∙◌, ap, subst, arith}
 use Rattle.std.specs.List.{list_any, range_with_len}
 use Rattle.std.proofs.lemmas.Bool.{cases_lt}
 use Rattle.std.proofs.lemmas.List.Elements.{All-head, All-tail}
@@ -8,19 +8,18 @@ use Rattle.rb_base.specs.Counting.{count_if, numbers}
 use Rattle.rb_base.specs.Nodes.{has}
 use Rattle.rb_base.specs.Nodes.Side.{Biu}
 use Rattle.rb_base.specs.Sizes.{IsShape, sync_slot_of}
-use Rattle.rb_base.specs.declared.values.Heard.TheVariants.{Word}
 use Rattle.rb_base.proofs.Sets.{eq_self, has-set_of, has_above, set_of-lt}
 use Rattle.rb_rules.specs.Goodness.{Scenario, is_good}
 use Rattle.rb_rules.specs.Lawful.{IsLawful}
-use Rattle.rb_rules.specs.Moments.{IsComplete, IsRunning, offered_in}
+use Rattle.rb_rules.specs.Moments.{IsComplete, offered_in}
 use Rattle.rb_rules.specs.Ports.{HandIn}
-use Rattle.rb_rules.specs.Rounds.{moment, steps_of, windows_in}
-use Rattle.rb_agree.specs.Histories.{delivered_in, states_for}
+use Rattle.rb_rules.specs.Rounds.{steps_of, windows_in}
+use Rattle.rb_agree.specs.Histories.{states_for}
 use Rattle.rb_agree.proofs.Goodnesses.{good_earlier}
 use Rattle.rb_agree.proofs.Places.{running_earlier}
 use Rattle.rb_agree.proofs.Tests.{Present, and_both, and_first, and_second, not_true, present_if}
-use Rattle.rb_concur.specs.Laws.{AreServed, IsGoodPort, IsSchedule, Outnumber, first_among, first_slot, has_slot, is_number, last_data_slot, offer_in, offer_of, offers}
-use Rattle.rb_concur.proofs.Frames.{is-early, slot-complete}
+use Rattle.rb_concur.specs.Laws.{IsSchedule, Outnumber, first_among, first_slot, has_slot, is_number, last_data_slot, offer_in, offer_of, offers}
+use Rattle.rb_concur.proofs.Frames.{is-early}
 use Rattle.rb_concur.proofs.Voted.{most-finds}
 use Rattle.rb_crossing.specs.declared.bank.Bank.{Bank}
 use Rattle.rb_crossing.specs.declared.bank.Bank.TheVariants.{Left, Right}
@@ -28,7 +27,7 @@ use Rattle.rb_crossing.specs.declared.bank.Pair.{Pair}
 use Rattle.rb_crossing.specs.Bridges.{Bridge, IsBridge, IsHead, across, biu_on, bus_on, carried_slot, members_on}
 use Rattle.rb_crossing.specs.Crossings.{hands_of, hands_on, word_carried, word_of}
 use Rattle.rb_carry.specs.Laws.{AreUnbroken, SoundPairsOutnumber, WordsCross, counts_on, is_good_through, is_sound, word_on}
-use Rattle.rb_carry.proofs.Counted.{Found, IsIn, any_of, found, items-few, numbers-few}
+use Rattle.rb_carry.proofs.Counted.{IsIn, any_of, items-few, numbers-few}
 use Rattle.rb_carry.proofs.Ports.{handed-one, table-offers}
 use Rattle.rb_carry.proofs.Told.{good-tell, word-fits}
 

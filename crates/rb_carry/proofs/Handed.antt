@@ -15,7 +15,7 @@ use Rattle.rb_crossing.specs.declared.bank.Bank.{Bank}
 use Rattle.rb_crossing.specs.declared.bank.Bank.TheVariants.{Left, Right}
 use Rattle.rb_crossing.specs.declared.bank.Pair.{Pair}
 use Rattle.rb_crossing.specs.Bridges.{Bridge, across, biu_on, bus_on, carried_slot}
-use Rattle.rb_crossing.specs.Crossings.{Hands, carried_to, hand_in_of, hands_of, hands_on, hands_up_to, records_on, value_in, value_told, word_of}
+use Rattle.rb_crossing.specs.Crossings.{Hands, carried_to, hand_in_of, hands_on, hands_up_to, records_on, value_in, word_of}
 use Rattle.rb_carry.specs.Laws.{HandInsAreCarried}
 use Rattle.rb_carry.proofs.Later.{AreLater, deliveries-alike}
 

@@ -1,13 +1,11 @@
 -- What is handed in for later frames changes nothing that is told of a frame.
 use Rattle.std.specs.Prelude.{⊤}
-use Rattle.std.proofs.Common.{◌≡◌, ℕ, zero, suc, ◌+◌, ◌-◌, ◌*◌, ◌<◌, ◌≤◌, ◌==◌, All, nat_lt, Bool, true, false, ◌⊎◌, inl, inr, Option, Some, None, List, [], ◌∷◌, ◌++◌, append_assoc, if◌then◌else◌, refl, sym, ◌∙◌, ap, subst, arith}
-use Rattle.std.specs.Option.{option_or}
+use Rattle.std.proofs.Common.{◌≡◌, ℕ, zero, suc, ◌+◌, ◌-◌, ◌*◌, ◌<◌, ◌≤◌, ◌==◌, All, Bool, true, false, inl, inr, List, [], ◌∷◌, ◌++◌, append_assoc, if◌then◌else◌, refl, sym, ◌∙◌, ap, arith}
 use Rattle.std.proofs.Math.Nat.{add-sub_of_le}
 use Rattle.std.proofs.lemmas.Bool.{cases_lt}
 use Rattle.std.proofs.lemmas.List.{append-nil}
 use Rattle.std.proofs.lemmas.List.Elements.{All-head, All-tail}
 use Rattle.rb_base.specs.Sizes.{sync_slot_of}
-use Rattle.rb_rules.specs.Book.Record.{Slot}
 use Rattle.rb_rules.specs.Goodness.{Scenario}
 use Rattle.rb_rules.specs.Ports.{HandIn}
 use Rattle.rb_rules.specs.Rounds.{Moment, moment, records_of, steps_of, windows_in}
@@ -17,7 +15,7 @@ use Rattle.rb_order.proofs.HandedMoments.{before-frame}
 use Rattle.rb_order.proofs.MomentBooks.{number-of}
 use Rattle.rb_agree.proofs.Tests.{equal_from}
 use Rattle.rb_group.specs.Portions.{deliveries_in, port_deliveries}
-use Rattle.rb_concur.proofs.Added.{AddsSlot, step-adds, told-more, told_in}
+use Rattle.rb_concur.proofs.Added.{step-adds, told-more, told_in}
 
 -- The same moments.
 

@@ -1,5 +1,5 @@
 -- A port with a table that is handed a word as a frame begins offers that word through the frame, and each BIU of the bridge is handed one.
-use Rattle.std.proofs.Common.{◌≡◌, ℕ, zero, suc, ◌+◌, ◌-◌, ◌*◌, ◌^◌, ◌%◌, ◌<◌, ◌≤◌, ◌==◌, ◌&&◌, Bool, true, false, inl, inr, cond, eqb, Option, Some, None, List, [], ◌∷◌, filter, map, get_or, if◌then◌else◌, refl, sym, ◌∙◌, ap, arith}
+use Rattle.std.proofs.Common.{◌≡◌, ℕ, zero, suc, ◌+◌, ◌^◌, ◌%◌, ◌<◌, ◌≤◌, ◌==◌, ◌&&◌, Bool, true, false, inl, inr, cond, eqb, Option, Some, None, List, [], ◌∷◌, filter, map, get_or, if◌then◌else◌, refl, sym, ◌∙◌, ap, arith}
 use Rattle.std.specs.List.{IsDistinct}
 use Rattle.std.proofs.lemmas.Bool.Decides.{nat_tests}
 use Rattle.rb_base.specs.Nodes.Side.{Biu}
@@ -18,7 +18,7 @@ use Rattle.rb_agree.proofs.PortHistories.{ports_follow, slot-follows}
 use Rattle.rb_crossing.specs.declared.bank.Bank.{Bank}
 use Rattle.rb_crossing.specs.declared.bank.Pair.{Pair}
 use Rattle.rb_crossing.specs.Bridges.{Bridge, biu_on, bus_on}
-use Rattle.rb_crossing.specs.Crossings.{Hands, carried_to, hand_in_of, hands_of, hands_on, word_carried}
+use Rattle.rb_crossing.specs.Crossings.{hand_in_of, hands_of, hands_on, word_carried}
 use Rattle.rb_carry.proofs.Counted.{IsIn, later-apart}
 use Rattle.rb_carry.proofs.Handed.{hand-ins-are-carried}
 

@@ -3,8 +3,7 @@ use Rattle.std.proofs.Common.{◌≡◌, ℕ, zero, suc, ◌+◌, ◌-◌, ◌*�
 use Rattle.std.specs.List.{range_with_len}
 use Rattle.std.specs.Option.{option_or}
 use Rattle.std.proofs.Math.Nat.{add-sub_of_le}
-use Rattle.std.proofs.lemmas.Bool.{cases_lt, cases_order}
-use Rattle.std.proofs.lemmas.Bool.Decides.{nat_tests}
+use Rattle.std.proofs.lemmas.Bool.{cases_lt}
 use Rattle.rb_base.specs.Counting.{numbers}
 use Rattle.rb_base.specs.Nodes.Side.{Biu}
 use Rattle.rb_base.specs.Sizes.{sync_slot_of}
@@ -19,7 +18,7 @@ use Rattle.rb_rules.specs.Headline.{lines_of}
 use Rattle.rb_rules.specs.Lawful.{IsLawful}
 use Rattle.rb_rules.specs.Moments.{before_slot, before_stage, IsComplete}
 use Rattle.rb_rules.specs.Ports.{HandIn}
-use Rattle.rb_rules.specs.Rounds.{Moment, moment, records_of, steps_of, windows_in}
+use Rattle.rb_rules.specs.Rounds.{Moment, moment, steps_of, windows_in}
 use Rattle.rb_rules.specs.Slots.{role_of}
 use Rattle.rb_rules.proofs.Books.{records-are}
 use Rattle.rb_rules.proofs.Senses.{IsCarried}
@@ -31,13 +30,13 @@ use Rattle.rb_agree.proofs.Invariant.{sender_of}
 use Rattle.rb_agree.proofs.NextMoments.{next}
 use Rattle.rb_agree.proofs.SlotRuns.{IsSlot, slot_runs, third_frame}
 use Rattle.rb_agree.proofs.SlotValues.{slot-lines, value_of_slot}
-use Rattle.rb_agree.proofs.Tests.{equal_from, true_or_false}
+use Rattle.rb_agree.proofs.Tests.{equal_from}
 use Rattle.rb_agree.proofs.ThirdStages.{voted}
 use Rattle.rb_group.specs.Portions.{deliveries_in, line_told, port_deliveries, told_of}
 use Rattle.rb_concur.proofs.Added.{first-told, step-adds, told-more, told_in}
 use Rattle.rb_concur.proofs.Frames.{is-early}
 use Rattle.rb_concur.proofs.Served.{IsServed, one-delivery, served}
-use Rattle.rb_crossing.specs.Crossings.{value_in, value_told, word_of}
+use Rattle.rb_crossing.specs.Crossings.{value_in, word_of}
 use Rattle.rb_carry.specs.Laws.{GoodBiusTellTheBus, OtherBiusTellNothing}
 
 -- Deliveries of a slot.
