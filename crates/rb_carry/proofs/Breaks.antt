@@ -166,7 +166,7 @@ break-after sc hands bank frame p (suc k) past =
     same : (p k : ℕ) → p + suc k ≡ suc (p + k)
     same p k = omega arith
 
-breaks-alike : (sc : Scenario) (hands more : List HandIn) (frame : ℕ) → AreLater frame more → (bank : Bank)
+pub breaks-alike : (sc : Scenario) (hands more : List HandIn) (frame : ℕ) → AreLater frame more → (bank : Bank)
     → break_in bank frame (records_of sc (hands ++ more)) ≡ break_in bank frame (records_of sc hands)
 breaks-alike sc hands more frame late bank =
     ap (break_in bank frame) (records-are sc (hands ++ more))

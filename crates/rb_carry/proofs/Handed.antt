@@ -10,13 +10,17 @@ use Rattle.rb_base.proofs.Sets.{eq_self}
 use Rattle.rb_rules.specs.Goodness.{is_good}
 use Rattle.rb_rules.specs.Ports.{HandIn}
 use Rattle.rb_rules.specs.Rounds.{records_of}
+use Rattle.rb_group.specs.Groups.{group_value}
 use Rattle.rb_group.specs.Portions.{port_deliveries}
+use Rattle.rb_group.specs.declared.voters.Which.TheVariants.{Most}
 use Rattle.rb_crossing.specs.declared.bank.Bank.{Bank}
 use Rattle.rb_crossing.specs.declared.bank.Bank.TheVariants.{Left, Right}
 use Rattle.rb_crossing.specs.declared.bank.Pair.{Pair}
-use Rattle.rb_crossing.specs.Bridges.{Bridge, across, biu_on, bus_on, carried_slot}
-use Rattle.rb_crossing.specs.Crossings.{Hands, carried_to, hand_in_of, hands_on, hands_up_to, records_on, value_in, word_of}
-use Rattle.rb_carry.specs.Laws.{HandInsAreCarried}
+use Rattle.rb_crossing.specs.Bridges.{Bridge, across, biu_on, bus_on, carried_slot, members_on}
+use Rattle.rb_crossing.specs.Crossings.{Hands, carried_to, hand_in_of, hands_of, hands_on, hands_up_to, records_on, value_in, word_of}
+use Rattle.rb_crossing.specs.Texts.{break_in}
+use Rattle.rb_carry.specs.Laws.{FramesGoByTheEarlier, HandInsAreCarried}
+use Rattle.rb_carry.proofs.Breaks.{breaks-alike}
 use Rattle.rb_carry.proofs.Later.{AreLater, deliveries-alike}
 
 -- Lists.
@@ -175,3 +179,19 @@ hand-ins-are-carried b bank frame inside =
     ap (λ n. for_next frame (hands_on bank (hands_up_to b n))) (sym last) ∙ then-all b bank frame (b.left.frames - suc frame)
     ∙ sym (carried-alike b bank frame (b.left.frames - frame))
     ∙ ap (λ n. carried_to b (hands_up_to b n) bank frame) all
+
+-- What is said of a frame.
+
+pub frames-go-by-the-earlier : FramesGoByTheEarlier
+frames-go-by-the-earlier b bank frame le =
+    let all : frame + (b.left.frames - frame) ≡ b.left.frames = add-sub_of_le le in
+    let m : MoreLater b bank frame (b.left.frames - frame) = more-later b bank frame (b.left.frames - frame) in
+    let before : List HandIn = hands_on bank (hands_up_to b frame) in
+    let are : hands_on bank (hands_of b) ≡ before ++ m.more = ap (λ n. hands_on bank (hands_up_to b n)) (sym all) ∙ m.is in
+    record {
+      values = λ receiver.
+          ap (group_value Most (members_on b bank))
+          (ap (λ hands. port_deliveries frame receiver (records_of (bus_on b bank) hands)) are ∙ deliveries-alike (bus_on b bank) before m.more frame m.late receiver);
+      breach = ap (λ hands. break_in bank frame (records_of (bus_on b bank) hands)) are ∙ breaks-alike (bus_on b bank) before m.more frame m.late bank;
+      carried = ap (λ n. carried_to b (hands_up_to b n) bank frame) (sym all) ∙ carried-alike b bank frame (b.left.frames - frame);
+    }

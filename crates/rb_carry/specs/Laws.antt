@@ -1,5 +1,5 @@
 -- What is proved of a bridge: what is handed in comes from the records as they are in the end, and words cross.
-use Rattle.std.specs.Prelude.{ℕ, ◌≡◌, ◌+◌, ◌<◌, ◌==◌, ◌&&◌, not, All, Bool, true, false, Option, None, is_some, List, ◌++◌, filter}
+use Rattle.std.specs.Prelude.{ℕ, ◌≡◌, ◌+◌, ◌<◌, ◌≤◌, ◌==◌, ◌&&◌, not, All, Bool, true, false, Option, None, is_some, List, ◌++◌, filter}
 use Rattle.rb_base.specs.Counting.{count_if}
 use Rattle.rb_base.specs.Nodes.Side.{Biu}
 use Rattle.rb_base.specs.Sizes.{sync_slot_of}
@@ -10,12 +10,13 @@ use Rattle.rb_rules.specs.Moments.{IsComplete}
 use Rattle.rb_rules.specs.Ports.{HandIn}
 use Rattle.rb_rules.specs.Rounds.{records_of}
 use Rattle.rb_agree.specs.Histories.{delivered_in}
-use Rattle.rb_group.specs.Portions.{port_deliveries}
+use Rattle.rb_group.specs.Portions.{port_deliveries, value_at}
+use Rattle.rb_group.specs.declared.voters.Which.TheVariants.{Most}
 use Rattle.rb_concur.specs.Laws.{IsSchedule, first_slot}
 use Rattle.rb_crossing.specs.declared.bank.Bank.{Bank}
 use Rattle.rb_crossing.specs.declared.bank.Pair.{Pair}
-use Rattle.rb_crossing.specs.Bridges.{Bridge, IsBridge, across, biu_on, bus_on, carried_slot}
-use Rattle.rb_crossing.specs.Crossings.{carried_to, crossing_value, hands_of, hands_on, value_told, word_of}
+use Rattle.rb_crossing.specs.Bridges.{Bridge, IsBridge, across, biu_on, bus_on, carried_slot, members_on}
+use Rattle.rb_crossing.specs.Crossings.{carried_to, crossing_value, hands_of, hands_on, hands_up_to, records_on, value_told, word_of}
 use Rattle.rb_crossing.specs.Texts.{break_in}
 
 -- What is handed in.
@@ -29,7 +30,17 @@ abbrev pub LaterHandInsTellNothing : Type 0
 LaterHandInsTellNothing =
     (sc : Scenario) (hands more : List HandIn) (frame : ℕ) → All (λ h. frame < h.frame) more → TellsTheSame sc hands more frame
 
--- so what is handed in for a frame is what the frame before it carries over, by the records of both buses with all that is handed in
+-- so what is said of a frame of a bridge, and what it carries over, goes by what was handed in up to its begin alone
+pub record GoesByTheEarlier (b : Bridge) (bank : Bank) (frame : ℕ) : Type 0 where
+  pub values : (receiver : ℕ) → crossing_value b bank frame receiver
+      ≡ value_at Most (members_on b bank) (records_on b (hands_up_to b frame) bank) frame receiver
+  pub breach : break_in bank frame (records_on b (hands_of b) bank) ≡ break_in bank frame (records_on b (hands_up_to b frame) bank)
+  pub carried : carried_to b (hands_of b) bank frame ≡ carried_to b (hands_up_to b frame) bank frame
+
+abbrev pub FramesGoByTheEarlier : Type 0
+FramesGoByTheEarlier = (b : Bridge) (bank : Bank) (frame : ℕ) → frame ≤ b.left.frames → GoesByTheEarlier b bank frame
+
+-- and what is handed in for a frame is what the frame before it carries over, by the records of both buses with all that is handed in
 abbrev pub HandInsAreCarried : Type 0
 HandInsAreCarried =
     (b : Bridge) (bank : Bank) (frame : ℕ) → frame < b.left.frames

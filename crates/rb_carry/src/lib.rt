@@ -1,11 +1,16 @@
 //! What crosses a bridge of two buses. Each law is the contract of a function that does nothing.
 #![tactic(auto)]
 
-ghost use Rattle.rb_carry.specs.Laws.{GoodBiusTellTheBus, HandInsAreCarried, LaterHandInsTellNothing, OtherBiusTellNothing, WordsCross};
+ghost use Rattle.rb_carry.specs.Laws.{FramesGoByTheEarlier, GoodBiusTellTheBus, HandInsAreCarried, LaterHandInsTellNothing, OtherBiusTellNothing, WordsCross};
 
 /// In every scenario, what is handed in for frames after this one changes nothing that a port delivers in this frame, nor a breach in it.
 pub fn later_hand_ins_tell_nothing()
     ensures { LaterHandInsTellNothing }
+{}
+
+/// So what is said of a frame of a bridge, and what it carries over, goes by what was handed in up to the frame's begin alone.
+pub fn frames_go_by_the_earlier()
+    ensures { FramesGoByTheEarlier }
 {}
 
 /// What is handed in for a frame is what the frame before it carries over, by the records of both buses with all that is handed in.
