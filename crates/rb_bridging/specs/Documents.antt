@@ -1,5 +1,5 @@
 -- What the document of a bridge says: the texts of two scenarios, pairs of BIUs, and which data slot of each bus is carried over.
-use Rattle.std.specs.Prelude.{ℕ, pos, ◌==◌, nat_le, nat_lt, Bool, true, false, not, ◌&&◌, List, [], ◌∷◌, ◌++◌, Option, Some, None, codes, get_or}
+use Rattle.std.specs.Prelude.{ℕ, pos, ◌==◌, nat_le, nat_lt, Bool, true, false, not, ◌&&◌, List, [], ◌∷◌, Option, Some, None, codes, get_or, if◌then◌else◌}
 use Rattle.std.specs.List.{list_any}
 use Rattle.toml.specs.Data.{Data, string, integer, array, Items, no_items, item, Members, at, get_member}
 use Rattle.rb_rules.specs.Goodness.{Scenario}
@@ -72,6 +72,10 @@ bridge_of left right t = record {
 }
 
 -- Ranges.
+
+-- the item, where the test holds
+abbrev pub when : {X : Type 0} → Bool → X → Option X
+when test x = if test then Some x else None
 
 -- the value is an integer from 0 on, below a number
 abbrev pub is_below : ℕ → Option Data → Bool

@@ -3,7 +3,12 @@
 
 pub mod bridge;
 mod forms;
+mod ranges;
+mod reading;
 pub mod refusal;
+#[cfg(test)]
+mod tests;
 
 pub use bridge::Bridge;
+pub use reading::read_bridge;
 pub use refusal::BridgeRefusal;

@@ -26,11 +26,11 @@ use Rattle.rb_carry.proofs.Later.{AreLater, are-later, deliveries-alike, moments
 
 -- Records.
 
-abbrev broken_in : Bank → ℕ → Book → Option Break
+abbrev pub broken_in : Bank → ℕ → Book → Option Break
 broken_in bank frame b = break_in bank frame b.given
 
 -- the second book tells no other breach of the frame
-abbrev BreaksAlike : Bank → ℕ → Book → Book → Type 0
+abbrev pub BreaksAlike : Bank → ℕ → Book → Book → Type 0
 BreaksAlike bank frame a b = broken_in bank frame b ≡ broken_in bank frame a
 
 or-joined : {X : Type 0} (a b c : Option X) → option_or a (option_or b c) ≡ option_or (option_or a b) c
@@ -153,7 +153,7 @@ break-still sc hands bank frame p past =
     not-here true h = absurd (h refl)
     not-here false h = refl
 
-break-after : (sc : Scenario) (hands : List HandIn) (bank : Bank) (frame p k : ℕ) → past_frame sc frame ≤ p + 1
+pub break-after : (sc : Scenario) (hands : List HandIn) (bank : Bank) (frame p k : ℕ) → past_frame sc frame ≤ p + 1
     → BreaksAlike bank frame (moment sc hands p).book (moment sc hands (p + k)).book
 break-after sc hands bank frame p zero past = ap (λ n. broken_in bank frame (moment sc hands n).book) (same p)
   where

@@ -76,7 +76,7 @@ told-still sc hands frame i p past =
     not-here true h = absurd (h refl)
     not-here false h = refl
 
-told-after : (sc : Scenario) (hands : List HandIn) (frame i p k : ℕ) → past_frame sc frame ≤ p + 1
+pub told-after : (sc : Scenario) (hands : List HandIn) (frame i p k : ℕ) → past_frame sc frame ≤ p + 1
     → told_in frame i (moment sc hands (p + k)).book ≡ told_in frame i (moment sc hands p).book
 told-after sc hands frame i p zero past = ap (λ n. told_in frame i (moment sc hands n).book) (same p)
   where

@@ -5,3 +5,4 @@ pub mod Handed
 pub mod Told
 pub mod Ports
 pub mod Crossed
+pub mod Ordered

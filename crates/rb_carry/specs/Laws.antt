@@ -1,9 +1,11 @@
 -- What is proved of a bridge: what is handed in comes from the records as they are in the end, and words cross.
-use Rattle.std.specs.Prelude.{ℕ, ◌≡◌, ◌+◌, ◌<◌, ◌≤◌, ◌==◌, ◌&&◌, not, All, Bool, true, false, Option, None, is_some, List, ◌++◌, filter}
+use Rattle.std.specs.Prelude.{ℕ, ◌≡◌, ◌+◌, ◌<◌, ◌≤◌, ◌==◌, ◌&&◌, not, All, Bool, true, false, Option, None, is_some, List, [], ◌∷◌, ◌++◌, filter}
 use Rattle.rb_base.specs.Counting.{count_if}
 use Rattle.rb_base.specs.Nodes.Side.{Biu}
 use Rattle.rb_base.specs.Sizes.{sync_slot_of}
 use Rattle.rb_base.specs.declared.values.Heard.TheVariants.{Word}
+use Rattle.rb_rules.specs.Book.{Record}
+use Rattle.rb_rules.specs.Book.Record.{Frame, Slot, Ended, Breach}
 use Rattle.rb_rules.specs.Goodness.{Scenario, is_good}
 use Rattle.rb_rules.specs.Lawful.{IsLawful}
 use Rattle.rb_rules.specs.Moments.{IsComplete}
@@ -45,6 +47,24 @@ abbrev pub HandInsAreCarried : Type 0
 HandInsAreCarried =
     (b : Bridge) (bank : Bank) (frame : ℕ) → frame < b.left.frames
     → filter (λ h. h.frame == frame + 1) (hands_on bank (hands_of b)) ≡ carried_to b (hands_of b) bank frame
+
+-- Of a record: its frame. That of the end is the one after all `frames` of the run
+abbrev pub frame_told : ℕ → Record → ℕ
+frame_told frames (Frame frame nodes ports) = frame
+frame_told frames (Slot frame slot lines) = frame
+frame_told frames Ended = frames
+frame_told frames (Breach place cause) = place.frame
+
+-- these records tell of a frame what all records of the run do
+pub record TellAll (sc : Scenario) (hands : List HandIn) (frame : ℕ) (records : List Record) : Type 0 where
+  pub deliveries : (receiver : ℕ) → port_deliveries frame receiver records ≡ port_deliveries frame receiver (records_of sc hands)
+  pub breach : (bank : Bank) → break_in bank frame records ≡ break_in bank frame (records_of sc hands)
+
+-- once a record of a later frame is given, all is told of a frame
+abbrev pub FramesAreToldInOrder : Type 0
+FramesAreToldInOrder =
+    (sc : Scenario) (hands : List HandIn) (records rest : List Record) (r : Record) (frame : ℕ)
+    → records_of sc hands ≡ records ++ r ∷ rest → frame < frame_told sc.frames r → TellAll sc hands frame (records ++ r ∷ [])
 
 -- What a pair carries.
 

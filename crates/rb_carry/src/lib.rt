@@ -1,7 +1,7 @@
 //! What crosses a bridge of two buses. Each law is the contract of a function that does nothing.
 #![tactic(auto)]
 
-ghost use Rattle.rb_carry.specs.Laws.{FramesGoByTheEarlier, GoodBiusTellTheBus, HandInsAreCarried, LaterHandInsTellNothing, OtherBiusTellNothing, WordsCross};
+ghost use Rattle.rb_carry.specs.Laws.{FramesAreToldInOrder, FramesGoByTheEarlier, GoodBiusTellTheBus, HandInsAreCarried, LaterHandInsTellNothing, OtherBiusTellNothing, WordsCross};
 
 /// In every scenario, what is handed in for frames after this one changes nothing that a port delivers in this frame, nor a breach in it.
 pub fn later_hand_ins_tell_nothing()
@@ -16,6 +16,11 @@ pub fn frames_go_by_the_earlier()
 /// What is handed in for a frame is what the frame before it carries over, by the records of both buses with all that is handed in.
 pub fn hand_ins_are_carried()
     ensures { HandInsAreCarried }
+{}
+
+/// In every scenario, once a record of a later frame is given, all is told of a frame: what its ports deliver, and a breach in it.
+pub fn frames_are_told_in_order()
+    ensures { FramesAreToldInOrder }
 {}
 
 /// In a slot that is complete without a breach, each BIU that is good there delivers what the bus does.
