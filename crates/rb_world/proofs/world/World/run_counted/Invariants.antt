@@ -4,7 +4,7 @@ use Rattle.rb_rules.specs.WorldStep.{World as RunWorld}
 use Rattle.rb_book.specs.declared.turn.Turn.TheVariants as shown
 use Rattle.rb_world.specs.Nexts.{TakesSteps}
 use Rattle.rb_world.specs.Worlds.{Stands}
-use Rattle.rb_world.proofs.world.World.run_on.Given as goal
+use Rattle.rb_world.proofs.world.World.run_counted.Given as goal
 
 abbrev pub invariant-loop-passed : goal.invariant-loop-passed
 invariant-loop-passed g l = record {
