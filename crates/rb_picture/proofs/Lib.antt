@@ -5,3 +5,7 @@ pub mod Documents
 pub mod Orders
 pub mod Turns
 pub mod Words
+pub mod Spaces
+pub mod Parts
+pub mod Whole
+pub mod Cuts

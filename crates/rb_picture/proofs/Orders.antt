@@ -7,9 +7,9 @@ use Rattle.rb_base.proofs.Sets.{lt_true}
 use Rattle.rb_picture.specs.declared.line.Line.{Line}
 use Rattle.rb_picture.specs.declared.reading.Fault.{Fault}
 use Rattle.rb_picture.specs.declared.reading.Fault.TheVariants as fault
-use Rattle.rb_picture.specs.Lines.{BeginsTooEarly, FailsAt, FailsBehind, IsReport, SoFar, StandsFirst, ascend, end_of, last_place, line_place, line_text, text_of_lines}
+use Rattle.rb_picture.specs.Lines.{BeginsTooEarly, FailsAt, FailsBehind, IsNoReport, IsReport, SoFar, StandsFirst, ascend, end_of, last_place, line_place, line_text, text_of_lines}
 
-both : (a b : Bool) → (a && b) ≡ true → (a ≡ true) × (b ≡ true)
+pub both : (a b : Bool) → (a && b) ≡ true → (a ≡ true) × (b ≡ true)
 both true b h = (refl, h)
 both false b h = absurd (false≢true h)
 
@@ -53,21 +53,22 @@ few_more at n ls items l few some is = omega (arith, few, some, ap length is, le
 
 -- something is wrong with the next line
 pub fails_here : (bytes : List ℕ) (at newest number : ℕ) (ls : List Line) (cause : Fault)
-    → SoFar bytes at ls newest → number ≡ length ls + 1 → FailsBehind newest cause (drop at bytes) → FailsAt bytes number cause
-fails_here bytes at newest number ls cause before numbered fails = record {
+    → SoFar bytes at ls newest → number ≡ length ls + 1 → FailsBehind newest cause (drop at bytes) → IsNoReport bytes → FailsAt bytes number cause
+fails_here bytes at newest number ls cause before numbered fails none = record {
   lines = ls;
   rest = drop at bytes;
   numbered = numbered;
   spelled = sym (take-append-drop at bytes) ∙ ap (λ t. t ++ drop at bytes) before.spelled;
   in_order = before.in_order;
   fails = subst (λ place. FailsBehind place cause (drop at bytes)) before.last fails;
+  no_report = none;
 }
 
 -- there is no next line, and the last one does not end a run
 pub ends_early : (bytes : List ℕ) (at newest number : ℕ) (ls : List Line)
-    → SoFar bytes at ls newest → number ≡ length ls + 1 → length bytes ≤ at → newest ≢ last_place → FailsAt bytes number fault.NoEnd
-ends_early bytes at newest number ls before numbered end other =
-    fails_here bytes at newest number ls fault.NoEnd before numbered (drop_all at bytes end, other)
+    → SoFar bytes at ls newest → number ≡ length ls + 1 → length bytes ≤ at → newest ≢ last_place → IsNoReport bytes → FailsAt bytes number fault.NoEnd
+ends_early bytes at newest number ls before numbered end other none =
+    fails_here bytes at newest number ls fault.NoEnd before numbered (drop_all at bytes end, other) none
 
 -- there is no next line, and the last one ends a run
 pub is_whole : (bytes : List ℕ) (at newest : ℕ) (ls : List Line)

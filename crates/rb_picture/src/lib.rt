@@ -5,6 +5,7 @@ pub mod draw;
 mod drawing;
 pub mod drawn;
 pub mod extent;
+mod field;
 pub mod frames;
 pub mod laws;
 pub mod line;
