@@ -1,2 +1,5 @@
 pub mod Soon
 pub mod Passing
+pub mod Searches
+pub mod Listeners
+pub mod Stages

@@ -1,3 +1,5 @@
 pub mod Passes
 pub mod Lessons
 pub mod Stamps
+pub mod Listening
+pub mod Listeners

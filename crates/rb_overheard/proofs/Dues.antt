@@ -1,0 +1,259 @@
+-- What is due of a log that is listened to, event by event.
+use Rattle.std.proofs.Common.{◌≡◌, ℕ, ◌+◌, ◌-◌, ◌≤◌, ◌^◌, refl, ap, sym, ◌∙◌, subst, arith, Option, Result, Ok, Err, OnOk, OnErr, List, [], ◌∷◌, ◌++◌, append_assoc}
+use Rattle.std.proofs.Math.ListN.{replicate}
+use Rattle.std.specs.Io.KnownBytes.{Appends}
+use Rattle.std.specs.List.{flat_map}
+use Rattle.rb_base.specs.Sizes.{Sizes}
+use Rattle.rb_base.specs.declared.node.NodeName.{NodeName}
+use Rattle.rb_rules.specs.declared.plan.Plan.{Plan}
+use Rattle.rb_rules.specs.Core.{CoreEvent}
+use Rattle.rb_rules.specs.Core.CoreEvent.{Tick, Arrive}
+use Rattle.rb_node.specs.Cores.{Running}
+use Rattle.rb_plan.specs.Timetable.{Timetable}
+use Rattle.rb_outside.specs.Bytes.{AppendsPart}
+use Rattle.rb_outside.proofs.Known.{appends_join, appends_none, part_join, part_widens}
+use Rattle.rb_report.specs.Report.{end_text}
+use Rattle.rb_listen.specs.Listeners.{Hearer, IsListening, IsListeningIn, IsSameBus, had_at, had_in}
+use Rattle.rb_listen.specs.Listening.{Heeding, Listening, TellNothing, first_search, had_by, hear, heed, heeds, told_of}
+use Rattle.rb_listen.specs.Listening as now
+use Rattle.rb_listen.specs.declared.heed.Heed.{Heed}
+use Rattle.rb_listen.specs.declared.listener.Stage.{Stage}
+use Rattle.rb_listen.specs.declared.listener.Stage.TheVariants as stage
+use Rattle.rb_listen.specs.declared.search.Search.{Search}
+use Rattle.rb_overheard.specs.Dues.{Advances, IsDue, text_after}
+use Rattle.rb_overheard.specs.Overhearing.{begun_in, begun_with, from_tick, heed_lines, heeds_text, overheard_text}
+use Rattle.rb_overheard.proofs.Quiet.{Counts, heed-counts, quiet-text, text-step}
+
+-- how many ticks it has had
+had-in : (st : Stage) (s : Search) (n : Running) (l : Listening) → IsListeningIn st s n l → had_by l ≡ had_in st s n
+had-in stage.Searching s n l at = ap had_by at
+had-in (stage.Waiting first) s n l at = ap had_by at
+had-in stage.Following s n l (c, (core, at)) = ap had_by at ∙ core.had
+
+pub had-is : (h : Hearer) (l : Listening) → IsListening h l → had_by l ≡ had_at h
+had-is h l at = had-in h.stage h.search h.follower l at
+
+-- a listener of the same bus tells the same
+same-told : (h k : Hearer) (l : Listening) (events : List CoreEvent) → IsSameBus h k → told_of k.sizes k.plan l events ≡ told_of h.sizes h.plan l events
+same-told h k l events same =
+    ap (λ s. told_of s k.plan l events) same.sizes ∙ ap (λ p. told_of h.sizes p l events) same.plan
+
+-- Quiet ticks.
+
+pub passes-due : (h k : Hearer) (name : NodeName) (begun ticks : ℕ) (events : List CoreEvent) (due : List ℕ) → IsSameBus h k
+    → ((l : Listening) → IsListening h l → IsListening k (heeds h.sizes h.plan ticks l))
+    → ((l : Listening) → IsListening h l → TellNothing h.sizes h.plan ticks l)
+    → had_at k ≡ had_at h + ticks → had_at h + ticks ≤ 2 ^ 31
+    → IsDue h name begun (replicate ticks (Tick 0) ++ events) due → IsDue k name begun events due
+passes-due h k name begun ticks events due same stands quiet had room d =
+    let after : IsListening k (heeds h.sizes h.plan ticks d.listening) = stands d.listening d.stands in
+    let before_is : had_by d.listening ≡ had_at h = had-is h d.listening d.stands in
+    let after_is : had_by (heeds h.sizes h.plan ticks d.listening) ≡ had_at k = had-is k (heeds h.sizes h.plan ticks d.listening) after in
+    let few : begun ≤ had_by d.listening = d.few in
+    record {
+      listening = heeds h.sizes h.plan ticks d.listening;
+      stands = after;
+      few = omega arith;
+      most = omega arith;
+      text = d.text ∙ quiet-text h.sizes h.plan name begun ticks d.listening events (quiet d.listening d.stands)
+          ∙ ap (text_after name begun) (sym (same-told h k (heeds h.sizes h.plan ticks d.listening) events same));
+    }
+
+-- A tick.
+
+-- its lines were written
+pub tick-advances : (h k : Hearer) (name : NodeName) (begun more word : ℕ) (events : List CoreEvent) (due : List ℕ) (before after : Option (List ℕ))
+    → IsSameBus h k
+    → ((l : Listening) → IsListening h l → IsListening k (heed h.sizes h.plan l).listening)
+    → ((l : Listening) → IsListening h l → more ≡ begun_with (heed h.sizes h.plan l).heed.epoch)
+    → ((l : Listening) → IsListening h l → Appends before after (heed_lines name (heed h.sizes h.plan l).heed))
+    → IsDue h name begun (Tick word ∷ events) due → Advances k name (begun + more) events due before after
+tick-advances h k name begun more word events due before after same stands begins written d =
+    let x : Heeding = heed h.sizes h.plan d.listening in
+    let counts : Counts (had_by d.listening) x = heed-counts h.sizes h.plan d.listening d.most in
+    let now_most : had_by x.listening ≤ 2 ^ 31 = counts.most in
+    let enough : begun_with x.heed.epoch + had_by d.listening ≤ had_by x.listening = counts.begun in
+    let is : more ≡ begun_with x.heed.epoch = begins d.listening d.stands in
+    let few : begun ≤ had_by d.listening = d.few in
+    record {
+      part = heed_lines name x.heed;
+      rest = text_after name (begun + begun_with x.heed.epoch) (told_of h.sizes h.plan x.listening events);
+      whole = d.text ∙ text-step name begun x.heed (told_of h.sizes h.plan x.listening events);
+      appended = written d.listening d.stands;
+      goes_on = record {
+        listening = x.listening;
+        stands = stands d.listening d.stands;
+        few = omega arith;
+        most = now_most;
+        text = ap (λ n. text_after name (begun + n) (told_of h.sizes h.plan x.listening events)) (sym is)
+            ∙ ap (text_after name (begun + more)) (sym (same-told h k x.listening events same));
+      };
+    }
+
+-- only a part of them was written
+pub tick-part : (h : Hearer) (name : NodeName) (begun word : ℕ) (events : List CoreEvent) (due : List ℕ) (before after : Option (List ℕ))
+    → ((l : Listening) → IsListening h l → AppendsPart before after (heed_lines name (heed h.sizes h.plan l).heed))
+    → IsDue h name begun (Tick word ∷ events) due → AppendsPart before after due
+tick-part h name begun word events due before after written d =
+    let x : Heeding = heed h.sizes h.plan d.listening in
+    subst (AppendsPart before after) (sym (d.text ∙ text-step name begun x.heed (told_of h.sizes h.plan x.listening events)))
+    (part_widens before after (heed_lines name x.heed) (text_after name (begun + begun_with x.heed.epoch) (told_of h.sizes h.plan x.listening events)) (written d.listening d.stands))
+
+-- An arrival, at which nothing is printed.
+
+pub arrival-advances : (h k : Hearer) (name : NodeName) (begun from : ℕ) (bytes : List ℕ) (events : List CoreEvent) (due : List ℕ) (held : Option (List ℕ))
+    → IsSameBus h k → had_at k ≡ had_at h → ((l : Listening) → IsListening h l → IsListening k (hear h.sizes h.plan from bytes l))
+    → IsDue h name begun (Arrive from bytes ∷ events) due → Advances k name (begun + 0) events due held held
+arrival-advances h k name begun from bytes events due held same had stands d =
+    let m : Listening = hear h.sizes h.plan from bytes d.listening in
+    let after : IsListening k m = stands d.listening d.stands in
+    let before_is : had_by d.listening ≡ had_at h = had-is h d.listening d.stands in
+    let after_is : had_by m ≡ had_at k = had-is k m after in
+    let few : begun ≤ had_by d.listening = d.few in
+    let most : had_by d.listening ≤ 2 ^ 31 = d.most in
+    let none : begun ≡ begun + 0 = omega arith in
+    record {
+      part = [];
+      rest = due;
+      whole = refl;
+      appended = appends_none held;
+      goes_on = record {
+        listening = m;
+        stands = after;
+        few = omega arith;
+        most = omega arith;
+        text = d.text ∙ ap (λ n. text_after name n (told_of h.sizes h.plan m events)) none
+            ∙ ap (text_after name (begun + 0)) (sym (same-told h k m events same));
+      };
+    }
+
+-- One thing after another.
+
+pub advances-none : (h : Hearer) (name : NodeName) (begun : ℕ) (events : List CoreEvent) (due : List ℕ) (held : Option (List ℕ))
+    → IsDue h name begun events due → Advances h name begun events due held held
+advances-none h name begun events due held d = record { part = []; rest = due; whole = refl; appended = appends_none held; goes_on = d }
+
+-- quiet ticks have passed
+pub advances-so : (h k : Hearer) (name : NodeName) (begun : ℕ) (events others : List CoreEvent) (due : List ℕ) (before after : Option (List ℕ))
+    → ((rest : List ℕ) → IsDue h name begun events rest → IsDue k name begun others rest)
+    → Advances h name begun events due before after → Advances k name begun others due before after
+advances-so h k name begun events others due before after so a =
+    record { part = a.part; rest = a.rest; whole = a.whole; appended = a.appended; goes_on = so a.rest a.goes_on }
+
+-- the events that are left are these
+pub advances-is : (h : Hearer) (name : NodeName) (begun : ℕ) (events left : List CoreEvent) (due : List ℕ) (before after : Option (List ℕ))
+    → events ≡ left → Advances h name begun events due before after → Advances h name begun left due before after
+advances-is h name begun events left due before after is a = subst (λ es. Advances h name begun es due before after) is a
+
+-- more was written
+pub advances-more : (h k : Hearer) (name : NodeName) (begun more : ℕ) (events others : List CoreEvent) (due : List ℕ) (first before after : Option (List ℕ))
+    → Advances h name begun events due first before
+    → ((rest : List ℕ) → IsDue h name begun events rest → Advances k name more others rest before after)
+    → Advances k name more others due first after
+advances-more h k name begun more events others due first before after a then_more =
+    let b : Advances k name more others a.rest before after = then_more a.rest a.goes_on in
+    record {
+      part = a.part ++ b.part;
+      rest = b.rest;
+      whole = a.whole ∙ ap (λ xs. a.part ++ xs) b.whole ∙ sym (append_assoc a.part b.part b.rest);
+      appended = appends_join first before after a.part b.part a.appended b.appended;
+      goes_on = b.goes_on;
+    }
+
+-- a part of it was written
+pub advances-part : (h : Hearer) (name : NodeName) (begun : ℕ) (events : List CoreEvent) (due : List ℕ) (first before after : Option (List ℕ))
+    → Advances h name begun events due first before
+    → ((rest : List ℕ) → IsDue h name begun events rest → AppendsPart before after rest) → AppendsPart first after due
+advances-part h name begun events due first before after a then_part =
+    subst (AppendsPart first after) (sym a.whole) (part_join first before after a.part a.rest a.appended (then_part a.rest a.goes_on))
+
+-- all of it was written
+pub advances-all : {T E : Type 0} (h : Hearer) (name : NodeName) (begun : ℕ) (events : List CoreEvent) (due : List ℕ) (first before after : Option (List ℕ)) (r : Result T E)
+    → Advances h name begun events due first before
+    → ((rest : List ℕ) → IsDue h name begun events rest → OnOk r (Appends before after rest)) → OnOk r (Appends first after due)
+advances-all h name begun events due first before after (Err e) a written = tt
+advances-all h name begun events due first before after (Ok x) a written =
+    subst (Appends first after) (sym a.whole) (appends_join first before after a.part a.rest a.appended (written a.rest a.goes_on))
+
+pub advances-failed : {T E : Type 0} (h : Hearer) (name : NodeName) (begun : ℕ) (events : List CoreEvent) (due : List ℕ) (first before after : Option (List ℕ)) (r : Result T E)
+    → Advances h name begun events due first before
+    → ((rest : List ℕ) → IsDue h name begun events rest → OnErr r (AppendsPart before after rest)) → OnErr r (AppendsPart first after due)
+advances-failed h name begun events due first before after (Ok x) a written = tt
+advances-failed h name begun events due first before after (Err e) a written = advances-part h name begun events due first before after a written
+
+-- after the last event the end is due
+pub end-due : (h : Hearer) (name : NodeName) (begun : ℕ) (due : List ℕ) → IsDue h name begun [] due → due ≡ end_text (begun - 1)
+end-due h name begun due d = let none : begun + 0 ≡ begun = omega arith in d.text ∙ ap (λ n. end_text (n - 1)) none
+
+-- so a call that writes it ends the text
+pub ends : {T E : Type 0} (h : Hearer) (name : NodeName) (begun : ℕ) (due bytes : List ℕ) (first before after : Option (List ℕ)) (r : Result T E)
+    → bytes ≡ end_text (begun - 1) → Advances h name begun [] due first before
+    → OnOk r (Appends before after bytes) → OnOk r (Appends first after due)
+ends h name begun due bytes first before after (Err e) is a written = tt
+ends h name begun due bytes first before after (Ok x) is a written =
+    let rest : a.rest ≡ bytes = end-due h name begun a.rest a.goes_on ∙ sym is in
+    subst (Appends first after) (sym a.whole)
+    (appends_join first before after a.part a.rest a.appended (subst (Appends before after) (sym rest) written))
+
+pub ends-part : {T E : Type 0} (h : Hearer) (name : NodeName) (begun : ℕ) (due bytes : List ℕ) (first before after : Option (List ℕ)) (r : Result T E)
+    → bytes ≡ end_text (begun - 1) → Advances h name begun [] due first before
+    → OnErr r (AppendsPart before after bytes) → OnErr r (AppendsPart first after due)
+ends-part h name begun due bytes first before after (Ok x) is a written = tt
+ends-part h name begun due bytes first before after (Err e) is a written =
+    let rest : a.rest ≡ bytes = end-due h name begun a.rest a.goes_on ∙ sym is in
+    subst (AppendsPart first after) (sym a.whole)
+    (part_join first before after a.part a.rest a.appended (subst (AppendsPart before after) (sym rest) written))
+
+-- The begin.
+
+pub all-due : (h : Hearer) (sizes : Sizes) (plan : Plan) (name : NodeName) (skip : ℕ) (events left : List CoreEvent) → h.sizes ≡ sizes → h.plan ≡ plan
+    → IsListening h (now.Searching first_search) → from_tick skip events ≡ left
+    → IsDue h name 0 left (overheard_text sizes plan name skip events)
+unfolding overheard_text first_search
+all-due h sizes plan name skip events left e f at is = record {
+  listening = now.Searching first_search;
+  stands = at;
+  few = omega arith;
+  most = omega arith;
+  text =
+      ap (λ es. heeds_text name (told_of sizes plan (now.Searching first_search) es)) is
+      ∙ ap (λ s. heeds_text name (told_of s plan (now.Searching first_search) left)) (sym e)
+      ∙ ap (λ p. heeds_text name (told_of h.sizes p (now.Searching first_search) left)) (sym f)
+      ∙ zero-text name (told_of h.sizes h.plan (now.Searching first_search) left);
+}
+  where
+    zero-text : (name : NodeName) (hs : List Heed) → heeds_text name hs ≡ text_after name 0 hs
+    zero-text name hs = let sum : begun_in hs ≡ 0 + begun_in hs = omega arith in ap (λ n. flat_map (heed_lines name) hs ++ end_text (n - 1)) sum
+
+-- where there is no such tick, the end alone is told
+pub nothing-told : (sizes : Sizes) (plan : Plan) (name : NodeName) (skip : ℕ) (events : List CoreEvent) → from_tick skip events ≡ []
+    → overheard_text sizes plan name skip events ≡ end_text 0
+unfolding overheard_text
+nothing-told sizes plan name skip events none = ap (λ es. heeds_text name (told_of sizes plan (now.Searching first_search) es)) none
+
+-- what is due of a listener that has heard nothing, by what is said of its log
+pub first-due : (h : Hearer) (p t : Timetable) (name node : NodeName) (skip : ℕ) (events left : List CoreEvent) → h.sizes ≡ p.sizes → h.plan ≡ p.plan → p ≡ t
+    → name ≡ node → IsListening h (now.Searching first_search) → from_tick skip events ≡ left
+    → IsDue h name 0 left (overheard_text t.sizes t.plan node skip events)
+first-due h p t name node skip events left e f same is at found =
+    subst (λ x. IsDue h x 0 left (overheard_text t.sizes t.plan node skip events)) (sym is)
+    (all-due h t.sizes t.plan node skip events left (e ∙ ap (λ (x : Timetable). x.sizes) same) (f ∙ ap (λ (x : Timetable). x.plan) same) at found)
+
+-- no frame had begun
+pub from-none : (h : Hearer) (name : NodeName) (n : ℕ) (events : List CoreEvent) (due : List ℕ) (before after : Option (List ℕ))
+    → Advances h name (0 + n) events due before after → Advances h name n events due before after
+from-none h name n events due before after a =
+    let e : 0 + n ≡ n = omega arith in subst (λ k. Advances h name k events due before after) e a
+
+-- the end alone was written
+pub ends-at-once : {T E : Type 0} (sizes : Sizes) (plan : Plan) (name : NodeName) (skip : ℕ) (events : List CoreEvent) (bytes : List ℕ) (before after : Option (List ℕ)) (r : Result T E)
+    → from_tick skip events ≡ [] → bytes ≡ end_text 0 → OnOk r (Appends before after bytes)
+    → OnOk r (Appends before after (overheard_text sizes plan name skip events))
+ends-at-once sizes plan name skip events bytes before after r none is written =
+    subst (λ text. OnOk r (Appends before after text)) (is ∙ sym (nothing-told sizes plan name skip events none)) written
+
+pub fails-at-once : {T E : Type 0} (sizes : Sizes) (plan : Plan) (name : NodeName) (skip : ℕ) (events : List CoreEvent) (bytes : List ℕ) (before after : Option (List ℕ)) (r : Result T E)
+    → from_tick skip events ≡ [] → bytes ≡ end_text 0 → OnErr r (AppendsPart before after bytes)
+    → OnErr r (AppendsPart before after (overheard_text sizes plan name skip events))
+fails-at-once sizes plan name skip events bytes before after r none is written =
+    subst (λ text. OnErr r (AppendsPart before after text)) (is ∙ sym (nothing-told sizes plan name skip events none)) written

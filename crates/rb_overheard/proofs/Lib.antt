@@ -1,0 +1,5 @@
+pub mod Quiet
+pub mod Dues
+pub mod Events
+pub mod Written
+pub mod Skips

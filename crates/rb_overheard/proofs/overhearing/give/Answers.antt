@@ -1,0 +1,23 @@
+use Rattle.std.proofs.Common.{◌∷◌, ap, subst}
+use Rattle.rb_log.specs.Cursor.{shown}
+use Rattle.rb_rules.specs.Core.{CoreEvent}
+use Rattle.rb_overheard.specs.Dues.{IsDue}
+use Rattle.rb_overheard.proofs.Dues.{arrival-advances}
+use Rattle.rb_overheard.proofs.overhearing.give.Goals as goal
+
+pub returns-in-Tick-clause-advances : goal.returns-in-Tick-clause-advances
+returns-in-Tick-clause-advances g c =
+    λ begun due d. c.give_ticks.ensures.advances _ begun due
+    (subst (λ (e : CoreEvent). IsDue c.args.listener.now c.args.name begun (e ∷ c.args.log.now.events) due) (ap shown c.in-Tick.is) d)
+
+pub returns-in-Tick-clause-part : goal.returns-in-Tick-clause-part
+returns-in-Tick-clause-part g c =
+    λ begun due d. c.give_ticks.ensures.part _ begun due
+    (subst (λ (e : CoreEvent). IsDue c.args.listener.now c.args.name begun (e ∷ c.args.log.now.events) due) (ap shown c.in-Tick.is) d)
+
+pub returns-in-Arrive-clause-advances : goal.returns-in-Arrive-clause-advances
+returns-in-Arrive-clause-advances g c =
+    λ begun due d.
+    arrival-advances c.args.listener.now c.arrive.new.self c.args.name begun c.in-Arrive.from c.in-Arrive.bytes.now c.args.log.now.events due _
+    c.arrive.ensures.same c.arrive.ensures.had c.arrive.ensures.stands
+    (subst (λ (e : CoreEvent). IsDue c.args.listener.now c.args.name begun (e ∷ c.args.log.now.events) due) (ap shown c.in-Arrive.is) d)

@@ -1,0 +1,60 @@
+use Rattle.std.proofs.Common.{rules, ◌≤◌, ◌^◌, ◌∷◌, [], ap, ◌∙◌, arith}
+use Rattle.rb_log.specs.Cursor.{shown}
+use Rattle.rb_report.specs.Report.{end_text}
+use Rattle.rb_listen.specs.Listening.{had_by}
+use Rattle.rb_overheard.proofs.Dues.{advances-more, advances-none, advances-is, advances-part, ends, ends-part}
+use Rattle.rb_overheard.proofs.Events.{first-is, none-left}
+use Rattle.rb_overheard.proofs.Written.{on_err}
+use Rattle.rb_overheard.proofs.overhearing.listen_on.Goals as goal
+
+pub events-init : goal.events-init
+events-init g c = record {
+  due = λ due d. advances-none c.args.listener c.args.name c.args.first c.args.log.events due _ d;
+  later = search rules;
+}
+
+pub returns-in_err-begun-clause-part : goal.returns-in_err-begun-clause-part
+returns-in_err-begun-clause-part g c =
+    λ due d.
+    on_err c.from_residual.result
+    (advances-part c.events.listener c.args.name c.events.begun (shown c.in-Some.event ∷ c.next.new.self.events) due _ _ _
+    (advances-is c.events.listener c.args.name c.events.begun c.events.log.events _ due _ _
+    (first-is (shown c.in-Some.event) c.events.log.events c.next.new.self.events c.in-Some.ensures.event c.in-Some.ensures.rest)
+    (c.events.invariant.due due d))
+    (λ rest more. c.in_err-begun.ensures.part c.events.begun rest more))
+
+pub overflow_add-begun : goal.overflow_add-begun
+overflow_add-begun g c =
+    let a = c.events.invariant.due c.requires.0 c.requires.1 in
+    let few : c.events.begun ≤ had_by a.goes_on.listening = a.goes_on.few in
+    let most : had_by a.goes_on.listening ≤ 2 ^ 31 = a.goes_on.most in
+    omega (arith, c.in_ok-begun.ensures.most)
+
+pub events-preserved : goal.events-preserved
+events-preserved g c = record {
+  due = λ due d.
+      advances-more c.events.listener c.give.new.listener c.args.name c.events.begun _ (shown c.in-Some.event ∷ c.next.new.self.events) c.give.new.log.events due _ _ _
+      (advances-is c.events.listener c.args.name c.events.begun c.events.log.events _ due _ _
+      (first-is (shown c.in-Some.event) c.events.log.events c.next.new.self.events c.in-Some.ensures.event c.in-Some.ensures.rest)
+      (c.events.invariant.due due d))
+      (λ rest more. c.in_ok-begun.ensures.advances c.events.begun rest more);
+  later = search rules;
+}
+
+pub returns-clause-all : goal.returns-clause-all
+returns-clause-all g c =
+    λ due d.
+    ends c.events.listener c.args.name c.events.begun due _ _ _ _ c.write_line.result (c.end_line.ensures.bytes ∙ ap end_text c.saturating_sub.ensures)
+    (advances-is c.events.listener c.args.name c.events.begun c.events.log.events [] due _ _
+    (none-left c.next.result c.events.log.events c.in_default.is c.next.ensures.event)
+    (c.events.invariant.due due d))
+    c.write_line.ensures.all
+
+pub returns-clause-part : goal.returns-clause-part
+returns-clause-part g c =
+    λ due d.
+    ends-part c.events.listener c.args.name c.events.begun due _ _ _ _ c.write_line.result (c.end_line.ensures.bytes ∙ ap end_text c.saturating_sub.ensures)
+    (advances-is c.events.listener c.args.name c.events.begun c.events.log.events [] due _ _
+    (none-left c.next.result c.events.log.events c.in_default.is c.next.ensures.event)
+    (c.events.invariant.due due d))
+    c.write_line.ensures.part

@@ -1,0 +1,2 @@
+pub mod Overhearing
+pub mod Dues
