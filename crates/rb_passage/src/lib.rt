@@ -1,0 +1,6 @@
+//! A bus of a bridge from frame to frame: what it is handed, and what it tells.
+#![tactic(auto)]
+
+mod handing;
+
+pub use handing::hand_over;
