@@ -2,5 +2,7 @@
 #![tactic(auto)]
 
 mod handing;
+pub mod passing;
 
 pub use handing::hand_over;
+pub use passing::{Passage, Terms, pass_frame};
