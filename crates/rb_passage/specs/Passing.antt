@@ -27,12 +27,13 @@ abbrev pub is_over : ℕ → ℕ → Option Record → Bool
 is_over frames frame None = false
 is_over frames frame (Some r) = nat_lt frame (frame_of frames r) || is_last (Some r)
 
--- some turns of a run have been given, and it goes on
-pub record IsOnItsWay (is_plain : Bool) (since : Option (List Turn)) (k : Kept) : Type 0 where
+-- some turns of a run have been given, it goes on, and what is kept of a frame is what they tell
+pub record IsOnItsWay (is_plain : Bool) (since : Option (List Turn)) (k : Kept) (terms : Terms) (p : Passage) : Type 0 where
   pub handed : List HandIn
   pub told : Option (List Turn)
   pub turns : List Turn
   pub given : IsUnderWay k.bus handed is_plain told since k turns false
+  pub holds : HoldsPassage terms p.ports.frame (records_in turns) p
 
 -- Further turns were given, the last of them being this one, with which the frame is over. What is kept of the frame is what those
 -- before it tell

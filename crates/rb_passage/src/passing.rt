@@ -67,7 +67,7 @@ pub fn pass_frame<D: Drive>(
     terms: &Terms,
     passage: &mut Passage,
 ) -> Turn
-    requires { IsOnItsWay (D.is_plain drive.old) (D.told drive.old) world.old }
+    requires { IsOnItsWay (D.is_plain drive.old) (D.told drive.old) world.old terms.now passage.old }
     ensures passes { (handed : List HandIn) (told : Option (List Turn)) (before : List Turn)
         → IsUnderWay world.old.bus handed (D.is_plain drive.old) told (D.told drive.old) world.old before false
         → HoldsPassage terms.now passage.old.ports.frame (records_in before) passage.old
