@@ -7,18 +7,15 @@ use Rattle.rb_base.specs.declared.values.Heard.{Heard}
 use Rattle.rb_rules.specs.Book.{Record}
 use Rattle.rb_rules.specs.Goodness.{Scenario}
 use Rattle.rb_rules.specs.Ports.{HandIn}
-use Rattle.rb_rules.specs.WorldStep.{World}
 use Rattle.rb_book.specs.Records.{record_of}
 use Rattle.rb_book.specs.declared.turn.Turn.{Turn}
 use Rattle.rb_run.specs.Turns.{records_in}
 use Rattle.rb_run.proofs.Texts.{records-more}
-use Rattle.rb_world.specs.declared.ties.Ties.TheVariants.{First}
-use Rattle.rb_world.specs.Driving.{GoesAlike, Tells}
-use Rattle.rb_world.specs.Nexts.{GoesToNext, is_last}
-use Rattle.rb_world.specs.Worlds.{Kept, Stands}
+use Rattle.rb_world.specs.Nexts.{is_last}
+use Rattle.rb_world.specs.Worlds.{Kept}
 use Rattle.rb_replicas.specs.declared.ports.Ports.{Ports}
 use Rattle.rb_replicas.specs.Holding.{HoldsFrame}
-use Rattle.rb_replicas.specs.Replies.{frame_of, frame_or, reached}
+use Rattle.rb_replicas.specs.Replies.{frame_of, reached}
 use Rattle.rb_replicas.proofs.Held.{reached_more}
 use Rattle.rb_crossing.specs.Crossings.{value_told}
 use Rattle.rb_freight.specs.Holding.{HoldValues}
@@ -26,7 +23,7 @@ use Rattle.rb_passage.specs.declared.passing.Passage.{Passage}
 use Rattle.rb_passage.specs.declared.passing.Terms.{Terms}
 use Rattle.rb_passage.specs.Passing.{HoldsPassage, PassesFrame, is_over}
 use Rattle.rb_passage.specs.Running.{IsUnderWay}
-use Rattle.rb_passage.proofs.UnderWay.{few-turns, goes}
+use Rattle.rb_passage.proofs.UnderWay.{few-turns}
 
 -- What is kept.
 
@@ -107,7 +104,7 @@ pub all-passed : (sc : Scenario) (handed : List HandIn) (is_plain : Bool) (told 
     → (is : IsPassing sc handed is_plain told mid k before terms frame p passed)
     → IsUnderWay sc handed is_plain told since after ((before ++ is.more) ++ t ∷ []) (is_last (record_of t)) → is_over terms.frames frame (record_of t) ≡ true
     → PassesFrame sc handed is_plain told since after before terms frame p t
-all-passed sc handed is_plain told mid since k after before terms frame p passed t is given over = record { more = is.more; given = given; holds = is.holds; over = over }
+all-passed sc handed is_plain told mid since k after before terms frame p passed t is given over = record { more = is.more; given = given; going = is.given.goes_on refl; holds = is.holds; over = over }
 
 -- so many turns are few
 pub few-passed : (sc : Scenario) (handed : List HandIn) (is_plain : Bool) (told since : Option (List Turn)) (k : Kept) (before : List Turn) (terms : Terms) (frame : ℕ) (p : Passage) (passed : ℕ)

@@ -25,8 +25,7 @@ use Rattle.rb_world.specs.declared.last.Last.TheVariants as last
 use Rattle.rb_world.specs.Worlds.{Kept, Stands, last_of}
 use Rattle.rb_world.proofs.LastTurn.{reached-ended, reached-gave}
 use Rattle.rb_world.proofs.Numbered.{alike-in-rounds, alike-last, next-in-rounds}
-use Rattle.rb_passage.specs.Handing.{with_words}
-use Rattle.rb_passage.specs.Running.{IsUnderWay, latest}
+use Rattle.rb_passage.specs.Running.{AreNotLast, IsUnderWay, latest}
 use Rattle.rb_passage.proofs.Handed.{IsHanded}
 
 -- Turns and records.
@@ -116,6 +115,7 @@ begins k is_plain told begun = record {
   tells = tells-none told;
   frame = no-frame begun.world.turn refl;
   ended = not-over k begun;
+  goes_on = λ e. tt;
 }
   where
     no-frame : (o : Option Record) → begun.world.turn ≡ o → frame_in o ≡ None
@@ -166,6 +166,10 @@ latest-more turns t = ap (option_and_then record_of) (last-append None turns t)
 same-record : (xs : List Record) (n : ℕ) (a b : Record) → slice_get xs n ≡ Some a → slice_get xs n ≡ Some b → a ≡ b
 same-record xs n a b x y = let both : Some a ≡ Some b = sym x ∙ y in cc
 
+not-last-more : (turns : List Turn) (t : Turn) → AreNotLast turns → is_last (record_of t) ≡ false → AreNotLast (turns ++ t ∷ [])
+not-last-more [] t all one = (one, tt)
+not-last-more (u ∷ us) t all one = (all.0, not-last-more us t all.1 one)
+
 -- what the next call gives
 pub goes : (sc : Scenario) (handed : List HandIn) (is_plain now : Bool) (told mid since : Option (List Turn)) (k after : Kept) (turns : List Turn) (t : Turn) → IsUnderWay sc handed is_plain told mid k turns false
     → now ≡ is_plain → (now ≡ true → (w : World) → Stands k w → GoesToNext First k after t w) → ((w : World) → Stands k w → GoesAlike k after t w)
@@ -199,6 +203,7 @@ goes sc handed is_plain now told mid since k after turns t is stays plain alike 
           one-frame after r.next a.goes.next r.stands a.goes.gives.stands ∙ ap frame_in a.goes.gives.turn_is
           ∙ alike-frame a.turn t (sym a.alike) ∙ ap frame_in (sym (latest-more turns t));
       ended = r.rounds.ended ∙ ap is_last (sym r.turn_is) ∙ sym (alike-last t a.turn a.alike);
+      goes_on = λ e. not-last-more turns t (is.goes_on refl) e;
     }
 
 -- What is known of it.
@@ -256,4 +261,5 @@ handed-over sc handed more is_plain told since k after turns over next is bus st
   tells = is.tells;
   frame = ap frame_in h.turn ∙ is.frame;
   ended = ap (λ b. b.ended) h.book ∙ is.ended;
+  goes_on = is.goes_on;
 }

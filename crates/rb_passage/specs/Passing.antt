@@ -14,7 +14,7 @@ use Rattle.rb_crossing.specs.Crossings.{value_told}
 use Rattle.rb_freight.specs.Holding.{HoldValues}
 use Rattle.rb_passage.specs.declared.passing.Passage.{Passage}
 use Rattle.rb_passage.specs.declared.passing.Terms.{Terms}
-use Rattle.rb_passage.specs.Running.{IsUnderWay}
+use Rattle.rb_passage.specs.Running.{AreNotLast, IsUnderWay}
 
 -- what is kept of a frame is what these records tell of it
 pub record HoldsPassage (terms : Terms) (frame : ℕ) (records : List Record) (p : Passage) : Type 0 where
@@ -41,5 +41,6 @@ pub record PassesFrame (sc : Scenario) (handed : List HandIn) (is_plain : Bool) 
     (p : Passage) (last : Turn) : Type 0 where
   pub more : List Turn
   pub given : IsUnderWay sc handed is_plain told since k ((before ++ more) ++ last ∷ []) (is_last (record_of last))
+  pub going : AreNotLast (before ++ more)
   pub holds : HoldsPassage terms frame (records_in (before ++ more)) p
   pub over : is_over terms.frames frame (record_of last) ≡ true

@@ -1,5 +1,5 @@
 -- A run of a bus to which states are handed, some of whose turns have been given.
-use Rattle.std.specs.Prelude.{◌≡◌, Bool, true, Option, Some, None, option_and_then, List, map}
+use Rattle.std.specs.Prelude.{⊤, ◌≡◌, Bool, true, false, Option, None, option_and_then, List, [], ◌∷◌, map}
 use Rattle.std.specs.List.{last_or}
 use Rattle.rb_rules.specs.Book.{Record}
 use Rattle.rb_rules.specs.Goodness.{Scenario}
@@ -9,11 +9,17 @@ use Rattle.rb_book.specs.Records.{record_of}
 use Rattle.rb_book.specs.declared.turn.Turn.{Turn}
 use Rattle.rb_run.specs.Turns.{TellsAll, turn_of}
 use Rattle.rb_world.specs.Driving.{bare}
+use Rattle.rb_world.specs.Nexts.{is_last}
 use Rattle.rb_world.specs.Worlds.{Kept, Stands}
 
 -- the record that the last turn is
 abbrev pub latest : List Turn → Option Record
 latest turns = option_and_then record_of (last_or None turns)
+
+-- none of these ends a run
+abbrev pub AreNotLast : List Turn → Type 0
+AreNotLast [] = ⊤
+AreNotLast (t ∷ ts) = (is_last (record_of t) ≡ false) × AreNotLast ts
 
 -- A drive, plain or not, has given these turns, one for each record so far, in order: that record, but for ticks, times, masks, states,
 -- losses and values. This was handed in, and the run has ended or not
@@ -27,3 +33,4 @@ pub record IsUnderWay (sc : Scenario) (handed : List HandIn) (is_plain : Bool) (
   pub tells : TellsAll told since turns
   pub frame : frame_in world.turn ≡ frame_in (latest turns)
   pub ended : world.book.ended ≡ over
+  pub goes_on : over ≡ false → AreNotLast turns

@@ -1,4 +1,4 @@
-use Rattle.std.proofs.Common.{◌≡◌, ◌++◌, true, false, refl, sym, ◌∙◌, ap, arith}
+use Rattle.std.proofs.Common.{◌≡◌, ◌++◌, false, refl, sym, ◌∙◌, ap, arith}
 use Rattle.rb_book.specs.Records.{record_of}
 use Rattle.rb_passage.specs.Passing.{is_over}
 use Rattle.rb_passage.proofs.Passed.{all-passed, few-passed, none-passed, one-passed}

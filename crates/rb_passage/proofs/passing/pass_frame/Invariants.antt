@@ -1,5 +1,5 @@
 -- So many turns of the frame were given, and the run goes on.
-use Rattle.std.proofs.Common.{◌≡◌, ℕ, Option, List, false}
+use Rattle.std.proofs.Common.{◌≡◌, Option, List, false}
 use Rattle.rb_rules.specs.Ports.{HandIn}
 use Rattle.rb_book.specs.declared.turn.Turn.{Turn}
 use Rattle.rb_run.specs.Turns.{records_in}
