@@ -1,4 +1,4 @@
--- What the turns of a plain drive tell of a frame that is over: all that the run tells of it.
+-- For the run of a bridge, which is to come: what the turns of a plain drive tell of a frame that is over is all that the run tells of it.
 use Rattle.std.proofs.Common.{◌≡◌, ℕ, ◌+◌, ◌<◌, ◌≤◌, ◌==◌, ◌||◌, nat_lt, Bool, true, false, if◌then◌else◌, Option, Some, None, List, [], ◌∷◌, ◌++◌, append_assoc, refl, sym, ◌∙◌, ap, subst, arith}
 use Rattle.std.proofs.lemmas.Bool.{ltb-true}
 use Rattle.std.proofs.lemmas.Bool.Decides.{nat_tests}
