@@ -29,12 +29,12 @@ returns-then-is_over-clause-stays g c = c.next-turn.ensures.stays ∙ c.loop-pas
 pub loop-passed-preserved : goal.loop-passed-preserved
 loop-passed-preserved g c = record {
   passing = λ handed told before given holds.
-    let is = c.loop-passed.invariant.passing handed told before given holds in
-    let within : is_over c.args.terms.now.frames c.args.passage.now.ports.frame (record_of c.next-turn.result) ≡ false = ap (λ f. is_over c.args.terms.now.frames f (record_of c.next-turn.result)) (sym is.holds.frame_is) ∙ sym c.is_over.ensures ∙ c.if-is_over.false in
-    one-passed _ _ _ _ _ _ _ _ _ _ _ _ c.keep.new.passage _ c.next-turn.result is (goes c.args.world.now.bus handed (g.D.Drive.is_plain c.args.drive.now) (g.D.Drive.is_plain c.loop-passed.drive) told (g.D.Drive.told c.loop-passed.drive)
-    (g.D.Drive.told c.next-turn.new.self) c.loop-passed.world c.next-turn.new.world (before ++ is.more) c.next-turn.result is.given c.loop-passed.invariant.stays
-    c.next-turn.ensures.plain c.next-turn.ensures.alike c.next-turn.ensures.bus c.next-turn.ensures.told)
-    within (c.keep.ensures c.args.passage.now.ports.frame (before ++ is.more) within is.holds);
+      let is = c.loop-passed.invariant.passing handed told before given holds in
+      let within : is_over c.args.terms.now.frames c.args.passage.now.ports.frame (record_of c.next-turn.result) ≡ false = ap (λ f. is_over c.args.terms.now.frames f (record_of c.next-turn.result)) (sym is.holds.frame_is) ∙ sym c.is_over.ensures ∙ c.if-is_over.false in
+      one-passed _ _ _ _ _ _ _ _ _ _ _ _ c.keep.new.passage _ c.next-turn.result is (goes c.args.world.now.bus handed (g.D.Drive.is_plain c.args.drive.now) (g.D.Drive.is_plain c.loop-passed.drive) told (g.D.Drive.told c.loop-passed.drive)
+      (g.D.Drive.told c.next-turn.new.self) c.loop-passed.world c.next-turn.new.world (before ++ is.more) c.next-turn.result is.given c.loop-passed.invariant.stays
+      c.next-turn.ensures.plain c.next-turn.ensures.alike c.next-turn.ensures.bus c.next-turn.ensures.told)
+      within (c.keep.ensures c.args.passage.now.ports.frame (before ++ is.more) within is.holds);
   bus = c.next-turn.ensures.bus ∙ c.loop-passed.invariant.bus;
   stays = c.next-turn.ensures.stays ∙ c.loop-passed.invariant.stays;
 }
