@@ -12,6 +12,10 @@ mod faulty_bius;
 #[cfg(test)]
 mod faulty_rmus;
 #[cfg(test)]
+mod groups;
+#[cfg(test)]
+mod letters;
+#[cfg(test)]
 mod load;
 #[cfg(test)]
 mod logs;

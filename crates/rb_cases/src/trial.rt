@@ -1,4 +1,7 @@
 //! How a case is tried.
+use arrayvec::ArrayVec;
+use rb_base::Heard;
+use rb_group::{Voter, Voters, mid_of, most_of};
 use rb_outside::{MemSink, MemSource, Sink, Source};
 use rb_port::{App, Apps};
 use rb_top::{Status, run_robus};
@@ -36,6 +39,20 @@ macro_rules! applications {
                             % 18446744073709551616) as u64
                     },
                 )?,
+            },
+        )
+    };
+}
+
+/// The two voters, made as the applications are.
+macro_rules! voters {
+    ($alloc:expr) => {
+        Voters::new(
+            Voter {
+                pick: Box::new($alloc, |values: &ArrayVec<Heard, 16>| most_of(values))?,
+            },
+            Voter {
+                pick: Box::new($alloc, |values: &ArrayVec<Heard, 16>| mid_of(values))?,
             },
         )
     };
@@ -110,7 +127,8 @@ pub(crate) fn call<S: Source, K: Sink, D: Drive>(
 ) -> Result<Status, AllocError> {
     let words = words_of(alloc, words)?;
     let apps = applications!(alloc);
-    Ok(run_robus(alloc, &words, source, sink, &apps, drive))
+    let voters = voters!(alloc);
+    Ok(run_robus(alloc, &words, source, sink, &apps, drive, &voters))
 }
 
 /// What came of a call: how it ended, and the bytes that were written.

@@ -6,7 +6,7 @@ use rb_top::Status;
 use rb_world::FirstDrive;
 use std::test::Fail;
 
-const NO_FORMS: [&str; 36] = [
+const NO_FORMS: [&str; 55] = [
     "",
     "RUN",
     "Run",
@@ -43,6 +43,25 @@ const NO_FORMS: [&str; 36] = [
     "stress 7 0",
     "stress 7 99999999999",
     "Stress 7 1",
+    "spell",
+    "spell 6",
+    "spell 686",
+    "spell 6A",
+    "spell 6g",
+    "spell 68 69",
+    "letters x",
+    "Letters",
+    "group",
+    "group most",
+    "group most 0",
+    "group most 65536",
+    "group most 07",
+    "group Most 7",
+    "group least 7",
+    "group 7 most",
+    "group mid +7",
+    "group mid 7 7",
+    "mid 7",
 ];
 
 // The first read would fail.

@@ -1,4 +1,7 @@
 //! How the top call is called.
+use arrayvec::ArrayVec;
+use rb_base::Heard;
+use rb_group::{Voter, Voters, mid_of, most_of};
 use rb_outside::{Sink, Source};
 use rb_port::{App, Apps};
 use rb_top::{Status, run_robus};
@@ -44,7 +47,14 @@ pub(crate) fn run<S: Source, K: Sink, D: Drive>(
         )?,
     };
     let apps = Apps::new(table, counter, follow);
-    Ok(run_robus(alloc, &words, source, sink, &apps, drive))
+    let most = Voter {
+        pick: Box::new(alloc, |values: &ArrayVec<Heard, 16>| most_of(values))?,
+    };
+    let mid = Voter {
+        pick: Box::new(alloc, |values: &ArrayVec<Heard, 16>| mid_of(values))?,
+    };
+    let voters = Voters::new(most, mid);
+    Ok(run_robus(alloc, &words, source, sink, &apps, drive, &voters))
 }
 
 /// The same with the drive that takes the first event that is due.

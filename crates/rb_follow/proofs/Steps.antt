@@ -12,7 +12,6 @@ use Rattle.rb_rules.specs.Core.{Act, Core, act_on, epoch_at, is_last, is_tick, o
 use Rattle.rb_rules.specs.ExactStage.{Outcome, close_exact, outcome_of}
 use Rattle.rb_rules.specs.Hearing.{close_window, tail_at}
 use Rattle.rb_rules.specs.NodeState.{NodeState}
-use Rattle.rb_rules.specs.NodeSteps.{close, turn_if_known}
 use Rattle.rb_rules.specs.Plan.{IsPlan}
 use Rattle.rb_rules.specs.Sense.{Arrival}
 use Rattle.rb_rules.specs.SyncStage.{close_sync, new_epoch_of}

@@ -7,7 +7,6 @@ use Rattle.rb_base.specs.Sizes.{Sizes}
 use Rattle.rb_rules.specs.declared.plan.Plan.{Plan}
 use Rattle.rb_rules.specs.declared.plan.Window.{Window}
 use Rattle.rb_rules.specs.declared.record.Epoch.{Epoch}
-use Rattle.rb_rules.specs.Conviction.{turn}
 use Rattle.rb_rules.specs.Core.{Act, Core, act_on, epoch_at, is_last, is_spent, is_tick, of_source, state_at, window_here}
 use Rattle.rb_rules.specs.ExactStage.{Outcome}
 use Rattle.rb_rules.specs.Hearing.{close_window, epoch_of}

@@ -1,5 +1,5 @@
 -- What a listener's calls come to.
-use Rattle.std.proofs.Common.{◌≡◌, ℕ, zero, suc, ◌+◌, ◌<◌, ◌≤◌, ◌^◌, ◌==◌, ◌&&◌, nat_lt, nat_le, Bool, true, false, refl, ap, sym, ◌∙◌, subst, arith, Option, Some, None, IfSome, unwrap_or, List, if◌then◌else◌, option_and_then}
+use Rattle.std.proofs.Common.{◌≡◌, ℕ, zero, suc, ◌+◌, ◌<◌, ◌≤◌, ◌^◌, ◌==◌, ◌&&◌, nat_lt, Bool, true, false, refl, ap, sym, ◌∙◌, subst, arith, Option, Some, None, unwrap_or, List, if◌then◌else◌, option_and_then}
 use Rattle.std.proofs.lemmas.Bool.Decides.{nat_tests}
 use Rattle.rb_base.specs.Nodes.Side.{Biu}
 use Rattle.rb_base.specs.Sizes.{Sizes}
@@ -8,20 +8,19 @@ use Rattle.rb_rules.specs.declared.closing.Closed.{Closed}
 use Rattle.rb_rules.specs.declared.plan.Plan.{Plan}
 use Rattle.rb_rules.specs.Core.{Act, Core, arrive, is_tick}
 use Rattle.rb_node.specs.Acts.{IsAct}
-use Rattle.rb_node.specs.Cores.{IsCore, IsSameNode, Running}
+use Rattle.rb_node.specs.Cores.{IsCore, Running}
 use Rattle.rb_node.specs.declared.act.Step.{Step}
 use Rattle.rb_rules.proofs.QuietTicks.{nothing}
-use Rattle.rb_follow.specs.Following.{arrive_at, follow, follow_at, follows, follows_at, next_wake, next_wake_at, wakes}
+use Rattle.rb_follow.specs.Following.{arrive_at, follow, follow_at, follows, follows_at, wakes}
 use Rattle.rb_follow.specs.Waking.{wakes_at}
 use Rattle.rb_follow.proofs.Waking.{quiet-tick}
 use Rattle.rb_listen.specs.Lessons.{first_of}
-use Rattle.rb_listen.specs.Listeners.{ComesTo, IsAhead, IsListeningIn, IsWaiting}
+use Rattle.rb_listen.specs.Listeners.{IsListeningIn}
 use Rattle.rb_listen.specs.Listening.{Heeding, Listening, TellNothing, decided, decision_of, first_core, followed, frame_of, had_by, hear, heed, heeds, in_time, is_deciding, is_over, later, next_heed, search_on, searching, told, untold, wait_on}
 use Rattle.rb_listen.specs.Listening as now
 use Rattle.rb_listen.specs.declared.heed.Heed.{Heed}
 use Rattle.rb_listen.specs.declared.lesson.First.{First}
-use Rattle.rb_listen.specs.declared.listener.Stage.{Stage}
-use Rattle.rb_listen.specs.declared.listener.Stage.TheVariants.{Searching, Waiting, Following}
+use Rattle.rb_listen.specs.declared.listener.Stage.TheVariants.{Following}
 use Rattle.rb_listen.specs.declared.search.Search.{Search}
 
 over : (n : ℕ) → 2 ^ 31 ≤ n → is_over n ≡ true
@@ -196,7 +195,7 @@ passes-following sizes plan ticks s n m l e f cores (c, (core, at)) = (
   (
     cores c core,
     ap (heeds sizes plan ticks) at ∙ follows-on sizes plan ticks c
-    ∙ ap (λ x. now.Following (follows x plan ticks c)) (sym e) ∙ ap (λ p. now.Following (follows n.seat.sizes p ticks c)) (sym f),
+        ∙ ap (λ x. now.Following (follows x plan ticks c)) (sym e) ∙ ap (λ p. now.Following (follows n.seat.sizes p ticks c)) (sym f),
   ),
 )
 
@@ -233,7 +232,7 @@ nothing-of sizes plan (suc n) c q h =
     follows-now sizes plan c (now.Following c) refl ∙ ap followed (quiet-tick sizes plan c (q c.had (omega arith) (omega arith)) (omega arith)) in (
       ap (λ (x : Heeding). x.heed) one,
       subst (λ (x : Heeding). TellNothing sizes plan n x.listening) (sym one)
-      (nothing-of sizes plan n (nothing c).core (λ k lo hi. q k (omega arith) (omega arith)) (omega arith)),
+          (nothing-of sizes plan n (nothing c).core (λ k lo hi. q k (omega arith) (omega arith)) (omega arith)),
     )
 
 pub nothing-following : (sizes : Sizes) (plan : Plan) (ticks : ℕ) (s : Search) (n : Running) (l : Listening) → n.seat.sizes ≡ sizes → n.seat.plan ≡ plan

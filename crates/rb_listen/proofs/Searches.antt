@@ -1,13 +1,12 @@
 -- What holds of a search between two calls, and what a tick makes of it.
-use Rattle.std.proofs.Common.{◌≡◌, ℕ, ◌+◌, ◌%◌, ◌<◌, ◌≤◌, ◌^◌, ◌==◌, ◌&&◌, nat_lt, nat_le, Bool, true, false, refl, ap, sym, ◌∙◌, subst, arith, Option, Some, None, IfSome, is_some, option_map, List, mod-lt, if◌then◌else◌}
+use Rattle.std.proofs.Common.{◌≡◌, ℕ, ◌+◌, ◌%◌, ◌<◌, ◌≤◌, ◌^◌, ◌==◌, ◌&&◌, nat_lt, Bool, true, false, refl, ap, sym, ◌∙◌, subst, arith, Option, Some, None, is_some, option_map, List, mod-lt, if◌then◌else◌}
 use Rattle.std.proofs.lemmas.Bool.Decides.{nat_tests}
 use Rattle.rb_base.specs.Sizes.{Sizes}
-use Rattle.rb_node.specs.Cores.{Running}
 use Rattle.rb_rules.specs.declared.message.Message.{Message}
 use Rattle.rb_rules.specs.declared.plan.Plan.{Plan}
 use Rattle.rb_rules.specs.Core.{is_tick}
 use Rattle.rb_rules.specs.Spelling.{message_in}
-use Rattle.rb_listen.specs.Lessons.{first_by, first_of, frame_after, has_place, lesson_on, middle_in, noted, nothing_recorded, trusted_bius, trusted_rmus, with_record}
+use Rattle.rb_listen.specs.Lessons.{first_by, first_of, frame_after, has_place, noted, with_record}
 use Rattle.rb_listen.specs.Listeners.{ComesTo, IsAhead, IsSearching}
 use Rattle.rb_listen.specs.Listening.{Listening, decided, decision_of, first_search, if_after, if_call, if_message, if_pass, in_time, is_deciding, later, learning, newest_with, passing, recorded, search_on, searching, timed, with_message, with_pass}
 use Rattle.rb_listen.specs.Listening as now
@@ -16,7 +15,7 @@ use Rattle.rb_listen.specs.Stamps.{AreSoon}
 use Rattle.rb_listen.specs.declared.lesson.First.{First}
 use Rattle.rb_listen.specs.declared.lesson.Lesson.{Lesson}
 use Rattle.rb_listen.specs.declared.listener.Stage.{Stage}
-use Rattle.rb_listen.specs.declared.listener.Stage.TheVariants.{Searching, Waiting, Following}
+use Rattle.rb_listen.specs.declared.listener.Stage.TheVariants.{Searching, Waiting}
 use Rattle.rb_listen.specs.declared.search.Search.{Search}
 use Rattle.rb_listen.proofs.Soon.{none-soon, noted-soon}
 

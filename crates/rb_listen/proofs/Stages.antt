@@ -1,12 +1,12 @@
 -- A listener's calls, by its stage.
-use Rattle.std.proofs.Common.{◌≡◌, ℕ, ◌+◌, ◌<◌, ◌≤◌, ◌^◌, refl, ap, sym, ◌∙◌, subst, arith, false, List}
+use Rattle.std.proofs.Common.{◌≡◌, ℕ, ◌+◌, ◌<◌, ◌≤◌, ◌^◌, refl, ap, sym, ◌∙◌, subst, false, List}
 use Rattle.rb_base.specs.Sizes.{Sizes}
 use Rattle.rb_node.specs.Cores.{IsCore, Running}
 use Rattle.rb_rules.specs.declared.plan.Plan.{Plan}
 use Rattle.rb_rules.specs.Core.{Core}
 use Rattle.rb_follow.specs.Following.{arrive_at, follow_at, follows_at}
 use Rattle.rb_follow.specs.Waking.{wakes_at}
-use Rattle.rb_listen.specs.Listeners.{ComesTo, IsAhead, IsInStage, IsListeningIn, IsSearching, IsSound, end_in, had_in}
+use Rattle.rb_listen.specs.Listeners.{ComesTo, IsAhead, IsInStage, IsListeningIn, IsSound, end_in, had_in}
 use Rattle.rb_listen.specs.Listening.{Heeding, Listening, TellNothing, decision_of, first_core, had_by, hear, heed, heeds, no_heed, search_on, searching, told, untold}
 use Rattle.rb_listen.specs.Listening as now
 use Rattle.rb_listen.specs.declared.heed.Heed.{Heed}

@@ -1,7 +1,7 @@
 -- A passive listener. It starts at any time and knows nothing but the plan. First it seeks: at the first pass it begins to learn the
 -- frame after that of the pass. From one whole frame it learns whom the bus trusts and when the next frame begins, and from there
 -- it follows.
-use Rattle.std.specs.Prelude.{ℕ, zero, suc, ◌≡◌, ◌+◌, ◌^◌, ◌==◌, ◌&&◌, nat_le, nat_lt, Bool, true, false, if◌then◌else◌, Option, Some, None, is_some, option_and_then, List, [], ◌∷◌, replicate, slice_set}
+use Rattle.std.specs.Prelude.{ℕ, zero, suc, ◌≡◌, ◌+◌, ◌^◌, ◌==◌, ◌&&◌, nat_le, nat_lt, Bool, true, false, Option, Some, None, is_some, option_and_then, List, [], ◌∷◌, replicate, slice_set}
 use Rattle.rb_base.specs.Nodes.Side.{Biu}
 use Rattle.rb_base.specs.Sizes.{Sizes}
 use Rattle.rb_rules.specs.declared.message.Message.{Message}

@@ -1,5 +1,5 @@
 -- What is due of a log that is listened to, event by event.
-use Rattle.std.proofs.Common.{◌≡◌, ℕ, ◌+◌, ◌-◌, ◌≤◌, ◌^◌, refl, ap, sym, ◌∙◌, subst, arith, Option, Some, None, Result, Ok, Err, IfOk, OnOk, OnErr, List, [], ◌∷◌, ◌++◌, append_assoc}
+use Rattle.std.proofs.Common.{◌≡◌, ℕ, ◌+◌, ◌-◌, ◌≤◌, ◌^◌, refl, ap, sym, ◌∙◌, subst, arith, Option, Result, Ok, Err, OnOk, OnErr, List, [], ◌∷◌, ◌++◌, append_assoc}
 use Rattle.std.proofs.Math.ListN.{replicate}
 use Rattle.std.specs.Io.KnownBytes.{Appends}
 use Rattle.std.specs.List.{flat_map}
@@ -9,6 +9,7 @@ use Rattle.rb_rules.specs.declared.plan.Plan.{Plan}
 use Rattle.rb_rules.specs.Core.{CoreEvent}
 use Rattle.rb_rules.specs.Core.CoreEvent.{Tick, Arrive}
 use Rattle.rb_node.specs.Cores.{Running}
+use Rattle.rb_plan.specs.Timetable.{Timetable}
 use Rattle.rb_outside.specs.Bytes.{AppendsPart}
 use Rattle.rb_outside.proofs.Known.{appends_join, appends_none, part_join, part_widens}
 use Rattle.rb_report.specs.Report.{end_text}
@@ -229,3 +230,30 @@ pub nothing-told : (sizes : Sizes) (plan : Plan) (name : NodeName) (skip : ℕ) 
     → overheard_text sizes plan name skip events ≡ end_text 0
 unfolding overheard_text
 nothing-told sizes plan name skip events none = ap (λ es. heeds_text name (told_of sizes plan (now.Searching first_search) es)) none
+
+-- what is due of a listener that has heard nothing, by what is said of its log
+pub first-due : (h : Hearer) (p t : Timetable) (name node : NodeName) (skip : ℕ) (events left : List CoreEvent) → h.sizes ≡ p.sizes → h.plan ≡ p.plan → p ≡ t
+    → name ≡ node → IsListening h (now.Searching first_search) → from_tick skip events ≡ left
+    → IsDue h name 0 left (overheard_text t.sizes t.plan node skip events)
+first-due h p t name node skip events left e f same is at found =
+    subst (λ x. IsDue h x 0 left (overheard_text t.sizes t.plan node skip events)) (sym is)
+    (all-due h t.sizes t.plan node skip events left (e ∙ ap (λ (x : Timetable). x.sizes) same) (f ∙ ap (λ (x : Timetable). x.plan) same) at found)
+
+-- no frame had begun
+pub from-none : (h : Hearer) (name : NodeName) (n : ℕ) (events : List CoreEvent) (due : List ℕ) (before after : Option (List ℕ))
+    → Advances h name (0 + n) events due before after → Advances h name n events due before after
+from-none h name n events due before after a =
+    let e : 0 + n ≡ n = omega arith in subst (λ k. Advances h name k events due before after) e a
+
+-- the end alone was written
+pub ends-at-once : {T E : Type 0} (sizes : Sizes) (plan : Plan) (name : NodeName) (skip : ℕ) (events : List CoreEvent) (bytes : List ℕ) (before after : Option (List ℕ)) (r : Result T E)
+    → from_tick skip events ≡ [] → bytes ≡ end_text 0 → OnOk r (Appends before after bytes)
+    → OnOk r (Appends before after (overheard_text sizes plan name skip events))
+ends-at-once sizes plan name skip events bytes before after r none is written =
+    subst (λ text. OnOk r (Appends before after text)) (is ∙ sym (nothing-told sizes plan name skip events none)) written
+
+pub fails-at-once : {T E : Type 0} (sizes : Sizes) (plan : Plan) (name : NodeName) (skip : ℕ) (events : List CoreEvent) (bytes : List ℕ) (before after : Option (List ℕ)) (r : Result T E)
+    → from_tick skip events ≡ [] → bytes ≡ end_text 0 → OnErr r (AppendsPart before after bytes)
+    → OnErr r (AppendsPart before after (overheard_text sizes plan name skip events))
+fails-at-once sizes plan name skip events bytes before after r none is written =
+    subst (λ text. OnErr r (AppendsPart before after text)) (is ∙ sym (nothing-told sizes plan name skip events none)) written

@@ -1,5 +1,5 @@
 -- The text of what is told at ticks, one after another, and how many frames begin.
-use Rattle.std.proofs.Common.{◌≡◌, ℕ, zero, suc, ◌+◌, ◌-◌, ◌<◌, ◌≤◌, ◌^◌, ◌==◌, nat_lt, nat_le, Bool, true, false, refl, ap, sym, ◌∙◌, subst, arith, lit≤, Option, Some, None, List, [], ◌∷◌, ◌++◌, append_assoc}
+use Rattle.std.proofs.Common.{◌≡◌, ℕ, zero, suc, ◌+◌, ◌-◌, ◌<◌, ◌≤◌, ◌^◌, ◌==◌, nat_lt, Bool, true, false, refl, ap, ◌∙◌, subst, arith, lit≤, Option, Some, None, List, ◌∷◌, ◌++◌, append_assoc}
 use Rattle.std.proofs.Math.ListN.{replicate}
 use Rattle.std.proofs.lemmas.Bool.Decides.{nat_tests}
 use Rattle.std.specs.List.{flat_map}
@@ -10,7 +10,7 @@ use Rattle.rb_rules.specs.declared.plan.Plan.{Plan}
 use Rattle.rb_rules.specs.declared.message.Message.{Message}
 use Rattle.rb_rules.specs.declared.record.Epoch.{Epoch}
 use Rattle.rb_rules.specs.Core.{Act, Core, CoreEvent, act_on, is_last, is_spent, state_at}
-use Rattle.rb_rules.specs.Core.CoreEvent.{Tick, Arrive}
+use Rattle.rb_rules.specs.Core.CoreEvent.{Tick}
 use Rattle.rb_rules.specs.NodeState.{NodeState}
 use Rattle.rb_report.specs.Report.{end_text}
 use Rattle.rb_follow.specs.Following.{follow}

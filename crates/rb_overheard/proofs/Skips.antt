@@ -1,5 +1,5 @@
 -- What is dropped in front of a tick.
-use Rattle.std.proofs.Common.{◌≡◌, ℕ, zero, suc, ◌+◌, ◌-◌, ◌<◌, ◌≤◌, refl, ap, sym, ◌∙◌, subst, arith, List, [], ◌∷◌, ◌++◌}
+use Rattle.std.proofs.Common.{◌≡◌, ℕ, zero, suc, ◌-◌, ◌≤◌, refl, ap, ◌∙◌, arith, List, [], ◌∷◌, ◌++◌}
 use Rattle.std.proofs.Math.ListN.{replicate}
 use Rattle.rb_rules.specs.Core.{CoreEvent}
 use Rattle.rb_rules.specs.Core.CoreEvent.{Tick, Arrive}
@@ -31,3 +31,28 @@ drops-arrival n from bytes events = refl
 pub none-found : (n : ℕ) → from_tick n [] ≡ []
 unfolding from_tick
 none-found n = refl
+
+-- quiet ticks are passed
+pub passes-over : (skip left passed : ℕ) (start events mid : List CoreEvent) → from_tick skip start ≡ from_tick left events
+    → events ≡ replicate passed (Tick 0) ++ mid → passed ≤ left → from_tick skip start ≡ from_tick (left - passed) mid
+passes-over skip left passed start events mid known is most = known ∙ ap (from_tick left) is ∙ drops-ticks left passed mid most
+
+-- the tick is found
+pub finds : (skip left word : ℕ) (start mid rest : List CoreEvent) (e : CoreEvent) → from_tick skip start ≡ from_tick left mid → left ≡ 0
+    → mid ≡ e ∷ rest → e ≡ Tick word → from_tick skip start ≡ Tick word ∷ rest
+finds skip left word start mid rest e known none is tick =
+    known ∙ ap (λ k. from_tick k mid) none ∙ ap (from_tick 0) (is ∙ ap (λ x. x ∷ rest) tick) ∙ finds-tick word rest
+
+-- another tick comes before it
+pub goes-past : (skip left word : ℕ) (start mid rest : List CoreEvent) (e : CoreEvent) → from_tick skip start ≡ from_tick left mid → 1 ≤ left
+    → mid ≡ e ∷ rest → e ≡ Tick word → from_tick skip start ≡ from_tick (left - 1) rest
+goes-past skip left word start mid rest e known some is tick =
+    known ∙ ap (from_tick left) (is ∙ ap (λ x. x ∷ rest) tick) ∙ drops-tick left word rest some
+
+pub leaves-out : (skip left from : ℕ) (bytes : List ℕ) (start mid rest : List CoreEvent) (e : CoreEvent) → from_tick skip start ≡ from_tick left mid
+    → mid ≡ e ∷ rest → e ≡ Arrive from bytes → from_tick skip start ≡ from_tick left rest
+leaves-out skip left from bytes start mid rest e known is arrival =
+    known ∙ ap (from_tick left) (is ∙ ap (λ x. x ∷ rest) arrival) ∙ drops-arrival left from bytes rest
+
+pub is-over : (skip left : ℕ) (start mid : List CoreEvent) → from_tick skip start ≡ from_tick left mid → mid ≡ [] → from_tick skip start ≡ []
+is-over skip left start mid known none = known ∙ ap (from_tick left) none ∙ none-found left

@@ -83,11 +83,7 @@ fn write_delivery<S: Sink>(
 
 /// Writes what a listener tells at a tick under the name of a node.
 #[tactic(auto, using(crate::proofs::Written::in_turn))]
-pub(crate) fn write_heed<S: Sink>(
-    node: NodeName,
-    heed: Heed,
-    output: &mut S,
-) -> Result<(), Failed>
+pub(crate) fn write_heed<S: Sink>(node: NodeName, heed: Heed, output: &mut S) -> Result<(), Failed>
     ensures all { OnOk result (Appends (S.held output.old) (S.held output.new) (heed_lines node heed)) }
     ensures part { OnErr result (AppendsPart (S.held output.old) (S.held output.new) (heed_lines node heed)) }
     ensures cause { HasCause (S.faults output.old) (S.faults output.new) result }

@@ -1,5 +1,5 @@
 //! A log that a listener is given.
-ghost use Rattle.std.specs.Prelude.{◌≡◌, ℕ, ◌+◌, ◌≤◌, ◌<◌, ◌∷◌, ◌^◌, ◌×◌, IfOk, List, OnOk, OnErr, [], length, true, false};
+ghost use Rattle.std.specs.Prelude.{◌≡◌, ℕ, ◌+◌, ◌≤◌, ◌<◌, ◌∷◌, ◌^◌, IfOk, List, OnOk, OnErr, [], length, true, false};
 ghost use Rattle.std.specs.Io.KnownBytes.{Appends};
 ghost use Rattle.rb_log.specs.Cursor.{shown};
 ghost use Rattle.rb_listen.specs.Listeners.{IsListening, IsSameBus, had_at, passing_end};
@@ -137,9 +137,9 @@ fn listen_on<S: Sink>(
     output: &mut S,
 ) -> Result<(), Failed>
     requires { (due : List ℕ) × IsDue listener name first log.events due }
-    ensures all { (due : List ℕ) → IsDue listener.entry name first log.entry.events due
+    ensures all { (due : List ℕ) → IsDue listener name first log.entry.events due
         → OnOk result (Appends (S.held output.old) (S.held output.new) due) }
-    ensures part { (due : List ℕ) → IsDue listener.entry name first log.entry.events due
+    ensures part { (due : List ℕ) → IsDue listener name first log.entry.events due
         → OnErr result (AppendsPart (S.held output.old) (S.held output.new) due) }
     ensures cause { HasCause (S.faults output.old) (S.faults output.new) result }
 {

@@ -10,19 +10,27 @@ use Rattle.rb_record.specs.Recording.{WritesPart as WritesPartOf, log_text}
 use Rattle.rb_scenario.specs.Acceptance.{as_scenario}
 use Rattle.rb_scenario.specs.declared.scenario.Scenario.{Scenario as Accepted}
 use Rattle.rb_book.specs.declared.turn.Turn.{Turn}
+use Rattle.arrayvec.specs.ArrayVec.{ArrayVec}
+use Rattle.rb_group.specs.declared.voters.Which.{Which}
+use Rattle.rb_hearing.specs.Texts.{spelling_text}
+use Rattle.rb_letters.specs.Letters.{WritesSome}
+use Rattle.rb_replicas.specs.Members.{AreMembers}
+use Rattle.rb_replicas.specs.declared.asked.Asked.{Asked}
+use Rattle.rb_replies.specs.Runs.{WritesPart as WritesGroupsPart}
+use Rattle.rb_rules.specs.Goodness.{Scenario}
 use Rattle.rb_run.specs.Runs.{WritesPart}
-use Rattle.rb_run.specs.Turns.{text_of}
+use Rattle.rb_run.specs.Turns.{AreAll, AreGiven, records_in}
 use Rattle.rb_top.specs.declared.form.Form.{Form}
-use Rattle.rb_top.specs.declared.form.Form.TheVariants.{Run, Check, Gen, Stress, Record, Replay}
+use Rattle.rb_top.specs.declared.form.Form.TheVariants.{Run, Check, Gen, Stress, Record, Replay, Spell, Letters, Group}
 use Rattle.rb_top.specs.declared.status.Status.{Status}
 use Rattle.rb_top.specs.declared.status.Status.TheVariants.{Done, Breach, Usage, Refused, TooLong, ReadFault, WriteFault, OutOfMemory}
-use Rattle.rb_top.specs.Answers.{IsDueSoFar, IsRefusedAlone, IsReplay}
+use Rattle.rb_top.specs.Answers.{EndsAs, IsDue, IsDueSoFar, IsRefusedAlone, IsReplay, IsReport, IsReportSoFar}
 use Rattle.rb_top.specs.CheckText.{check_text}
-use Rattle.rb_top.specs.Inputs.{BreaksLog, BreaksRule, IsRead, IsRefusedWith, IsTextOf, IsUnread, IsUnreadOver, LacksNode, log_limit, rule_text, scenario_limit}
+use Rattle.rb_top.specs.Inputs.{BreaksLog, BreaksRule, IsRead, IsRefusedWith, IsTextOf, IsUnread, IsUnreadOver, LacksNode, LacksMember, log_limit, member_text, rule_text, scenario_limit}
 use Rattle.rb_top.specs.Reading.{ReadsNone, ReadsScenario}
-use Rattle.rb_top.specs.Serving.{Answers, FailsToReplay, FailsToSum, IsLogged, IsNotRead, IsOfLog, IsOfRun, IsOfText, IsReplayed, IsReported, IsSummed, RefusesLog}
+use Rattle.rb_top.specs.Serving.{Answers, FailsToReplay, FailsToSum, IsGrouped, IsLettered, IsLogged, IsNotRead, IsOfLog, IsOfRun, IsOfText, IsReplayed, IsReported, IsSummed, RefusesLog}
 use Rattle.rb_top.specs.Statuses.{HasEnded, MayRefuse, RunsNothing, WritesNothing}
-use Rattle.rb_top.specs.Texts.{generated_text}
+use Rattle.rb_top.specs.Texts.{Telling, generated_text, told_by_group, told_by_letters, told_by_run}
 
 -- a form that reads a scenario
 pub record ReadsAScenario (form : Form) : Type 0 where
@@ -51,6 +59,52 @@ record_reads node = record {
   refuse = λ input line h. inl h;
   unread = λ status left left' faults faults' h. h;
 }
+
+pub letters_read : ReadsAScenario Letters
+letters_read = record {
+  read = λ left left' input h. h;
+  refuse = λ input line h. h;
+  unread = λ status left left' faults faults' h. h;
+}
+
+pub group_reads : (which : Which) (members : ℕ) → ReadsAScenario (Group which members)
+group_reads which members = record {
+  read = λ left left' input h. h;
+  refuse = λ input line h. inl h;
+  unread = λ status left left' faults faults' h. h;
+}
+
+-- a form that tells of the run of this scenario, once it has been read
+pub record TellsOf (form : Form) (accepted : Accepted) (tells : Telling) : Type 0 where
+  pub reads : ReadsAScenario form
+  pub due : (input : List ℕ) (is_plain : Bool) (told told' : Option (List Turn)) (status : Status) (text : List ℕ)
+      → (r : IsReport tells input is_plain told told' status text) → r.scenario ≡ as_scenario accepted → IsDue form input is_plain told told' status text
+  pub so_far : (input : List ℕ) (is_plain : Bool) (told told' : Option (List Turn)) (text : List ℕ)
+      → (r : IsReportSoFar tells input is_plain told told' text) → r.scenario ≡ as_scenario accepted → IsDueSoFar form input is_plain told told' text
+
+pub run_tells : (accepted : Accepted) → TellsOf Run accepted told_by_run
+run_tells accepted = record {
+  reads = run_reads;
+  due = λ input is_plain told told' status text r is. r;
+  so_far = λ input is_plain told told' text r is. r;
+}
+
+pub letters_tell : (accepted : Accepted) → TellsOf Letters accepted told_by_letters
+letters_tell accepted = record {
+  reads = letters_read;
+  due = λ input is_plain told told' status text r is. r;
+  so_far = λ input is_plain told told' text r is. r;
+}
+
+pub group_tells : (accepted : Accepted) (which : Which) (members : ℕ) → AreMembers accepted.plan.sizes members
+    → TellsOf (Group which members) accepted (told_by_group which members)
+group_tells accepted which members there =
+    let P : Scenario → Type 0 = λ sc. AreMembers sc.sizes members in
+    record {
+      reads = group_reads which members;
+      due = λ input is_plain told told' status text r is. record { report = r; there = subst P (sym is) there };
+      so_far = λ input is_plain told told' text r is. record { report = r; there = subst P (sym is) there };
+    }
 
 never_both : (status : Status) → MayRefuse status → HasEnded status → ⊥
 never_both Done may ended = may
@@ -87,12 +141,75 @@ none_answers form f status left left' reads reads' held held' writes writes' is_
   };
 }
 
+-- all turns of a run were given, and what is told of them was written
+pub record TellsAll (tells : Telling) (sc : Scenario) (is_plain : Bool) (told told' : Option (List Turn)) (held held' : Option (List ℕ)) : Type 0 where
+  pub turns : List Turn
+  pub given : AreGiven sc is_plain told told' turns
+  pub all : AreAll sc turns
+  pub text : Appends held held' (tells sc (records_in turns))
+
+-- or some were, and a first part of it
+pub record TellsSome (tells : Telling) (sc : Scenario) (is_plain : Bool) (told told' : Option (List Turn)) (held held' : Option (List ℕ)) : Type 0 where
+  pub turns : List Turn
+  pub given : AreGiven sc is_plain told told' turns
+  pub text : AppendsPart held held' (tells sc (records_in turns))
+
+pub record IsTold (tells : Telling) (sc : Scenario) (status : Status) (is_plain : Bool) (told told' : Option (List Turn)) (held held' : Option (List ℕ)) : Type 0 where
+  pub ends : EndsAs sc status
+  pub written : TellsAll tells sc is_plain told told' held held'
+
 -- a scenario has been read, and its run was opened
-pub record Reports (accepted : Accepted) (status : Status) (held held' : Option (List ℕ)) (writes writes' : ℕ) (is_plain : Bool) (told told' : Option (List Turn)) : Type 0 where
-  pub ended : HasEnded status → IsReported (as_scenario accepted) status is_plain told told' held held'
-  pub part : status ≡ WriteFault → WritesPart (as_scenario accepted) is_plain told told' held held'
+pub record Reports (tells : Telling) (accepted : Accepted) (status : Status) (held held' : Option (List ℕ)) (writes writes' : ℕ) (is_plain : Bool) (told told' : Option (List Turn)) : Type 0 where
+  pub ended : HasEnded status → IsTold tells (as_scenario accepted) status is_plain told told' held held'
+  pub part : status ≡ WriteFault → TellsSome tells (as_scenario accepted) is_plain told told' held held'
   pub cause : status ≡ WriteFault → Rose writes writes'
   pub one_of : IsOfRun status
+
+-- so of each form
+pub run_reports : (accepted : Accepted) (status : Status) (held held' : Option (List ℕ)) (writes writes' : ℕ) (is_plain : Bool) (told told' : Option (List Turn))
+    → (HasEnded status → IsReported (as_scenario accepted) status is_plain told told' held held')
+    → (status ≡ WriteFault → WritesPart (as_scenario accepted) is_plain told told' held held')
+    → (status ≡ WriteFault → Rose writes writes') → IsOfRun status → Reports told_by_run accepted status held held' writes writes' is_plain told told'
+run_reports accepted status held held' writes writes' is_plain told told' ended part cause one_of = record {
+  ended = λ h. let all = ended h in
+      record { ends = all.ends; written = record { turns = all.written.turns; given = all.written.given; all = all.written.all; text = all.written.text } };
+  part = λ e. let some = part e in record { turns = some.turns; given = some.given; text = some.text };
+  cause = cause;
+  one_of = one_of;
+}
+
+pub letters_report_so : (accepted : Accepted) (status : Status) (held held' : Option (List ℕ)) (writes writes' : ℕ) (is_plain : Bool) (told told' : Option (List Turn))
+    → (HasEnded status → IsLettered (as_scenario accepted) status is_plain told told' held held')
+    → (status ≡ WriteFault → WritesSome (as_scenario accepted) is_plain told told' held held')
+    → (status ≡ WriteFault → Rose writes writes') → IsOfRun status → Reports told_by_letters accepted status held held' writes writes' is_plain told told'
+letters_report_so accepted status held held' writes writes' is_plain told told' ended part cause one_of = record {
+  ended = λ h. let all = ended h in
+      record { ends = all.ends; written = record { turns = all.written.turns; given = all.written.given; all = all.written.all; text = all.written.text } };
+  part = λ e. let some = part e in record { turns = some.turns; given = some.given; text = some.text };
+  cause = cause;
+  one_of = one_of;
+}
+
+-- of the group that was asked for
+pub record Groups (accepted : Accepted) (asked : Asked) (status : Status) (held held' : Option (List ℕ)) (writes writes' : ℕ) (is_plain : Bool) (told told' : Option (List Turn)) : Type 0 where
+  pub ended : HasEnded status → IsGrouped (as_scenario accepted) asked status is_plain told told' held held'
+  pub part : status ≡ WriteFault → WritesGroupsPart (as_scenario accepted) asked is_plain told told' held held'
+  pub cause : status ≡ WriteFault → Rose writes writes'
+  pub one_of : IsOfRun status
+
+pub group_reports : (accepted : Accepted) (which : Which) (members : ℕ) (asked : Asked) (status : Status) (held held' : Option (List ℕ)) (writes writes' : ℕ) (is_plain : Bool)
+    (told told' : Option (List Turn)) → asked ≡ record { which = which; members = members } → Groups accepted asked status held held' writes writes' is_plain told told'
+    → Reports (told_by_group which members) accepted status held held' writes writes' is_plain told told'
+group_reports accepted which members asked status held held' writes writes' is_plain told told' is g =
+    let P : Asked → Type 0 = λ a. Groups accepted a status held held' writes writes' is_plain told told' in
+    let x = subst P is g in
+    record {
+      ended = λ h. let all = x.ended h in
+          record { ends = all.ends; written = record { turns = all.written.turns; given = all.written.given; all = all.written.all; text = all.written.text } };
+      part = λ e. let some = x.part e in record { turns = some.turns; given = some.given; text = some.text };
+      cause = x.cause;
+      one_of = x.one_of;
+    }
 
 -- where such a run wrote nothing it was not opened
 pub is_memory : (status : Status) → IsOfRun status → WritesNothing status → status ≡ OutOfMemory
@@ -122,44 +239,51 @@ no_run status s never one_of e = let P : Status → Type 0 = λ x. IsOfRun x in 
 no_text : (status : Status) (s : Status) → (IsOfText s → ⊥) → IsOfText status → ¬ (status ≡ s)
 no_text status s never one_of e = let P : Status → Type 0 = λ x. IsOfText x in never (subst P e one_of)
 
-pub report_answers : (accepted : Accepted) (status : Status) (left left' : Option (List ℕ)) (reads reads' : ℕ) (held held' : Option (List ℕ))
-    (writes writes' : ℕ) (is_plain : Bool) (told told' : Option (List Turn)) → ReadsScenario left left' accepted
-    → Reports accepted status held held' writes writes' is_plain told told'
-    → Answers Run status left left' reads reads' held held' writes writes' is_plain told told'
-report_answers accepted status left left' reads reads' held held' writes writes' is_plain told told' r x =
+pub report_answers : (form : Form) (tells : Telling) (accepted : Accepted) (status : Status) (left left' : Option (List ℕ)) (reads reads' : ℕ) (held held' : Option (List ℕ))
+    (writes writes' : ℕ) (is_plain : Bool) (told told' : Option (List Turn)) → TellsOf form accepted tells → ReadsScenario left left' accepted
+    → Reports tells accepted status held held' writes writes' is_plain told told'
+    → Answers form status left left' reads reads' held held' writes writes' is_plain told told'
+report_answers form tells accepted status left left' reads reads' held held' writes writes' is_plain told told' f r x =
     let says : IsTextOf r.input (as_scenario accepted) = record { accepted = accepted; is = r.is; shows = refl } in
     record {
       known = no_run status Usage (λ h. h) x.one_of;
-      ended = λ h. let all = x.ended h in record {
-        input = r.input;
-        text = text_of all.written.turns;
-        read = r.read;
-        written = all.written.text;
-        due = record {
-          scenario = as_scenario accepted;
-          turns = all.written.turns;
-          says = says;
-          lawful = r.lawful;
-          given = all.written.given;
-          all = all.written.all;
-          ends = all.ends;
-          text_is = refl;
-        };
-      };
+      ended = λ h. let all = x.ended h in
+          let text : List ℕ = tells (as_scenario accepted) (records_in all.written.turns) in
+          let report : IsReport tells r.input is_plain told told' status text = record {
+            scenario = as_scenario accepted;
+            turns = all.written.turns;
+            says = says;
+            lawful = r.lawful;
+            given = all.written.given;
+            all = all.written.all;
+            ends = all.ends;
+            text_is = refl;
+          } in
+          record {
+            input = r.input;
+            text = text;
+            read = f.reads.read left left' r.input r.read;
+            written = all.written.text;
+            due = f.due r.input is_plain told told' status text report refl;
+          };
       refused = λ e. absurd (no_run status Refused (λ h. h) x.one_of e);
-      unread = record {
+      unread = f.reads.unread status left left' reads reads' (record {
         too_long = λ e. absurd (no_run status TooLong (λ h. h) x.one_of e);
         short_enough = λ e. r.short_enough;
         fault = λ e. absurd (no_run status ReadFault (λ h. h) x.one_of e);
-      };
-      failed = λ e. let part = x.part e in record {
-        rose = x.cause e;
-        input = r.input;
-        text = text_of part.turns;
-        read = r.read;
-        written = part.text;
-        due = inr (record { scenario = as_scenario accepted; turns = part.turns; says = says; given = part.given; text_is = refl });
-      };
+      });
+      failed = λ e. let part = x.part e in
+          let text : List ℕ = tells (as_scenario accepted) (records_in part.turns) in
+          let report : IsReportSoFar tells r.input is_plain told told' text =
+          record { scenario = as_scenario accepted; turns = part.turns; says = says; given = part.given; text_is = refl } in
+          record {
+            rose = x.cause e;
+            input = r.input;
+            text = text;
+            read = f.reads.read left left' r.input r.read;
+            written = part.text;
+            due = inr (f.so_far r.input is_plain told told' text report refl);
+          };
     }
 
 -- a text was due, and no run
@@ -244,6 +368,30 @@ generated_answers seed frames status left reads held held' writes writes' is_pla
   };
 }
 
+pub spell_answers : (letter : ArrayVec ℕ) (status : Status) (left : Option (List ℕ)) (reads : ℕ) (held held' : Option (List ℕ))
+    (writes writes' : ℕ) (is_plain : Bool) (told : Option (List Turn)) → Writes (spelling_text letter.items) status held held' writes writes'
+    → Answers (Spell letter) status left left reads reads held held' writes writes' is_plain told told
+spell_answers letter status left reads held held' writes writes' is_plain told x = record {
+  known = no_text status Usage (λ h. h) x.one_of;
+  ended = λ h. let done = only_done status x.one_of h in record {
+    input = [];
+    text = spelling_text letter.items;
+    read = refl;
+    written = x.done done;
+    due = (refl, record { done = done; silent = refl });
+  };
+  refused = λ e. absurd (no_text status Refused (λ h. h) x.one_of e);
+  unread = record { not_long = no_text status TooLong (λ h. h) x.one_of; no_fault = no_text status ReadFault (λ h. h) x.one_of };
+  failed = λ e. record {
+    rose = x.cause e;
+    input = [];
+    text = spelling_text letter.items;
+    read = refl;
+    written = x.part e;
+    due = inr (refl, record { done = refl; silent = refl });
+  };
+}
+
 -- a generated run was opened, and its numbers were due
 pub record Sums (seed frames : ℕ) (status : Status) (held held' : Option (List ℕ)) (writes writes' : ℕ) (is_plain : Bool) (told told' : Option (List Turn)) : Type 0 where
   pub ended : HasEnded status → IsSummed seed frames status is_plain told told' held held'
@@ -311,12 +459,24 @@ log_answers accepted node status left left' reads reads' held held' writes write
       };
     }
 
--- the scenario that has been read has no such node
-pub record Lacks (status : Status) (held held' : Option (List ℕ)) (writes writes' : ℕ) : Type 0 where
-  pub refused : status ≡ Refused → Appends held held' (rule_text NoSuchNode)
-  pub part : status ≡ WriteFault → AppendsPart held held' (rule_text NoSuchNode)
+-- the scenario that has been read has no such node or member, for which it is refused with this line
+pub record Lacks (line : List ℕ) (status : Status) (held held' : Option (List ℕ)) (writes writes' : ℕ) : Type 0 where
+  pub refused : status ≡ Refused → Appends held held' line
+  pub part : status ≡ WriteFault → AppendsPart held held' line
   pub cause : status ≡ WriteFault → Rose writes writes'
   pub one_of : (status ≡ Refused) ⊎ (status ≡ WriteFault)
+
+pub lacks_node : (accepted : Accepted) (node : NodeName) → ¬ IsNodeOf accepted.plan.sizes node → (input : List ℕ) → IsTextOf input (as_scenario accepted)
+    → IsRefusedWith (Record node) input (rule_text NoSuchNode)
+lacks_node accepted node none input says =
+    let lacks : LacksNode node input (rule_text NoSuchNode) = record { scenario = as_scenario accepted; says = says; none = none; line_is = refl } in
+    inr lacks
+
+pub lacks_member : (accepted : Accepted) (which : Which) (members : ℕ) → ¬ AreMembers accepted.plan.sizes members → (input : List ℕ) → IsTextOf input (as_scenario accepted)
+    → IsRefusedWith (Group which members) input member_text
+lacks_member accepted which members none input says =
+    let lacks : LacksMember members input member_text = record { scenario = as_scenario accepted; says = says; none = none; line_is = refl } in
+    inr lacks
 
 other_than : (status a b s : Status) → ¬ (a ≡ s) → ¬ (b ≡ s) → (status ≡ a) ⊎ (status ≡ b) → ¬ (status ≡ s)
 other_than status a b s not_a not_b (inl e) is = not_a (sym e ∙ is)
@@ -330,29 +490,29 @@ pub neither_is_silent : (status : Status) → (status ≡ Refused) ⊎ (status �
 neither_is_silent status (inl e) h = let P : Status → Type 0 = λ s. WritesNothing s in subst P e h
 neither_is_silent status (inr e) h = let P : Status → Type 0 = λ s. WritesNothing s in subst P e h
 
-pub lack_answers : (accepted : Accepted) (node : NodeName) (status : Status) (left left' : Option (List ℕ)) (reads reads' : ℕ) (held held' : Option (List ℕ))
-    (writes writes' : ℕ) (is_plain : Bool) (told : Option (List Turn)) → ¬ IsNodeOf accepted.plan.sizes node → ReadsScenario left left' accepted
-    → Lacks status held held' writes writes'
-    → Answers (Record node) status left left' reads reads' held held' writes writes' is_plain told told
-lack_answers accepted node status left left' reads reads' held held' writes writes' is_plain told none r x =
+pub lack_answers : (form : Form) (accepted : Accepted) (line : List ℕ) (status : Status) (left left' : Option (List ℕ)) (reads reads' : ℕ) (held held' : Option (List ℕ))
+    (writes writes' : ℕ) (is_plain : Bool) (told : Option (List Turn)) → ReadsAScenario form
+    → ((input : List ℕ) → IsTextOf input (as_scenario accepted) → IsRefusedWith form input line) → ReadsScenario left left' accepted
+    → Lacks line status held held' writes writes'
+    → Answers form status left left' reads reads' held held' writes writes' is_plain told told
+lack_answers form accepted line status left left' reads reads' held held' writes writes' is_plain told f lacks r x =
     let says : IsTextOf r.input (as_scenario accepted) = record { accepted = accepted; is = r.is; shows = refl } in
-    let lacks : LacksNode node r.input (rule_text NoSuchNode) = record { scenario = as_scenario accepted; says = says; none = none; line_is = refl } in
     record {
       known = other_than status Refused WriteFault Usage (λ e. cc) (λ e. cc) x.one_of;
       ended = λ h. absurd (neither_ends status x.one_of h);
-      refused = λ e. record { input = r.input; line = rule_text NoSuchNode; read = r.read; refused = inr lacks; written = x.refused e };
-      unread = record {
+      refused = λ e. record { input = r.input; line = line; read = f.read left left' r.input r.read; refused = lacks r.input says; written = x.refused e };
+      unread = f.unread status left left' reads reads' (record {
         too_long = λ e. absurd (other_than status Refused WriteFault TooLong (λ d. cc) (λ d. cc) x.one_of e);
         short_enough = λ e. r.short_enough;
         fault = λ e. absurd (other_than status Refused WriteFault ReadFault (λ d. cc) (λ d. cc) x.one_of e);
-      };
+      });
       failed = λ e. record {
         rose = x.cause e;
         input = r.input;
-        text = rule_text NoSuchNode;
-        read = r.read;
+        text = line;
+        read = f.read left left' r.input r.read;
         written = x.part e;
-        due = inl (record { refused = inr lacks; silent = refl });
+        due = inl (record { refused = lacks r.input says; silent = refl });
       };
     }
 

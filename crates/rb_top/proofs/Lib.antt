@@ -3,5 +3,6 @@ pub mod Rest
 pub mod FormAnswers
 pub mod Summing
 pub mod OneForm
+pub mod Spelled
 pub mod Promised
 pub mod Completeness

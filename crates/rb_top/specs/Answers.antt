@@ -14,16 +14,19 @@ use Rattle.rb_history.specs.Given.{AreGiven as AreGivenTo}
 use Rattle.rb_history.specs.Replays.{replay_text}
 use Rattle.rb_log.specs.LogText.{Log, log_in}
 use Rattle.rb_record.specs.Recording.{log_text}
+use Rattle.rb_group.specs.declared.voters.Which.{Which}
+use Rattle.rb_hearing.specs.Texts.{spelling_text}
+use Rattle.rb_replicas.specs.Members.{AreMembers}
 use Rattle.rb_run.specs.Runs.{EndsWith}
-use Rattle.rb_run.specs.Turns.{AreAll, AreGiven, records_in, text_of}
+use Rattle.rb_run.specs.Turns.{AreAll, AreGiven, records_in}
 use Rattle.rb_run.specs.declared.ending.Ending.{Ending}
 use Rattle.rb_run.specs.declared.ending.Ending.TheVariants as ending
 use Rattle.rb_top.specs.declared.form.Form.{Form}
-use Rattle.rb_top.specs.declared.form.Form.TheVariants.{Run, Check, Gen, Stress, Record, Replay}
+use Rattle.rb_top.specs.declared.form.Form.TheVariants.{Run, Check, Gen, Stress, Record, Replay, Spell, Letters, Group}
 use Rattle.rb_top.specs.declared.status.Status.{Status}
 use Rattle.rb_top.specs.declared.status.Status.TheVariants as answer
 use Rattle.rb_top.specs.CheckText.{check_text}
-use Rattle.rb_top.specs.Texts.{generated_text, summary_with}
+use Rattle.rb_top.specs.Texts.{Telling, generated_text, summary_with, told_by_group, told_by_letters, told_by_run}
 use Rattle.rb_top.specs.Inputs.{IsRead, IsRefusedWith, IsTextOf, limit_of}
 use Rattle.rb_top.specs.Statuses.{MayRefuse, RunsNothing, WritesNothing}
 use Rattle.rb_top.specs.Words.{AskFor}
@@ -48,11 +51,14 @@ IsEnd (Gen seed frames) input status = status ≡ answer.Done
 IsEnd (Stress seed frames) input status = EndsAs (generated seed frames) status
 IsEnd (Record node) input status = (sc : Scenario) × IsTextOf input sc × IsNodeOf sc.sizes node × EndsAs sc status
 IsEnd Replay input status = (log : Log) × (log_in input ≡ Ok log) × (status ≡ answer.Done)
+IsEnd (Spell letter) input status = status ≡ answer.Done
+IsEnd Letters input status = (sc : Scenario) × IsTextOf input sc × EndsAs sc status
+IsEnd (Group which members) input status = (sc : Scenario) × IsTextOf input sc × AreMembers sc.sizes members × EndsAs sc status
 
 -- What is due.
 
--- `run` is due the report of the turns that the drive gave: all turns of the scenario that the input says
-pub record IsReport (input : List ℕ) (is_plain : Bool) (told told' : Option (List Turn)) (status : Status) (text : List ℕ) : Type 0 where
+-- `run`, `letters` and `group` are due what they tell of the turns that the drive gave: all turns of the scenario that the input says
+pub record IsReport (tells : Telling) (input : List ℕ) (is_plain : Bool) (told told' : Option (List Turn)) (status : Status) (text : List ℕ) : Type 0 where
   pub scenario : Scenario
   pub turns : List Turn
   pub says : IsTextOf input scenario
@@ -60,7 +66,12 @@ pub record IsReport (input : List ℕ) (is_plain : Bool) (told told' : Option (L
   pub given : AreGiven scenario is_plain told told' turns
   pub all : AreAll scenario turns
   pub ends : EndsAs scenario status
-  pub text_is : text ≡ text_of turns
+  pub text_is : text ≡ tells scenario (records_in turns)
+
+-- and `group` of a scenario whose bus has all its members
+pub record IsGroupReport (which : Which) (members : ℕ) (input : List ℕ) (is_plain : Bool) (told told' : Option (List Turn)) (status : Status) (text : List ℕ) : Type 0 where
+  pub report : IsReport (told_by_group which members) input is_plain told told' status text
+  pub there : AreMembers report.scenario.sizes members
 
 -- `stress` is due the summary of the turns that the drive gave: all turns of the generated scenario. With a breach that is nothing
 pub record IsSummary (seed frames : ℕ) (is_plain : Bool) (told told' : Option (List Turn)) (status : Status) (text : List ℕ) : Type 0 where
@@ -106,29 +117,39 @@ pub record IsAlone (told told' : Option (List Turn)) (status : Status) : Type 0 
 
 -- the form's text for its input, where it ends so
 abbrev pub IsDue : Form → List ℕ → Bool → Option (List Turn) → Option (List Turn) → Status → List ℕ → Type 0
-IsDue Run input is_plain told told' status text = IsReport input is_plain told told' status text
+IsDue Run input is_plain told told' status text = IsReport told_by_run input is_plain told told' status text
 IsDue Check input is_plain told told' status text = IsSides input text × IsAlone told told' status
 IsDue (Gen seed frames) input is_plain told told' status text = (text ≡ generated_text seed frames) × IsAlone told told' status
 IsDue (Stress seed frames) input is_plain told told' status text = IsSummary seed frames is_plain told told' status text
 IsDue (Record node) input is_plain told told' status text = IsRecorded node input told told' status text
 IsDue Replay input is_plain told told' status text = IsReplay input text × IsAlone told told' status
+IsDue (Spell letter) input is_plain told told' status text = (text ≡ spelling_text letter.items) × IsAlone told told' status
+IsDue Letters input is_plain told told' status text = IsReport told_by_letters input is_plain told told' status text
+IsDue (Group which members) input is_plain told told' status text = IsGroupReport which members input is_plain told told' status text
 
--- of a run that goes on, the report of the turns that the drive gave so far is due
-pub record IsReportSoFar (input : List ℕ) (is_plain : Bool) (told told' : Option (List Turn)) (text : List ℕ) : Type 0 where
+-- of a run that goes on, what is told of the turns that the drive gave so far is due
+pub record IsReportSoFar (tells : Telling) (input : List ℕ) (is_plain : Bool) (told told' : Option (List Turn)) (text : List ℕ) : Type 0 where
   pub scenario : Scenario
   pub turns : List Turn
   pub says : IsTextOf input scenario
   pub given : AreGiven scenario is_plain told told' turns
-  pub text_is : text ≡ text_of turns
+  pub text_is : text ≡ tells scenario (records_in turns)
+
+pub record IsGroupSoFar (which : Which) (members : ℕ) (input : List ℕ) (is_plain : Bool) (told told' : Option (List Turn)) (text : List ℕ) : Type 0 where
+  pub report : IsReportSoFar (told_by_group which members) input is_plain told told' text
+  pub there : AreMembers report.scenario.sizes members
 
 -- the form's text, as far as it was due when a write failed
 abbrev pub IsDueSoFar : Form → List ℕ → Bool → Option (List Turn) → Option (List Turn) → List ℕ → Type 0
-IsDueSoFar Run input is_plain told told' text = IsReportSoFar input is_plain told told' text
+IsDueSoFar Run input is_plain told told' text = IsReportSoFar told_by_run input is_plain told told' text
 IsDueSoFar Check input is_plain told told' text = IsDue Check input is_plain told told' answer.Done text
 IsDueSoFar (Gen seed frames) input is_plain told told' text = IsDue (Gen seed frames) input is_plain told told' answer.Done text
 IsDueSoFar (Stress seed frames) input is_plain told told' text = IsDue (Stress seed frames) input is_plain told told' answer.Done text
 IsDueSoFar (Record node) input is_plain told told' text = IsLogOf node input text × (told' ≡ told)
 IsDueSoFar Replay input is_plain told told' text = IsDue Replay input is_plain told told' answer.Done text
+IsDueSoFar (Spell letter) input is_plain told told' text = IsDue (Spell letter) input is_plain told told' answer.Done text
+IsDueSoFar Letters input is_plain told told' text = IsReportSoFar told_by_letters input is_plain told told' text
+IsDueSoFar (Group which members) input is_plain told told' text = IsGroupSoFar which members input is_plain told told' text
 
 -- Answers.
 

@@ -10,12 +10,13 @@ use Rattle.rb_entries.specs.Codes.{code_of, detail_of}
 use Rattle.rb_entries.specs.declared.refusal.Refusal.{Refusal}
 use Rattle.rb_entries.specs.declared.refusal.Refusal.TheVariants.{NoSuchNode}
 use Rattle.rb_log.specs.LogText.{log_in}
+use Rattle.rb_replicas.specs.Members.{AreMembers}
 use Rattle.rb_log.specs.declared.refusal.LogRefusal.{LogRefusal}
 use Rattle.rb_log.specs.declared.refusal.LogRefusal.TheVariants.{BadMagic, BadField, Truncated, AfterEnd}
 use Rattle.rb_scenario.specs.Acceptance.{IsAccepted, IsRefused, as_scenario}
 use Rattle.rb_scenario.specs.declared.scenario.Scenario.{Scenario as Accepted}
 use Rattle.rb_top.specs.declared.form.Form.{Form}
-use Rattle.rb_top.specs.declared.form.Form.TheVariants.{Run, Check, Gen, Stress, Record, Replay}
+use Rattle.rb_top.specs.declared.form.Form.TheVariants.{Run, Check, Gen, Stress, Record, Replay, Spell, Letters, Group}
 use Rattle.rb_top.specs.declared.status.Status.{Status}
 use Rattle.rb_top.specs.declared.status.Status.TheVariants as answer
 
@@ -37,6 +38,9 @@ limit_of (Gen seed frames) = None
 limit_of (Stress seed frames) = None
 limit_of (Record node) = Some scenario_limit
 limit_of Replay = Some log_limit
+limit_of (Spell letter) = None
+limit_of Letters = Some scenario_limit
+limit_of (Group which members) = Some scenario_limit
 
 -- by that limit: this is all that the source had left, and nothing where nothing is read
 abbrev pub IsReadBy : Option ℕ → Option (List ℕ) → Option (List ℕ) → List ℕ → Type 0
@@ -77,6 +81,17 @@ pub record LacksNode (node : NodeName) (input line : List ℕ) : Type 0 where
   pub none : ¬ IsNodeOf scenario.sizes node
   pub line_is : line ≡ rule_text NoSuchNode
 
+-- the line that says that a bus has no such member
+abbrev pub member_text : List ℕ
+member_text = refused_text 14 None false
+
+-- the input is the text of a scenario whose bus lacks one of these members, and this is the line that says so
+pub record LacksMember (members : ℕ) (input line : List ℕ) : Type 0 where
+  pub scenario : Scenario
+  pub says : IsTextOf input scenario
+  pub none : ¬ AreMembers scenario.sizes members
+  pub line_is : line ≡ member_text
+
 -- the code of a log's fault, and its place
 abbrev pub log_code : LogRefusal → ℕ
 log_code BadMagic = 1
@@ -108,6 +123,9 @@ IsRefusedWith (Gen seed frames) input line = ⊥
 IsRefusedWith (Stress seed frames) input line = ⊥
 IsRefusedWith (Record node) input line = BreaksRule input line ⊎ LacksNode node input line
 IsRefusedWith Replay input line = BreaksLog input line
+IsRefusedWith (Spell letter) input line = ⊥
+IsRefusedWith Letters input line = BreaksRule input line
+IsRefusedWith (Group which members) input line = BreaksRule input line ⊎ LacksMember members input line
 
 -- Reading that doesn't come to the end.
 

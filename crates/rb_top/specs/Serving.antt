@@ -7,6 +7,9 @@ use Rattle.rb_rules.specs.Goodness.{Scenario}
 use Rattle.rb_book.specs.declared.turn.Turn.{Turn}
 use Rattle.rb_record.specs.Recording.{WritesAll as WritesAllOf}
 use Rattle.rb_run.specs.Runs.{WritesAll}
+use Rattle.rb_letters.specs.Letters.{WritesLetters}
+use Rattle.rb_replicas.specs.declared.asked.Asked.{Asked}
+use Rattle.rb_replies.specs.Runs.{WritesAll as WritesGroups}
 use Rattle.rb_top.specs.declared.form.Form.{Form}
 use Rattle.rb_top.specs.declared.status.Status.{Status}
 use Rattle.rb_top.specs.declared.status.Status.TheVariants as answer
@@ -26,6 +29,16 @@ pub record Answers (form : Form) (status : Status) (left left' : Option (List �
 pub record IsReported (sc : Scenario) (status : Status) (is_plain : Bool) (told told' : Option (List Turn)) (held held' : Option (List ℕ)) : Type 0 where
   pub ends : EndsAs sc status
   pub written : WritesAll sc is_plain told told' held held'
+
+-- or their letters were
+pub record IsLettered (sc : Scenario) (status : Status) (is_plain : Bool) (told told' : Option (List Turn)) (held held' : Option (List ℕ)) : Type 0 where
+  pub ends : EndsAs sc status
+  pub written : WritesLetters sc is_plain told told' held held'
+
+-- or what they say of a group was
+pub record IsGrouped (sc : Scenario) (asked : Asked) (status : Status) (is_plain : Bool) (told told' : Option (List Turn)) (held held' : Option (List ℕ)) : Type 0 where
+  pub ends : EndsAs sc status
+  pub written : WritesGroups sc asked is_plain told told' held held'
 
 -- a generated run was opened, the drive gave all its turns, and what is due of them was written
 pub record IsSummed (seed frames : ℕ) (status : Status) (is_plain : Bool) (told told' : Option (List Turn)) (held held' : Option (List ℕ)) : Type 0 where

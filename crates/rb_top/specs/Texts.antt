@@ -2,13 +2,34 @@
 use Rattle.std.specs.Prelude.{ℕ, List, [], ◌++◌}
 use Rattle.std.specs.List.{flat_map}
 use Rattle.rb_rules.specs.Book.{Record}
+use Rattle.rb_rules.specs.Goodness.{Scenario}
 use Rattle.rb_report.specs.Report.{summary_text}
+use Rattle.rb_report.specs.Texts.{report_of}
+use Rattle.rb_group.specs.declared.voters.Which.{Which}
+use Rattle.rb_hearing.specs.Texts.{letters_report}
+use Rattle.rb_replicas.specs.Replies.{groups_text}
 use Rattle.rb_gen.specs.Generated.{generated}
 use Rattle.rb_gen.specs.Text.{lines_of}
 use Rattle.rb_run.specs.Tallies.{tally_of}
 use Rattle.rb_run.specs.declared.ending.Ending.{Ending}
 use Rattle.rb_run.specs.declared.ending.Ending.TheVariants.{Ended, Breach}
 use Rattle.rb_run.specs.declared.totals.Totals.{Totals}
+
+-- what is told of a run's records
+abbrev pub Telling : Type 0
+Telling = Scenario → List Record → List ℕ
+
+-- `run` tells all that they say
+abbrev pub told_by_run : Telling
+told_by_run sc records = report_of records
+
+-- `letters` the letters that ports receive whole, and how the run ends
+abbrev pub told_by_letters : Telling
+told_by_letters sc records = letters_report records
+
+-- `group` what the good BIUs find for the group in each frame, and how the run ends
+abbrev pub told_by_group : Which → ℕ → Telling
+told_by_group which members sc records = groups_text sc (record { which = which; members = members }) records
 
 -- the four numbers of a run, a line each
 unfoldable pub summary_of : Totals → List ℕ

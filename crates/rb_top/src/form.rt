@@ -1,16 +1,20 @@
 //! The forms of words that the program knows.
-ghost use Rattle.std.specs.Prelude.{ℕ, ◌≡◌, ◌≢◌, ◌<◌, ◌≤◌, ◌^◌, ◌∷◌, ◌++◌, [], IfNone, IfSome, codes, decimal, string_bytes};
+ghost use Rattle.std.specs.Prelude.{ℕ, ◌≡◌, ◌≢◌, ◌<◌, ◌≤◌, ◌^◌, ◌∷◌, ◌++◌, ◌*◌, ◌↔◌, [], List, length, IfNone, IfSome, IsTrue, codes, decimal, option_map, string_bytes};
+ghost use Rattle.hex.specs.Hex.{decode_of, encode_lower};
 ghost use Rattle.rb_base.specs.declared.node.NodeName.{NodeName};
 ghost use Rattle.rb_document.specs.Names.{IsNumbered};
 ghost use Rattle.rb_report.specs.Report.{node_text};
 ghost use Rattle.rb_top.specs.declared.form.Form.{Form};
-ghost use Rattle.rb_top.specs.Words.{AreNumbers, AskFor, IsInRange, words_of};
+ghost use Rattle.rb_group.specs.declared.voters.Which.{Which};
+ghost use Rattle.rb_top.specs.Words.{AskFor, IsInRange, IsLetter, IsMask, letter_bytes, voter_text, words_of};
 
+use arrayvec::ArrayVec;
 use itoa::Buffer;
 use rb_base::NodeName;
+use rb_group::Which;
 
 /// What the words ask for. A seed is any number of 64 bits, and there are 1 to 4096 frames.
-#[derive(Clone, Copy, Debug, PartialEq, Eq)]
+#[derive(Clone, Debug, PartialEq, Eq, Drop)]
 pub enum Form {
     /// To run a scenario and report what happened.
     Run,
@@ -24,10 +28,19 @@ pub enum Form {
     Record(NodeName),
     /// To give a log to its node and write what it tells.
     Replay,
+    /// To write the words that spell a letter of 1 to 255 bytes.
+    Spell(ArrayVec<u8, 255>),
+    /// To run a scenario and write the letters that its ports receive.
+    Letters,
+    /// To run a scenario and write what its good BIUs find for a group, by a voter, of the members in a mask that is not 0.
+    Group(Which, u16),
 }
 
 /// The most frames of a generated scenario.
 const MOST_FRAMES: u64 = 4096;
+
+/// The mask of all 16 nodes.
+const MOST_MASK: u64 = 65535;
 
 // The number that the text is, in decimal without sign and without leading zero.
 fn number_in(text: &str) -> Option<u64>
@@ -85,13 +98,84 @@ fn node_in(text: &str) -> Option<NodeName>
     }
 }
 
-// The form of two words.
-fn form_with_node(word: &str, node: &str) -> Option<Form>
-    ensures some { IfSome result (λ form. (words_of form ≡ word.now ∷ node.now ∷ []) × IsInRange form) }
-    ensures none { IfNone result ((form : Form) → IsInRange form → words_of form ≢ word.now ∷ node.now ∷ []) }
+// The bytes that the text spells, in digits of either case, if they are as many as a letter has.
+fn bytes_in(text: &str) -> Option<ArrayVec<u8, 255>>
+    ensures { option_map (λ v. v.items) result ≡ letter_bytes (decode_of text.now) }
 {
-    match (word, node_in(node)) {
-        ("record", Some(node)) => Some(Form::Record(node)),
+    let mut buffer = [0u8; 255];
+    let len = text.len() / 2;
+    if len == 0 || len > 255 {
+        return None;
+    }
+    match hex::decode_to_slice(text, &mut buffer[..len]) {
+        Ok(()) => ArrayVec::try_from(&buffer[..len]).ok(),
+        Err(_) => None,
+    }
+}
+
+// Whether the bytes are these.
+fn is_same(bytes: &[u8], others: &[u8]) -> bool
+    ensures { IsTrue result ↔ (bytes.now ≡ others.now) }
+{
+    bytes == others
+}
+
+// Whether the text is the digits of these bytes in lower case, for which there is room.
+fn is_written(bytes: &[u8], text: &str, room: &mut [u8]) -> bool
+    requires { length room.old ≡ 2 * length bytes.now }
+    ensures { IsTrue result ↔ (text.now ≡ encode_lower bytes.now) }
+{
+    match hex::encode_to_slice(bytes, room) {
+        Ok(()) => is_same(room, text.as_bytes()),
+        Err(_) => false,
+    }
+}
+
+// Whether the text is the digits of these bytes in lower case.
+fn is_spelled(bytes: &[u8], text: &str) -> bool
+    requires { length bytes.now ≤ 255 }
+    ensures { IsTrue result ↔ (text.now ≡ encode_lower bytes.now) }
+{
+    let mut digits = [0u8; 510];
+    let len = 2 * bytes.len();
+    is_written(bytes, text, &mut digits[..len])
+}
+
+// The letter that the text is, in hexadecimal digits of lower case.
+fn letter_in(text: &str) -> Option<ArrayVec<u8, 255>>
+    ensures some { IfSome result (λ letter. IsLetter letter.items × (text.now ≡ encode_lower letter.items)) }
+    ensures none { IfNone result ((letter : List ℕ) → IsLetter letter → text.now ≢ encode_lower letter) }
+{
+    let letter = match bytes_in(text) {
+        Some(letter) => letter,
+        None => return None,
+    };
+    if is_spelled(letter.as_slice(), text) {
+        Some(letter)
+    } else {
+        None
+    }
+}
+
+// The voter that the text names.
+fn voter_in(text: &str) -> Option<Which>
+    ensures some { IfSome result (λ which. text.now ≡ voter_text which) }
+    ensures none { IfNone result ((which : Which) → text.now ≢ voter_text which) }
+{
+    match text {
+        "most" => Some(Which::Most),
+        "mid" => Some(Which::Mid),
+        _ => None,
+    }
+}
+
+// The mask that the text is.
+fn mask_in(text: &str) -> Option<u16>
+    ensures some { IfSome result (λ n. (text.now ≡ decimal n) × IsMask n) }
+    ensures none { IfNone result ((n : ℕ) → IsMask n → text.now ≢ decimal n) }
+{
+    match number_in(text) {
+        Some(number) if number >= 1 && number <= MOST_MASK => Some(number as u16),
         _ => None,
     }
 }
@@ -105,30 +189,87 @@ fn form_named(word: &str) -> Option<Form>
         "run" => Some(Form::Run),
         "check" => Some(Form::Check),
         "replay" => Some(Form::Replay),
+        "letters" => Some(Form::Letters),
         _ => None,
     }
 }
 
-// The form of a word and these numbers.
-fn form_numbered(word: &str, seed: u64, frames: u32) -> Option<Form>
-    requires { AreNumbers seed frames }
-    ensures some { IfSome result (λ form. (words_of form ≡ word.now ∷ decimal seed ∷ decimal frames ∷ []) × IsInRange form) }
-    ensures none { IfNone result ((form : Form) → words_of form ≢ word.now ∷ decimal seed ∷ decimal frames ∷ []) }
+// `record` of this node.
+fn record_of(node: &str) -> Option<Form>
+    ensures some { IfSome result (λ form. (words_of form ≡ codes "record" ∷ node.now ∷ []) × IsInRange form) }
+    ensures none { IfNone result ((form : Form) → IsInRange form → words_of form ≢ codes "record" ∷ node.now ∷ []) }
+{
+    match node_in(node) {
+        Some(node) => Some(Form::Record(node)),
+        None => None,
+    }
+}
+
+// `spell` of this letter.
+fn spell_of(digits: &str) -> Option<Form>
+    ensures some { IfSome result (λ form. (words_of form ≡ codes "spell" ∷ digits.now ∷ []) × IsInRange form) }
+    ensures none { IfNone result ((form : Form) → IsInRange form → words_of form ≢ codes "spell" ∷ digits.now ∷ []) }
+{
+    match letter_in(digits) {
+        Some(letter) => Some(Form::Spell(letter)),
+        None => None,
+    }
+}
+
+// The form of two words.
+fn form_with_one(word: &str, other: &str) -> Option<Form>
+    ensures some { IfSome result (λ form. (words_of form ≡ word.now ∷ other.now ∷ []) × IsInRange form) }
+    ensures none { IfNone result ((form : Form) → IsInRange form → words_of form ≢ word.now ∷ other.now ∷ []) }
 {
     match word {
-        "gen" => Some(Form::Gen(seed, frames)),
-        "stress" => Some(Form::Stress(seed, frames)),
+        "record" => record_of(other),
+        "spell" => spell_of(other),
+        _ => None,
+    }
+}
+
+// `gen` of these numbers.
+fn gen_of(seed: &str, frames: &str) -> Option<Form>
+    ensures some { IfSome result (λ form. (words_of form ≡ codes "gen" ∷ seed.now ∷ frames.now ∷ []) × IsInRange form) }
+    ensures none { IfNone result ((form : Form) → IsInRange form → words_of form ≢ codes "gen" ∷ seed.now ∷ frames.now ∷ []) }
+{
+    match (number_in(seed), frames_in(frames)) {
+        (Some(seed), Some(frames)) => Some(Form::Gen(seed, frames)),
+        _ => None,
+    }
+}
+
+// `stress` of these numbers.
+fn stress_of(seed: &str, frames: &str) -> Option<Form>
+    ensures some { IfSome result (λ form. (words_of form ≡ codes "stress" ∷ seed.now ∷ frames.now ∷ []) × IsInRange form) }
+    ensures none { IfNone result ((form : Form) → IsInRange form → words_of form ≢ codes "stress" ∷ seed.now ∷ frames.now ∷ []) }
+{
+    match (number_in(seed), frames_in(frames)) {
+        (Some(seed), Some(frames)) => Some(Form::Stress(seed, frames)),
+        _ => None,
+    }
+}
+
+// `group` of this voter and these members.
+fn group_of(voter: &str, members: &str) -> Option<Form>
+    ensures some { IfSome result (λ form. (words_of form ≡ codes "group" ∷ voter.now ∷ members.now ∷ []) × IsInRange form) }
+    ensures none { IfNone result ((form : Form) → IsInRange form → words_of form ≢ codes "group" ∷ voter.now ∷ members.now ∷ []) }
+{
+    match (voter_in(voter), mask_in(members)) {
+        (Some(which), Some(members)) => Some(Form::Group(which, members)),
         _ => None,
     }
 }
 
 // The form of three words.
-fn form_with_numbers(word: &str, seed: &str, frames: &str) -> Option<Form>
-    ensures some { IfSome result (λ form. (words_of form ≡ word.now ∷ seed.now ∷ frames.now ∷ []) × IsInRange form) }
-    ensures none { IfNone result ((form : Form) → IsInRange form → words_of form ≢ word.now ∷ seed.now ∷ frames.now ∷ []) }
+fn form_with_two(word: &str, first: &str, second: &str) -> Option<Form>
+    ensures some { IfSome result (λ form. (words_of form ≡ word.now ∷ first.now ∷ second.now ∷ []) × IsInRange form) }
+    ensures none { IfNone result ((form : Form) → IsInRange form → words_of form ≢ word.now ∷ first.now ∷ second.now ∷ []) }
 {
-    match (number_in(seed), frames_in(frames)) {
-        (Some(seed), Some(frames)) => form_numbered(word, seed, frames),
+    match word {
+        "gen" => gen_of(first, second),
+        "stress" => stress_of(first, second),
+        "group" => group_of(first, second),
         _ => None,
     }
 }
@@ -140,8 +281,8 @@ pub(crate) fn form_of(words: &[String]) -> Option<Form>
 {
     match words {
         [word] => form_named(word.as_str()),
-        [word, node] => form_with_node(word.as_str(), node.as_str()),
-        [word, seed, frames] => form_with_numbers(word.as_str(), seed.as_str(), frames.as_str()),
+        [word, other] => form_with_one(word.as_str(), other.as_str()),
+        [word, first, second] => form_with_two(word.as_str(), first.as_str(), second.as_str()),
         _ => None,
     }
 }

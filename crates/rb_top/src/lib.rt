@@ -10,7 +10,9 @@ mod recording;
 mod replaying;
 mod running;
 mod serving;
+mod spelling;
 pub mod status;
+mod telling;
 pub mod top;
 
 pub use status::Status;

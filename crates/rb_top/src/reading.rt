@@ -3,7 +3,7 @@ ghost use Rattle.std.specs.Prelude.{◌≡◌, ◌≤◌, ◌⊎◌, IfOk, IfErr
 ghost use Rattle.std.specs.Io.KnownBytes.{Appends};
 ghost use Rattle.rb_outside.specs.Bytes.{AppendsPart, Gave, ReadsToEnd};
 ghost use Rattle.rb_outside.specs.Causes.{HasCause, Rose};
-ghost use Rattle.rb_top.specs.Inputs.{HasCode, IsUnreadOver, log_limit, rule_text};
+ghost use Rattle.rb_top.specs.Inputs.{HasCode, IsUnreadOver, log_limit, member_text, rule_text};
 ghost use Rattle.rb_top.specs.Reading.{ReadsNone, ReadsScenario};
 ghost use Rattle.rb_top.specs.Serving.{IsNotRead};
 ghost use Rattle.rb_top.specs.Statuses.{WritesNothing};
@@ -20,6 +20,9 @@ const SCENARIO_LIMIT: usize = 4_194_304;
 
 /// The most bytes of a log.
 const LOG_LIMIT: usize = 67_108_864;
+
+/// The code of a member that the bus has not.
+const NO_SUCH_MEMBER: u8 = 14;
 
 // Writes the line of a rule that is broken.
 fn write_rule<K: Sink>(rule: Refusal, output: &mut K) -> Result<(), Failed>
@@ -43,6 +46,28 @@ pub(crate) fn refuse<K: Sink>(rule: Refusal, output: &mut K) -> Status
     ensures either { (result ≡ Status.Refused) ⊎ (result ≡ Status.WriteFault) }
 {
     match write_rule(rule, output) {
+        Ok(()) => Status::Refused,
+        Err(Failed) => Status::WriteFault,
+    }
+}
+
+// Writes the line of a member that the bus has not.
+fn write_no_member<K: Sink>(output: &mut K) -> Result<(), Failed>
+    ensures all { OnOk result (Appends (K.held output.old) (K.held output.new) member_text) }
+    ensures part { OnErr result (AppendsPart (K.held output.old) (K.held output.new) member_text) }
+    ensures cause { HasCause (K.faults output.old) (K.faults output.new) result }
+{
+    write_line(output, &refused_line(NO_SUCH_MEMBER, None, false))
+}
+
+/// Refuses the input for a member that its bus has not.
+pub(crate) fn refuse_member<K: Sink>(output: &mut K) -> Status
+    ensures refused { result ≡ Status.Refused → Appends (K.held output.old) (K.held output.new) member_text }
+    ensures part { result ≡ Status.WriteFault → AppendsPart (K.held output.old) (K.held output.new) member_text }
+    ensures cause { result ≡ Status.WriteFault → Rose (K.faults output.old) (K.faults output.new) }
+    ensures either { (result ≡ Status.Refused) ⊎ (result ≡ Status.WriteFault) }
+{
+    match write_no_member(output) {
         Ok(()) => Status::Refused,
         Err(Failed) => Status::WriteFault,
     }

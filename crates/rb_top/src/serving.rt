@@ -1,7 +1,7 @@
 //! Serving a form of words.
 ghost use Rattle.std.specs.Prelude.{ℕ, ◌≡◌, Bool, List, None, Option};
 ghost use Rattle.rb_book.specs.declared.turn.Turn.{Turn};
-ghost use Rattle.rb_top.specs.declared.form.Form.TheVariants.{Run, Check, Stress, Record, Replay};
+ghost use Rattle.rb_top.specs.declared.form.Form.TheVariants.{Run, Check, Stress, Record, Replay, Letters, Group};
 ghost use Rattle.rb_top.specs.Inputs.{limit_of};
 ghost use Rattle.rb_top.specs.Serving.{Answers};
 ghost use Rattle.rb_top.specs.Statuses.{RunsNothing, WritesNothing};
@@ -10,12 +10,15 @@ ghost use Rattle.rb_top.specs.Words.{IsInRange};
 use crate::check::show_sides;
 use crate::form::Form;
 use crate::generating::generate_text;
-use crate::reading::{read_log, read_scenario, refuse};
+use crate::reading::{read_log, read_scenario, refuse, refuse_member};
 use crate::recording::{has_node, write_log};
 use crate::replaying::replay_bytes;
 use crate::running::{report, stress};
+use crate::spelling::spell;
 use crate::status::Status;
+use crate::telling::{asked_of, has_all, tell_group, tell_letters};
 use rb_base::NodeName;
+use rb_group::{Voters, Which};
 use rb_outside::{Sink, Source};
 use rb_port::Apps;
 use rb_scenario::Refusal;
@@ -91,6 +94,54 @@ fn replay<S: Source, K: Sink>(alloc: Global, input: &mut S, output: &mut K) -> S
     }
 }
 
+// Reads a scenario, runs it and writes the letters that its ports receive.
+fn letters<S: Source, K: Sink, D: Drive>(
+    alloc: Global,
+    input: &mut S,
+    output: &mut K,
+    apps: &Apps,
+    drive: &mut D,
+) -> Status
+    ensures answers { Answers Letters result (S.left input.old) (S.left input.new) (S.faults input.old) (S.faults input.new)
+        (K.held output.old) (K.held output.new) (K.faults output.old) (K.faults output.new)
+        (D.is_plain drive.old) (D.told drive.old) (D.told drive.new) }
+    ensures unwritten { WritesNothing result → output.new ≡ output.old }
+    ensures not_driven { RunsNothing result → drive.new ≡ drive.old }
+{
+    match read_scenario(alloc, input, output) {
+        Ok(scenario) => tell_letters(alloc, scenario, output, apps, drive),
+        Err(status) => status,
+    }
+}
+
+// Reads a scenario, runs it and writes what its good BIUs find for a group.
+fn group<S: Source, K: Sink, D: Drive>(
+    alloc: Global,
+    which: Which,
+    members: u16,
+    input: &mut S,
+    output: &mut K,
+    apps: &Apps,
+    drive: &mut D,
+    voters: &Voters,
+) -> Status
+    ensures answers { Answers (Group which members) result (S.left input.old) (S.left input.new) (S.faults input.old) (S.faults input.new)
+        (K.held output.old) (K.held output.new) (K.faults output.old) (K.faults output.new)
+        (D.is_plain drive.old) (D.told drive.old) (D.told drive.new) }
+    ensures unwritten { WritesNothing result → output.new ≡ output.old }
+    ensures not_driven { RunsNothing result → drive.new ≡ drive.old }
+{
+    let scenario = match read_scenario(alloc, input, output) {
+        Ok(scenario) => scenario,
+        Err(status) => return status,
+    };
+    if !has_all(&scenario, members) {
+        return refuse_member(output);
+    }
+    let asked = asked_of(which, members);
+    tell_group(alloc, scenario, &asked, output, apps, drive, voters)
+}
+
 /// Serves the form.
 pub(crate) fn serve<S: Source, K: Sink, D: Drive>(
     alloc: Global,
@@ -99,6 +150,7 @@ pub(crate) fn serve<S: Source, K: Sink, D: Drive>(
     output: &mut K,
     apps: &Apps,
     drive: &mut D,
+    voters: &Voters,
 ) -> Status
     requires { IsInRange form }
     ensures answers { Answers form result (S.left input.old) (S.left input.new) (S.faults input.old) (S.faults input.new)
@@ -116,5 +168,10 @@ pub(crate) fn serve<S: Source, K: Sink, D: Drive>(
         Form::Stress(seed, frames) => stress(alloc, seed, frames, output, apps, drive),
         Form::Record(node) => record(alloc, node, input, output, apps),
         Form::Replay => replay(alloc, input, output),
+        Form::Spell(letter) => spell(&letter, output),
+        Form::Letters => letters(alloc, input, output, apps, drive),
+        Form::Group(which, members) => {
+            group(alloc, which, members, input, output, apps, drive, voters)
+        }
     }
 }

@@ -10,6 +10,7 @@ ghost use Rattle.rb_top.specs.Words.{AskFor};
 use crate::form::form_of;
 use crate::serving::serve;
 use crate::status::Status;
+use rb_group::Voters;
 use rb_outside::{Sink, Source};
 use rb_port::Apps;
 use rb_world::Drive;
@@ -25,10 +26,14 @@ use std::alloc::Global;
 /// | `stress SEED FRAMES` | runs the generated scenario and writes four numbers of the drive's turns; reads nothing |
 /// | `record NODE` | reads a scenario, runs it by first choices and writes the log of all that the node is given |
 /// | `replay` | reads a log, gives it to its node and writes what that tells |
+/// | `spell HEX` | writes the words that spell a letter of 1 to 255 bytes, each byte being two digits in lower case; reads nothing |
+/// | `letters` | reads a scenario, runs it and writes each letter that a port receives whole in the drive's turns |
+/// | `group most MASK`, `group mid MASK` | reads a scenario, runs it and writes what the good BIUs find for a group, by majority or as the middle word, in each complete frame of the drive's turns |
 ///
-/// `Done`: all is written. `Breach`: the run of `run`, `stress` or `record` ended with a breach of the fault premise; `run` has written its
-/// report up to it, `record` the log, `stress` nothing. `Usage`: the words are of no known form; nothing was read or written. `Refused`: the
-/// input breaks a rule, has no such node or is no log; one line with the code says why. `TooLong`: the source gave more than 4,194,304 bytes
+/// The members of a group are the bits of MASK, 1 to 65535. `Done`: all is written. `Breach`: the run of `run`, `stress`, `record`, `letters`
+/// or `group` ended with a breach of the fault premise; `run`, `letters` and `group` have written what they tell up to it, `record` the log,
+/// `stress` nothing. `Usage`: the words are of no known form; nothing was read or written. `Refused`: the input breaks a rule, has no such
+/// node or member, or is no log; one line with the code says why. `TooLong`: the source gave more than 4,194,304 bytes
 /// of a scenario, or 67,108,864 of a log. `ReadFault`, `WriteFault`: the source or the sink failed; what a failing sink took is a first part
 /// of what was due. `OutOfMemory`: an allocation failed before anything was written.
 pub fn run_robus<S: Source, K: Sink, D: Drive>(
@@ -38,6 +43,7 @@ pub fn run_robus<S: Source, K: Sink, D: Drive>(
     output: &mut K,
     apps: &Apps,
     drive: &mut D,
+    voters: &Voters,
 ) -> Status
     ensures usage { UsageExactly result words.now }
     ensures untouched { Untouched words.now result input.old input.new output.old output.new drive.old drive.new }
@@ -57,7 +63,7 @@ pub fn run_robus<S: Source, K: Sink, D: Drive>(
         → Completes form result (S.left input.old) (S.faults input.old) (S.faults input.new) (K.faults output.old) (K.faults output.new) }
 {
     match form_of(words) {
-        Some(form) => serve(alloc, form, input, output, apps, drive),
+        Some(form) => serve(alloc, form, input, output, apps, drive, voters),
         None => Status::Usage,
     }
 }

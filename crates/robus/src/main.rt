@@ -1,7 +1,10 @@
-//! The program: `run_robus` over standard input and standard output, with the three applications and a plain drive. It ends with the
-//! number of the status.
+//! The program: `run_robus` over standard input and standard output, with the three applications, the two voters and a plain drive. It
+//! ends with the number of the status.
 #![tactic(auto)]
 
+use arrayvec::ArrayVec;
+use rb_base::Heard;
+use rb_group::{Voter, Voters, mid_of, most_of};
 use rb_outside::{StdSink, StdSource};
 use rb_port::{App, Apps};
 use rb_top::run_robus;
@@ -11,7 +14,7 @@ use std::io::ErrorKind;
 use std::process::ExitCode;
 use std::{env, io};
 
-/// The status where an application or the text of an argument finds no memory.
+/// The status where an application, a voter or the text of an argument finds no memory.
 const NO_MEMORY: u8 = 7;
 
 /// The status where the arguments cannot be had for another cause, as where one is no text.
@@ -31,8 +34,33 @@ fn arguments(rt: &HostRuntime) -> Result<Vec<String>, u8> {
     arguments.skip(1).collect(rt.alloc()).map_err(|_| NO_MEMORY)
 }
 
-/// The top call with the words, or want of memory for the applications. They are made here, where their entries are known to answer as
-/// `Apps::new` asks.
+/// The top call with the words and these applications, or want of memory for the voters. They are made here, where they are known to
+/// answer as `Voters::new` asks.
+fn serve_with(rt: &HostRuntime, words: &[String], apps: &Apps) -> Result<u8, AllocError> {
+    let alloc = rt.alloc();
+    let most = Voter {
+        pick: Box::new(alloc, |values: &ArrayVec<Heard, 16>| most_of(values))?,
+    };
+    let mid = Voter {
+        pick: Box::new(alloc, |values: &ArrayVec<Heard, 16>| mid_of(values))?,
+    };
+    let voters = Voters::new(most, mid);
+    let mut input = StdSource::new(rt.reader());
+    let mut output = StdSink::new(io::writer(rt));
+    let mut drive = FirstDrive::new();
+    let status = run_robus(
+        alloc,
+        words,
+        &mut input,
+        &mut output,
+        apps,
+        &mut drive,
+        &voters,
+    );
+    Ok(status as u8)
+}
+
+/// The same, or want of memory for the applications. They are made here, where their entries are known to answer as `Apps::new` asks.
 fn serve(rt: &HostRuntime, words: &[String]) -> Result<u8, AllocError> {
     let alloc = rt.alloc();
     let table = App {
@@ -62,11 +90,7 @@ fn serve(rt: &HostRuntime, words: &[String]) -> Result<u8, AllocError> {
         )?,
     };
     let apps = Apps::new(table, counter, follow);
-    let mut input = StdSource::new(rt.reader());
-    let mut output = StdSink::new(io::writer(rt));
-    let mut drive = FirstDrive::new();
-    let status = run_robus(alloc, words, &mut input, &mut output, &apps, &mut drive);
-    Ok(status as u8)
+    serve_with(rt, words, &apps)
 }
 
 fn main(rt: HostRuntime) -> ExitCode {

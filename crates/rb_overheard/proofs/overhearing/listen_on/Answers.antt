@@ -1,7 +1,7 @@
-use Rattle.std.proofs.Common.{rules, ◌≡◌, ◌+◌, ◌≤◌, ◌^◌, ◌∷◌, [], arith, subst, sym}
+use Rattle.std.proofs.Common.{rules, ◌≤◌, ◌^◌, ◌∷◌, [], ap, ◌∙◌, arith}
 use Rattle.rb_log.specs.Cursor.{shown}
+use Rattle.rb_report.specs.Report.{end_text}
 use Rattle.rb_listen.specs.Listening.{had_by}
-use Rattle.rb_overheard.specs.Dues.{Advances}
 use Rattle.rb_overheard.proofs.Dues.{advances-more, advances-none, advances-is, advances-part, ends, ends-part}
 use Rattle.rb_overheard.proofs.Events.{first-is, none-left}
 use Rattle.rb_overheard.proofs.Written.{on_err}
@@ -44,7 +44,7 @@ events-preserved g c = record {
 pub returns-clause-all : goal.returns-clause-all
 returns-clause-all g c =
     λ due d.
-    ends c.events.listener c.args.name c.events.begun due _ _ _ _ c.write_line.result c.end_line.ensures.bytes
+    ends c.events.listener c.args.name c.events.begun due _ _ _ _ c.write_line.result (c.end_line.ensures.bytes ∙ ap end_text c.saturating_sub.ensures)
     (advances-is c.events.listener c.args.name c.events.begun c.events.log.events [] due _ _
     (none-left c.next.result c.events.log.events c.in_default.is c.next.ensures.event)
     (c.events.invariant.due due d))
@@ -53,7 +53,7 @@ returns-clause-all g c =
 pub returns-clause-part : goal.returns-clause-part
 returns-clause-part g c =
     λ due d.
-    ends-part c.events.listener c.args.name c.events.begun due _ _ _ _ c.write_line.result c.end_line.ensures.bytes
+    ends-part c.events.listener c.args.name c.events.begun due _ _ _ _ c.write_line.result (c.end_line.ensures.bytes ∙ ap end_text c.saturating_sub.ensures)
     (advances-is c.events.listener c.args.name c.events.begun c.events.log.events [] due _ _
     (none-left c.next.result c.events.log.events c.in_default.is c.next.ensures.event)
     (c.events.invariant.due due d))

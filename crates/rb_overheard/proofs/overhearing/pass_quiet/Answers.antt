@@ -1,4 +1,4 @@
-use Rattle.std.proofs.Common.{◌+◌, ◌≡◌, List, arith, subst}
+use Rattle.std.proofs.Common.{List, arith, subst}
 use Rattle.rb_rules.specs.Core.{CoreEvent}
 use Rattle.rb_overheard.specs.Dues.{IsDue}
 use Rattle.rb_overheard.proofs.Dues.{passes-due}

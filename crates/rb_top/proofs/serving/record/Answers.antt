@@ -1,6 +1,8 @@
 use Rattle.std.proofs.Common.{◌∙◌, subst, sym}
 use Rattle.std.proofs.lemmas.Bool.{false≢true}
-use Rattle.rb_top.proofs.FormAnswers.{Lacks, Logs, is_memory, lack_answers, log_answers, neither_is_silent, none_answers, record_reads}
+use Rattle.rb_entries.specs.declared.refusal.Refusal.TheVariants.{NoSuchNode}
+use Rattle.rb_top.proofs.FormAnswers.{Lacks, Logs, is_memory, lack_answers, lacks_node, log_answers, neither_is_silent, none_answers, record_reads}
+use Rattle.rb_top.specs.Inputs.{rule_text}
 use Rattle.rb_top.specs.declared.form.Form.TheVariants.{Record}
 use Rattle.rb_top.proofs.serving.record.Goals as goal
 
@@ -10,9 +12,9 @@ returns-in-Err-clause-answers g c is_plain told =
 
 pub returns-then-not-has_node-clause-answers : goal.returns-then-not-has_node-clause-answers
 returns-then-not-has_node-clause-answers g c is_plain told =
-    let P : g.row.K.Denot → Type 0 = λ k. Lacks c.refuse.result (g.K.Sink.held k) (g.K.Sink.held c.refuse.new.output) (g.K.Sink.faults k) (g.K.Sink.faults c.refuse.new.output) in
-    lack_answers c.in-Ok.scenario c.args.node c.refuse.result _ _ _ _ _ _ _ _ is_plain told
-    (λ there. false≢true (sym c.if-not-has_node.true ∙ c.has_node.ensures.1 there)) c.in-Ok.ensures.scenario
+    let P : g.row.K.Denot → Type 0 = λ k. Lacks (rule_text NoSuchNode) c.refuse.result (g.K.Sink.held k) (g.K.Sink.held c.refuse.new.output) (g.K.Sink.faults k) (g.K.Sink.faults c.refuse.new.output) in
+    lack_answers (Record c.args.node) c.in-Ok.scenario (rule_text NoSuchNode) c.refuse.result _ _ _ _ _ _ _ _ is_plain told (record_reads c.args.node)
+    (lacks_node c.in-Ok.scenario c.args.node (λ there. false≢true (sym c.if-not-has_node.true ∙ c.has_node.ensures.1 there))) c.in-Ok.ensures.scenario
     (subst P c.in-Ok.ensures.unwritten (record {
       refused = c.refuse.ensures.refused;
       part = c.refuse.ensures.part;

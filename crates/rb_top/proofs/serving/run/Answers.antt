@@ -1,19 +1,16 @@
 use Rattle.std.proofs.Common.{◌∙◌, subst}
-use Rattle.rb_top.proofs.FormAnswers.{Reports, is_memory, is_memory_only, none_answers, report_answers, run_reads}
+use Rattle.rb_top.proofs.FormAnswers.{Reports, is_memory, is_memory_only, run_reports, none_answers, report_answers, run_reads, run_tells}
+use Rattle.rb_top.specs.Texts.{told_by_run}
 use Rattle.rb_top.specs.declared.form.Form.TheVariants.{Run}
 use Rattle.rb_top.proofs.serving.run.Goals as goal
 
 pub returns-in-Ok-clause-answers : goal.returns-in-Ok-clause-answers
 returns-in-Ok-clause-answers g c =
-    let P : g.row.K.Denot → Type 0 = λ k. Reports c.in-Ok.scenario c.report.result (g.K.Sink.held k) (g.K.Sink.held c.report.new.output) (g.K.Sink.faults k) (g.K.Sink.faults c.report.new.output)
+    let P : g.row.K.Denot → Type 0 = λ k. Reports told_by_run c.in-Ok.scenario c.report.result (g.K.Sink.held k) (g.K.Sink.held c.report.new.output) (g.K.Sink.faults k) (g.K.Sink.faults c.report.new.output)
     (g.D.Drive.is_plain c.args.drive.now) (g.D.Drive.told c.args.drive.now) (g.D.Drive.told c.report.new.drive) in
-    report_answers c.in-Ok.scenario c.report.result _ _ _ _ _ _ _ _ _ _ _ c.in-Ok.ensures.scenario
-    (subst P c.in-Ok.ensures.unwritten (record {
-      ended = c.report.ensures.ended;
-      part = c.report.ensures.part;
-      cause = c.report.ensures.cause;
-      one_of = c.report.ensures.one_of;
-    }))
+    report_answers Run told_by_run c.in-Ok.scenario c.report.result _ _ _ _ _ _ _ _ _ _ _ (run_tells c.in-Ok.scenario) c.in-Ok.ensures.scenario
+    (subst P c.in-Ok.ensures.unwritten
+    (run_reports c.in-Ok.scenario c.report.result _ _ _ _ _ _ _ c.report.ensures.ended c.report.ensures.part c.report.ensures.cause c.report.ensures.one_of))
 
 pub returns-in-Err-clause-answers : goal.returns-in-Err-clause-answers
 returns-in-Err-clause-answers g c = none_answers Run run_reads c.in-Err.status _ _ _ _ _ _ _ _ _ _ c.in-Err.ensures.none

@@ -1,7 +1,7 @@
 use Rattle.std.proofs.Common.{subst, sym}
 use Rattle.rb_top.specs.declared.form.Form.{Form}
 use Rattle.rb_top.specs.Serving.{Answers}
-use Rattle.rb_top.proofs.FormAnswers.{generated_answers, sum_answers}
+use Rattle.rb_top.proofs.FormAnswers.{generated_answers, not_two, of_two, spell_answers, sum_answers}
 use Rattle.rb_top.proofs.serving.serve.Goals as goal
 
 pub returns-in-Check-clause-answers : goal.returns-in-Check-clause-answers
@@ -50,3 +50,26 @@ returns-in-Replay-clause-answers g c =
     (g.K.Sink.held c.args.output.now) (g.K.Sink.held c.replay.new.output) (g.K.Sink.faults c.args.output.now) (g.K.Sink.faults c.replay.new.output)
     (g.D.Drive.is_plain c.args.drive.now) (g.D.Drive.told c.args.drive.now) (g.D.Drive.told c.args.drive.now) in
     subst P (sym c.in-Replay.is) (c.replay.ensures.answers (g.D.Drive.is_plain c.args.drive.now) (g.D.Drive.told c.args.drive.now))
+
+pub returns-in-Spell-clause-answers : goal.returns-in-Spell-clause-answers
+returns-in-Spell-clause-answers g c =
+    let P : Form → Type 0 = λ f. Answers f c.spell.result (g.S.Source.left c.args.input.now) (g.S.Source.left c.args.input.now) (g.S.Source.faults c.args.input.now) (g.S.Source.faults c.args.input.now)
+    (g.K.Sink.held c.args.output.now) (g.K.Sink.held c.spell.new.output) (g.K.Sink.faults c.args.output.now) (g.K.Sink.faults c.spell.new.output)
+    (g.D.Drive.is_plain c.args.drive.now) (g.D.Drive.told c.args.drive.now) (g.D.Drive.told c.args.drive.now) in
+    subst P (sym c.in-Spell.is)
+    (spell_answers c.in-Spell.letter c.spell.result _ _ _ _ _ _ _ _ (record {
+      done = c.spell.ensures.done;
+      part = c.spell.ensures.part;
+      cause = c.spell.ensures.cause;
+      one_of = of_two c.spell.result c.spell.ensures.one_of;
+    }))
+
+pub returns-in-Spell-clause-unwritten : goal.returns-in-Spell-clause-unwritten
+returns-in-Spell-clause-unwritten g c h = absurd (not_two c.spell.result c.spell.ensures.one_of h)
+
+pub returns-in-Group-clause-answers : goal.returns-in-Group-clause-answers
+returns-in-Group-clause-answers g c =
+    let P : Form → Type 0 = λ f. Answers f c.group.result (g.S.Source.left c.args.input.now) (g.S.Source.left c.group.new.input) (g.S.Source.faults c.args.input.now) (g.S.Source.faults c.group.new.input)
+    (g.K.Sink.held c.args.output.now) (g.K.Sink.held c.group.new.output) (g.K.Sink.faults c.args.output.now) (g.K.Sink.faults c.group.new.output)
+    (g.D.Drive.is_plain c.args.drive.now) (g.D.Drive.told c.args.drive.now) (g.D.Drive.told c.group.new.drive) in
+    subst P (sym c.in-Group.is) c.group.ensures.answers

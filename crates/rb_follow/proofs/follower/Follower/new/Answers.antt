@@ -1,4 +1,4 @@
-use Rattle.std.proofs.Common.{◌≡◌, ◌+◌, ◌*◌, ◌<◌, ◌≤◌, ◌^◌, sym, subst, ap, arith}
+use Rattle.std.proofs.Common.{◌≡◌, ◌<◌, ◌^◌, ap, arith}
 use Rattle.rb_slot.specs.Engines.{Seated}
 use Rattle.rb_follow.proofs.Steps.{none-known}
 use Rattle.rb_follow.proofs.follower.Follower.new.Goals as goal

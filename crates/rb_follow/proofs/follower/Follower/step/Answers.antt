@@ -1,4 +1,4 @@
-use Rattle.std.proofs.Common.{◌≡◌, ◌+◌, ◌*◌, ◌<◌, ◌≤◌, ◌^◌, ◌∙◌, sym, subst, arith}
+use Rattle.std.proofs.Common.{◌≤◌, ◌∙◌, arith}
 use Rattle.rb_node.specs.Cores.{Running}
 use Rattle.rb_follow.proofs.Steps.{Kept, Parts, gives, keeps, quiet-gives, spent-gives}
 use Rattle.rb_follow.proofs.follower.Follower.step.Goals as goal

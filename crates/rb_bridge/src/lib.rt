@@ -1,0 +1,9 @@
+//! A bridge of two buses: some processors are attached to a BIU of each, and carry one word a frame. Here are its lines.
+#![tactic(auto)]
+
+mod fields;
+mod lines;
+#[cfg(test)]
+mod tests;
+
+pub use lines::{bridge_refused_line, cross_line, side_breach_line};

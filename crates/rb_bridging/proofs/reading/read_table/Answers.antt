@@ -1,0 +1,16 @@
+use Rattle.std.proofs.Common.{◌≡◌, true, sym, ◌∙◌, subst}
+use Rattle.toml.specs.View.{table_view}
+use Rattle.toml.specs.Data.{Members}
+use Rattle.rb_scenario.specs.Acceptance.{as_scenario}
+use Rattle.rb_crossing.specs.Bridges.{IsBridge}
+use Rattle.rb_bridging.specs.Documents.{has_bridge_form}
+use Rattle.rb_bridging.proofs.Fitting.{few-pairs, says-bridge}
+use Rattle.rb_bridging.proofs.reading.read_table.Goals as goal
+
+pub returns-in-Some-clause-bridge : goal.returns-in-Some-clause-bridge
+returns-in-Some-clause-bridge c =
+    let t : Members = table_view c.args.table.now in
+    let form : has_bridge_form t ≡ true = sym c.has_bridge_form.ensures ∙ c.if-not-has_bridge_form.false in
+    let few = few-pairs t form in
+    subst IsBridge (sym c.in-Some.ensures.fits.1)
+    (says-bridge (as_scenario c.in-Ok.left) (as_scenario c.in-Ok-bus_at.right) t c.in-Ok.ensures.lawful c.in-Ok-bus_at.ensures.lawful few.0 few.1 c.in-Some.ensures.fits.0)

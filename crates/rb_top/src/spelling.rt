@@ -1,0 +1,26 @@
+//! The words of a letter.
+ghost use Rattle.std.specs.Prelude.{◌≡◌, ◌⊎◌};
+ghost use Rattle.std.specs.Io.KnownBytes.{Appends};
+ghost use Rattle.rb_hearing.specs.Texts.{spelling_text};
+ghost use Rattle.rb_outside.specs.Bytes.{AppendsPart};
+ghost use Rattle.rb_outside.specs.Causes.{Rose};
+ghost use Rattle.rb_top.specs.Words.{IsLetter};
+
+use crate::status::Status;
+use arrayvec::ArrayVec;
+use rb_hearing::write_spelling;
+use rb_outside::{Failed, Sink};
+
+/// Writes the words that spell a letter, a line each.
+pub(crate) fn spell<K: Sink>(letter: &ArrayVec<u8, 255>, output: &mut K) -> Status
+    requires { IsLetter letter.now.items }
+    ensures done { result ≡ Status.Done → Appends (K.held output.old) (K.held output.new) (spelling_text letter.now.items) }
+    ensures part { result ≡ Status.WriteFault → AppendsPart (K.held output.old) (K.held output.new) (spelling_text letter.now.items) }
+    ensures cause { result ≡ Status.WriteFault → Rose (K.faults output.old) (K.faults output.new) }
+    ensures one_of { (result ≡ Status.Done) ⊎ (result ≡ Status.WriteFault) }
+{
+    match write_spelling(letter.as_slice(), output) {
+        Ok(()) => Status::Done,
+        Err(Failed) => Status::WriteFault,
+    }
+}
