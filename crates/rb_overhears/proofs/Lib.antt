@@ -1,0 +1,12 @@
+pub mod Meeting
+pub mod CallsSent
+pub mod Seeks
+pub mod Sendings
+pub mod Moments
+pub mod Recorded
+pub mod Walks
+pub mod TrueRecords
+pub mod Inside
+pub mod Trusting
+pub mod Together
+pub mod Deciding
