@@ -1,4 +1,4 @@
-use Rattle.std.proofs.Common.{◌≡◌, ap, ◌∙◌, subst, OnOk, OnErr}
+use Rattle.std.proofs.Common.{ap, ◌∙◌, subst, OnOk, OnErr}
 use Rattle.std.specs.Io.KnownBytes.{Appends}
 use Rattle.rb_outside.specs.Bytes.{AppendsPart}
 use Rattle.rb_crossing.specs.Texts.{cross_text}
