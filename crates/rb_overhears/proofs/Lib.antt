@@ -10,3 +10,4 @@ pub mod Inside
 pub mod Trusting
 pub mod Together
 pub mod Deciding
+pub mod Apart

@@ -8,7 +8,7 @@ use Rattle.rb_overhears.specs.Ears.{Ear, HearsTheRun, IsEar}
 use Rattle.rb_overhears.specs.Learned.{TrustsTheTrusted}
 use Rattle.rb_overhears.specs.Records.{RecordsAreTrue}
 use Rattle.rb_overhears.specs.Seeking.{SeeksAFrame}
-use Rattle.rb_overhears.specs.Together.{CallsComeTogether}
+use Rattle.rb_overhears.specs.Together.{CallsComeTogether, LaterCallsComeLater}
 
 -- the frame sought is a frame of the bus. For this no premise on faults is needed but that most RMUs are good
 abbrev pub TheFrameSoughtIsReal : Type 0
@@ -31,6 +31,10 @@ ListenersTrustTheTrusted =
 -- Good RMUs call together, so a pass needs no more than that most RMUs are good
 abbrev pub GoodCallsComeTogether : Type 0
 GoodCallsComeTogether = (sc : Scenario) (hands : List HandIn) → IsLawful sc → (ear : Ear) → IsEar sc ear → CallsComeTogether sc hands ear
+
+-- and no two of unlike frames fall into one pass
+abbrev pub FramesComeApart : Type 0
+FramesComeApart = (sc : Scenario) (hands : List HandIn) → IsLawful sc → (ear : Ear) → IsEar sc ear → LaterCallsComeLater sc hands ear
 
 -- so a listener decides after all calls of good RMUs in the frame that it learned have come
 abbrev pub DecisionsComeAfterTheCalls : Type 0
