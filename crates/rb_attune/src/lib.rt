@@ -1,0 +1,34 @@
+//! Laws of a passive listener beside a run of the bus. Each law is the contract of a function that does nothing.
+#![tactic(auto)]
+
+ghost use Rattle.rb_attune.specs.Laws.{DecisionsComeAfterTheCalls, FramesComeApart, GoodCallsComeTogether, ListenersTrustTheTrusted, RecordsOfTheGoodAreTrue, TheFrameSoughtIsReal};
+
+/// Where a listener learns a frame, it is the one after a frame of the bus in which the RMUs called.
+pub fn the_frame_sought_is_real()
+    ensures { TheFrameSoughtIsReal }
+{}
+
+/// What a listener has recorded of an RMU that is good in the whole run is what that sent: in each place one message or none, never a bad one.
+pub fn records_of_the_good_are_true()
+    ensures { RecordsOfTheGoodAreTrue }
+{}
+
+/// A listener trusts, by what it has recorded, only nodes that the bus trusts.
+pub fn listeners_trust_the_trusted()
+    ensures { ListenersTrustTheTrusted }
+{}
+
+/// The calls of good RMUs in one frame come to a listener with stamps at most as far apart as the calls of a pass may be.
+pub fn good_calls_come_together()
+    ensures { GoodCallsComeTogether }
+{}
+
+/// The calls of good RMUs in a later frame come later, and by more than those of a pass may lie apart.
+pub fn frames_come_apart()
+    ensures { FramesComeApart }
+{}
+
+/// Where the tick is fixed at which a listener decides, all calls of good RMUs in the frame that it learns come before it.
+pub fn decisions_come_after_the_calls()
+    ensures { DecisionsComeAfterTheCalls }
+{}

@@ -1,0 +1,4 @@
+pub mod Handed
+pub mod UnderWay
+pub mod Passed
+pub mod FramesTold
