@@ -11,3 +11,4 @@ pub mod Trusting
 pub mod Together
 pub mod Deciding
 pub mod Apart
+pub mod Calling

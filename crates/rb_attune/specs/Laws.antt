@@ -3,6 +3,7 @@ use Rattle.std.specs.Prelude.{ℕ, ◌<◌, List}
 use Rattle.rb_rules.specs.Goodness.{Scenario}
 use Rattle.rb_rules.specs.Lawful.{IsLawful}
 use Rattle.rb_rules.specs.Ports.{HandIn}
+use Rattle.rb_attune.specs.Calling.{EachIsHeardToCall}
 use Rattle.rb_attune.specs.Deciding.{DecidesAfterTheCalls}
 use Rattle.rb_attune.specs.Ears.{Ear, HearsTheRun, IsEar}
 use Rattle.rb_attune.specs.Learned.{TrustsTheTrusted}
@@ -27,6 +28,11 @@ abbrev pub ListenersTrustTheTrusted : Type 0
 ListenersTrustTheTrusted =
     (sc : Scenario) (hands : List HandIn) → IsLawful sc → (ear : Ear) → IsEar sc ear → HearsTheRun sc hands ear
     → (k : ℕ) → k < ear.ticks → TrustsTheTrusted sc hands ear k
+
+-- each good RMU calls in each frame, and is heard
+abbrev pub GoodRmusAreHeardToCall : Type 0
+GoodRmusAreHeardToCall =
+    (sc : Scenario) (hands : List HandIn) → IsLawful sc → (ear : Ear) → HearsTheRun sc hands ear → EachIsHeardToCall sc hands ear
 
 -- Good RMUs call together, so a pass needs no more than that most RMUs are good
 abbrev pub GoodCallsComeTogether : Type 0

@@ -1,7 +1,7 @@
 //! Laws of a passive listener beside a run of the bus. Each law is the contract of a function that does nothing.
 #![tactic(auto)]
 
-ghost use Rattle.rb_attune.specs.Laws.{DecisionsComeAfterTheCalls, FramesComeApart, GoodCallsComeTogether, ListenersTrustTheTrusted, RecordsOfTheGoodAreTrue, TheFrameSoughtIsReal};
+ghost use Rattle.rb_attune.specs.Laws.{DecisionsComeAfterTheCalls, FramesComeApart, GoodCallsComeTogether, GoodRmusAreHeardToCall, ListenersTrustTheTrusted, RecordsOfTheGoodAreTrue, TheFrameSoughtIsReal};
 
 /// Where a listener learns a frame, it is the one after a frame of the bus in which the RMUs called.
 pub fn the_frame_sought_is_real()
@@ -16,6 +16,11 @@ pub fn records_of_the_good_are_true()
 /// A listener trusts, by what it has recorded, only nodes that the bus trusts.
 pub fn listeners_trust_the_trusted()
     ensures { ListenersTrustTheTrusted }
+{}
+
+/// In each frame whose sync slot the run comes to, each RMU that is good there calls in stage 2, and a listener hears it.
+pub fn good_rmus_are_heard_to_call()
+    ensures { GoodRmusAreHeardToCall }
 {}
 
 /// The calls of good RMUs in one frame come to a listener with stamps at most as far apart as the calls of a pass may be.
