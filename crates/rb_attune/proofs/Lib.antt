@@ -10,3 +10,5 @@ pub mod Inside
 pub mod Trusting
 pub mod Together
 pub mod Deciding
+pub mod Apart
+pub mod Calling

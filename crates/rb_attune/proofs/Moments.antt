@@ -1,45 +1,16 @@
 -- A good RMU's message tells the window in which it was sent, so no two of its messages have one place.
-use Rattle.std.proofs.Common.{◌≡◌, ℕ, zero, suc, ◌+◌, ◌*◌, ◌%◌, ◌≤◌, ◌==◌, nat_lt, Bool, true, false, List, refl, sym, ◌∙◌, ap, subst, arith}
-use Rattle.std.proofs.lemmas.Bool.Decides.{nat_tests}
+use Rattle.std.proofs.Common.{◌≡◌, ℕ, ◌+◌, ◌*◌, ◌%◌, ◌≤◌, List, sym, ◌∙◌, ap, subst, arith}
 use Rattle.rb_base.specs.Nodes.Side.{Rmu}
 use Rattle.rb_rules.specs.Goodness.{Scenario}
 use Rattle.rb_rules.specs.Hearing.{Coming, Sending}
 use Rattle.rb_rules.specs.Lawful.{IsLawful}
-use Rattle.rb_rules.specs.Moments.{IsRunning}
 use Rattle.rb_rules.specs.Ports.{HandIn}
-use Rattle.rb_rules.specs.Rounds.{Moment, after_window, begin_frame, moment, next_frame, sending_in, step, window_in, windows_in}
-use Rattle.rb_rules.proofs.Books.{stepped}
-use Rattle.rb_agree.proofs.Agreement.{IsAgreed, agreement, ended-end, running_before}
+use Rattle.rb_rules.specs.Rounds.{moment, sending_in, window_in, windows_in}
+use Rattle.rb_agree.proofs.Agreement.{IsAgreed, agreement}
 use Rattle.rb_agree.proofs.Tests.{same_some}
+use Rattle.rb_sync.proofs.EpochTicks.{within_run}
 use Rattle.rb_attune.specs.Ears.{Ear, IsOfGood, SendsIn, coming_to}
 use Rattle.rb_attune.proofs.Sendings.{IsInPlace, in-place}
-
--- A run that goes on has few frames.
-
-next-number : (sc : Scenario) (hands : List HandIn) (m : Moment) → (next_frame sc hands m).frame ≡ m.frame + 1
-unfolding begin_frame
-next-number sc hands m = refl
-
-first-number : (sc : Scenario) (hands : List HandIn) → (moment sc hands 0).frame ≡ 0
-unfolding begin_frame
-first-number sc hands = refl
-
-one-more : (f most : ℕ) → (f == most) ≡ false → f ≤ most → f + 1 ≤ most
-one-more f most e le = grind (arith, nat_tests)
-
-in-run : (sc : Scenario) (hands : List HandIn) (m : Moment) (over in_frame : Bool) → (m.frame == sc.frames) ≡ over → m.frame ≤ sc.frames
-    → (stepped sc hands m over in_frame).book.ended ≡ false → (stepped sc hands m over in_frame).frame ≤ sc.frames
-unfolding after_window
-in-run sc hands m true in_frame e le running = let both : true ≡ false = sym (ended-end m.book) ∙ running in cc
-in-run sc hands m false true e le running = le
-in-run sc hands m false false e le running = subst (λ f. f ≤ sc.frames) (sym (next-number sc hands m)) (one-more m.frame sc.frames e le)
-
-pub few-frames : (sc : Scenario) (hands : List HandIn) (n : ℕ) → IsRunning (moment sc hands n) → (moment sc hands n).frame ≤ sc.frames
-unfolding step
-few-frames sc hands zero running = omega (arith, first-number sc hands)
-few-frames sc hands (suc n) running =
-    in-run sc hands (moment sc hands n) ((moment sc hands n).frame == sc.frames) (nat_lt (moment sc hands n).window (windows_in sc.sizes)) refl
-    (few-frames sc hands n (running_before sc hands (moment sc hands n) running)) running
 
 -- The window by the message.
 
@@ -52,7 +23,7 @@ same-window sc hands law a b j s t sends_a sends_b frame slot stage =
     let at_a : IsInPlace sc (moment sc hands a) s.message = in-place sc hands law a j s sends_a in
     let at_b : IsInPlace sc (moment sc hands b) t.message = in-place sc hands law b j t sends_b in
     let frames : (moment sc hands a).frame ≡ (moment sc hands b).frame =
-    same-frame (moment sc hands a).frame (moment sc hands b).frame sc.frames (few-frames sc hands a sends_a.running) (few-frames sc hands b sends_b.running) law.frames.1
+    same-frame (moment sc hands a).frame (moment sc hands b).frame sc.frames (within_run sc hands a sends_a.running) (within_run sc hands b sends_b.running) law.frames.1
     (sym at_a.frame ∙ frame ∙ at_b.frame) in
     let windows : (moment sc hands a).window ≡ (moment sc hands b).window = omega (arith, at_a.window, at_b.window, slot, stage) in
     let agreed_a : IsAgreed sc hands a = agreement sc hands law a sends_a.running in

@@ -45,7 +45,7 @@ steady-ear sc law ear is = record {
     lengths = has_lengths (shortest_of sc.plan) (longest_of sc.plan) ear.clock is.clock
 
 -- when a good RMU calls
-call-time : (sc : Scenario) (hands : List HandIn) → IsLawful sc → (n j : ℕ) (s : Sending) → (moment sc hands n).window ≡ 3 * sync_slot_of sc.sizes + 1 → SendsIn sc hands n j s
+pub call-time : (sc : Scenario) (hands : List HandIn) → IsLawful sc → (n j : ℕ) (s : Sending) → (moment sc hands n).window ≡ 3 * sync_slot_of sc.sizes + 1 → SendsIn sc hands n j s
     → (synced : IsSynchronous sc hands n) → IsBetween (from_2 sc synced.low) (to_2 sc synced.low) (time_of (clock_of sc Rmu j) s.tick)
 call-time sc hands law n j s at sent synced = (second_calls sc law (moment sc hands n) synced.shared synced.low synced.near at).between j sent.state s.tick node called
   where

@@ -3,12 +3,13 @@ use Rattle.std.specs.Prelude.{ℕ, ◌<◌, List}
 use Rattle.rb_rules.specs.Goodness.{Scenario}
 use Rattle.rb_rules.specs.Lawful.{IsLawful}
 use Rattle.rb_rules.specs.Ports.{HandIn}
+use Rattle.rb_attune.specs.Calling.{EachIsHeardToCall}
 use Rattle.rb_attune.specs.Deciding.{DecidesAfterTheCalls}
 use Rattle.rb_attune.specs.Ears.{Ear, HearsTheRun, IsEar}
 use Rattle.rb_attune.specs.Learned.{TrustsTheTrusted}
 use Rattle.rb_attune.specs.Records.{RecordsAreTrue}
 use Rattle.rb_attune.specs.Seeking.{SeeksAFrame}
-use Rattle.rb_attune.specs.Together.{CallsComeTogether}
+use Rattle.rb_attune.specs.Together.{CallsComeTogether, LaterCallsComeLater}
 
 -- the frame sought is a frame of the bus. For this no premise on faults is needed but that most RMUs are good
 abbrev pub TheFrameSoughtIsReal : Type 0
@@ -28,9 +29,18 @@ ListenersTrustTheTrusted =
     (sc : Scenario) (hands : List HandIn) → IsLawful sc → (ear : Ear) → IsEar sc ear → HearsTheRun sc hands ear
     → (k : ℕ) → k < ear.ticks → TrustsTheTrusted sc hands ear k
 
+-- each good RMU calls in each frame, and is heard
+abbrev pub GoodRmusAreHeardToCall : Type 0
+GoodRmusAreHeardToCall =
+    (sc : Scenario) (hands : List HandIn) → IsLawful sc → (ear : Ear) → HearsTheRun sc hands ear → EachIsHeardToCall sc hands ear
+
 -- Good RMUs call together, so a pass needs no more than that most RMUs are good
 abbrev pub GoodCallsComeTogether : Type 0
 GoodCallsComeTogether = (sc : Scenario) (hands : List HandIn) → IsLawful sc → (ear : Ear) → IsEar sc ear → CallsComeTogether sc hands ear
+
+-- and no two of unlike frames fall into one pass
+abbrev pub FramesComeApart : Type 0
+FramesComeApart = (sc : Scenario) (hands : List HandIn) → IsLawful sc → (ear : Ear) → IsEar sc ear → LaterCallsComeLater sc hands ear
 
 -- so a listener decides after all calls of good RMUs in the frame that it learned have come
 abbrev pub DecisionsComeAfterTheCalls : Type 0

@@ -4,4 +4,5 @@ pub mod Records
 pub mod Learned
 pub mod Together
 pub mod Deciding
+pub mod Calling
 pub mod Laws

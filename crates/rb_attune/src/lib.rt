@@ -1,7 +1,7 @@
 //! Laws of a passive listener beside a run of the bus. Each law is the contract of a function that does nothing.
 #![tactic(auto)]
 
-ghost use Rattle.rb_attune.specs.Laws.{DecisionsComeAfterTheCalls, GoodCallsComeTogether, ListenersTrustTheTrusted, RecordsOfTheGoodAreTrue, TheFrameSoughtIsReal};
+ghost use Rattle.rb_attune.specs.Laws.{DecisionsComeAfterTheCalls, FramesComeApart, GoodCallsComeTogether, GoodRmusAreHeardToCall, ListenersTrustTheTrusted, RecordsOfTheGoodAreTrue, TheFrameSoughtIsReal};
 
 /// Where a listener learns a frame, it is the one after a frame of the bus in which the RMUs called.
 pub fn the_frame_sought_is_real()
@@ -18,9 +18,19 @@ pub fn listeners_trust_the_trusted()
     ensures { ListenersTrustTheTrusted }
 {}
 
+/// In each frame whose sync slot the run comes to, each RMU that is good there calls in stage 2, and a listener hears it.
+pub fn good_rmus_are_heard_to_call()
+    ensures { GoodRmusAreHeardToCall }
+{}
+
 /// The calls of good RMUs in one frame come to a listener with stamps at most as far apart as the calls of a pass may be.
 pub fn good_calls_come_together()
     ensures { GoodCallsComeTogether }
+{}
+
+/// The calls of good RMUs in a later frame come later, and by more than those of a pass may lie apart.
+pub fn frames_come_apart()
+    ensures { FramesComeApart }
 {}
 
 /// Where the tick is fixed at which a listener decides, all calls of good RMUs in the frame that it learns come before it.
