@@ -1,29 +1,27 @@
 -- A good RMU knows the middle of stage 1, so it calls in stage 2.
-use Rattle.std.proofs.Common.{◌≡◌, ℕ, ◌+◌, ◌*◌, ◌%◌, ◌<◌, ◌≤◌, ◌==◌, ◌&&◌, Bool, true, false, List, Option, Some, None, option_map, slice_get, if◌then◌else◌, refl, sym, ◌∙◌, ap, subst, arith}
+use Rattle.std.proofs.Common.{◌≡◌, ℕ, ◌+◌, ◌==◌, true, List, Some, option_map, slice_get, refl, sym, ◌∙◌, ap, subst, arith}
 use Rattle.std.proofs.lemmas.Bool.Decides.{nat_tests}
-use Rattle.rb_base.specs.Nodes.Side.{Biu, Rmu}
+use Rattle.rb_base.specs.Nodes.Side.{Rmu}
 use Rattle.rb_base.specs.Sizes.{Sizes, sync_slot_of}
 use Rattle.rb_rules.specs.declared.plan.Plan.{Plan}
-use Rattle.rb_rules.specs.declared.role.Role.TheVariants.{Sync}
 use Rattle.rb_rules.specs.Book.{of_kind}
 use Rattle.rb_rules.specs.Goodness.{Scenario, is_good}
 use Rattle.rb_rules.specs.Hearing.{Sending, sending}
 use Rattle.rb_rules.specs.Lawful.{IsLawful}
-use Rattle.rb_rules.specs.Moments.{IsRunning}
 use Rattle.rb_rules.specs.NodeState.{NodeState}
 use Rattle.rb_rules.specs.Plan.{f0_of}
 use Rattle.rb_rules.specs.Ports.{HandIn}
-use Rattle.rb_rules.specs.Rounds.{Moment, moment, sending_in, window_in}
+use Rattle.rb_rules.specs.Rounds.{moment, sending_in}
 use Rattle.rb_rules.specs.SyncStage.{call_of, call_tick_of}
 use Rattle.rb_agree.proofs.Goodnesses.{slot_last}
-use Rattle.rb_agree.proofs.Invariant.{IsGoodNode, is_good_now}
+use Rattle.rb_agree.proofs.Invariant.{is_good_now}
 use Rattle.rb_agree.proofs.NodeWindows.{Windows, sync_windows_are, word_at}
 use Rattle.rb_agree.proofs.Settings.{good_state}
 use Rattle.rb_agree.proofs.Tests.{Present}
 use Rattle.rb_sync.proofs.Synchronous.{KnowsMiddle, from_1, heard_from, heard_to, to_1}
 use Rattle.rb_sync.proofs.Synchrony.{IsSynchronous, synchrony}
 use Rattle.rb_listen.specs.Passes.{is_call}
-use Rattle.rb_attune.specs.Calling.{EachIsHeardToCall, IsHeardToCall}
+use Rattle.rb_attune.specs.Calling.{EachIsHeardToCall}
 use Rattle.rb_attune.specs.Ears.{Ear, HearsTheRun, SendsIn}
 
 call-sending : (sizes : Sizes) (plan : Plan) (j : ℕ) (st : NodeState) (word tick : ℕ) → call_tick_of sizes plan st 2 ≡ Some tick

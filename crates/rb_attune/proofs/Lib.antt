@@ -12,3 +12,4 @@ pub mod Together
 pub mod Deciding
 pub mod Apart
 pub mod Calling
+pub mod Fed

@@ -23,7 +23,8 @@ use Rattle.rb_rules.specs.Rounds.{Moment, moment, windows_in}
 use Rattle.rb_rules.specs.Sense.{is_one}
 use Rattle.rb_rules.specs.Slots.{first_diagnosis_of, if_trusted, role_of, sender_in}
 use Rattle.rb_rules.specs.Slots.Sender.{Nobody, Node}
-use Rattle.rb_agree.proofs.Agreement.{agreement}
+use Rattle.rb_agree.proofs.Agreement.{IsAgreed, agreement}
+use Rattle.rb_agree.proofs.Goodnesses.{slot_here}
 use Rattle.rb_agree.proofs.NodeWindows.{Windows, exact_windows, word_at}
 use Rattle.rb_agree.proofs.Tests.{Passing, and_first, and_second, less_from}
 use Rattle.rb_sync.proofs.TimelyWindows.{IsSent, sent_parts}
@@ -121,11 +122,10 @@ trusted-in sc hands law ear frame slot stage i kind below some few staged sender
   frame = now.frame;
   number_is = sym r.place.frame_is ∙ ap (λ x. x.frame) (sym r.came.is) ∙ put.frame;
   running = subst (λ k. IsRunning (moment sc hands k)) number sent.running;
-  j = r.came.coming.from;
-  state = sent.state;
-  there = ap (λ k. slice_get (of_kind Rmu (moment sc hands k).nodes) r.came.coming.from) (sym number) ∙ sent.good.0;
-  good = ap (is_good sc Rmu r.came.coming.from now.frame) (sym (ap (λ w. w.slot) (ws.are Rmu sent.state))) ∙ sent.good.1;
-  trusts = if-not-nobody (trusted_of kind Rmu sent.state) i (λ none. silent (sender sent.state ∙ none));
+  some_good = (r.came.coming.from, good_there);
+  trust = λ me j st good there.
+      subst (λ x. has x i ≡ true) (mine ∙ sym (theirs me j st good (ap (λ k. slice_get (of_kind me (moment sc hands k).nodes) j) number ∙ there)))
+      (if-not-nobody (trusted_of kind Rmu sent.state) i (λ none. silent (sender sent.state ∙ none)));
 }
   where
     sent : SendsIn sc hands r.came.good.n r.came.coming.from r.came.good.sending
@@ -151,6 +151,23 @@ trusted-in sc hands law ear frame slot stage i kind below some few staged sender
 
     ws : Windows sc now slot (stage - 1 + 1)
     ws = exact_windows sc now slot (stage - 1) below (omega (arith, some, few)) window
+
+    good_there : is_good sc Rmu r.came.coming.from now.frame slot ≡ true
+    good_there = ap (is_good sc Rmu r.came.coming.from now.frame) (sym (ap (λ w. w.slot) (ws.are Rmu sent.state))) ∙ sent.good.1
+
+    agreed : IsAgreed sc hands r.came.good.n
+    agreed = agreement sc hands law r.came.good.n sent.running
+
+    theirs : (me : Side) (j : ℕ) (st : NodeState) → is_good sc me j now.frame slot ≡ true → slice_get (of_kind me now.nodes) j ≡ Some st
+        → trusted_of kind me st ≡ agreed.shared.trusted kind
+    theirs me j st good there =
+        (agreed.agree.nodes me j st (record {
+          there = there;
+          good = ap (is_good sc me j now.frame) (slot_here sc.sizes now.window slot (stage - 1) below (omega (arith, some, few)) window) ∙ good;
+        })).trusted kind
+
+    mine : trusted_of kind Rmu sent.state ≡ agreed.shared.trusted kind
+    mine = theirs Rmu r.came.coming.from sent.state good_there sent.good.0
 
     word : ℕ
     word = word_at sc now slot r.came.coming.from

@@ -1,15 +1,24 @@
 -- What is proved of a listener beside a run of the bus.
-use Rattle.std.specs.Prelude.{ℕ, ◌<◌, List}
+use Rattle.std.specs.Prelude.{ℕ, ◌≡◌, ◌<◌, List}
+use Rattle.rb_listen.specs.Listening.{first_search, told_of}
+use Rattle.rb_listen.specs.Listening as now
 use Rattle.rb_rules.specs.Goodness.{Scenario}
 use Rattle.rb_rules.specs.Lawful.{IsLawful}
 use Rattle.rb_rules.specs.Ports.{HandIn}
 use Rattle.rb_attune.specs.Calling.{EachIsHeardToCall}
 use Rattle.rb_attune.specs.Deciding.{DecidesAfterTheCalls}
 use Rattle.rb_attune.specs.Ears.{Ear, HearsTheRun, IsEar}
+use Rattle.rb_attune.specs.Feeding.{events_from, told_from}
 use Rattle.rb_attune.specs.Learned.{TrustsTheTrusted}
 use Rattle.rb_attune.specs.Records.{RecordsAreTrue}
 use Rattle.rb_attune.specs.Seeking.{SeeksAFrame}
 use Rattle.rb_attune.specs.Together.{CallsComeTogether, LaterCallsComeLater}
+
+-- what a listener tells beside a run is what it tells where it is given these events one after another
+abbrev pub EarsAreFedEvents : Type 0
+EarsAreFedEvents =
+    (sc : Scenario) (ear : Ear) (word : ℕ → ℕ) (n : ℕ)
+    → told_of sc.sizes sc.plan (now.Searching first_search) (events_from ear word 0 n) ≡ told_from sc ear 0 n
 
 -- the frame sought is a frame of the bus. For this no premise on faults is needed but that most RMUs are good
 abbrev pub TheFrameSoughtIsReal : Type 0

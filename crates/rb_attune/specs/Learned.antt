@@ -13,17 +13,15 @@ use Rattle.rb_listen.specs.Listening as now
 use Rattle.rb_listen.specs.declared.search.Search.{Search}
 use Rattle.rb_attune.specs.Ears.{Ear, listening_at}
 
--- in a frame of this number in messages the run comes to this stage of the slot before its end, and there a good RMU holds node i of a kind
--- trusted
+-- in a frame of this number in messages the run comes to this stage of the slot before its end, some RMU is good there, and all good nodes
+-- hold node i of a kind trusted
 pub record IsTrustedIn (sc : Scenario) (hands : List HandIn) (number slot stage : ℕ) (kind : Side) (i : ℕ) : Type 0 where
   pub frame : ℕ
   pub number_is : number ≡ frame % 65536
   pub running : IsRunning (before_stage sc hands frame slot stage)
-  pub j : ℕ
-  pub state : NodeState
-  pub there : slice_get (of_kind Rmu (before_stage sc hands frame slot stage).nodes) j ≡ Some state
-  pub good : is_good sc Rmu j frame slot ≡ true
-  pub trusts : has (trusted_of kind Rmu state) i ≡ true
+  pub some_good : (j : ℕ) × (is_good sc Rmu j frame slot ≡ true)
+  pub trust : (me : Side) (j : ℕ) (st : NodeState) → is_good sc me j frame slot ≡ true
+      → slice_get (of_kind me (before_stage sc hands frame slot stage).nodes) j ≡ Some st → has (trusted_of kind me st) i ≡ true
 
 -- by the lesson of each tick the listener trusts only nodes that the bus trusts in the frame of the lesson: a BIU by its schedule slot, an
 -- RMU by its diagnosis slot

@@ -5,4 +5,5 @@ pub mod Learned
 pub mod Together
 pub mod Deciding
 pub mod Calling
+pub mod Feeding
 pub mod Laws

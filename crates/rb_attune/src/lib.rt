@@ -1,7 +1,12 @@
 //! Laws of a passive listener beside a run of the bus. Each law is the contract of a function that does nothing.
 #![tactic(auto)]
 
-ghost use Rattle.rb_attune.specs.Laws.{DecisionsComeAfterTheCalls, FramesComeApart, GoodCallsComeTogether, GoodRmusAreHeardToCall, ListenersTrustTheTrusted, RecordsOfTheGoodAreTrue, TheFrameSoughtIsReal};
+ghost use Rattle.rb_attune.specs.Laws.{DecisionsComeAfterTheCalls, EarsAreFedEvents, FramesComeApart, GoodCallsComeTogether, GoodRmusAreHeardToCall, ListenersTrustTheTrusted, RecordsOfTheGoodAreTrue, TheFrameSoughtIsReal};
+
+/// What a listener tells beside a run is what it tells where it is given the ticks and messages one after another.
+pub fn ears_are_fed_events()
+    ensures { EarsAreFedEvents }
+{}
 
 /// Where a listener learns a frame, it is the one after a frame of the bus in which the RMUs called.
 pub fn the_frame_sought_is_real()
