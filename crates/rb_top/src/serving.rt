@@ -144,12 +144,7 @@ fn group<S: Source, K: Sink, D: Drive>(
 }
 
 // Reads a log, gives it to a passive listener and writes what that tells.
-fn listen<S: Source, K: Sink>(
-    alloc: Global,
-    skip: u32,
-    input: &mut S,
-    output: &mut K,
-) -> Status
+fn listen<S: Source, K: Sink>(alloc: Global, skip: u32, input: &mut S, output: &mut K) -> Status
     ensures answers { (is_plain : Bool) (told : Option (List Turn))
         → Answers (Listen skip) result (S.left input.old) (S.left input.new) (S.faults input.old) (S.faults input.new)
         (K.held output.old) (K.held output.new) (K.faults output.old) (K.faults output.new) is_plain told told }
