@@ -1,26 +1,33 @@
 # make run SCENARIO=examples/one_silent_rmu.toml   runs a scenario
-# make build                                       proves and builds the program
+# make picture SCENARIO=.. > run.svg               draws its run, or with FRAMES="FIRST LAST" these frames of it
+# make build                                       proves and builds the programs
 # make test                                        the gate: every proof, must-fail edit, test and program, and the documents
 # make bench                                       builds the programs and measures them
 # make examples                                    runs each example, and looks for the lines that its page names
 # make tutorial                                    runs the commands of docs/TUTORIAL.md, and compares what they print
 # make compare COUNT=1000 SEED=1                   gives so many cases to the program and to a second model of the bus
-# make install PREFIX=/usr/local                   puts the program that was built, manual pages, documents and examples there
+# make install PREFIX=/usr/local                   puts the programs that were built, manual pages, documents and examples there
 
 PREFIX ?= /usr/local
 ROBUS = crates/robus/out/robus
+PICTURE = crates/robus_picture/out/robus_picture
 AT = $(DESTDIR)$(PREFIX)
 COUNT = 1000
 SEED = 1
 
-.PHONY: run build test bench examples tutorial compare install uninstall
+.PHONY: run picture build test bench examples tutorial compare install uninstall
 
 run:
 	@test -n "$(SCENARIO)" || { echo "usage: make run SCENARIO=examples/one_silent_rmu.toml (or another of examples/)" >&2; exit 2; }
 	@tools/run "$(SCENARIO)"
 
+picture:
+	@test -n "$(SCENARIO)" || { echo "usage: make picture SCENARIO=examples/one_silent_rmu.toml > run.svg (or another of examples/)" >&2; exit 2; }
+	@tools/picture "$(SCENARIO)" $(FRAMES)
+
 build:
 	cd crates/robus && rt run -- run < stdin > /dev/null
+	cd crates/robus_picture && rt run < stdin > /dev/null
 
 test:
 	.ci/run
@@ -39,14 +46,16 @@ compare: build
 	tools/compare_models $(COUNT) $(SEED)
 
 install:
-	@tools/proved $(ROBUS) || { echo "make install: no proved program is up to date: make build first" >&2; exit 2; }
+	@tools/proved $(ROBUS) && tools/proved $(PICTURE) || { echo "make install: no proved programs are up to date: make build first" >&2; exit 2; }
 	install -d "$(AT)/bin" "$(AT)/share/man/man1" "$(AT)/share/man/man5" "$(AT)/share/doc/robus"
 	install -m 755 $(ROBUS) "$(AT)/bin/robus"
+	install -m 755 $(PICTURE) "$(AT)/bin/robus_picture"
 	tools/manual docs/robus.md robus 1 > "$(AT)/share/man/man1/robus.1"
+	tools/manual docs/robus_picture.md robus_picture 1 > "$(AT)/share/man/man1/robus_picture.1"
 	tools/manual docs/SCENARIOS.md robus_scenario 5 "scenarios of a fault-tolerant broadcast bus" > "$(AT)/share/man/man5/robus_scenario.5"
 	tools/manual docs/FORMATS.md robus_formats 5 "messages and logs of a fault-tolerant broadcast bus" > "$(AT)/share/man/man5/robus_formats.5"
 	cp -R README.md docs examples "$(AT)/share/doc/robus"
 
 uninstall:
-	rm -f "$(AT)/bin/robus" "$(AT)/share/man/man1/robus.1" "$(AT)/share/man/man5/robus_scenario.5" "$(AT)/share/man/man5/robus_formats.5"
+	rm -f "$(AT)/bin/robus" "$(AT)/bin/robus_picture" "$(AT)/share/man/man1/robus.1" "$(AT)/share/man/man1/robus_picture.1" "$(AT)/share/man/man5/robus_scenario.5" "$(AT)/share/man/man5/robus_formats.5"
 	rm -rf "$(AT)/share/doc/robus"

@@ -33,7 +33,7 @@ has-with lanes (node.Rmu i) (node.Biu j) lane h = h
 has-with lanes (node.Rmu i) (node.Rmu j) lane h = let e : length (slice_set lanes.rmus j lane) ≡ length lanes.rmus = length-set lanes.rmus j lane in omega arith
 
 -- the lanes in order after it
-with-in-order : (lanes : Each Held) (name : NodeName) (lane : Held) → HasLane lanes name
+pub with-in-order : (lanes : Each Held) (name : NodeName) (lane : Held) → HasLane lanes name
     → in_order (with_lane name lane lanes) ≡ slice_set (in_order lanes) (position_of (length lanes.bius) name) lane
 with-in-order lanes (node.Biu i) lane h = sym (set-append_left lanes.bius lanes.rmus i lane h)
 with-in-order lanes (node.Rmu i) lane h =
@@ -140,7 +140,7 @@ pub kept-times : (lanes : Each Held) (keys : List ℕ) (bius : ℕ) → AreKept 
 kept-times lanes keys bius kept = times-of (in_order lanes) keys kept.each kept.small
 
 -- At first.
-map-const : {X Y : Type 0} (f : Y → ℕ) (y : Y) (k : ℕ) (xs : List X) → f y ≡ k → map f (map (λ _. y) xs) ≡ replicate (length xs) k
+pub map-const : {X Y : Type 0} (f : Y → ℕ) (y : Y) (k : ℕ) (xs : List X) → f y ≡ k → map f (map (λ _. y) xs) ≡ replicate (length xs) k
 map-const f y k [] e = refl
 map-const f y k (x ∷ xs) e = ap (λ a. a ∷ map f (map (λ _. y) xs)) e ∙ ap (λ l. k ∷ l) (map-const f y k xs e)
 

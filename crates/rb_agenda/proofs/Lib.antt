@@ -8,3 +8,4 @@ pub mod Fronts
 pub mod Places
 pub mod Changes
 pub mod Taking
+pub mod Ticks

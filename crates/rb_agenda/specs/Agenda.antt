@@ -1,5 +1,5 @@
 -- What is due among all lanes: the events of the least time, node by node.
-use Rattle.std.specs.Prelude.{⊤, ◌≡◌, ℕ, ◌+◌, ◌-◌, ◌<◌, ◌≤◌, ◌==◌, nat_lt, min, true, false, if◌then◌else◌, unwrap_or, Some, List, [], ◌∷◌, All, flat_map, length, map, slice_get, take}
+use Rattle.std.specs.Prelude.{⊤, ◌≡◌, ℕ, option_map, ◌+◌, ◌-◌, ◌<◌, ◌≤◌, ◌==◌, nat_lt, min, true, false, if◌then◌else◌, unwrap_or, Some, List, [], ◌∷◌, All, flat_map, length, map, slice_get, take}
 use Rattle.rb_base.specs.declared.event.Event.{Event}
 use Rattle.rb_base.specs.declared.node.NodeName.{NodeName}
 use Rattle.rb_base.specs.declared.node.NodeName.TheVariants as node
@@ -7,10 +7,12 @@ use Rattle.rb_base.specs.Nodes.{Side}
 use Rattle.rb_rules.specs.Book.{Each, in_order, of_kind}
 use Rattle.rb_rules.specs.Goodness.{Scenario}
 use Rattle.rb_rules.specs.Links.{name_of}
-use Rattle.rb_rules.specs.WorldStep.{Due, Pending as Waits, Site, World, at_node, due_at, least, times_of}
+use Rattle.rb_rules.specs.WorldStep.{Due, Pending as Waits, Site, Timed, World, at_node, due_at, least, times_of}
 use Rattle.rb_rules.specs.WorldStep.Pending.{Tick, Arrival}
 use Rattle.rb_queue.specs.declared.pending.Pending.{Pending}
-use Rattle.rb_queue.specs.Waiting.{Held, HasLane, head_of, lane_of, ready_event, ready_of, with_lane, without_ready}
+use Rattle.rb_base.specs.declared.event.EventKind.{EventKind}
+use Rattle.rb_base.specs.declared.event.EventKind.TheVariants as kind
+use Rattle.rb_queue.specs.Waiting.{Held, HasLane, first_tick_of, head_of, lane_of, ready_event, ready_of, with_lane, without_ready}
 use Rattle.rb_agenda.specs.Holding.{HoldsSites, Shows, due_with, without_waiting}
 
 -- the least time of a lane. Where it holds nothing it is the last time that there is
@@ -106,3 +108,25 @@ pub record AreKept (lanes : Each Held) (keys : List ℕ) (bius : ℕ) : Type 0 w
   pub few_bius : length lanes.bius ≤ 16
   pub few_rmus : length lanes.rmus ≤ 16
   pub short : All (λ l. l.room ≤ 65536) (in_order lanes)
+
+-- Ticks.
+
+-- beside the lanes the times of their first ticks are kept
+abbrev pub AreTicks : Each Held → List ℕ → Type 0
+AreTicks lanes ticks = ticks ≡ map (λ (l : Held). first_tick_of l.events) (in_order lanes)
+
+-- the time of the first tick after an event was taken: an arrival leaves it
+abbrev pub tick_after : EventKind → ℕ → ℕ → ℕ
+tick_after (kind.Arrive from bytes) before after = before
+tick_after (kind.Tick word wanted) before after = after
+
+-- The tick that is pending at node i of kind me is the first of all in time, and of those at its time the first in the order of nodes. It
+-- comes at this time, which is not the last that there is
+pub record IsFirstAhead (sites : Each Site) (me : Side) (i time : ℕ) : Type 0 where
+  pub site : Site
+  pub there : slice_get (of_kind me sites) i ≡ Some site
+  pub pends : option_map (λ (a : Timed). a.time) site.ahead ≡ Some time
+  pub least : (side : Side) (j : ℕ) (s : Site) (b : Timed) → slice_get (of_kind side sites) j ≡ Some s → s.ahead ≡ Some b → time ≤ b.time
+  pub first : (side : Side) (j : ℕ) (s : Site) (b : Timed) → slice_get (of_kind side sites) j ≡ Some s → s.ahead ≡ Some b
+      → position_of (length sites.bius) (name_of side j) < position_of (length sites.bius) (name_of me i) → time < b.time
+  pub small : time < 18446744073709551615

@@ -1,15 +1,19 @@
 //! The agenda of all nodes.
-ghost use Rattle.std.specs.Prelude.{◌≡◌, ◌<◌, ◌≤◌, [], length, IfOk, Some, IsTrue, ◌↔◌};
+ghost use Rattle.std.specs.Prelude.{◌≡◌, ℕ, ◌<◌, ◌≤◌, [], length, IfOk, Some, IsTrue, ◌↔◌};
 ghost use Rattle.std.proofs.Math.ListN.{replicate};
-ghost use Rattle.rb_rules.specs.Book.{each_of};
+ghost use Rattle.rb_base.specs.Nodes.{Side};
+ghost use Rattle.rb_base.specs.Sizes.{Sizes};
+ghost use Rattle.rb_rules.specs.Book.{Each, each_of};
 ghost use Rattle.rb_rules.specs.Goodness.{Scenario};
-ghost use Rattle.rb_rules.specs.WorldStep.{World};
+ghost use Rattle.rb_rules.specs.Links.{name_of};
+ghost use Rattle.rb_rules.specs.WorldStep.{Site, World};
 ghost use Rattle.rb_queue.specs.Waiting.{HasLane, empty_lane, head_of, lane_of, ready_event, ready_of, spare_of, with_event, with_lane, without_events, without_ready};
-ghost use Rattle.rb_agenda.specs.Agenda.{IsDue, StandsAt, Takes, TakesDue, due_now, first_time, how_many};
+ghost use Rattle.rb_agenda.specs.Agenda.{IsDue, IsFirstAhead, StandsAt, Takes, TakesDue, due_now, first_time, how_many, key_of};
 ghost use Rattle.rb_agenda.specs.Holding.{HoldsSites};
 
 use crate::scan::{
-    Front, are_some, due_count, front_of, is_at_front, key_of, locate, position_of, put_key,
+    Front, add_tick, are_some, drop_tick, due_count, front_of, is_at_front, key_of, locate,
+    node_at, position_of, put_key, take_tick, tick_time,
 };
 use rb_base::{Event, NodeName, OutOfMemory, Shape};
 use rb_queue::Lanes;
@@ -21,6 +25,7 @@ use std::marker::Model;
 pub struct Agenda {
     lanes: Lanes,
     keys: Vec<u64>,
+    ticks: Vec<u64>,
     bius: usize,
     // Where the least of the keys stands.
     front: Front,
@@ -29,14 +34,14 @@ pub struct Agenda {
 impl Model for Agenda {
     ghost use Rattle.rb_rules.specs.Book.{Each};
     ghost use Rattle.rb_queue.specs.Waiting.{Held};
-    ghost use Rattle.rb_agenda.specs.Agenda.{AreKept};
+    ghost use Rattle.rb_agenda.specs.Agenda.{AreKept, AreTicks};
     ghost use Rattle.rb_agenda.specs.Fronts.{IsFront};
 
     ghost Value = { Each Held };
 
     ghost view = { λ a. a.lanes };
 
-    ghost invariant = { λ a. AreKept a.lanes a.keys.items a.bius × IsFront a.keys.items a.front };
+    ghost invariant = { λ a. AreKept a.lanes a.keys.items a.bius × IsFront a.keys.items a.front × AreTicks a.lanes a.ticks.items };
 }
 
 // So many least times of nodes at which nothing is pending.
@@ -55,10 +60,12 @@ impl Agenda {
         let lanes = Lanes::new(alloc, shape, room)?;
         let bius = usize::from(shape.biu());
         let keys = no_times(alloc, bius + usize::from(shape.rmu()))?;
+        let ticks = no_times(alloc, bius + usize::from(shape.rmu()))?;
         let front = front_of(&keys);
         Ok(Agenda {
             lanes,
             keys,
+            ticks,
             bius,
             front,
         })
@@ -81,10 +88,12 @@ impl Agenda {
             self.old }
     {
         let node = event.node;
+        let tick = tick_time(&event.kind, time);
         self.lanes.push(time, event);
         let key = key_of(&self.lanes, node);
         let place = position_of(self.bius, node);
         self.front = put_key(&mut self.keys, self.front, place, key);
+        add_tick(&mut self.ticks, place, tick);
     }
 
     /// The least time of all events, in reference units; 2^64 - 1 where there is none.
@@ -144,7 +153,44 @@ impl Agenda {
         let key = key_of(&self.lanes, node);
         let place = position_of(self.bius, node);
         self.front = put_key(&mut self.keys, self.front, place, key);
+        take_tick(&mut self.ticks, place, &self.lanes, node, &event.kind);
         (node, event)
+    }
+
+    /// The node whose tick is the first of all, in time and then in the order of nodes, and the tick's time in reference units. Where no
+    /// tick is pending the time is 2^64 - 1.
+    pub fn first_tick(&self) -> (NodeName, u64)
+        ensures world { (sizes : Sizes) (sites : Each Site) → HoldsSites sizes self.now sites → (me : Side) (i time : ℕ) → IsFirstAhead sites me i time
+            → (result.0 ≡ name_of me i) × (result.1 ≡ time) }
+    {
+        let front = front_of(&self.ticks);
+        if front.first >= self.ticks.len() {
+            return (NodeName::Biu(0), front.least);
+        }
+        (node_at(self.bius, front.first), front.least)
+    }
+
+    /// The least time of all events of the node, in reference units; 2^64 - 1 where there is none.
+    pub fn time_at(&self, node: NodeName) -> u64
+        requires in_shape { HasLane self.now node }
+        ensures value { result ≡ key_of (lane_of self.now node) }
+    {
+        key_of(&self.lanes, node)
+    }
+
+    /// Takes the first event that is ready at the node out of its lane, and no other.
+    pub fn take_at(&mut self, node: NodeName) -> Event
+        requires in_shape { HasLane self.old node }
+        requires some { 0 < length (ready_of (lane_of self.old node)) }
+        ensures value { ready_event 0 (lane_of self.old node) ≡ Some result }
+        ensures after { self.new ≡ with_lane node (without_ready 0 (lane_of self.old node)) self.old }
+    {
+        let event = self.lanes.take(node, 0);
+        let key = key_of(&self.lanes, node);
+        let place = position_of(self.bius, node);
+        self.front = put_key(&mut self.keys, self.front, place, key);
+        take_tick(&mut self.ticks, place, &self.lanes, node, &event.kind);
+        event
     }
 
     /// Drops all events of the node, and no others.
@@ -155,5 +201,6 @@ impl Agenda {
         self.lanes.drop_all(node);
         let place = position_of(self.bius, node);
         self.front = put_key(&mut self.keys, self.front, place, u64::MAX);
+        drop_tick(&mut self.ticks, place);
     }
 }

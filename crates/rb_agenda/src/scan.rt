@@ -1,15 +1,15 @@
 //! What is looked up among the least times of all nodes.
-ghost use Rattle.std.specs.Prelude.{◌≡◌, ℕ, ◌+◌, ◌<◌, ◌≤◌, length, nat_lt, slice_set, if◌then◌else◌, IsTrue, ◌↔◌};
+ghost use Rattle.std.specs.Prelude.{◌≡◌, ℕ, ◌+◌, ◌<◌, ◌≤◌, get_or, length, min, nat_lt, slice_set, if◌then◌else◌, IsTrue, ◌↔◌};
 ghost use Rattle.rb_rules.specs.Book.{in_order};
-ghost use Rattle.rb_queue.specs.Waiting.{HasLane, lane_of};
-ghost use Rattle.rb_agenda.specs.Agenda.{AreKept, StandsAt, due_count, due_in, key_of, node_at, position_of};
+ghost use Rattle.rb_queue.specs.Waiting.{HasLane, first_tick_of, lane_of, tick_time_of};
+ghost use Rattle.rb_agenda.specs.Agenda.{AreKept, StandsAt, due_count, due_in, key_of, node_at, position_of, tick_after};
 ghost use Rattle.rb_agenda.specs.Fronts.{IsFront, lowered};
 
-use rb_base::NodeName;
+use rb_base::{EventKind, NodeName};
 use rb_queue::Lanes;
 
 // The node at a position, BIUs before RMUs.
-fn node_at(bius: usize, position: usize) -> NodeName
+pub(crate) fn node_at(bius: usize, position: usize) -> NodeName
     requires bius { bius ≤ 16 }
     requires position { position < 256 }
     ensures { result ≡ node_at bius position }
@@ -102,11 +102,69 @@ pub(crate) fn put_key(keys: &mut Vec<u64>, front: Front, place: usize, key: u64)
 {
     let before = keys[place];
     keys[place] = key;
-    if before < key {
+    if before >= key {
+        front_lowered(front, place, key)
+    } else if place == front.first {
         front_of(keys)
     } else {
-        front_lowered(front, place, key)
+        front
     }
+}
+
+// The time of a tick. An arrival has none: the last time that there is.
+pub(crate) fn tick_time(kind: &EventKind, time: u64) -> u64
+    ensures value { result ≡ tick_time_of kind.now time }
+    ensures small { result ≤ 18446744073709551615 }
+{
+    match kind {
+        EventKind::Arrive { .. } => u64::MAX,
+        EventKind::Tick { .. } => time,
+    }
+}
+
+// A tick more at a place.
+pub(crate) fn add_tick(ticks: &mut Vec<u64>, place: usize, time: u64)
+    requires { place < length ticks.old.items }
+    ensures { ticks.new.items ≡ slice_set ticks.old.items place (min (get_or ticks.old.items place 0) time) }
+{
+    let least = ticks[place].min(time);
+    ticks[place] = least;
+}
+
+// The time of the first tick of a node after an event was taken there, where it was this before.
+fn tick_after(lanes: &Lanes, node: NodeName, kind: &EventKind, before: u64) -> u64
+    requires { HasLane lanes.now node }
+    ensures { result ≡ tick_after kind.now before (first_tick_of (lane_of lanes.now node).events) }
+{
+    match kind {
+        EventKind::Arrive { .. } => before,
+        EventKind::Tick { .. } => lanes.first_tick(node),
+    }
+}
+
+// An event of the node, whose place this is, was taken.
+pub(crate) fn take_tick(
+    ticks: &mut Vec<u64>,
+    place: usize,
+    lanes: &Lanes,
+    node: NodeName,
+    kind: &EventKind,
+)
+    requires within { place < length ticks.old.items }
+    requires lane { HasLane lanes.now node }
+    ensures { ticks.new.items ≡ slice_set ticks.old.items place
+        (tick_after kind.now (get_or ticks.old.items place 0) (first_tick_of (lane_of lanes.now node).events)) }
+{
+    let tick = tick_after(lanes, node, kind, ticks[place]);
+    ticks[place] = tick;
+}
+
+// The tick at a place is dropped.
+pub(crate) fn drop_tick(ticks: &mut Vec<u64>, place: usize)
+    requires { place < length ticks.old.items }
+    ensures { ticks.new.items ≡ slice_set ticks.old.items place 18446744073709551615 }
+{
+    ticks[place] = u64::MAX;
 }
 
 // How many events of a node are due at a time, where the node has this least time.

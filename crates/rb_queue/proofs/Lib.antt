@@ -1,3 +1,4 @@
+pub mod Ticks
 pub mod Times
 pub mod Sources
 pub mod First

@@ -1,5 +1,5 @@
 -- Pending events by node: which is the least time at a node, and which events are ready then.
-use Rattle.std.specs.Prelude.{ℕ, ◌-◌, ◌<◌, ◌==◌, ◌&&◌, Bool, Option, Some, None, option_map, unwrap_or, List, [], ◌∷◌, ◌++◌, filter, flat_map, length, map, remove, slice_get, slice_set}
+use Rattle.std.specs.Prelude.{ℕ, min, ◌-◌, ◌<◌, ◌==◌, ◌&&◌, Bool, Option, Some, None, option_map, unwrap_or, List, [], ◌∷◌, ◌++◌, filter, flat_map, length, map, remove, slice_get, slice_set}
 use Rattle.std.specs.List.{enumerate_from}
 use Rattle.rb_base.specs.Counting.{numbers}
 use Rattle.rb_base.specs.declared.event.Event.{Event}
@@ -10,6 +10,16 @@ use Rattle.rb_base.specs.declared.node.NodeName.TheVariants as node
 use Rattle.rb_rules.specs.Book.{Each}
 use Rattle.rb_rules.specs.WorldStep.{least}
 use Rattle.rb_queue.specs.declared.pending.Pending.{Pending}
+
+-- the time of a tick. An arrival has none, which is the last time that there is
+abbrev pub tick_time_of : EventKind → ℕ → ℕ
+tick_time_of (Arrive from bytes) time = 18446744073709551615
+tick_time_of (Tick word wanted) time = time
+
+-- the least time of a tick among the events, and where there is none the last time that there is
+unfoldable pub first_tick_of : List Pending → ℕ
+first_tick_of [] = 18446744073709551615
+first_tick_of (p ∷ events) = min (tick_time_of p.event.kind p.time) (first_tick_of events)
 
 -- what a lane holds: its events, in the order of pushing, and its room
 pub record Held : Type 0 where

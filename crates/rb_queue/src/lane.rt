@@ -1,9 +1,11 @@
 //! The pending events of one node.
 ghost use Rattle.std.specs.Prelude.{◌≡◌, ◌<◌, ◌≤◌, length, [], Some, IfOk, IsNone, IsTrue, ◌↔◌};
-ghost use Rattle.rb_queue.specs.Waiting.{ready_event, empty_lane, without_events, head_of, with_event, ready_of, spare_of, without_ready};
+ghost use Rattle.rb_queue.specs.Waiting.{ready_event, empty_lane, first_tick_of, without_events, head_of, with_event, ready_of, spare_of, without_ready};
 
 use crate::pending::Pending;
-use crate::scan::{count_ready, earlier, first_of, first_with, least_time, place_ready};
+use crate::scan::{
+    count_ready, earlier, first_of, first_tick, first_with, least_time, place_ready,
+};
 use rb_base::{Event, OutOfMemory};
 use std::alloc::Global;
 use std::marker::Model;
@@ -73,6 +75,12 @@ impl Lane {
         ensures { IsTrue result ↔ 0 < length (ready_of self.now) }
     {
         self.head.is_some()
+    }
+
+    pub(crate) fn first_tick(&self) -> u64
+        ensures { result ≡ first_tick_of self.now.events }
+    {
+        first_tick(&self.events)
     }
 
     pub(crate) fn ready(&self) -> usize

@@ -2,7 +2,7 @@
 ghost use Rattle.std.specs.Prelude.{◌≡◌, ◌<◌, ◌≤◌, [], ◌∷◌, ◌++◌, length, map, Some, IfOk, IsNone, IsTrue, ◌↔◌};
 ghost use Rattle.rb_base.specs.Counting.{numbers};
 ghost use Rattle.rb_rules.specs.Book.{each_of};
-ghost use Rattle.rb_queue.specs.Waiting.{HasLane, empty_lane, without_events, head_of, lane_of, with_event, ready_event, ready_of, spare_of, with_lane, without_ready};
+ghost use Rattle.rb_queue.specs.Waiting.{HasLane, empty_lane, first_tick_of, without_events, head_of, lane_of, with_event, ready_event, ready_of, spare_of, with_lane, without_ready};
 
 use crate::lane::Lane;
 use crate::pending::Pending;
@@ -96,6 +96,14 @@ impl Lanes {
         ensures none { IsNone result ↔ ((lane_of self.now node).events ≡ []) }
     {
         self.lane(node).head()
+    }
+
+    /// The least time, in reference units, at which a tick of the node is due; 2^64 - 1 where there is none.
+    pub fn first_tick(&self, node: NodeName) -> u64
+        requires in_shape { HasLane self.now node }
+        ensures value { result ≡ first_tick_of (lane_of self.now node).events }
+    {
+        self.lane(node).first_tick()
     }
 
     /// Whether an event of the node is ready.

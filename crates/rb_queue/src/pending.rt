@@ -1,6 +1,6 @@
 //! A pending event.
 ghost use Rattle.std.specs.Prelude.{◌≡◌, ◌≤◌};
-ghost use Rattle.rb_queue.specs.Waiting.{comes, source_of};
+ghost use Rattle.rb_queue.specs.Waiting.{comes, source_of, tick_time_of};
 ghost use Rattle.rb_queue.specs.Scanning.{comes_before};
 
 use rb_base::{Event, EventKind};
@@ -21,6 +21,16 @@ impl Pending {
         match &self.event.kind {
             EventKind::Arrive { from, .. } => u16::from(*from),
             EventKind::Tick { .. } => 256,
+        }
+    }
+
+    // The time of a tick, or the last time that there is.
+    pub(crate) fn tick_time(&self) -> u64
+        ensures { result ≡ tick_time_of self.now.event.kind self.now.time }
+    {
+        match &self.event.kind {
+            EventKind::Arrive { .. } => u64::MAX,
+            EventKind::Tick { .. } => self.time,
         }
     }
 

@@ -2,7 +2,7 @@
 ghost use Rattle.std.specs.Prelude.{◌≡◌, ℕ, ◌+◌, ◌<◌, ◌≤◌, ◌++◌, ◌∷◌, [], length, map, MatchResult, Option};
 ghost use Rattle.rb_base.specs.Counting.{count_if};
 ghost use Rattle.rb_rules.specs.WorldStep.{least};
-ghost use Rattle.rb_queue.specs.Waiting.{coming_at, comes, ready_at, ready_from};
+ghost use Rattle.rb_queue.specs.Waiting.{coming_at, comes, first_tick_of, ready_at, ready_from};
 ghost use Rattle.rb_queue.specs.Scanning.{HasFirst, StandsAt, earlier, is_between};
 
 use crate::pending::Pending;
@@ -54,6 +54,17 @@ pub(crate) fn least_time(events: &[Pending], first: usize) -> Option<u64>
     } else {
         None
     }
+}
+
+// The least time of a tick, or the last time that there is.
+pub(crate) fn first_tick(events: &[Pending]) -> u64
+    ensures { result ≡ first_tick_of events.now }
+{
+    let mut least = u64::MAX;
+    for pending in events {
+        least = least.min(pending.tick_time());
+    }
+    least
 }
 
 fn is_between(pending: &Pending, time: u64, first: u16, end: u16) -> bool

@@ -4,6 +4,5 @@ pub mod FormAnswers
 pub mod Summing
 pub mod OneForm
 pub mod Spelled
-pub mod Scopes
 pub mod Promised
 pub mod Completeness

@@ -31,3 +31,14 @@ pub mod Showing
 pub mod InTime
 pub mod Arrivals
 pub mod Asked
+pub mod Soonest
+pub mod Taken
+pub mod Passed
+pub mod Spans
+pub mod Swept
+pub mod Behind
+pub mod GoneOn
+pub mod CaughtUp
+pub mod Along
+pub mod Small
+pub mod Running

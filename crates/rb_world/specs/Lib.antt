@@ -7,3 +7,5 @@ pub mod Numbering
 pub mod Driving
 pub mod Openings
 pub mod Showing
+pub mod Trailing
+pub mod Sweeping

@@ -1,5 +1,5 @@
 //! What may be taken.
-ghost use Rattle.std.specs.Prelude.{◌≡◌, ℕ, ◌<◌, ◌≤◌, Option, Some, List, is_some, length, IsTrue, ◌↔◌};
+ghost use Rattle.std.specs.Prelude.{◌≡◌, ℕ, ◌<◌, ◌≤◌, Option, Some, List, is_some, length};
 ghost use Rattle.rb_base.specs.Nodes.{side_of};
 ghost use Rattle.rb_base.specs.Sizes.{Sizes};
 ghost use Rattle.rb_rules.specs.Ports.{PortState};
@@ -129,17 +129,6 @@ impl World {
             return 0;
         }
         self.scene.agenda.due()
-    }
-
-    // Whether an event may be taken.
-    pub(crate) fn is_due(&self) -> bool
-        ensures value { IsTrue result ↔ 0 < due_in self.now }
-        ensures world { (w : RunWorld) → Stands self.now w → IsTrue result ↔ 0 < length (due_of self.now.bus w) }
-    {
-        if self.scene.book.has_ended() || self.scene.book.needs_no_event() {
-            return false;
-        }
-        self.scene.agenda.is_due()
     }
 
     /// The i-th of the events that are due, counted from 0: how many quiet ticks its node has before it, and the arrival, or the tick

@@ -11,9 +11,11 @@ mod next;
 mod opening;
 mod proceeding;
 mod scene;
+mod sweeping;
 mod taking;
 mod ticking;
 pub mod ties;
+mod trailing;
 pub mod world;
 
 pub use drive::{Drive, FirstDrive, MemDrive};

@@ -13,6 +13,7 @@ ghost use Rattle.rb_world.specs.Worlds.{Stands, last_of};
 use crate::last::Last;
 use crate::taking::last_of;
 use crate::ties::{Ties, choose};
+use crate::trailing::run_ticks;
 use crate::world::World;
 use rb_book::{Turn, Way};
 use rb_gen::Draws;
@@ -44,21 +45,7 @@ impl World {
         self.last = last_of(turn);
     }
 
-    // Takes the first event that is due, and where none is, goes on without one.
-    #[inline(always)]
-    fn step_first(&mut self, apps: &Apps, turn: &mut Turn)
-        requires { turn.old ≡ Turn.Quiet }
-        ensures world { (w : RunWorld) (state : ℕ) → Stands self.old w → TakesStep First state state self.old self.new turn.new w }
-        ensures bus { self.new.bus ≡ self.old.bus }
-    {
-        if self.is_due() {
-            self.take_into(apps, 0, turn);
-        } else {
-            self.go_on(turn);
-        }
-    }
-
-    // The same, where how many are due tells which of them is taken.
+    // Takes one of the events that are due, and where none is, goes on without one.
     #[inline(never)]
     fn step_counted(&mut self, apps: &Apps, ties: Ties, draws: &mut Draws, turn: &mut Turn)
         requires { turn.old ≡ Turn.Quiet }
@@ -74,34 +61,57 @@ impl World {
         self.take_into(apps, i, turn);
     }
 
-    // The same for any choices.
-    #[inline(always)]
-    fn step(&mut self, apps: &Apps, ties: Ties, draws: &mut Draws, turn: &mut Turn)
-        requires { turn.old ≡ Turn.Quiet }
-        ensures world { (w : RunWorld) → Stands self.old w → TakesStep ties draws.old.state draws.new.state self.old self.new turn.new w }
-        ensures bus { self.new.bus ≡ self.old.bus }
-    {
-        match ties {
-            Ties::First => self.step_first(apps, turn),
-            _ => self.step_counted(apps, ties, draws, turn),
-        }
-    }
-
     // Takes steps up to the next record. A run has fewer than 2^64 - 1 events.
-    fn run_on(&mut self, apps: &Apps, ties: Ties, draws: &mut Draws, turn: &mut Turn)
+    #[inline(never)]
+    fn run_counted(&mut self, apps: &Apps, ties: Ties, draws: &mut Draws, turn: &mut Turn)
         requires stands { (w : RunWorld) × Stands self.old w }
         requires quiet { turn.old ≡ Turn.Quiet }
         ensures world { (w : RunWorld) → Stands self.old w → RunsOn ties draws.old.state draws.new.state self.old self.new turn.new w }
         ensures bus { self.new.bus ≡ self.old.bus }
     {
         for passed in 0..u64::MAX {
-            self.step(apps, ties, draws, turn);
+            self.step_counted(apps, ties, draws, turn);
             if let Turn::Quiet = turn {
                 continue;
             }
             return;
         }
         unreachable!()
+    }
+
+    // The same by first choices: from tick to tick.
+    fn run_first(&mut self, apps: &Apps, turn: &mut Turn)
+        requires stands { (w : RunWorld) × Stands self.old w }
+        requires quiet { turn.old ≡ Turn.Quiet }
+        ensures world { (w : RunWorld) (state : ℕ) → Stands self.old w → RunsOn First state state self.old self.new turn.new w }
+        ensures bus { self.new.bus ≡ self.old.bus }
+    {
+        if self.scene.book.has_ended() {
+            *turn = last_turn(self.last);
+            return;
+        }
+        run_ticks(
+            &self.bus,
+            apps,
+            &mut self.bius,
+            &mut self.rmus,
+            &mut self.scene,
+            turn,
+        );
+        self.last = last_of(turn);
+    }
+
+    // The same for any choices.
+    fn run_on(&mut self, apps: &Apps, ties: Ties, draws: &mut Draws, turn: &mut Turn)
+        requires stands { (w : RunWorld) × Stands self.old w }
+        requires quiet { turn.old ≡ Turn.Quiet }
+        ensures world { (w : RunWorld) → Stands self.old w → RunsOn ties draws.old.state draws.new.state self.old self.new turn.new w }
+        ensures bus { self.new.bus ≡ self.old.bus }
+    {
+        match ties {
+            Ties::First => self.run_first(apps, turn),
+            _ => self.run_counted(apps, ties, draws, turn),
+        }
     }
 
     /// The next record: a record that needs no event is given by itself, else events that are due are taken, chosen by `ties`, until

@@ -35,7 +35,7 @@ pub(crate) fn last_of(turn: &Turn) -> Last
 }
 
 // The node takes the tick that is ahead of it.
-fn tick_at<K: Kind>(
+pub(crate) fn tick_at<K: Kind>(
     bus: &Bus,
     apps: &Apps,
     node: NodeName,

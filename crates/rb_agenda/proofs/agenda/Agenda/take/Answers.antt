@@ -1,9 +1,10 @@
 use Rattle.std.proofs.Common.{◌≡◌, sym, ap, subst, ◌∙◌}
 use Rattle.rb_queue.specs.Waiting.{lane_of, without_ready}
-use Rattle.rb_agenda.specs.Agenda.{AreKept, StandsAt, TakesDue, first_time, least_key}
+use Rattle.rb_agenda.specs.Agenda.{AreKept, AreTicks, StandsAt, TakesDue, first_time, least_key}
 use Rattle.rb_agenda.specs.Holding.{HoldsSites}
 use Rattle.rb_agenda.proofs.Keeping.{kept-times, kept-with, room-of, room-without}
 use Rattle.rb_agenda.proofs.Taking.{takes-due}
+use Rattle.rb_agenda.proofs.Ticks.{tick-place, ticks-taken}
 use Rattle.rb_agenda.proofs.agenda.Agenda.take.Goals as goal
 
 pub invariant_of-self : goal.invariant_of-self
@@ -20,7 +21,15 @@ invariant_of-self c =
           (room-without place (lane_of lanes name) (room-of lanes keys bius name c.self.invariant.0 c.locate-node.ensures.lane))
           c.key_of-key.ensures.value c.key_of-key.ensures.small),
       call.ensures.front,
+      subst (AreTicks c.take-event.new.self) (sym c.take_tick.ensures)
+          (ticks-taken lanes c.take-event.new.self c.self.inside.ticks.items bius c.position_of-place.result name place c.take-event.result c.self.invariant.0.split
+          c.position_of-place.ensures c.self.invariant.2 c.locate-node.ensures.lane c.take-event.ensures.value c.take-event.ensures.after),
     )
+
+pub take_tick-requires-clause-within : goal.take_tick-requires-clause-within
+take_tick-requires-clause-within c =
+    (tick-place c.self.inside.lanes c.self.inside.ticks.items c.self.inside.bius c.position_of-place.result c.locate-node.result.0 c.self.invariant.0.split c.position_of-place.ensures
+    c.self.invariant.2 c.locate-node.ensures.lane).0
 
 pub returns-clause-world : goal.returns-clause-world
 returns-clause-world c =

@@ -1,37 +1,8 @@
-use Rattle.std.proofs.Common.{arith, refl, ◌∙◌}
-use Rattle.rb_world.specs.Nexts.{after_steps}
-use Rattle.rb_world.proofs.NextRecord.{last-step, more-steps, no-steps, not-so-many, some-record}
+use Rattle.std.proofs.Common.{sym, subst}
+use Rattle.rb_world.specs.Nexts.{RunsOn}
 use Rattle.rb_world.proofs.world.World.run_on.Goals as goal
 
-pub loop-passed-init : goal.loop-passed-init
-loop-passed-init g c = record { is_quiet = c.requires.quiet; bus = refl; quiet = λ w is. no-steps c.args.ties c.args.draws.now.state c.args.self.now w is }
-
-pub returns-in-loop-passed : goal.returns-in-loop-passed
-returns-in-loop-passed g c = record {
-  world = λ w is.
-      let steps = c.loop-passed.invariant.quiet w is in
-      last-step c.loop-passed.passed c.args.ties c.args.draws.now.state c.loop-passed.draws.state c.step.new.draws.state c.args.self.now c.loop-passed.self
-      c.step.new.self c.step.new.turn w steps c.loop-passed.invariant.bus
-      (c.step.ensures.world (after_steps c.args.self.now.bus c.args.ties c.loop-passed.passed (record { world = w; draws = c.args.draws.now.state })).world steps.stands)
-      (some-record c.step.new.turn c.in_default.not-Quiet);
-  bus = c.step.ensures.bus ∙ c.loop-passed.invariant.bus;
-}
-
-pub loop-passed-preserved : goal.loop-passed-preserved
-loop-passed-preserved g c = record {
-  is_quiet = c.in-Quiet.is;
-  bus = c.step.ensures.bus ∙ c.loop-passed.invariant.bus;
-  quiet = λ w is.
-      let steps = c.loop-passed.invariant.quiet w is in
-      more-steps c.loop-passed.passed c.args.ties c.args.draws.now.state c.loop-passed.draws.state c.step.new.draws.state c.args.self.now c.loop-passed.self
-      c.step.new.self c.step.new.turn w steps c.loop-passed.invariant.bus
-      (c.step.ensures.world (after_steps c.args.self.now.bus c.args.ties c.loop-passed.passed (record { world = w; draws = c.args.draws.now.state })).world steps.stands)
-      c.in-Quiet.is;
-}
-
-pub unreachable-requires : goal.unreachable-requires
-unreachable-requires g c =
-    let few = not-so-many c.loop-passed.passed c.args.ties c.args.draws.now.state c.loop-passed.draws.state c.args.self.now c.loop-passed.self c.requires.stands.0 c.requires.stands.1
-    (c.loop-passed.invariant.quiet c.requires.stands.0 c.requires.stands.1) in
-    let many = c.loop-passed-test.false in
-    absurd (omega (arith, few, many))
+pub returns-in-First-clause-world : goal.returns-in-First-clause-world
+returns-in-First-clause-world g c = λ w is.
+    subst (λ t. RunsOn t c.args.draws.now.state c.args.draws.now.state c.args.self.now c.run_first.new.self c.run_first.new.turn w) (sym c.in-First.is)
+    (c.run_first.ensures.world w c.args.draws.now.state is)

@@ -1,0 +1,37 @@
+use Rattle.std.proofs.Common.{sym, subst, ◌∙◌, arith}
+use Rattle.rb_agenda.specs.Fronts.{IsFront}
+use Rattle.rb_agenda.specs.Holding.{HoldsSites}
+use Rattle.rb_agenda.proofs.Ticks.{first-is, few-ticks, name-there}
+use Rattle.rb_agenda.proofs.agenda.Agenda.first_tick.Goals as goal
+
+pub returns-then-front-len : goal.returns-then-front-len
+returns-then-front-len c = record {
+  world = λ sizes sites holds me i time first.
+      let lanes = c.self.inside.lanes in
+      let front : IsFront c.self.inside.ticks.items c.front_of-front.result = subst (λ ks. IsFront ks c.front_of-front.result) c.deref.ensures.value c.front_of-front.ensures in
+      let is = first-is sizes lanes sites c.self.inside.ticks.items c.self.inside.bius c.front_of-front.result
+      (subst (λ x. HoldsSites sizes x sites) (sym c.self.view_is) holds) c.self.invariant.2 c.self.invariant.0.split front me i time first in
+      let within = is.0 in
+      absurd (omega (arith, within, c.if-front-len.true));
+}
+
+pub returns : goal.returns
+returns c = record {
+  world = λ sizes sites holds me i time first.
+      let lanes = c.self.inside.lanes in
+      let front : IsFront c.self.inside.ticks.items c.front_of-front.result = subst (λ ks. IsFront ks c.front_of-front.result) c.deref.ensures.value c.front_of-front.ensures in
+      let held : HoldsSites sizes lanes sites = subst (λ x. HoldsSites sizes x sites) (sym c.self.view_is) holds in
+      let is = first-is sizes lanes sites c.self.inside.ticks.items c.self.inside.bius c.front_of-front.result held c.self.invariant.2 c.self.invariant.0.split front me i time first in
+      (c.node_at.ensures ∙ name-there sizes lanes sites c.self.inside.bius c.front_of-front.result.first held c.self.invariant.0.split me i time first is.1.0, is.1.1);
+}
+
+pub node_at-requires-clause-position : goal.node_at-requires-clause-position
+node_at-requires-clause-position c =
+    let few = few-ticks c.self.inside.lanes c.self.inside.keys.items c.self.inside.ticks.items c.self.inside.bius c.self.invariant.0 c.self.invariant.2 in
+    omega (arith, few, c.if-front-len.false)
+
+pub node_at-requires-clause-bius : goal.node_at-requires-clause-bius
+node_at-requires-clause-bius c =
+    let few = c.self.invariant.0.few_bius in
+    let split = c.self.invariant.0.split in
+    omega (arith, few, split)

@@ -1,0 +1,11 @@
+pub mod Cells
+pub mod WellFormed
+pub mod Openings
+pub mod Documents
+pub mod Orders
+pub mod Turns
+pub mod Words
+pub mod Spaces
+pub mod Parts
+pub mod Whole
+pub mod Cuts

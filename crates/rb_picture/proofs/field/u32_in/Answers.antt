@@ -1,0 +1,8 @@
+use Rattle.std.proofs.Common.{◌∙◌, ap, arith}
+use Rattle.std.specs.Result.{result_ok}
+use Rattle.std.proofs.lemmas.Fmt.{parse-decimal}
+use Rattle.rb_picture.proofs.field.u32_in.Goals as goal
+
+pub returns : goal.returns
+returns c n small is =
+    c.ok.ensures.value ∙ ap (λ r. result_ok r) (parse-decimal 32 n c.args.text.now c.parse.result small (omega (arith, small)) is c.parse.ensures.value.0)

@@ -1,0 +1,133 @@
+-- What the lines of the frames asked for span: nodes, slots, words and times.
+use Rattle.std.specs.Prelude.{ℕ, zero, suc, ◌+◌, ◌-◌, ◌^◌, min, max, nat_le, ◌==◌, ◌&&◌, ◌||◌, Bool, true, if◌then◌else◌, List, [], ◌∷◌}
+use Rattle.rb_base.specs.Nodes.{has, set_of}
+use Rattle.rb_base.specs.declared.node.NodeName.{NodeName}
+use Rattle.rb_base.specs.declared.node.NodeName.TheVariants.{Biu, Rmu}
+use Rattle.rb_base.specs.declared.values.Heard.{Heard}
+use Rattle.rb_base.specs.declared.values.Heard.TheVariants.{Word, Fault}
+use Rattle.rb_picture.specs.declared.line.Line.{Line}
+use Rattle.rb_picture.specs.declared.line.Line.TheVariants as line
+use Rattle.rb_picture.specs.declared.extent.Extent.{Extent}
+use Rattle.rb_picture.specs.declared.extent.Begins.{Begins}
+use Rattle.rb_picture.specs.declared.extent.Facts.{Facts}
+
+-- whether a frame is one of those asked for
+abbrev pub is_between : ℕ → ℕ → ℕ → Bool
+is_between first last frame = nat_le first frame && nat_le frame last
+
+-- whether the line is of one of these frames; that the run came to its end is always wanted
+abbrev pub is_asked : ℕ → ℕ → Line → Bool
+is_asked first last (line.Epoch l) = is_between first last l.frame
+is_asked first last (line.Convicted l) = is_between first last l.frame
+is_asked first last (line.Port l) = is_between first last l.frame
+is_asked first last (line.Delivery l) = is_between first last l.frame
+is_asked first last (line.End frames) = true
+is_asked first last (line.Breach place cause) = is_between first last place.frame
+
+-- one more than the greatest number of a set below n, 0 for the empty set
+unfoldable pub top_below : ℕ → ℕ → ℕ
+top_below zero set = 0
+top_below (suc n) set = if has set n then suc n else top_below n set
+
+abbrev pub top_of : ℕ → ℕ
+top_of set = top_below 16 set
+
+-- nothing was seen yet
+abbrev pub no_begins : Begins
+no_begins = record { frame = 0; least = 2 ^ 64 - 1; greatest = 0 }
+
+-- a node begins a frame at a time
+abbrev pub with_begin : Begins → ℕ → ℕ → Begins
+with_begin begins frame time =
+    if begins.frame == frame
+    then record { frame = frame; least = min begins.least time; greatest = max begins.greatest time }
+    else record { frame = frame; least = time; greatest = time }
+
+-- between the first and the last begin
+abbrev pub spread_of : Begins → ℕ
+spread_of begins = begins.greatest - begins.least
+
+-- nothing spans nothing
+abbrev pub no_extent : Extent
+no_extent = record { first = 2 ^ 32 - 1; bius = 0; rmus = 0; low = 2 ^ 16 - 1; high = 0; word = 0; spread = 0; last = 0 }
+
+abbrev pub with_frame : Extent → ℕ → Extent
+with_frame extent frame = record extent { first = min extent.first frame; last = max extent.last frame }
+
+abbrev pub with_node : Extent → NodeName → Extent
+with_node extent (Biu i) = record extent { bius = max extent.bius (i + 1) }
+with_node extent (Rmu i) = record extent { rmus = max extent.rmus (i + 1) }
+
+abbrev pub with_sets : Extent → ℕ → ℕ → Extent
+with_sets extent biu rmu = record extent { bius = max extent.bius (top_of biu); rmus = max extent.rmus (top_of rmu) }
+
+abbrev pub with_slot : Extent → ℕ → Extent
+with_slot extent slot = record extent { low = min extent.low slot; high = max extent.high (slot + 1) }
+
+abbrev pub with_word : Extent → Heard → Extent
+with_word extent (Word word) = record extent { word = max extent.word word }
+with_word extent Fault = extent
+
+abbrev pub with_spread : Extent → ℕ → Extent
+with_spread extent spread = record extent { spread = max extent.spread spread }
+
+-- the begins of the newest frame after one more line
+abbrev pub begins_after : Begins → Line → Begins
+begins_after begins (line.Epoch l) = with_begin begins l.frame l.time
+begins_after begins (line.Convicted l) = begins
+begins_after begins (line.Port l) = begins
+begins_after begins (line.Delivery l) = begins
+begins_after begins (line.End frames) = begins
+begins_after begins (line.Breach place cause) = begins
+
+-- what is spanned with one more line, with which the newest frame has begun like this
+abbrev pub extent_after : Extent → Begins → Line → Extent
+extent_after extent begins (line.Epoch l) = with_spread (with_node (with_frame extent l.frame) l.node) (spread_of begins)
+extent_after extent begins (line.Convicted l) = with_sets (with_node (with_frame extent l.frame) l.node) l.biu l.rmu
+extent_after extent begins (line.Port l) = with_node (with_frame extent l.frame) (Biu l.biu)
+extent_after extent begins (line.Delivery l) =
+    with_word (with_slot (with_node (with_node (with_frame extent l.frame) (Biu l.receiver)) (Biu l.sender)) l.slot) l.value
+extent_after extent begins (line.End frames) = extent
+extent_after extent begins (line.Breach place cause) = with_frame extent place.frame
+
+-- what lines span
+abbrev pub extent_from : Extent → Begins → List Line → Extent
+extent_from extent begins [] = extent
+extent_from extent begins (l ∷ lines) = extent_from (extent_after extent (begins_after begins l) l) (begins_after begins l) lines
+
+abbrev pub extent_of : List Line → Extent
+extent_of lines = extent_from no_extent no_begins lines
+
+-- one more than the frame of a line, and this number for the end of a run
+abbrev pub mark_of : ℕ → Line → ℕ
+mark_of mark (line.Epoch l) = l.frame + 1
+mark_of mark (line.Convicted l) = l.frame + 1
+mark_of mark (line.Port l) = l.frame + 1
+mark_of mark (line.Delivery l) = l.frame + 1
+mark_of mark (line.End frames) = mark
+mark_of mark (line.Breach place cause) = place.frame + 1
+
+-- nothing is known of a frame
+abbrev pub no_facts : Facts
+no_facts = record { begins = no_begins; biu = 0; rmu = 0 }
+
+-- the nodes of both sets
+abbrev pub both : ℕ → ℕ → ℕ
+both a b = set_of (λ i. has a i || has b i)
+
+-- what is known of a frame with one more of its lines
+abbrev pub facts_after : Facts → Line → Facts
+facts_after facts (line.Epoch l) = record facts { begins = with_begin facts.begins l.frame l.time }
+facts_after facts (line.Convicted l) = record facts { biu = both facts.biu l.biu; rmu = both facts.rmu l.rmu }
+facts_after facts (line.Port l) = facts
+facts_after facts (line.Delivery l) = facts
+facts_after facts (line.End frames) = facts
+facts_after facts (line.Breach place cause) = facts
+
+-- what the lines of a frame say, which come first. The frame is that with this number less one
+abbrev pub facts_from : ℕ → Facts → List Line → Facts
+facts_from mark facts [] = facts
+facts_from mark facts (l ∷ lines) = if mark_of 0 l == mark then facts_from mark (facts_after facts l) lines else facts
+
+abbrev pub facts_of : ℕ → List Line → Facts
+facts_of mark lines = facts_from mark no_facts lines

@@ -1,0 +1,35 @@
+-- What holds of every picture.
+use Rattle.std.specs.Prelude.{ℕ, ◌≡◌, List, [], ◌∷◌}
+use Rattle.rb_picture.specs.declared.line.Line.{Line}
+use Rattle.rb_picture.specs.declared.line.Line.TheVariants as line
+use Rattle.rb_picture.specs.declared.line.DeliveryLine.{DeliveryLine}
+use Rattle.rb_picture.specs.Content.{IsDocument}
+use Rattle.rb_picture.specs.Picture.{Piece, picture_text, pieces_of}
+use Rattle.rb_picture.specs.Picture.Piece.{Ground, Tick, Cell, Break, Ending}
+
+-- the cells among parts of a picture, each by its delivery
+abbrev pub cells_of : List Piece → List DeliveryLine
+cells_of [] = []
+cells_of (Ground frame facts ∷ pieces) = cells_of pieces
+cells_of (Tick frame node after ∷ pieces) = cells_of pieces
+cells_of (Cell l ∷ pieces) = l ∷ cells_of pieces
+cells_of (Break place cause ∷ pieces) = cells_of pieces
+cells_of (Ending frames ∷ pieces) = cells_of pieces
+
+-- the deliveries among lines
+abbrev pub deliveries_of : List Line → List DeliveryLine
+deliveries_of [] = []
+deliveries_of (line.Epoch l ∷ lines) = deliveries_of lines
+deliveries_of (line.Convicted l ∷ lines) = deliveries_of lines
+deliveries_of (line.Port l ∷ lines) = deliveries_of lines
+deliveries_of (line.Delivery l ∷ lines) = l ∷ deliveries_of lines
+deliveries_of (line.End frames ∷ lines) = deliveries_of lines
+deliveries_of (line.Breach place cause ∷ lines) = deliveries_of lines
+
+-- a picture has one cell for each delivery, in order, and no other cells
+abbrev pub OneCellEach : Type 0
+OneCellEach = (lines : List Line) → cells_of (pieces_of lines) ≡ deliveries_of lines
+
+-- its text is one element, in which all others nest and close and all text is escaped
+abbrev pub IsWellFormed : Type 0
+IsWellFormed = (style : List ℕ) (lines : List Line) → IsDocument (picture_text style lines)

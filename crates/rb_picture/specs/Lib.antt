@@ -1,0 +1,10 @@
+pub mod Fields
+pub mod Lines
+pub mod Markup
+pub mod Content
+pub mod Extents
+pub mod Places
+pub mod Drawing
+pub mod Picture
+pub mod Laws
+pub mod Answers

@@ -1,0 +1,70 @@
+-- Where things stand in a picture, in pixels: a panel for each frame, in it a row for each node, and a column for each slot.
+use Rattle.std.specs.Prelude.{ℕ, ◌+◌, ◌-◌, ◌*◌, ◌/◌, min, max, nat_lt, if◌then◌else◌}
+use Rattle.rb_base.specs.declared.node.NodeName.{NodeName}
+use Rattle.rb_base.specs.declared.node.NodeName.TheVariants.{Biu, Rmu}
+use Rattle.rb_base.specs.declared.values.Place.{Place}
+use Rattle.rb_picture.specs.declared.extent.Extent.{Extent}
+use Rattle.rb_picture.specs.declared.line.DeliveryLine.{DeliveryLine}
+use Rattle.rb_picture.specs.declared.markup.Area.{Area}
+
+abbrev pub rows_of : Extent → ℕ
+rows_of extent = extent.bius + extent.rmus
+
+abbrev pub slots_of : Extent → ℕ
+slots_of extent = extent.high - extent.low
+
+-- BIUs stand above RMUs
+abbrev pub row_of : Extent → NodeName → ℕ
+row_of extent (Biu i) = i
+row_of extent (Rmu i) = extent.bius + i
+
+-- a head, the rows and a gap
+abbrev pub panel_height : Extent → ℕ
+panel_height extent = 76 + 20 * rows_of extent
+
+abbrev pub panel_top : Extent → ℕ → ℕ
+panel_top extent frame = 92 + panel_height extent * (frame - extent.first)
+
+abbrev pub row_top : Extent → ℕ → ℕ → ℕ
+row_top extent frame row = panel_top extent frame + 56 + 20 * row
+
+-- room for the longest word
+abbrev pub cell_width : Extent → ℕ
+cell_width extent = if nat_lt extent.word 1000 then 36 else if nat_lt extent.word 1000000 then 58 else 84
+
+abbrev pub column_left : Extent → ℕ → ℕ
+column_left extent slot = 284 + cell_width extent * (slot - extent.low)
+
+abbrev pub picture_width : Extent → ℕ
+picture_width extent = max 640 (max (40 + 60 * extent.bius) (304 + cell_width extent * slots_of extent))
+
+abbrev pub picture_height : Extent → ℕ
+picture_height extent = 92 + panel_height extent * (extent.last + 1 - extent.first)
+
+-- so many units of time are one pixel
+abbrev pub scale_of : Extent → ℕ
+scale_of extent = extent.spread / 160 + 1
+
+abbrev pub panel_area : Extent → ℕ → Area
+panel_area extent frame =
+    record { x = 8; y = panel_top extent frame; width = picture_width extent - 16; height = panel_height extent - 8 }
+
+abbrev pub strip_area : Extent → ℕ → Area
+strip_area extent frame = record { x = 92; y = row_top extent frame 0; width = 168; height = 20 * rows_of extent }
+
+abbrev pub grid_area : Extent → ℕ → Area
+grid_area extent frame =
+    record { x = 284; y = row_top extent frame 0; width = cell_width extent * slots_of extent; height = 20 * extent.bius }
+
+-- how long after the first begin a node begins the frame; no further than the strip
+abbrev pub tick_area : Extent → ℕ → NodeName → ℕ → Area
+tick_area extent frame node after =
+    record { x = 94 + min (after / scale_of extent) 160; y = row_top extent frame (row_of extent node) + 3; width = 4; height = 14 }
+
+abbrev pub cell_area : Extent → DeliveryLine → Area
+cell_area extent l =
+    record { x = column_left extent l.slot + 1; y = row_top extent l.frame l.receiver + 1; width = cell_width extent - 2; height = 18 }
+
+abbrev pub breach_area : Extent → Place → Area
+breach_area extent place =
+    record { x = column_left extent (min place.slot extent.high); y = row_top extent place.frame 0 - 24; width = 3; height = 20 * rows_of extent + 28 }

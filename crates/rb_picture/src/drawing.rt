@@ -1,0 +1,397 @@
+//! The parts of a picture.
+ghost use Rattle.std.specs.Prelude.{◌≡◌, ◌≤◌, OnOk, slice_index_or, codes, length};
+ghost use Rattle.rb_report.specs.Report.{cause_text, heard_text};
+ghost use Rattle.rb_picture.specs.Drawing.{look_of, with_breach, with_cell, with_cross, with_crosses, with_crosses_of, with_ending, with_ground, with_heading, with_legend, with_marks, with_name, with_names, with_names_of, with_panel, with_sender, with_senders, with_slot_number, with_slots, with_strokes, with_tick};
+
+use crate::extent::{Extent, Facts};
+use crate::line::DeliveryLine;
+use crate::markup::{Area, push_box, push_label};
+use crate::places::{
+    breach_area, cell_area, cell_width, column_left, grid_area, panel_area, panel_top,
+    picture_height, picture_width, row_top, slots_of, strip_area, tick_area,
+};
+use itoa::Buffer;
+use rb_base::{Biu, Heard, NodeName, NodeSet, OutOfMemory, Place};
+use rb_rules::Cause;
+
+// The look of a sender's cells.
+fn look_of(sender: u64) -> &'static str
+    ensures { result.now ≡ look_of sender }
+{
+    match sender {
+        0 => "s0",
+        1 => "s1",
+        2 => "s2",
+        3 => "s3",
+        4 => "s4",
+        5 => "s5",
+        6 => "s6",
+        7 => "s7",
+        8 => "s8",
+        9 => "s9",
+        10 => "s10",
+        11 => "s11",
+        12 => "s12",
+        13 => "s13",
+        14 => "s14",
+        _ => "s15",
+    }
+}
+
+fn cause_name(cause: Cause) -> &'static str
+    ensures { result.now ≡ cause_text cause }
+{
+    match cause {
+        Cause::FewGoodBiu => "FewGoodBiu",
+        Cause::FewGoodRmu => "FewGoodRmu",
+        Cause::TwoSided => "TwoSided",
+    }
+}
+
+/// A delivery.
+#[tactic(auto, unfolding(crate::specs::Drawing::with_cell))]
+pub(crate) fn push_cell(
+    out: &mut Vec<u8>,
+    extent: Extent,
+    l: DeliveryLine,
+) -> Result<(), OutOfMemory>
+    ensures { OnOk result (out.new.items ≡ with_cell extent out.old.items l) }
+{
+    let area = cell_area(extent, l);
+    let x = column_left(extent, u32::from(l.slot)) + cell_width(extent) / 2;
+    let y = row_top(extent, l.frame, u64::from(l.receiver)) + 15;
+    match l.value {
+        Heard::Word(word) => {
+            push_box(out, area, look_of(u64::from(l.sender)))?;
+            push_label(out, x, y, "word", Buffer::new().format(word), "")
+        }
+        Heard::Fault => {
+            push_box(out, area, "none")?;
+            push_label(out, x, y, "nothing", "none", "")
+        }
+    }
+}
+
+/// The begin of a frame at a node, so long after the first.
+#[tactic(auto, unfolding(crate::specs::Drawing::with_tick))]
+pub(crate) fn push_tick(
+    out: &mut Vec<u8>,
+    extent: Extent,
+    frame: u32,
+    node: NodeName,
+    after: u64,
+) -> Result<(), OutOfMemory>
+    ensures { OnOk result (out.new.items ≡ with_tick extent out.old.items frame node after) }
+{
+    push_box(out, tick_area(extent, frame, node, after), "tick")
+}
+
+/// A breach in its place.
+#[tactic(auto, unfolding(crate::specs::Drawing::with_breach))]
+pub(crate) fn push_breach(
+    out: &mut Vec<u8>,
+    extent: Extent,
+    place: Place,
+    cause: Cause,
+) -> Result<(), OutOfMemory>
+    ensures { OnOk result (out.new.items ≡ with_breach extent out.old.items place cause) }
+{
+    let y = panel_top(extent, place.frame) + 24;
+    push_box(out, breach_area(extent, place), "breach")?;
+    push_label(out, 284, y, "cause", "breach: ", cause_name(cause))?;
+    push_label(
+        out,
+        460,
+        y,
+        "cause",
+        "in slot ",
+        Buffer::new().format(place.slot),
+    )?;
+    push_label(
+        out,
+        570,
+        y,
+        "cause",
+        "stage ",
+        Buffer::new().format(place.stage),
+    )
+}
+
+/// The run came to its end.
+#[tactic(auto, unfolding(crate::specs::Drawing::with_ending))]
+pub(crate) fn push_ending(out: &mut Vec<u8>, frames: u32) -> Result<(), OutOfMemory>
+    ensures { OnOk result (out.new.items ≡ with_ending out.old.items frames) }
+{
+    push_label(
+        out,
+        420,
+        28,
+        "note",
+        "frames to the end of the run: ",
+        Buffer::new().format(frames),
+    )
+}
+
+#[tactic(auto, unfolding(crate::specs::Drawing::with_name))]
+fn push_name(
+    out: &mut Vec<u8>,
+    extent: Extent,
+    frame: u32,
+    letter: &str,
+    row: u64,
+    number: u16,
+) -> Result<(), OutOfMemory>
+    requires { row ≤ 131070 }
+    ensures { OnOk result (out.new.items ≡ with_name extent frame out.old.items letter.now row number) }
+{
+    let y = row_top(extent, frame, row) + 15;
+    push_label(out, 20, y, "name", letter, Buffer::new().format(number))
+}
+
+#[tactic(auto, using(crate::proofs::Turns::each_turns), unfolding(crate::specs::Drawing::with_names_of))]
+fn push_names_of(
+    out: &mut Vec<u8>,
+    extent: Extent,
+    frame: u32,
+    letter: &str,
+    above: u16,
+    count: u16,
+) -> Result<(), OutOfMemory>
+    ensures { OnOk result (out.new.items ≡ with_names_of extent frame letter.now above count out.old.items) }
+{
+    for number in 0..count {
+        let row = u64::from(above) + u64::from(number);
+        push_name(out, extent, frame, letter, row, number)?;
+    }
+    Ok(())
+}
+
+#[tactic(auto, unfolding(crate::specs::Drawing::with_names))]
+fn push_names(out: &mut Vec<u8>, extent: Extent, frame: u32) -> Result<(), OutOfMemory>
+    ensures { OnOk result (out.new.items ≡ with_names extent frame out.old.items) }
+{
+    push_names_of(out, extent, frame, "B", 0, extent.bius)?;
+    push_names_of(out, extent, frame, "R", extent.bius, extent.rmus)
+}
+
+#[tactic(auto, unfolding(crate::specs::Drawing::with_slot_number))]
+fn push_slot_number(
+    out: &mut Vec<u8>,
+    extent: Extent,
+    frame: u32,
+    slot: u64,
+) -> Result<(), OutOfMemory>
+    requires { slot ≤ 4294967295 }
+    ensures { OnOk result (out.new.items ≡ with_slot_number extent frame out.old.items slot) }
+{
+    let width = cell_width(extent);
+    let x = 284 + width * slot + width / 2;
+    let y = panel_top(extent, frame) + 46;
+    let number = u64::from(extent.low) + slot;
+    push_label(out, x, y, "slot", "", Buffer::new().format(number))
+}
+
+#[tactic(auto, using(crate::proofs::Turns::each_turns), unfolding(crate::specs::Drawing::with_slots))]
+fn push_slots(out: &mut Vec<u8>, extent: Extent, frame: u32) -> Result<(), OutOfMemory>
+    ensures { OnOk result (out.new.items ≡ with_slots extent frame out.old.items) }
+{
+    for slot in 0..slots_of(extent) {
+        push_slot_number(out, extent, frame, slot)?;
+    }
+    Ok(())
+}
+
+#[tactic(auto, unfolding(crate::specs::Drawing::with_cross))]
+fn push_cross(
+    out: &mut Vec<u8>,
+    extent: Extent,
+    frame: u32,
+    above: u16,
+    set: u16,
+    number: u8,
+) -> Result<(), OutOfMemory>
+    requires { number ≤ 15 }
+    ensures { OnOk result (out.new.items ≡ with_cross extent frame above set out.old.items number) }
+{
+    if NodeSet::<Biu>::from_bits(set).has(number) {
+        let y = row_top(extent, frame, u64::from(above) + u64::from(number)) + 15;
+        return push_label(out, 60, y, "cross", "X", "");
+    }
+    Ok(())
+}
+
+#[tactic(auto, using(crate::proofs::Turns::each_turns), unfolding(crate::specs::Drawing::with_crosses_of))]
+fn push_crosses_of(
+    out: &mut Vec<u8>,
+    extent: Extent,
+    frame: u32,
+    above: u16,
+    set: u16,
+) -> Result<(), OutOfMemory>
+    ensures { OnOk result (out.new.items ≡ with_crosses_of extent frame above set out.old.items) }
+{
+    for number in 0..16 {
+        push_cross(out, extent, frame, above, set, number)?;
+    }
+    Ok(())
+}
+
+#[tactic(auto, unfolding(crate::specs::Drawing::with_crosses))]
+fn push_crosses(
+    out: &mut Vec<u8>,
+    extent: Extent,
+    frame: u32,
+    facts: Facts,
+) -> Result<(), OutOfMemory>
+    ensures { OnOk result (out.new.items ≡ with_crosses extent frame facts out.old.items) }
+{
+    push_crosses_of(out, extent, frame, 0, facts.biu)?;
+    push_crosses_of(out, extent, frame, extent.bius, facts.rmu)
+}
+
+#[tactic(auto, unfolding(crate::specs::Drawing::with_ground))]
+fn push_ground(
+    out: &mut Vec<u8>,
+    extent: Extent,
+    frame: u32,
+    facts: Facts,
+) -> Result<(), OutOfMemory>
+    ensures { OnOk result (out.new.items ≡ with_ground extent frame facts out.old.items) }
+{
+    let top = panel_top(extent, frame);
+    let spread = facts.begins.greatest.saturating_sub(facts.begins.least);
+    push_box(out, panel_area(extent, frame), "panel")?;
+    push_label(
+        out,
+        20,
+        top + 24,
+        "title",
+        "frame ",
+        Buffer::new().format(frame),
+    )?;
+    push_label(
+        out,
+        92,
+        top + 46,
+        "note",
+        "spread ",
+        Buffer::new().format(spread),
+    )?;
+    push_label(out, 271, top + 46, "slot", "slot", "")?;
+    push_box(out, strip_area(extent, frame), "strip")?;
+    push_box(out, grid_area(extent, frame), "grid")
+}
+
+/// A frame without what is in its cells.
+#[tactic(auto, unfolding(crate::specs::Drawing::with_panel))]
+pub(crate) fn push_panel(
+    out: &mut Vec<u8>,
+    extent: Extent,
+    frame: u32,
+    facts: Facts,
+) -> Result<(), OutOfMemory>
+    ensures { OnOk result (out.new.items ≡ with_panel extent frame facts out.old.items) }
+{
+    push_ground(out, extent, frame, facts)?;
+    push_names(out, extent, frame)?;
+    push_slots(out, extent, frame)?;
+    push_crosses(out, extent, frame, facts)
+}
+
+#[tactic(auto, unfolding(crate::specs::Drawing::with_sender))]
+fn push_sender(out: &mut Vec<u8>, sender: u16) -> Result<(), OutOfMemory>
+    ensures { OnOk result (out.new.items ≡ with_sender out.old.items sender) }
+{
+    let area = Area {
+        x: 20 + 60 * u64::from(sender),
+        y: 40,
+        width: 16,
+        height: 16,
+    };
+    push_box(out, area, look_of(u64::from(sender)))?;
+    push_label(
+        out,
+        42 + 60 * u64::from(sender),
+        53,
+        "name",
+        "B",
+        Buffer::new().format(sender),
+    )
+}
+
+fn area(x: u64, y: u64, width: u64, height: u64) -> Area
+    ensures { result ≡ record { x = x; y = y; width = width; height = height } }
+{
+    Area {
+        x,
+        y,
+        width,
+        height,
+    }
+}
+
+#[tactic(auto, unfolding(crate::specs::Drawing::with_marks))]
+fn push_marks(out: &mut Vec<u8>) -> Result<(), OutOfMemory>
+    ensures { OnOk result (out.new.items ≡ with_marks out.old.items) }
+{
+    push_box(out, area(20, 65, 36, 18), "none")?;
+    push_label(out, 38, 79, "nothing", "none", "")?;
+    push_label(out, 64, 79, "note", "no majority", "")?;
+    push_label(out, 160, 79, "cross", "X", "")?;
+    push_label(out, 178, 79, "note", "convicted", "")
+}
+
+#[tactic(auto, unfolding(crate::specs::Drawing::with_strokes))]
+fn push_strokes(out: &mut Vec<u8>) -> Result<(), OutOfMemory>
+    ensures { OnOk result (out.new.items ≡ with_strokes out.old.items) }
+{
+    push_box(out, area(260, 67, 4, 14), "tick")?;
+    push_label(out, 272, 79, "note", "a good node begins the frame", "")?;
+    push_box(out, area(470, 65, 3, 18), "breach")?;
+    push_label(out, 480, 79, "note", "breach of the premise", "")
+}
+
+#[tactic(auto, using(crate::proofs::Turns::each_turns), unfolding(crate::specs::Drawing::with_senders))]
+fn push_senders(out: &mut Vec<u8>, extent: Extent) -> Result<(), OutOfMemory>
+    ensures { OnOk result (out.new.items ≡ with_senders extent out.old.items) }
+{
+    for sender in 0..extent.bius {
+        push_sender(out, sender)?;
+    }
+    Ok(())
+}
+
+/// What colours and signs mean.
+#[tactic(auto, unfolding(crate::specs::Drawing::with_legend))]
+pub(crate) fn push_legend(out: &mut Vec<u8>, extent: Extent) -> Result<(), OutOfMemory>
+    ensures { OnOk result (out.new.items ≡ with_legend extent out.old.items) }
+{
+    push_senders(out, extent)?;
+    push_marks(out)?;
+    push_strokes(out)
+}
+
+/// Which frames are drawn.
+#[tactic(auto, unfolding(crate::specs::Drawing::with_heading))]
+pub(crate) fn push_heading(out: &mut Vec<u8>, extent: Extent) -> Result<(), OutOfMemory>
+    ensures { OnOk result (out.new.items ≡ with_heading extent out.old.items) }
+{
+    let page = area(0, 0, picture_width(extent), picture_height(extent));
+    push_box(out, page, "page")?;
+    push_label(
+        out,
+        20,
+        28,
+        "title",
+        "first frame ",
+        Buffer::new().format(extent.first),
+    )?;
+    push_label(
+        out,
+        220,
+        28,
+        "title",
+        "last frame ",
+        Buffer::new().format(extent.last),
+    )
+}

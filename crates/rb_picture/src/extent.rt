@@ -1,0 +1,287 @@
+//! What the lines of the frames asked for span.
+ghost use Rattle.std.specs.Prelude.{◌≡◌};
+ghost use Rattle.rb_picture.specs.Extents.{begins_after, both, extent_after, extent_of, facts_after, facts_of, is_asked, is_between, mark_of, spread_of, top_of, with_begin, with_frame, with_node, with_sets, with_slot, with_spread, with_word};
+
+use crate::line::Line;
+use rb_base::{Biu, Heard, NodeName, NodeSet};
+
+/// Frames, nodes, slots, and the greatest word and spread: what a picture has to have room for. Of the frames the first and the last, of
+/// the nodes of a kind one more than the greatest number, of the slots the lowest and one more than the highest.
+#[derive(Clone, Copy, Debug, PartialEq, Eq)]
+pub struct Extent {
+    pub first: u32,
+    pub last: u32,
+    pub bius: u16,
+    pub rmus: u16,
+    pub low: u16,
+    pub high: u32,
+    pub word: u32,
+    pub spread: u64,
+}
+
+/// The first and the last time at which a good node begins a frame.
+#[derive(Clone, Copy, Debug, PartialEq, Eq)]
+pub struct Begins {
+    pub frame: u32,
+    pub least: u64,
+    pub greatest: u64,
+}
+
+fn is_between(first: u32, last: u32, frame: u32) -> bool
+    ensures { result ≡ is_between first last frame }
+{
+    first <= frame && frame <= last
+}
+
+/// Whether the line is of a frame from first to last. That a run came to its end is always wanted.
+pub(crate) fn is_asked(first: u32, last: u32, line: Line) -> bool
+    ensures { result ≡ is_asked first last line }
+{
+    match line {
+        Line::Epoch(l) => is_between(first, last, l.frame),
+        Line::Convicted(l) => is_between(first, last, l.frame),
+        Line::Port(l) => is_between(first, last, l.frame),
+        Line::Delivery(l) => is_between(first, last, l.frame),
+        Line::End(_) => true,
+        Line::Breach(place, _) => is_between(first, last, place.frame),
+    }
+}
+
+/// What the lines of a frame say: when it begins, and whom any node holds convicted, as masks.
+#[derive(Clone, Copy, Debug, PartialEq, Eq)]
+pub struct Facts {
+    pub begins: Begins,
+    pub biu: u16,
+    pub rmu: u16,
+}
+
+const NO_EXTENT: Extent = Extent {
+    first: u32::MAX,
+    last: 0,
+    bius: 0,
+    rmus: 0,
+    low: u16::MAX,
+    high: 0,
+    word: 0,
+    spread: 0,
+};
+
+const NO_BEGINS: Begins = Begins {
+    frame: 0,
+    least: u64::MAX,
+    greatest: 0,
+};
+
+pub(crate) const NO_FACTS: Facts = Facts {
+    begins: NO_BEGINS,
+    biu: 0,
+    rmu: 0,
+};
+
+fn with_begin(begins: Begins, frame: u32, time: u64) -> Begins
+    ensures { result ≡ with_begin begins frame time }
+{
+    if begins.frame == frame {
+        Begins {
+            frame,
+            least: begins.least.min(time),
+            greatest: begins.greatest.max(time),
+        }
+    } else {
+        Begins {
+            frame,
+            least: time,
+            greatest: time,
+        }
+    }
+}
+
+fn begins_after(begins: Begins, line: Line) -> Begins
+    ensures { result ≡ begins_after begins line }
+{
+    match line {
+        Line::Epoch(l) => with_begin(begins, l.frame, l.time),
+        Line::Convicted(_)
+        | Line::Port(_)
+        | Line::Delivery(_)
+        | Line::End(_)
+        | Line::Breach(_, _) => begins,
+    }
+}
+
+/// One more than the greatest number of the set with this mask, 0 for the empty set.
+#[tactic(auto, using(crate::proofs::Turns::top_turns))]
+fn top_of(set: u16) -> u16
+    ensures { result ≡ top_of set }
+{
+    let nodes = NodeSet::<Biu>::from_bits(set);
+    let mut top = 0;
+    for number in 0..16u8 {
+        if nodes.has(number) {
+            top = u16::from(number) + 1;
+        }
+    }
+    top
+}
+
+fn with_frame(extent: Extent, frame: u32) -> Extent
+    ensures { result ≡ with_frame extent frame }
+{
+    Extent {
+        first: extent.first.min(frame),
+        last: extent.last.max(frame),
+        ..extent
+    }
+}
+
+fn with_node(extent: Extent, node: NodeName) -> Extent
+    ensures { result ≡ with_node extent node }
+{
+    match node {
+        NodeName::Biu(i) => Extent {
+            bius: extent.bius.max(u16::from(i) + 1),
+            ..extent
+        },
+        NodeName::Rmu(i) => Extent {
+            rmus: extent.rmus.max(u16::from(i) + 1),
+            ..extent
+        },
+    }
+}
+
+fn with_sets(extent: Extent, biu: u16, rmu: u16) -> Extent
+    ensures { result ≡ with_sets extent biu rmu }
+{
+    Extent {
+        bius: extent.bius.max(top_of(biu)),
+        rmus: extent.rmus.max(top_of(rmu)),
+        ..extent
+    }
+}
+
+fn with_slot(extent: Extent, slot: u16) -> Extent
+    ensures { result ≡ with_slot extent slot }
+{
+    Extent {
+        low: extent.low.min(slot),
+        high: extent.high.max(u32::from(slot) + 1),
+        ..extent
+    }
+}
+
+fn with_word(extent: Extent, value: Heard) -> Extent
+    ensures { result ≡ with_word extent value }
+{
+    match value {
+        Heard::Word(word) => Extent {
+            word: extent.word.max(word),
+            ..extent
+        },
+        Heard::Fault => extent,
+    }
+}
+
+fn with_begins(extent: Extent, begins: Begins) -> Extent
+    ensures { result ≡ with_spread extent (spread_of begins) }
+{
+    Extent {
+        spread: extent
+            .spread
+            .max(begins.greatest.saturating_sub(begins.least)),
+        ..extent
+    }
+}
+
+fn extent_after(extent: Extent, begins: Begins, line: Line) -> Extent
+    ensures { result ≡ extent_after extent begins line }
+{
+    match line {
+        Line::Epoch(l) => with_begins(with_node(with_frame(extent, l.frame), l.node), begins),
+        Line::Convicted(l) => with_sets(
+            with_node(with_frame(extent, l.frame), l.node),
+            l.biu,
+            l.rmu,
+        ),
+        Line::Port(l) => with_node(with_frame(extent, l.frame), NodeName::Biu(l.biu)),
+        Line::Delivery(l) => with_word(
+            with_slot(
+                with_node(
+                    with_node(with_frame(extent, l.frame), NodeName::Biu(l.receiver)),
+                    NodeName::Biu(l.sender),
+                ),
+                l.slot,
+            ),
+            l.value,
+        ),
+        Line::End(_) => extent,
+        Line::Breach(place, _) => with_frame(extent, place.frame),
+    }
+}
+
+/// What the lines span.
+#[tactic(auto, using(crate::proofs::Turns::line_turns))]
+pub(crate) fn extent_of(lines: &[Line]) -> Extent
+    ensures { result ≡ extent_of lines.now }
+{
+    let mut extent = NO_EXTENT;
+    let mut begins = NO_BEGINS;
+    for line in lines {
+        begins = begins_after(begins, *line);
+        extent = extent_after(extent, begins, *line);
+    }
+    extent
+}
+
+/// One more than the frame of the line, and this number for the end of a run.
+pub(crate) fn mark_of(mark: u64, line: Line) -> u64
+    ensures { result ≡ mark_of mark line }
+{
+    match line {
+        Line::Epoch(l) => u64::from(l.frame) + 1,
+        Line::Convicted(l) => u64::from(l.frame) + 1,
+        Line::Port(l) => u64::from(l.frame) + 1,
+        Line::Delivery(l) => u64::from(l.frame) + 1,
+        Line::End(_) => mark,
+        Line::Breach(place, _) => u64::from(place.frame) + 1,
+    }
+}
+
+fn both(first: u16, second: u16) -> u16
+    ensures { result ≡ both first second }
+{
+    NodeSet::<Biu>::from_bits(first)
+        .union(NodeSet::from_bits(second))
+        .bits()
+}
+
+fn facts_after(facts: Facts, line: Line) -> Facts
+    ensures { result ≡ facts_after facts line }
+{
+    match line {
+        Line::Epoch(l) => Facts {
+            begins: with_begin(facts.begins, l.frame, l.time),
+            ..facts
+        },
+        Line::Convicted(l) => Facts {
+            biu: both(facts.biu, l.biu),
+            rmu: both(facts.rmu, l.rmu),
+            ..facts
+        },
+        Line::Port(_) | Line::Delivery(_) | Line::End(_) | Line::Breach(_, _) => facts,
+    }
+}
+
+/// What the lines of the frame with this number less one say, which stand first.
+#[tactic(auto, using(crate::proofs::Turns::line_turns))]
+pub(crate) fn facts_of(mark: u64, lines: &[Line]) -> Facts
+    ensures { result ≡ facts_of mark lines.now }
+{
+    let mut facts = NO_FACTS;
+    for line in lines {
+        if mark_of(0, *line) != mark {
+            return facts;
+        }
+        facts = facts_after(facts, *line);
+    }
+    facts
+}

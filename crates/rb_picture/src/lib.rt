@@ -1,0 +1,20 @@
+//! A report of a run as a picture.
+#![tactic(auto)]
+
+pub mod draw;
+mod drawing;
+pub mod drawn;
+pub mod extent;
+mod field;
+pub mod frames;
+pub mod laws;
+pub mod line;
+pub mod markup;
+mod places;
+pub mod reading;
+pub mod status;
+mod style;
+#[cfg(test)]
+mod tests;
+
+pub use status::Status;

@@ -1,0 +1,166 @@
+//! Where things stand in a picture.
+ghost use Rattle.std.specs.Prelude.{◌≡◌, ◌^◌, ◌<◌, ◌≤◌};
+ghost use Rattle.rb_picture.specs.Places.{breach_area, cell_area, cell_width, column_left, grid_area, panel_area, panel_height, panel_top, picture_height, picture_width, row_of, row_top, rows_of, scale_of, slots_of, strip_area, tick_area};
+
+use crate::extent::Extent;
+use crate::line::DeliveryLine;
+use crate::markup::Area;
+use rb_base::{NodeName, Place};
+
+pub(crate) fn rows_of(extent: Extent) -> u64
+    ensures value { result ≡ rows_of extent }
+    ensures most { result ≤ 131070 }
+{
+    u64::from(extent.bius) + u64::from(extent.rmus)
+}
+
+pub(crate) fn slots_of(extent: Extent) -> u64
+    ensures value { result ≡ slots_of extent }
+    ensures most { result ≤ 4294967295 }
+{
+    u64::from(extent.high).saturating_sub(u64::from(extent.low))
+}
+
+fn row_of(extent: Extent, node: NodeName) -> u64
+    ensures value { result ≡ row_of extent node }
+    ensures most { result ≤ 131070 }
+{
+    match node {
+        NodeName::Biu(i) => u64::from(i),
+        NodeName::Rmu(i) => u64::from(extent.bius) + u64::from(i),
+    }
+}
+
+fn panel_height(extent: Extent) -> u64
+    ensures value { result ≡ panel_height extent }
+    ensures least { 76 ≤ result }
+    ensures most { result ≤ 2621476 }
+{
+    76 + 20 * rows_of(extent)
+}
+
+pub(crate) fn panel_top(extent: Extent, frame: u32) -> u64
+    ensures value { result ≡ panel_top extent frame }
+    ensures most { result < 2 ^ 54 }
+{
+    92 + panel_height(extent) * u64::from(frame.saturating_sub(extent.first))
+}
+
+pub(crate) fn row_top(extent: Extent, frame: u32, row: u64) -> u64
+    requires { row ≤ 131070 }
+    ensures value { result ≡ row_top extent frame row }
+    ensures least { 56 ≤ result }
+    ensures most { result < 2 ^ 55 }
+{
+    panel_top(extent, frame) + 56 + 20 * row
+}
+
+pub(crate) fn cell_width(extent: Extent) -> u64
+    ensures value { result ≡ cell_width extent }
+    ensures least { 36 ≤ result }
+    ensures most { result ≤ 84 }
+{
+    if extent.word < 1000 {
+        36
+    } else if extent.word < 1_000_000 {
+        58
+    } else {
+        84
+    }
+}
+
+pub(crate) fn column_left(extent: Extent, slot: u32) -> u64
+    ensures value { result ≡ column_left extent slot }
+    ensures most { result < 2 ^ 39 }
+{
+    284 + cell_width(extent) * u64::from(slot.saturating_sub(u32::from(extent.low)))
+}
+
+pub(crate) fn picture_width(extent: Extent) -> u64
+    ensures value { result ≡ picture_width extent }
+    ensures least { 640 ≤ result }
+{
+    let columns = 304 + cell_width(extent) * slots_of(extent);
+    let senders = 40 + 60 * u64::from(extent.bius);
+    senders.max(columns).max(640)
+}
+
+pub(crate) fn picture_height(extent: Extent) -> u64
+    ensures { result ≡ picture_height extent }
+{
+    let panels = (u64::from(extent.last) + 1).saturating_sub(u64::from(extent.first));
+    92 + panel_height(extent) * panels
+}
+
+fn scale_of(extent: Extent) -> u64
+    ensures value { result ≡ scale_of extent }
+    ensures least { 1 ≤ result }
+{
+    extent.spread / 160 + 1
+}
+
+pub(crate) fn panel_area(extent: Extent, frame: u32) -> Area
+    ensures { result ≡ panel_area extent frame }
+{
+    Area {
+        x: 8,
+        y: panel_top(extent, frame),
+        width: picture_width(extent) - 16,
+        height: panel_height(extent) - 8,
+    }
+}
+
+pub(crate) fn strip_area(extent: Extent, frame: u32) -> Area
+    ensures { result ≡ strip_area extent frame }
+{
+    Area {
+        x: 92,
+        y: row_top(extent, frame, 0),
+        width: 168,
+        height: 20 * rows_of(extent),
+    }
+}
+
+pub(crate) fn grid_area(extent: Extent, frame: u32) -> Area
+    ensures { result ≡ grid_area extent frame }
+{
+    Area {
+        x: 284,
+        y: row_top(extent, frame, 0),
+        width: cell_width(extent) * slots_of(extent),
+        height: 20 * u64::from(extent.bius),
+    }
+}
+
+pub(crate) fn tick_area(extent: Extent, frame: u32, node: NodeName, after: u64) -> Area
+    ensures { result ≡ tick_area extent frame node after }
+{
+    Area {
+        x: 94 + (after / scale_of(extent)).min(160),
+        y: row_top(extent, frame, row_of(extent, node)) + 3,
+        width: 4,
+        height: 14,
+    }
+}
+
+pub(crate) fn cell_area(extent: Extent, l: DeliveryLine) -> Area
+    ensures { result ≡ cell_area extent l }
+{
+    Area {
+        x: column_left(extent, u32::from(l.slot)) + 1,
+        y: row_top(extent, l.frame, u64::from(l.receiver)) + 1,
+        width: cell_width(extent) - 2,
+        height: 18,
+    }
+}
+
+pub(crate) fn breach_area(extent: Extent, place: Place) -> Area
+    ensures { result ≡ breach_area extent place }
+{
+    Area {
+        x: column_left(extent, extent.high.min(u32::from(place.slot))),
+        y: row_top(extent, place.frame, 0) - 24,
+        width: 3,
+        height: 20 * rows_of(extent) + 28,
+    }
+}

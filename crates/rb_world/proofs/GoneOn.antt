@@ -1,0 +1,124 @@
+-- What is kept goes on standing for a world behind.
+use Rattle.std.proofs.Common.{◌≡◌, ℕ, ◌<◌, true, false, length, slice_get, refl, sym, ap, ◌∙◌, subst, arith}
+use Rattle.rb_base.specs.Nodes.{Side, has}
+use Rattle.rb_base.specs.Nodes.Side.{Biu, Rmu}
+use Rattle.rb_base.specs.declared.node.NodeName.{NodeName}
+use Rattle.rb_rules.specs.Book.{Each, of_kind}
+use Rattle.rb_rules.specs.Goodness.{Scenario}
+use Rattle.rb_rules.specs.Links.{name_of}
+use Rattle.rb_rules.specs.Slots.{count_of}
+use Rattle.rb_rules.specs.WorldStep.{Site, Timed, Way, World, go_on, happens, settle}
+use Rattle.rb_rules.specs.WorldStep.Choice.{GoOn}
+use Rattle.rb_rules.specs.WorldStep.Pending.{Tick}
+use Rattle.rb_rules.specs.WorldStep.Way.{ByAnEvent, ByItself}
+use Rattle.rb_agenda.specs.Holding.{HoldsSites}
+use Rattle.rb_book.specs.Records.{record_of}
+use Rattle.rb_book.specs.Settling.{Settles}
+use Rattle.rb_book.specs.declared.ledger.Ledger.{Ledger}
+use Rattle.rb_book.specs.declared.turn.Turn.{Turn}
+use Rattle.rb_order.proofs.OneTake.{settle-ports}
+use Rattle.rb_order.proofs.WorldNodes.{settle-sites}
+use Rattle.rb_site.specs.Sites.{Kept as KeptSite}
+use Rattle.rb_sweep.specs.AheadOf.{GoesOnAhead, IsFirstTick}
+use Rattle.rb_sweep.proofs.Calls.{go-on-passes, nobody-is-ahead}
+use Rattle.rb_traffic.specs.Arriving.{AreRunning}
+use Rattle.rb_world.specs.declared.scene.Scene.{Scene}
+use Rattle.rb_world.specs.Worlds.{AreNodes, HoldsPorts, Kept, Stands, Surrounds, running_of}
+use Rattle.rb_world.proofs.GoingOn.{going-settles}
+use Rattle.rb_world.proofs.Turns.{reached-more}
+use Rattle.rb_world.specs.Trailing.{BehindTick, GoesToTick, HappensFirst, Trails, alone}
+use Rattle.rb_world.proofs.Behind.{behind-tick, goes-on}
+
+-- what surrounds the nodes once something is settled
+pub around-settled : (sc : Scenario) (way : Way) (v : World) (scene : Scene) (book : Ledger) (turn : Turn) → Surrounds sc scene v → Settles sc way v book turn
+    → Surrounds sc (record scene { book = book }) (settle sc way 2 v)
+around-settled sc way v scene book turn is settles =
+    let sites = sym (settle-sites sc way 2 v) in
+    record {
+      counts = λ side. ap (λ xs. length (of_kind side xs)) (settle-sites sc way 2 v) ∙ is.counts side;
+      lanes = subst (HoldsSites sc.sizes scene.agenda) sites is.lanes;
+      rooms = is.rooms;
+      book = settles.holds;
+      ports = subst (HoldsPorts sc scene.ports.items) (sym (settle-ports sc way 2 v)) is.ports;
+      running = running;
+      within = within;
+    }
+  where
+    within : (side : Side) (n : ℕ) → has (running_of side (record scene { book = book })) n ≡ true → n < count_of side sc.sizes
+    within Biu = is.within Biu
+    within Rmu = is.within Rmu
+
+    running : (side : Side) → AreRunning side (running_of side (record scene { book = book })) (settle sc way 2 v).sites
+    running Biu = subst (AreRunning Biu scene.running_biu) (sym (settle-sites sc way 2 v)) (is.running Biu)
+    running Rmu = subst (AreRunning Rmu scene.running_rmu) (sym (settle-sites sc way 2 v)) (is.running Rmu)
+
+-- At first.
+
+pub trails-first : (k : Kept) (w : World) → Stands k w → Trails k.bus k.nodes k.scene (λ side j. 0) w w
+trails-first k w is = record {
+  lawful = is.lawful;
+  reached = is.reached;
+  ahead = sym (nobody-is-ahead k.bus w);
+  nodes = is.nodes;
+  surrounds = is.scene;
+  later = λ me i a first side j. omega arith;
+  behind = λ side j s there. record { has_tick = λ runs. (0, (omega arith, omega arith)); before = λ a e. omega arith };
+}
+
+-- By a tick.
+
+pub goes-to-tick : (sc : Scenario) (kept new : Each KeptSite) (scene after : Scene) (until : Side → ℕ → ℕ) (w v : World) (me : Side) (i : ℕ) (a : Timed) (name : NodeName) (time : ℕ) (book : Ledger) (turn : Turn)
+    → (h : BehindTick sc kept scene until w v me i a) → HappensFirst sc new after v me i a → name ≡ name_of me i → time ≡ a.time → time < 18446744073709551615
+    → Settles sc ByAnEvent (happens sc (alone sc me i a v) (record { side = me; node = i; pending = Tick a.tick })) book turn
+    → GoesToTick sc new (record after { book = book }) until v name time turn
+goes-to-tick sc kept new scene after until w v me i a name time book turn h happened named at small settles =
+    let x : World = happens sc (alone sc me i a v) (record { side = me; node = i; pending = Tick a.tick }) in
+    let goes : GoesOnAhead sc until v me i a = goes-on sc kept scene until w v me i a h in
+    record {
+      me = me;
+      i = i;
+      a = a;
+      named = named;
+      at = at;
+      small = small;
+      goes = goes;
+      trails = record {
+        lawful = h.trails.lawful;
+        reached = record { choices = goes.choices; is = sym goes.reached };
+        ahead = refl;
+        nodes = λ side. subst (λ xs. AreNodes sc side (of_kind side new) (of_kind side xs)) (sym (settle-sites sc ByAnEvent 2 x)) (happened.nodes side);
+        surrounds = around-settled sc ByAnEvent x after book turn happened.surrounds settles;
+        later = goes.later;
+        behind = behind-tick sc kept scene until w v me i a h;
+      };
+      turn_is = settles.turn_is;
+    }
+
+-- By itself.
+
+first-as-before : (v x : World) (me : Side) (i : ℕ) (a : Timed) → x.sites ≡ v.sites → IsFirstTick x me i a → IsFirstTick v me i a
+first-as-before v x me i a same first = record {
+  node = first.node;
+  there = ap (λ (s : Each Site). slice_get (of_kind me s) i) (sym same) ∙ first.there;
+  pends = first.pends;
+  least = λ side j s b there pends. first.least side j s b (ap (λ (y : Each Site). slice_get (of_kind side y) j) same ∙ there) pends;
+  first = λ side j s b there pends behind. first.first side j s b (ap (λ (y : Each Site). slice_get (of_kind side y) j) same ∙ there) pends behind;
+}
+
+pub trails-by-itself : (sc : Scenario) (kept : Each KeptSite) (scene : Scene) (until : Side → ℕ → ℕ) (w v : World) (book : Ledger) (turn : Turn) → Trails sc kept scene until w v
+    → v.book.ended ≡ false → Settles sc ByItself v book turn → Trails sc kept (record scene { book = book }) until (go_on sc w) (go_on sc v)
+trails-by-itself sc kept scene until w v book turn h going settles =
+    let is : go_on sc v ≡ settle sc ByItself 2 v = going-settles sc v going in
+    let sites : (go_on sc v).sites ≡ v.sites = ap (λ (x : World). x.sites) is ∙ settle-sites sc ByItself 2 v in
+    record {
+      lawful = h.lawful;
+      reached = reached-more sc w GoOn h.reached;
+      ahead = ap (go_on sc) h.ahead ∙ go-on-passes sc until v;
+      nodes = λ side. subst (λ xs. AreNodes sc side (of_kind side kept) (of_kind side xs)) (sym sites) (h.nodes side);
+      surrounds = subst (Surrounds sc (record scene { book = book })) (sym is) (around-settled sc ByItself v scene book turn h.surrounds settles);
+      later = λ me i a first. h.later me i a (first-as-before v (go_on sc v) me i a sites first);
+      behind = λ side j s there. h.behind side j s (ap (λ (y : Each Site). slice_get (of_kind side y) j) (sym sites) ∙ there);
+    }
+
+pub turn-by-itself : (sc : Scenario) (v : World) (book : Ledger) (turn : Turn) → v.book.ended ≡ false → Settles sc ByItself v book turn → (go_on sc v).turn ≡ record_of turn
+turn-by-itself sc v book turn going settles = ap (λ (x : World). x.turn) (going-settles sc v going) ∙ settles.turn_is

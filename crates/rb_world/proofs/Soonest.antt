@@ -1,0 +1,221 @@
+-- What comes first at a node, by its lane.
+use Rattle.std.proofs.Common.{◌≡◌, ℕ, ◌+◌, ◌<◌, ◌≤◌, ◌==◌, ◌⊎◌, min, Bool, true, false, Some, None, Option, All, List, [], ◌∷◌, ◌++◌, length, map, slice_get, refl, sym, ap, ◌∙◌, subst, arith, inl, inr}
+use Rattle.std.specs.Prelude.{option_map, option_to_list, unwrap_or}
+use Rattle.std.proofs.lemmas.Bool.{cases_lt, eq-eqb, eqb-true}
+use Rattle.std.proofs.lemmas.Option.{slice_get-map}
+use Rattle.rb_base.specs.Nodes.{Side, other}
+use Rattle.rb_base.specs.Sizes.{Sizes}
+use Rattle.rb_base.specs.declared.event.Event.{Event}
+use Rattle.rb_base.specs.declared.event.EventKind.{EventKind}
+use Rattle.rb_base.specs.declared.event.EventKind.TheVariants as kind
+use Rattle.rb_rules.specs.Hearing.{Coming}
+use Rattle.rb_rules.specs.Slots.{count_of}
+use Rattle.rb_rules.specs.WorldStep.{Due, Pending as Waits, Site, Timed, least, ready_at, tick_at, times_of}
+use Rattle.rb_rules.specs.WorldStep.Pending.{Tick, Arrival}
+use Rattle.rb_queue.specs.declared.pending.Pending.{Pending}
+use Rattle.rb_queue.specs.Waiting.{Held, head_of, ready_event, ready_from, ready_of, without_ready}
+use Rattle.rb_agenda.specs.Agenda.{key_of}
+use Rattle.rb_agenda.specs.Holding.{HoldsSite, coming_with, due_with, waits_with, without_waiting}
+use Rattle.rb_agenda.proofs.Heads.{head-is}
+use Rattle.rb_agenda.proofs.OneNode.{ready-is}
+use Rattle.rb_agenda.proofs.Places.{holds-without, ready-time}
+use Rattle.rb_order.proofs.DueEvents.{least-none, least-of}
+use Rattle.rb_order.proofs.NodeEvents.{all-after, tick-after}
+use Rattle.rb_order.proofs.SameHeard.{Every}
+use Rattle.rb_sweep.specs.Sweeping.{Placed, first_of}
+use Rattle.rb_world.specs.Trailing.{NoneBefore}
+use Rattle.rb_sweep.proofs.ReadyFirst.{Begins, ReadyFirst, ready-first}
+use Rattle.rb_sweep.proofs.Sweeps.{all-every, every-all}
+
+some-same : {X : Type 0} (a b : X) → Some a ≡ Some b → a ≡ b
+some-same a b e = ap (λ o. unwrap_or o a) e
+
+-- Times.
+
+from-times : (until : ℕ) (s : Site) → Every (λ u. until ≤ u) (times_of s) → NoneBefore until s
+from-times until s all = record {
+  coming = every-all (λ c. until ≤ c.time) s.coming (all-after until s.ahead s.coming all);
+  tick = λ a e. tick-after until s.ahead a s.coming e all;
+}
+
+every-later : (t until : ℕ) (us : List ℕ) → until ≤ t → Every (λ u. t ≤ u) us → Every (λ u. until ≤ u) us
+every-later t until [] le all = tt
+every-later t until (u ∷ us) le all = let here = all.0 in (omega (arith, le, here), every-later t until us le all.1)
+
+-- where the lane's least time is no earlier nothing is pending before
+pub none-before : (sizes : Sizes) (me : Side) (lane : Held) (s : Site) (until : ℕ) → HoldsSite sizes me lane s → until ≤ key_of lane → NoneBefore until s
+none-before sizes me lane s until holds le = by (least (times_of s)) refl
+  where
+    by : (o : Option ℕ) → least (times_of s) ≡ o → NoneBefore until s
+    by None e = from-times until s (least-none (λ u. until ≤ u) (times_of s) e)
+    by (Some t) e =
+        let key : key_of lane ≡ t = ap (λ o. unwrap_or o 18446744073709551615) (sym (head-is sizes me lane s holds) ∙ e) in
+        from-times until s (every-later t until (times_of s) (omega (arith, le, key)) (least-of (times_of s) t e))
+
+-- The first.
+
+-- it is the first arrival
+pub record ArrivalNext (sizes : Sizes) (me : Side) (lane : Held) (s : Site) (time : ℕ) (k : EventKind) : Type 0 where
+  pub first : Placed
+  pub is : first_of s.coming ≡ Some first
+  pub at : first.coming.time ≡ time
+  pub shown : coming_with time k ≡ Some first.coming
+  pub left : HoldsSite sizes me (without_ready 0 lane) (without_waiting (Arrival first.place first.coming) s)
+
+-- or the tick, and all arrivals come later
+pub record TickNext (sizes : Sizes) (me : Side) (lane : Held) (s : Site) (time : ℕ) (k : EventKind) : Type 0 where
+  pub tick : Timed
+  pub pends : s.ahead ≡ Some tick
+  pub at : tick.time ≡ time
+  pub shown : coming_with time k ≡ None
+  pub later : All (λ c. time + 1 ≤ c.time) s.coming
+  pub left : HoldsSite sizes me (without_ready 0 lane) (record s { ahead = None })
+
+-- an event that is shown so
+due-arrival : (sizes : Sizes) (me : Side) (i : ℕ) (lane : Held) (s : Site) (t n : ℕ) (x : Coming) (c : ℕ × Pending) → c.1.time ≡ t
+    → record { side = me; node = i; pending = Arrival n x } ≡ due_with me i lane.events s c
+    → (Arrival n x ≡ waits_with lane.events s.ahead c.0 c.1.time c.1.event.kind) × (coming_with t c.1.event.kind ≡ Some x)
+due-arrival sizes me i lane s t n x c time e =
+    let same : Arrival n x ≡ waits_with lane.events s.ahead c.0 c.1.time c.1.event.kind = ap (λ (d : Due). d.pending) e in
+    (same, ap (λ t. coming_with t c.1.event.kind) (sym time) ∙ by c.1.event.kind same)
+  where
+    by : (k : EventKind) → Arrival n x ≡ waits_with lane.events s.ahead c.0 c.1.time k → coming_with c.1.time k ≡ Some x
+    by (kind.Arrive from bytes) f = ap (λ (w : Waits). elim w [ Tick m ↦ None | Arrival m y ↦ Some y ]) (sym f)
+    by (kind.Tick word wanted) f = cc
+
+due-tick : (sizes : Sizes) (me : Side) (i : ℕ) (lane : Held) (s : Site) (t k : ℕ) (c : ℕ × Pending)
+    → record { side = me; node = i; pending = Tick k } ≡ due_with me i lane.events s c
+    → (Tick k ≡ waits_with lane.events s.ahead c.0 c.1.time c.1.event.kind) × (coming_with t c.1.event.kind ≡ None)
+due-tick sizes me i lane s t k c e =
+    let same : Tick k ≡ waits_with lane.events s.ahead c.0 c.1.time c.1.event.kind = ap (λ (d : Due). d.pending) e in
+    (same, by c.1.event.kind same)
+  where
+    by : (m : EventKind) → Tick k ≡ waits_with lane.events s.ahead c.0 c.1.time m → coming_with t m ≡ None
+    by (kind.Arrive from bytes) f = cc
+    by (kind.Tick word wanted) f = refl
+
+head-begins : {X : Type 0} (d : X) (xs : List X) → Begins d xs → slice_get xs 0 ≡ Some d
+head-begins d xs is = ap (λ l. slice_get l 0) is.1
+
+-- what may be taken at the site at the lane's least time is what is ready there
+ready-there : (sizes : Sizes) (me : Side) (i : ℕ) (lane : Held) (s : Site) (t : ℕ) → count_of (other me) sizes ≤ 256 → HoldsSite sizes me lane s → head_of lane ≡ Some t
+    → ready_at sizes t me i s ≡ map (due_with me i lane.events s) (ready_of lane)
+ready-there sizes me i lane s t few holds head = ready-is sizes me i t lane s few holds ∙ ap (λ o. map (due_with me i lane.events s) (ready_from o lane.events)) (sym head)
+
+-- the tick is ready where no arrival is
+tick-ready : (me : Side) (i t : ℕ) (o : Option Timed) → Every (λ u. t ≤ u) (option_to_list (option_map (λ (a : Timed). a.time) o))
+    → (d : Due) → slice_get (tick_at me i t o) 0 ≡ Some d → (a : Timed) × ((o ≡ Some a) × ((a.time ≡ t) × (record { side = me; node = i; pending = Tick a.tick } ≡ d)))
+tick-ready me i t None all d e = absurd (let never : ◌≡◌ {A = Option Due} None (Some d) = e in cc)
+tick-ready me i t (Some a) all d e = by (a.time == t) refl e
+  where
+    by : (b : Bool) → (a.time == t) ≡ b → slice_get (elim b as (λ _. List Due) [ true ↦ record { side = me; node = i; pending = Tick a.tick } ∷ [] | false ↦ [] ]) 0 ≡ Some d
+        → (x : Timed) × ((Some a ≡ Some x) × ((x.time ≡ t) × (record { side = me; node = i; pending = Tick x.tick } ≡ d)))
+    by true h e = (a, (refl, (eqb-true a.time t h, some-same (record { side = me; node = i; pending = Tick a.tick }) d e)))
+    by false h e = absurd (let never : ◌≡◌ {A = Option Due} None (Some d) = e in cc)
+
+front-of : (us vs : List ℕ) (t : ℕ) → Every (λ u. t ≤ u) (us ++ vs) → Every (λ u. t ≤ u) us
+front-of [] vs t all = tt
+front-of (u ∷ us) vs t all = (all.0, front-of us vs t all.1)
+
+-- which it is
+pub what-next : (sizes : Sizes) (me : Side) (i : ℕ) (lane : Held) (s : Site) (t : ℕ) (event : Event) → count_of (other me) sizes ≤ 256 → HoldsSite sizes me lane s → head_of lane ≡ Some t
+    → ready_event 0 lane ≡ Some event → ArrivalNext sizes me lane s t event.kind ⊎ TickNext sizes me lane s t event.kind
+what-next sizes me i lane s t event few holds head shown = by (slice_get (ready_of lane) 0) refl
+  where
+    all : Every (λ u. t ≤ u) (times_of s)
+    all = least-of (times_of s) t (head-is sizes me lane s holds ∙ head)
+
+    found : (c : ℕ × Pending) → slice_get (ready_of lane) 0 ≡ Some c → slice_get (ready_at sizes t me i s) 0 ≡ Some (due_with me i lane.events s c)
+    found c e =
+        ap (λ ds. slice_get ds 0) (ready-there sizes me i lane s t few holds head) ∙ slice_get-map (due_with me i lane.events s) (ready_of lane) 0
+        ∙ ap (option_map (due_with me i lane.events s)) e
+
+    arrival : (c : ℕ × Pending) → slice_get (ready_of lane) 0 ≡ Some c → c.1.event ≡ event → (p : Placed) → first_of s.coming ≡ Some p → p.coming.time ≡ t
+        → slice_get (ready_at sizes t me i s) 0 ≡ Some (record { side = me; node = i; pending = Arrival p.place p.coming }) → ArrivalNext sizes me lane s t event.kind
+    arrival c e same p is at due =
+        let time : c.1.time ≡ t = some-same c.1.time t (sym (ready-time lane 0 c e) ∙ head) in
+        let d : Due = record { side = me; node = i; pending = Arrival p.place p.coming } in
+        let both = due-arrival sizes me i lane s t p.place p.coming c time (some-same d (due_with me i lane.events s c) (sym due ∙ found c e)) in
+        record {
+          first = p;
+          is = is;
+          at = at;
+          shown = ap (λ (e : Event). coming_with t e.kind) (sym same) ∙ both.1;
+          left = subst (λ (w : Waits). HoldsSite sizes me (without_ready 0 lane) (without_waiting w s)) (sym both.0) (holds-without sizes me lane s 0 c holds e);
+        }
+
+    tick : (c : ℕ × Pending) → slice_get (ready_of lane) 0 ≡ Some c → c.1.event ≡ event → Every (λ x. t + 1 ≤ x.time) s.coming → ready_at sizes t me i s ≡ tick_at me i t s.ahead
+        → TickNext sizes me lane s t event.kind
+    tick c e same later is =
+        let its = tick-ready me i t s.ahead (front-of (option_to_list (option_map (λ (a : Timed). a.time) s.ahead)) (map (λ (c : Coming). c.time) s.coming) t all) (due_with me i lane.events s c)
+        (ap (λ ds. slice_get ds 0) (sym is) ∙ found c e) in
+        let both = due-tick sizes me i lane s t its.0.tick c its.1.1.1 in
+        record {
+          tick = its.0;
+          pends = its.1.0;
+          at = its.1.1.0;
+          shown = ap (λ (e : Event). coming_with t e.kind) (sym same) ∙ both.1;
+          later = every-all (λ x. t + 1 ≤ x.time) s.coming later;
+          left = subst (λ (w : Waits). HoldsSite sizes me (without_ready 0 lane) (without_waiting w s)) (sym both.0) (holds-without sizes me lane s 0 c holds e);
+        }
+
+    which : (c : ℕ × Pending) → slice_get (ready_of lane) 0 ≡ Some c → c.1.event ≡ event → ReadyFirst sizes t me i s → ArrivalNext sizes me lane s t event.kind ⊎ TickNext sizes me lane s t event.kind
+    which c e same (inl one) =
+        inl (arrival c e same one.0 one.1.0 one.1.1.0 (head-begins (record { side = me; node = i; pending = Arrival one.0.place one.0.coming }) (ready_at sizes t me i s) one.1.1.1))
+    which c e same (inr none) = inr (tick c e same none.0 none.1)
+
+    by : (o : Option (ℕ × Pending)) → slice_get (ready_of lane) 0 ≡ o → ArrivalNext sizes me lane s t event.kind ⊎ TickNext sizes me lane s t event.kind
+    by None e = absurd (let never : ◌≡◌ {A = Option Event} None (Some event) = sym (ap (option_map (λ c. c.1.event)) e) ∙ shown in cc)
+    by (Some c) e =
+        which c e (some-same c.1.event event (sym (ap (option_map (λ c. c.1.event)) e) ∙ shown))
+        (ready-first sizes t me i s (all-every (λ c. c.from < count_of (other me) sizes) s.coming holds.senders) (all-after t s.ahead s.coming all))
+
+-- Something is ready where a time is the least.
+
+least-above : (m : ℕ) (us : List ℕ) (t : ℕ) → Every (λ u. m ≤ u) us → least us ≡ Some t → m ≤ t
+least-above m [] t all e = absurd (let never : ◌≡◌ {A = Option ℕ} None (Some t) = e in cc)
+least-above m (u ∷ us) t all e = by (least us) refl (least-above m us) e
+  where
+    by : (o : Option ℕ) → least us ≡ o → ((v : ℕ) → Every (λ u. m ≤ u) us → least us ≡ Some v → m ≤ v)
+        → ◌≡◌ {A = Option ℕ} (Some (elim o as (λ _. ℕ) [ None ↦ u | Some v ↦ min u v ])) (Some t) → m ≤ t
+    by None h rest e = let same : u ≡ t = some-same u t e in let here = all.0 in omega (arith, same, here)
+    by (Some v) h rest e = let same : min u v ≡ t = some-same (min u v) t e in let here = all.0 in let more = rest v all.1 h in omega (arith, same, here, more)
+
+every-mapped : (m : ℕ) (cs : List Coming) → Every (λ (c : Coming). m ≤ c.time) cs → Every (λ u. m ≤ u) (map (λ (c : Coming). c.time) cs)
+every-mapped m [] all = tt
+every-mapped m (c ∷ cs) all = (all.0, every-mapped m cs all.1)
+
+-- then the tick comes at that time, if no arrival does
+tick-then : (me : Side) (i t : ℕ) (o : Option Timed) (cs : List Coming) → least (option_to_list (option_map (λ (a : Timed). a.time) o) ++ map (λ (c : Coming). c.time) cs) ≡ Some t
+    → Every (λ (c : Coming). t + 1 ≤ c.time) cs → tick_at me i t o ≡ [] → ⊥
+tick-then me i t None cs least_is later none = let up = least-above (t + 1) (map (λ (c : Coming). c.time) cs) t (every-mapped (t + 1) cs later) least_is in omega (arith, up)
+tick-then me i t (Some a) cs least_is later none = by (a.time == t) refl none
+  where
+    by : (b : Bool) → (a.time == t) ≡ b → ◌≡◌ {A = List Due} (elim b as (λ _. List Due) [ true ↦ record { side = me; node = i; pending = Tick a.tick } ∷ [] | false ↦ [] ]) [] → ⊥
+    by true h e = cc
+    by false h e =
+        let low = (least-of (a.time ∷ map (λ (c : Coming). c.time) cs) t least_is).0 in
+        let apart : a.time ≡ t → ⊥ = λ same. (let yes : (a.time == t) ≡ true = eq-eqb a.time t same in let never : true ≡ false = sym yes ∙ h in cc) in
+        elim (cases_lt t a.time) [
+          | inl lt ↦ let up = least-above (t + 1) (a.time ∷ map (λ (c : Coming). c.time) cs) t (omega (arith, lt), every-mapped (t + 1) cs later) least_is in omega (arith, up)
+          | inr ge ↦ apart (omega (arith, low, ge))
+        ]
+
+pub some-ready : (sizes : Sizes) (me : Side) (i : ℕ) (lane : Held) (s : Site) (t : ℕ) → count_of (other me) sizes ≤ 256 → HoldsSite sizes me lane s → head_of lane ≡ Some t → 0 < length (ready_of lane)
+some-ready sizes me i lane s t few holds head = by (ready_of lane) refl
+  where
+    all : Every (λ u. t ≤ u) (times_of s)
+    all = least-of (times_of s) t (head-is sizes me lane s holds ∙ head)
+
+    none : ready_at sizes t me i s ≡ [] → ReadyFirst sizes t me i s → ⊥
+    none nothing (inl one) = begun one.1.1.1.0 (sym nothing ∙ one.1.1.1.1)
+      where
+        begun : (rest : List Due) → [] ≡ record { side = me; node = i; pending = Arrival one.0.place one.0.coming } ∷ rest → ⊥
+        begun rest e = cc
+    none nothing (inr late) = tick-then me i t s.ahead s.coming (head-is sizes me lane s holds ∙ head) late.0 (sym late.1 ∙ nothing)
+
+    by : (cs : List (ℕ × Pending)) → ready_of lane ≡ cs → 0 < length cs
+    by (c ∷ cs) e = omega arith
+    by [] e =
+        absurd (none (ready-there sizes me i lane s t few holds head ∙ ap (map (due_with me i lane.events s)) e)
+        (ready-first sizes t me i s (all-every (λ c. c.from < count_of (other me) sizes) s.coming holds.senders) (all-after t s.ahead s.coming all)))

@@ -1,0 +1,33 @@
+use Rattle.std.proofs.Common.{◌≡◌, Some, slice_get}
+use Rattle.rb_base.specs.Nodes.{side_of}
+use Rattle.rb_rules.specs.Lawful.{kind_of}
+use Rattle.rb_sweep.specs.AheadOf.{until_tick}
+use Rattle.rb_traffic.specs.Arriving.{number_of as number_in}
+use Rattle.rb_world.specs.Trailing.{swept_first}
+use Rattle.rb_world.proofs.Behind.{indexed}
+use Rattle.rb_world.proofs.CaughtUp.{catch-may, catch-then}
+use Rattle.rb_world.proofs.sweeping.catch_up_at.Goals as goal
+
+pub sweep-requires-clause-name : goal.sweep-requires-clause-name
+sweep-requires-clause-name g c = c.name-node.ensures
+
+pub sweep-requires-clause-may : goal.sweep-requires-clause-may
+sweep-requires-clause-may g c =
+    let sc = c.args.bus.now in
+    let me = side_of g.K.Kind.CODE in
+    let kept = c.args.sites.now.items in
+    let site = c.index_mut-site.result.now in
+    let there : slice_get kept c.args.i ≡ Some site = indexed kept c.args.i site c.requires.within c.index_mut-site.ensures.value in
+    let h = catch-may sc c.args.from c.args.time me c.args.i c.until_before.result c.requires.may.0 c.requires.may.1 kept c.args.agenda.now c.requires.may.2 site c.name-node.result c.requires.may.3.0 c.requires.may.3.1 c.requires.within there c.name-node.ensures c.until_before.ensures in
+    (swept_first sc (until_tick (kind_of c.args.from) (number_in c.args.from) c.args.time) me c.args.i c.requires.may.2, h.next.s, h.may)
+
+pub returns-clause-caught : goal.returns-clause-caught
+returns-clause-caught g c = λ first begun nodes may is.
+    let sc = c.args.bus.now in
+    let me = side_of g.K.Kind.CODE in
+    let kept = c.args.sites.now.items in
+    let site = c.index_mut-site.result.now in
+    let there : slice_get kept c.args.i ≡ Some site = indexed kept c.args.i site c.requires.within c.index_mut-site.ensures.value in
+    let h = catch-may sc c.args.from c.args.time me c.args.i c.until_before.result first begun kept c.args.agenda.now nodes site c.name-node.result may is c.requires.within there c.name-node.ensures c.until_before.ensures in
+    catch-then sc c.args.from c.args.time me c.args.i c.until_before.result first begun kept c.args.agenda.now c.sweep.new.agenda nodes site c.sweep.new.site may is h
+    (c.sweep.ensures.swept (swept_first sc (until_tick (kind_of c.args.from) (number_in c.args.from) c.args.time) me c.args.i nodes) h.next.s h.may) c.sweep.ensures.lanes

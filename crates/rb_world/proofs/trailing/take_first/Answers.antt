@@ -1,0 +1,102 @@
+use Rattle.std.proofs.Common.{refl, subst}
+use Rattle.rb_base.specs.declared.node.NodeName.TheVariants as node
+use Rattle.rb_world.proofs.Running.{FirstHere, biu-may, biu-taken, first-here, rmu-may, rmu-taken}
+use Rattle.rb_world.proofs.trailing.take_first.Goals as goal
+
+pub take_tick-requires-clause-within : goal.take_tick-requires-clause-within
+take_tick-requires-clause-within g c =
+    let until = c.requires.may.0 in
+    let w = c.requires.may.1 in
+    let v = c.requires.may.2 in
+    let me = c.requires.may.3 in
+    let i = c.requires.may.4 in
+    let a = c.requires.may.5 in
+    let h = c.requires.may.6 in
+    (biu-may c.args.bus.now (record { bius = c.args.bius.now.items; rmus = c.args.rmus.now.items }) c.args.scene.now until w v me i a c.first_tick-node.result.0 c.first_tick-node.result.1 c.in-Biu.i h (first-here c.args.bus.now (record { bius = c.args.bius.now.items; rmus = c.args.rmus.now.items }) c.args.scene.now until w v me i a c.first_tick-node.result.0 c.first_tick-node.result.1 h c.first_tick-node.ensures.world) c.in-Biu.is).0
+
+pub take_tick-requires-clause-small : goal.take_tick-requires-clause-small
+take_tick-requires-clause-small g c =
+    let until = c.requires.may.0 in
+    let w = c.requires.may.1 in
+    let v = c.requires.may.2 in
+    let me = c.requires.may.3 in
+    let i = c.requires.may.4 in
+    let a = c.requires.may.5 in
+    let h = c.requires.may.6 in
+    (first-here c.args.bus.now (record { bius = c.args.bius.now.items; rmus = c.args.rmus.now.items }) c.args.scene.now until w v me i a c.first_tick-node.result.0 c.first_tick-node.result.1 h c.first_tick-node.ensures.world).small
+
+pub take_tick-requires-clause-may : goal.take_tick-requires-clause-may
+take_tick-requires-clause-may g c =
+    let until = c.requires.may.0 in
+    let w = c.requires.may.1 in
+    let v = c.requires.may.2 in
+    let me = c.requires.may.3 in
+    let i = c.requires.may.4 in
+    let a = c.requires.may.5 in
+    let h = c.requires.may.6 in (
+      (record { bius = c.args.bius.now.items; rmus = c.args.rmus.now.items }),
+      until,
+      w,
+      v,
+      a,
+      (biu-may c.args.bus.now (record { bius = c.args.bius.now.items; rmus = c.args.rmus.now.items }) c.args.scene.now until w v me i a c.first_tick-node.result.0 c.first_tick-node.result.1 c.in-Biu.i h (first-here c.args.bus.now (record { bius = c.args.bius.now.items; rmus = c.args.rmus.now.items }) c.args.scene.now until w v me i a c.first_tick-node.result.0 c.first_tick-node.result.1 h c.first_tick-node.ensures.world) c.in-Biu.is).1,
+    )
+
+pub returns-in-Biu : goal.returns-in-Biu
+returns-in-Biu g c = record {
+  happens = λ until w v me i a h.
+      let sc = c.args.bus.now in
+      let here = first-here c.args.bus.now (record { bius = c.args.bius.now.items; rmus = c.args.rmus.now.items }) c.args.scene.now until w v me i a c.first_tick-node.result.0 c.first_tick-node.result.1 h c.first_tick-node.ensures.world in
+      let may = (biu-may sc (record { bius = c.args.bius.now.items; rmus = c.args.rmus.now.items }) c.args.scene.now until w v me i a c.first_tick-node.result.0 c.first_tick-node.result.1 c.in-Biu.i h here c.in-Biu.is).1 in
+      biu-taken sc c.take_tick.new.scene v me i a (node.Biu c.in-Biu.i) c.first_tick-node.result.1 c.in-Biu.i c.take_tick.new.sites.items c.args.rmus.now.items
+      (subst (λ n. FirstHere sc me i a n c.first_tick-node.result.1) c.in-Biu.is here) refl (c.take_tick.ensures (record { bius = c.args.bius.now.items; rmus = c.args.rmus.now.items }) until w v a may);
+}
+
+pub take_tick-requires-in-Rmu-clause-within : goal.take_tick-requires-in-Rmu-clause-within
+take_tick-requires-in-Rmu-clause-within g c =
+    let until = c.requires.may.0 in
+    let w = c.requires.may.1 in
+    let v = c.requires.may.2 in
+    let me = c.requires.may.3 in
+    let i = c.requires.may.4 in
+    let a = c.requires.may.5 in
+    let h = c.requires.may.6 in
+    (rmu-may c.args.bus.now (record { bius = c.args.bius.now.items; rmus = c.args.rmus.now.items }) c.args.scene.now until w v me i a c.first_tick-node.result.0 c.first_tick-node.result.1 c.in-Rmu.i h (first-here c.args.bus.now (record { bius = c.args.bius.now.items; rmus = c.args.rmus.now.items }) c.args.scene.now until w v me i a c.first_tick-node.result.0 c.first_tick-node.result.1 h c.first_tick-node.ensures.world) c.in-Rmu.is).0
+
+pub take_tick-requires-in-Rmu-clause-small : goal.take_tick-requires-in-Rmu-clause-small
+take_tick-requires-in-Rmu-clause-small g c =
+    let until = c.requires.may.0 in
+    let w = c.requires.may.1 in
+    let v = c.requires.may.2 in
+    let me = c.requires.may.3 in
+    let i = c.requires.may.4 in
+    let a = c.requires.may.5 in
+    let h = c.requires.may.6 in
+    (first-here c.args.bus.now (record { bius = c.args.bius.now.items; rmus = c.args.rmus.now.items }) c.args.scene.now until w v me i a c.first_tick-node.result.0 c.first_tick-node.result.1 h c.first_tick-node.ensures.world).small
+
+pub take_tick-requires-in-Rmu-clause-may : goal.take_tick-requires-in-Rmu-clause-may
+take_tick-requires-in-Rmu-clause-may g c =
+    let until = c.requires.may.0 in
+    let w = c.requires.may.1 in
+    let v = c.requires.may.2 in
+    let me = c.requires.may.3 in
+    let i = c.requires.may.4 in
+    let a = c.requires.may.5 in
+    let h = c.requires.may.6 in (
+      (record { bius = c.args.bius.now.items; rmus = c.args.rmus.now.items }),
+      until,
+      w,
+      v,
+      a,
+      (rmu-may c.args.bus.now (record { bius = c.args.bius.now.items; rmus = c.args.rmus.now.items }) c.args.scene.now until w v me i a c.first_tick-node.result.0 c.first_tick-node.result.1 c.in-Rmu.i h (first-here c.args.bus.now (record { bius = c.args.bius.now.items; rmus = c.args.rmus.now.items }) c.args.scene.now until w v me i a c.first_tick-node.result.0 c.first_tick-node.result.1 h c.first_tick-node.ensures.world) c.in-Rmu.is).1,
+    )
+
+pub returns-in-Rmu : goal.returns-in-Rmu
+returns-in-Rmu g c = record {
+  happens = λ until w v me i a h.
+      let sc = c.args.bus.now in
+      let here = first-here c.args.bus.now (record { bius = c.args.bius.now.items; rmus = c.args.rmus.now.items }) c.args.scene.now until w v me i a c.first_tick-node.result.0 c.first_tick-node.result.1 h c.first_tick-node.ensures.world in
+      let may = (rmu-may sc (record { bius = c.args.bius.now.items; rmus = c.args.rmus.now.items }) c.args.scene.now until w v me i a c.first_tick-node.result.0 c.first_tick-node.result.1 c.in-Rmu.i h here c.in-Rmu.is).1 in
+      rmu-taken sc c.take_tick-in-Rmu.new.scene v me i a (node.Rmu c.in-Rmu.i) c.first_tick-node.result.1 c.in-Rmu.i c.args.bius.now.items c.take_tick-in-Rmu.new.sites.items
+      (subst (λ n. FirstHere sc me i a n c.first_tick-node.result.1) c.in-Rmu.is here) refl (c.take_tick-in-Rmu.ensures (record { bius = c.args.bius.now.items; rmus = c.args.rmus.now.items }) until w v a may);
+}

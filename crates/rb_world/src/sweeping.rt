@@ -1,0 +1,156 @@
+//! How arrivals that were left behind are taken.
+ghost use Rattle.std.specs.Prelude.{◌≡◌, ℕ, ◌+◌, ◌<◌, ◌≤◌, IfSome, List, length};
+ghost use Rattle.rb_base.specs.Nodes.{Side, side_of};
+ghost use Rattle.rb_base.specs.Sizes.{Sizes};
+ghost use Rattle.rb_rules.specs.Book.{Each};
+ghost use Rattle.rb_rules.specs.Goodness.{Scenario};
+ghost use Rattle.rb_rules.specs.Lawful.{kind_of};
+ghost use Rattle.rb_rules.specs.Links.{name_of};
+ghost use Rattle.rb_rules.specs.Slots.{count_of};
+ghost use Rattle.rb_rules.specs.WorldStep.{Site as WorldSite, World as RunWorld};
+ghost use Rattle.rb_queue.specs.Waiting.{HasLane, Held, lane_of};
+ghost use Rattle.rb_site.specs.Sites.{Kept as KeptSite, number_of};
+ghost use Rattle.rb_sweep.specs.AheadOf.{until_tick};
+ghost use Rattle.rb_traffic.specs.Arriving.{number_of as number_in};
+ghost use Rattle.rb_world.specs.Buses.{HaveRooms};
+ghost use Rattle.rb_world.specs.Sweeping.{IsPending, TakesSoonest, taken_of};
+ghost use Rattle.rb_world.specs.Trailing.{HasCaughtUp, HaveCaughtUp, MayCatchUp, MaySweep, Sweeps, Trails, until_from};
+
+use crate::bus::Bus;
+use crate::scene::Scene;
+use rb_agenda::Agenda;
+use rb_base::{Biu, Event, EventKind, Kind, NodeName, Rmu};
+use rb_site::Site;
+
+/// What comes first at a node.
+#[derive(Drop)]
+pub enum Soonest {
+    Nothing,
+    OwnTick,
+    Arrival { time: u64, event: Event },
+}
+
+// What comes first at a node is taken, if it comes before this time.
+fn take_soonest(agenda: &mut Agenda, node: NodeName, until: u64) -> Soonest
+    requires lane { HasLane agenda.old node }
+    requires pending { (sizes : Sizes) × (sites : Each WorldSite) × (me : Side) × (i : ℕ) × (s : WorldSite) × IsPending sizes me i agenda.old sites s node }
+    ensures takes { (sizes : Sizes) (sites : Each WorldSite) (me : Side) (i : ℕ) (s : WorldSite) → IsPending sizes me i agenda.old sites s node
+        → TakesSoonest sizes me i until agenda.old agenda.new sites s result }
+    ensures lanes { (other : NodeName) → HasLane agenda.old other → HasLane agenda.new other }
+    ensures rooms { (sc : Scenario) → HaveRooms sc agenda.old → HaveRooms sc agenda.new }
+    ensures fewer { length (lane_of agenda.new node).events + taken_of result ≤ length (lane_of agenda.old node).events }
+{
+    let time = agenda.time_at(node);
+    if time >= until {
+        return Soonest::Nothing;
+    }
+    let event = agenda.take_at(node);
+    match &event.kind {
+        EventKind::Tick { .. } => Soonest::OwnTick,
+        EventKind::Arrive { .. } => Soonest::Arrival { time, event },
+    }
+}
+
+/// What comes to the node before this time is taken, one arrival after another, and with it a tick of the node before then.
+pub(crate) fn sweep<K: Kind>(
+    bus: &Bus,
+    node: NodeName,
+    until: u64,
+    site: &mut Site<K>,
+    agenda: &mut Agenda,
+)
+    requires name { node ≡ name_of (side_of K.CODE) (number_of site.old) }
+    requires may { (sites : Each WorldSite) × (s : WorldSite) × MaySweep bus.now (side_of K.CODE) (number_of site.old) until site.old agenda.old sites s }
+    ensures swept { (sites : Each WorldSite) (s : WorldSite) → MaySweep bus.now (side_of K.CODE) (number_of site.old) until site.old agenda.old sites s
+        → Sweeps bus.now (side_of K.CODE) (number_of site.old) until site.new agenda.new sites s }
+    ensures number { number_of site.new ≡ number_of site.old }
+    ensures lanes { (other : NodeName) → HasLane agenda.old other → HasLane agenda.new other }
+{
+    'events: loop {
+        match take_soonest(agenda, node, until) {
+            Soonest::Arrival { time, event } => match &event.kind {
+                EventKind::Arrive { from, bytes } => {
+                    site.arrive(bus.clock(node), time, *from, bytes);
+                }
+                EventKind::Tick { .. } => return,
+            },
+            Soonest::OwnTick => return,
+            Soonest::Nothing => return,
+        }
+    }
+}
+
+// The time up to which a node is swept before the tick of another node at this time.
+fn until_before(from: NodeName, time: u64, node: NodeName) -> u64
+    requires { time < 18446744073709551615 }
+    ensures { result ≡ until_tick (kind_of from) (number_in from) time (kind_of node) (number_in node) }
+{
+    match (from, node) {
+        (NodeName::Biu(i), NodeName::Biu(j)) => if i < j { time } else { time + 1 },
+        (NodeName::Biu(_), NodeName::Rmu(_)) => time,
+        (NodeName::Rmu(_), NodeName::Biu(_)) => time + 1,
+        (NodeName::Rmu(i), NodeName::Rmu(j)) => if i < j { time } else { time + 1 },
+    }
+}
+
+// One node more is swept up to the tick of a node at this time.
+fn catch_up_at<K: Kind>(
+    bus: &Bus,
+    from: NodeName,
+    time: u64,
+    i: usize,
+    sites: &mut Vec<Site<K>>,
+    agenda: &mut Agenda,
+)
+    requires within { i < length sites.old.items }
+    requires small { time < 18446744073709551615 }
+    requires may { (first : List KeptSite) × (begun : Each Held) × (nodes : Each WorldSite)
+        × (MayCatchUp bus.now (until_tick (kind_of from) (number_in from) time) (side_of K.CODE) first begun nodes
+        × HaveCaughtUp bus.now (until_tick (kind_of from) (number_in from) time) (side_of K.CODE) i sites.old.items agenda.old nodes) }
+    ensures caught { (first : List KeptSite) (begun : Each Held) (nodes : Each WorldSite)
+        → MayCatchUp bus.now (until_tick (kind_of from) (number_in from) time) (side_of K.CODE) first begun nodes
+        → HaveCaughtUp bus.now (until_tick (kind_of from) (number_in from) time) (side_of K.CODE) i sites.old.items agenda.old nodes
+        → HaveCaughtUp bus.now (until_tick (kind_of from) (number_in from) time) (side_of K.CODE) (i + 1) sites.new.items agenda.new nodes }
+    ensures many { length sites.new.items ≡ length sites.old.items }
+{
+    let site = &mut sites[i];
+    let node = site.name();
+    sweep(bus, node, until_before(from, time, node), site, agenda);
+}
+
+// All nodes of a kind are.
+fn catch_up_all<K: Kind>(
+    bus: &Bus,
+    from: NodeName,
+    time: u64,
+    sites: &mut Vec<Site<K>>,
+    agenda: &mut Agenda,
+)
+    requires small { time < 18446744073709551615 }
+    requires may { (nodes : Each WorldSite) × MayCatchUp bus.now (until_tick (kind_of from) (number_in from) time) (side_of K.CODE) sites.old.items agenda.old nodes }
+    ensures { (nodes : Each WorldSite) → MayCatchUp bus.now (until_tick (kind_of from) (number_in from) time) (side_of K.CODE) sites.old.items agenda.old nodes
+        → HaveCaughtUp bus.now (until_tick (kind_of from) (number_in from) time) (side_of K.CODE) (count_of (side_of K.CODE) bus.now.sizes) sites.new.items agenda.new nodes }
+{
+    for i in 0..sites.len() {
+        catch_up_at(bus, from, time, i, sites, agenda);
+    }
+}
+
+/// All nodes are swept up to the last tick, if there was one.
+pub(crate) fn catch_up(
+    bus: &Bus,
+    tick: Option<(NodeName, u64)>,
+    bius: &mut Vec<Site<Biu>>,
+    rmus: &mut Vec<Site<Rmu>>,
+    scene: &mut Scene,
+)
+    requires small { IfSome tick (λ t. t.1 < 18446744073709551615) }
+    requires trails { (w : RunWorld) × (v : RunWorld) × Trails bus.now (record { bius = bius.old.items; rmus = rmus.old.items }) scene.old (until_from tick) w v }
+    ensures { (w : RunWorld) (v : RunWorld) → Trails bus.now (record { bius = bius.old.items; rmus = rmus.old.items }) scene.old (until_from tick) w v
+        → HasCaughtUp bus.now (record { bius = bius.new.items; rmus = rmus.new.items }) scene.new w }
+{
+    if let Some((from, time)) = tick {
+        catch_up_all(bus, from, time, bius, &mut scene.agenda);
+        catch_up_all(bus, from, time, rmus, &mut scene.agenda);
+    }
+}

@@ -1,0 +1,136 @@
+//! How a run goes from tick to tick: arrivals are left behind until a tick of their node comes, or a record.
+ghost use Rattle.std.specs.Prelude.{◌≡◌, ℕ, ◌<◌, IfSome, length};
+ghost use Rattle.rb_base.specs.Nodes.{Side, other, side_of};
+ghost use Rattle.rb_rules.specs.Book.{Each, of_kind};
+ghost use Rattle.rb_rules.specs.Links.{name_of};
+ghost use Rattle.rb_rules.specs.WorldStep.{Timed, World as RunWorld};
+ghost use Rattle.rb_book.specs.declared.turn.Turn.{Turn};
+ghost use Rattle.rb_site.specs.Sites.{Kept as KeptSite};
+ghost use Rattle.rb_world.specs.Trailing.{Along, BehindTick, Comes, ComesToRecord, GoesToTick, MayRun, MayTakeFirst, MayTickFirst, TakesFirst, TakesFirstAt, until_from};
+
+use crate::bus::Bus;
+use crate::scene::Scene;
+use crate::sweeping::{catch_up, sweep};
+use crate::taking::tick_at;
+use rb_base::{Biu, Kind, NodeName, Rmu};
+use rb_book::{Turn, Way};
+use rb_port::Apps;
+use rb_site::Site;
+
+// Node `i` of the kind is swept up to its tick, which comes at this time, and takes it.
+fn take_tick<K: Kind>(
+    bus: &Bus,
+    apps: &Apps,
+    node: NodeName,
+    i: u8,
+    time: u64,
+    sites: &mut Vec<Site<K>>,
+    scene: &mut Scene,
+)
+    requires name { node ≡ name_of (side_of K.CODE) i }
+    requires within { i < length sites.old.items }
+    requires small { time < 18446744073709551615 }
+    requires may { (kept : Each KeptSite) × (until : Side → ℕ → ℕ) × (w : RunWorld) × (v : RunWorld) × (a : Timed)
+        × MayTakeFirst bus.now kept scene.old until w v (side_of K.CODE) i a time sites.old.items }
+    ensures { (kept : Each KeptSite) (until : Side → ℕ → ℕ) (w v : RunWorld) (a : Timed)
+        → MayTakeFirst bus.now kept scene.old until w v (side_of K.CODE) i a time sites.old.items
+        → TakesFirst bus.now v (side_of K.CODE) i a sites.new.items (of_kind (other (side_of K.CODE)) kept) scene.new }
+{
+    let site = &mut sites[usize::from(i)];
+    sweep(bus, node, time + 1, site, &mut scene.agenda);
+    tick_at(bus, apps, node, i, site, scene);
+}
+
+// The first tick of all is taken at its node. Before it the node is swept.
+fn take_first(
+    bus: &Bus,
+    apps: &Apps,
+    bius: &mut Vec<Site<Biu>>,
+    rmus: &mut Vec<Site<Rmu>>,
+    scene: &mut Scene,
+) -> (NodeName, u64)
+    requires may { (until : Side → ℕ → ℕ) × (w : RunWorld) × (v : RunWorld) × (me : Side) × (i : ℕ) × (a : Timed)
+        × BehindTick bus.now (record { bius = bius.old.items; rmus = rmus.old.items }) scene.old until w v me i a }
+    ensures happens { (until : Side → ℕ → ℕ) (w v : RunWorld) (me : Side) (i : ℕ) (a : Timed)
+        → BehindTick bus.now (record { bius = bius.old.items; rmus = rmus.old.items }) scene.old until w v me i a
+        → TakesFirstAt bus.now (record { bius = bius.new.items; rmus = rmus.new.items }) scene.new v me i a result.0 result.1 }
+{
+    let (node, time) = scene.agenda.first_tick();
+    match node {
+        NodeName::Biu(i) => take_tick(bus, apps, node, i, time, bius, scene),
+        NodeName::Rmu(i) => take_tick(bus, apps, node, i, time, rmus, scene),
+    }
+    (node, time)
+}
+
+// And what that completes is settled.
+fn tick_first(
+    bus: &Bus,
+    apps: &Apps,
+    bius: &mut Vec<Site<Biu>>,
+    rmus: &mut Vec<Site<Rmu>>,
+    scene: &mut Scene,
+    turn: &mut Turn,
+) -> (NodeName, u64)
+    requires quiet { turn.old ≡ Turn.Quiet }
+    requires may { (until : Side → ℕ → ℕ) × (w : RunWorld) × (v : RunWorld)
+        × MayTickFirst bus.now (record { bius = bius.old.items; rmus = rmus.old.items }) scene.old until w v }
+    ensures goes { (until : Side → ℕ → ℕ) (w v : RunWorld) → MayTickFirst bus.now (record { bius = bius.old.items; rmus = rmus.old.items }) scene.old until w v
+        → GoesToTick bus.now (record { bius = bius.new.items; rmus = rmus.new.items }) scene.new until v result.0 result.1 turn.new }
+    ensures small { result.1 < 18446744073709551615 }
+{
+    let (node, time) = take_first(bus, apps, bius, rmus, scene);
+    scene.book.settle_into(Way::ByAnEvent, turn);
+    (node, time)
+}
+
+// What needs no event is given, or the first tick of all is taken.
+fn step_on(
+    bus: &Bus,
+    apps: &Apps,
+    bius: &mut Vec<Site<Biu>>,
+    rmus: &mut Vec<Site<Rmu>>,
+    scene: &mut Scene,
+    turn: &mut Turn,
+    tick: &mut Option<(NodeName, u64)>,
+)
+    requires quiet { turn.old ≡ Turn.Quiet }
+    requires small { IfSome tick.old (λ t. t.1 < 18446744073709551615) }
+    requires may { (n : ℕ) × (w : RunWorld) × (d : ℕ)
+        × Along bus.now (record { bius = bius.old.items; rmus = rmus.old.items }) scene.old (until_from tick.old) n w d }
+    ensures comes { (n : ℕ) (w : RunWorld) (d : ℕ) → Along bus.now (record { bius = bius.old.items; rmus = rmus.old.items }) scene.old (until_from tick.old) n w d
+        → Comes bus.now (record { bius = bius.new.items; rmus = rmus.new.items }) scene.new (until_from tick.new) n w d turn.new }
+    ensures small { IfSome tick.new (λ t. t.1 < 18446744073709551615) }
+{
+    if scene.book.needs_no_event() {
+        scene.book.settle_into(Way::ByItself, turn);
+        return;
+    }
+    *tick = Some(tick_first(bus, apps, bius, rmus, scene, turn));
+}
+
+/// Takes the run from tick to tick up to its next record. Before that it has not ended. A run has fewer than 2^64 - 1 events.
+pub(crate) fn run_ticks(
+    bus: &Bus,
+    apps: &Apps,
+    bius: &mut Vec<Site<Biu>>,
+    rmus: &mut Vec<Site<Rmu>>,
+    scene: &mut Scene,
+    turn: &mut Turn,
+)
+    requires quiet { turn.old ≡ Turn.Quiet }
+    requires may { (w : RunWorld) × MayRun bus.now (record { bius = bius.old.items; rmus = rmus.old.items }) scene.old w }
+    ensures { (w : RunWorld) (d : ℕ) → MayRun bus.now (record { bius = bius.old.items; rmus = rmus.old.items }) scene.old w
+        → ComesToRecord bus.now (record { bius = bius.new.items; rmus = rmus.new.items }) scene.new turn.new w d }
+{
+    let mut tick = None;
+    for passed in 0..u64::MAX {
+        step_on(bus, apps, bius, rmus, scene, turn, &mut tick);
+        if let Turn::Quiet = turn {
+            continue;
+        }
+        catch_up(bus, tick, bius, rmus, scene);
+        return;
+    }
+    unreachable!()
+}
