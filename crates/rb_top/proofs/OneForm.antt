@@ -25,6 +25,10 @@ same_numbers make seed frames seed' frames' a b is_seed is_frames =
     let f : frames ≡ frames' = decimal_injective frames frames' (omega (arith, a.most_frames)) (omega (arith, b.most_frames)) is_frames in
     ap (λ x. make x frames) s ∙ ap (λ x. make seed' x) f
 
+first : List (List ℕ) → List ℕ
+first [] = []
+first (a ∷ as) = a
+
 second : List (List ℕ) → List ℕ
 second [] = []
 second (a ∷ []) = []
@@ -73,7 +77,7 @@ same_group which which' members members' a b is_voter is_members =
     ap (λ x. Group x members) w ∙ ap (λ x. Group which' x) m
 
 same_form : (a b : Form) → IsInRange a → IsInRange b → words_of a ≡ words_of b → a ≡ b
-unfolding second third
+unfolding first second third
 same_form Run Run i j e = refl
 same_form Run Check i j e = cc
 same_form Run (Gen seed' frames') i j e = cc
@@ -123,7 +127,8 @@ same_form (Record node) Replay i j e = cc
 same_form (Record node) (Spell letter') i j e = cc
 same_form (Record node) Letters i j e = cc
 same_form (Record node) (Group which' members') i j e = cc
-same_form (Record node) (Listen skip') i j e = cc
+same_form (Record node) (Listen skip') i j e =
+    let letters : 114 ≡ 108 = ap (λ words. get_or (first words) 0 0) e in absurd (omega (arith, letters))
 same_form Replay Run i j e = cc
 same_form Replay Check i j e = cc
 same_form Replay (Gen seed' frames') i j e = cc
@@ -168,7 +173,8 @@ same_form (Listen skip) Run i j e = cc
 same_form (Listen skip) Check i j e = cc
 same_form (Listen skip) (Gen seed' frames') i j e = cc
 same_form (Listen skip) (Stress seed' frames') i j e = cc
-same_form (Listen skip) (Record node') i j e = cc
+same_form (Listen skip) (Record node') i j e =
+    let letters : 108 ≡ 114 = ap (λ words. get_or (first words) 0 0) e in absurd (omega (arith, letters))
 same_form (Listen skip) Replay i j e = cc
 same_form (Listen skip) (Spell letter') i j e = cc
 same_form (Listen skip) Letters i j e = cc
