@@ -27,7 +27,7 @@ same_numbers make seed frames seed' frames' a b is_seed is_frames =
 
 first : List (List ℕ) → List ℕ
 first [] = []
-first (a ∷ as) = a
+first (a ∷ bs) = a
 
 second : List (List ℕ) → List ℕ
 second [] = []
