@@ -14,6 +14,10 @@ const SILENT_B3: &str = "fault = [{ node = 'B3', frame = 0, slot = 0 }]\n";
 
 // What the bus tells from frame 2 on.
 const ALL_HEARD: &str =
+    "e 2 B2 1834\nc 2 B2 0 0\nd 2 4 B2 B0 10\nd 2 5 B2 B1 20\nd 2 6 B2 B2 30\nd 2 7 B2 B3 40\nd 2 8 B2 B0 10\nd 2 9 B2 B1 20\nd 2 10 B2 B2 30\nd 2 11 B2 B3 40\ne 3 B2 2751\nc 3 B2 0 0\nd 3 4 B2 B0 10\nd 3 5 B2 B1 20\nd 3 6 B2 B2 30\nd 3 7 B2 B3 40\nd 3 8 B2 B0 10\nd 3 9 B2 B1 20\nd 3 10 B2 B2 30\nd 3 11 B2 B3 40\ne 4 B2 3668\nc 4 B2 0 0\nend 2\n";
+
+// The same by a clock that begins 100 ticks later.
+const HEARD_LATER: &str =
     "e 2 B2 1734\nc 2 B2 0 0\nd 2 4 B2 B0 10\nd 2 5 B2 B1 20\nd 2 6 B2 B2 30\nd 2 7 B2 B3 40\nd 2 8 B2 B0 10\nd 2 9 B2 B1 20\nd 2 10 B2 B2 30\nd 2 11 B2 B3 40\ne 3 B2 2651\nc 3 B2 0 0\nd 3 4 B2 B0 10\nd 3 5 B2 B1 20\nd 3 6 B2 B2 30\nd 3 7 B2 B3 40\nd 3 8 B2 B0 10\nd 3 9 B2 B1 20\nd 3 10 B2 B2 30\nd 3 11 B2 B3 40\ne 4 B2 3568\nc 4 B2 0 0\nend 2\n";
 
 // The same without B3.
@@ -25,7 +29,13 @@ fn logs_listened_to(rt: HostRuntime) -> Result<(), Fail> {
     let alloc = rt.alloc();
     for (node, faults, words, status, lines) in [
         ("record B2", TWO_EACH, "listen 0", Status::Done, ALL_HEARD),
-        ("record B2", TWO_EACH, "listen 100", Status::Done, ALL_HEARD),
+        (
+            "record B2",
+            TWO_EACH,
+            "listen 100",
+            Status::Done,
+            HEARD_LATER,
+        ),
         (
             "record B2",
             TWO_EACH,
