@@ -16,6 +16,8 @@ mod groups;
 #[cfg(test)]
 mod letters;
 #[cfg(test)]
+mod listeners;
+#[cfg(test)]
 mod load;
 #[cfg(test)]
 mod logs;

@@ -6,7 +6,7 @@ use rb_top::Status;
 use rb_world::FirstDrive;
 use std::test::Fail;
 
-const NO_FORMS: [&str; 55] = [
+const NO_FORMS: [&str; 61] = [
     "",
     "RUN",
     "Run",
@@ -62,6 +62,12 @@ const NO_FORMS: [&str; 55] = [
     "group mid +7",
     "group mid 7 7",
     "mid 7",
+    "listen",
+    "listen 2147483648",
+    "listen 01",
+    "listen -1",
+    "listen 1 1",
+    "Listen 1",
 ];
 
 // The first read would fail.

@@ -4,7 +4,8 @@ use Rattle.rb_outside.specs.Bytes.{Gave, ReadsToEnd}
 use Rattle.rb_outside.proofs.Known.{gave_within, read_bytes}
 use Rattle.rb_rules.specs.Goodness.{Scenario}
 use Rattle.rb_rules.specs.Lawful.{IsNodeOf}
-use Rattle.rb_log.specs.LogText.{log_in}
+use Rattle.rb_log.specs.LogText.{Log, log_in}
+use Rattle.rb_overheard.specs.Overhearing.{is_of_biu}
 use Rattle.rb_replicas.specs.Members.{AreMembers}
 use Rattle.rb_gen.specs.Generated.{generated}
 use Rattle.rb_scenario.specs.Acceptance.{IsAccepted, IsRefused}
@@ -15,7 +16,7 @@ use Rattle.rb_entries.specs.declared.refusal.Refusal.TheVariants as rule
 use Rattle.rb_book.specs.declared.turn.Turn.{Turn}
 use Rattle.rb_run.specs.declared.ending.Ending.{Ending}
 use Rattle.rb_top.specs.declared.form.Form.{Form}
-use Rattle.rb_top.specs.declared.form.Form.TheVariants.{Run, Check, Gen, Stress, Record, Replay, Spell, Letters, Group}
+use Rattle.rb_top.specs.declared.form.Form.TheVariants.{Run, Check, Gen, Stress, Record, Replay, Spell, Letters, Group, Listen}
 use Rattle.rb_top.specs.declared.status.Status.{Status}
 use Rattle.rb_top.specs.declared.status.Status.TheVariants.{Done, Breach, Usage, Refused, TooLong, ReadFault, WriteFault, OutOfMemory}
 use Rattle.rb_top.specs.Answers.{Completes, Ends, EndsAs, IsDue, IsEnd, IsLeft, NothingFails, Refuses, status_of}
@@ -64,6 +65,13 @@ same_end sc a b is_a is_b =
 ok_or_err : {T E : Type 0} (r : Result T E) (x : T) (e : E) → r ≡ Ok x → r ≡ Err e → ⊥
 ok_or_err r x e is_ok is_err = cc
 
+-- a log is not that of a BIU and of an RMU
+not_of_both : {E : Type 0} (r : Result Log E) (a b : Log) → r ≡ Ok a → r ≡ Ok b → is_of_biu a.node ≡ true → is_of_biu b.node ≡ false → ⊥
+not_of_both r a b is_a is_b biu rmu =
+    let same : a ≡ b = cc in
+    let both : true ≡ false = sym biu ∙ ap (λ (x : Log). is_of_biu x.node) same ∙ rmu in
+    cc
+
 -- an input that is refused doesn't end
 not_both : (form : Form) (input line : List ℕ) (end : Status) → IsEnd form input end → ¬ IsRefusedWith form input line
 not_both Run input line end e refused = breaks_none input line e.0 e.1 refused
@@ -75,6 +83,8 @@ not_both (Record node) input line end e (inr lacks) =
     let P : Scenario → Type 0 = λ sc. IsNodeOf sc.sizes node in
     lacks.none (subst P (same_scenario input e.0 lacks.scenario e.1 lacks.says) e.2)
 not_both Replay input line end e breaks = ok_or_err (log_in input) e.0 breaks.fault e.1 breaks.spells
+not_both (Listen skip) input line end e (inl breaks) = ok_or_err (log_in input) e.0 breaks.fault e.1 breaks.spells
+not_both (Listen skip) input line end e (inr rmu) = not_of_both (log_in input) e.0 rmu.log e.1 rmu.spells e.2 rmu.rmu
 not_both (Spell letter) input line end e refused = refused
 not_both Letters input line end e refused = breaks_none input line e.0 e.1 refused
 not_both (Group which members) input line end e (inl breaks) = breaks_none input line e.0 e.1 breaks
@@ -96,6 +106,8 @@ read_is_left (Record node) left left' input read is r =
     let P : Option (List ℕ) → Type 0 = λ l. ReadsToEnd l left' read in read_bytes input left' read (subst P is r)
 read_is_left Replay left left' input read is r =
     let P : Option (List ℕ) → Type 0 = λ l. ReadsToEnd l left' read in read_bytes input left' read (subst P is r)
+read_is_left (Listen skip) left left' input read is r =
+    let P : Option (List ℕ) → Type 0 = λ l. ReadsToEnd l left' read in read_bytes input left' read (subst P is r)
 read_is_left (Spell letter) left left' input read is r = r ∙ sym is
 read_is_left Letters left left' input read is r =
     let P : Option (List ℕ) → Type 0 = λ l. ReadsToEnd l left' read in read_bytes input left' read (subst P is r)
@@ -111,6 +123,7 @@ ends_so (Gen seed frames) input is_plain told told' status text due = due.1.done
 ends_so (Stress seed frames) input is_plain told told' status text due = due.ends
 ends_so (Record node) input is_plain told told' status text due = (due.log.scenario, due.log.says, due.log.there, due.ends)
 ends_so Replay input is_plain told told' status text due = (due.0.log, due.0.spells, due.1.done)
+ends_so (Listen skip) input is_plain told told' status text due = (due.0.log, due.0.spells, due.0.biu, due.1.done)
 ends_so (Spell letter) input is_plain told told' status text due = due.1.done
 ends_so Letters input is_plain told told' status text due = (due.scenario, due.says, due.ends)
 ends_so (Group which members) input is_plain told told' status text due = (due.report.scenario, due.report.says, due.there, due.report.ends)
@@ -126,6 +139,7 @@ one_end (Record node) input a b is_a is_b =
     let P : Scenario → Type 0 = λ sc. EndsAs sc a in
     same_end is_b.0 a b (subst P (same_scenario input is_a.0 is_b.0 is_a.1 is_b.1) is_a.3) is_b.3
 one_end Replay input a b is_a is_b = is_a.2 ∙ sym is_b.2
+one_end (Listen skip) input a b is_a is_b = is_a.3 ∙ sym is_b.3
 one_end (Spell letter) input a b is_a is_b = is_a ∙ sym is_b
 one_end Letters input a b is_a is_b =
     let P : Scenario → Type 0 = λ sc. EndsAs sc a in
@@ -155,6 +169,10 @@ never_long Replay left left' reads reads' writes writes' input is fine unread =
     let P : Option (List ℕ) → Type 0 = λ l. Gave l left' (λ n. log_limit < n) in
     let long : log_limit < length input = gave_within input left' log_limit (subst P is (unread.too_long refl)) in
     absurd (omega (arith, long, fine.within))
+never_long (Listen skip) left left' reads reads' writes writes' input is fine unread =
+    let P : Option (List ℕ) → Type 0 = λ l. Gave l left' (λ n. log_limit < n) in
+    let long : log_limit < length input = gave_within input left' log_limit (subst P is (unread.too_long refl)) in
+    absurd (omega (arith, long, fine.within))
 never_long (Spell letter) left left' reads reads' writes writes' input is fine unread = unread.not_long refl
 never_long Letters left left' reads reads' writes writes' input is fine unread =
     let P : Option (List ℕ) → Type 0 = λ l. Gave l left' (λ n. scenario_limit < n) in
@@ -173,6 +191,7 @@ never_faulty (Gen seed frames) left left' reads reads' writes writes' input fine
 never_faulty (Stress seed frames) left left' reads reads' writes writes' input fine unread = unread.no_fault refl
 never_faulty (Record node) left left' reads reads' writes writes' input fine unread = fine.no_read (unread.fault refl)
 never_faulty Replay left left' reads reads' writes writes' input fine unread = fine.no_read (unread.fault refl)
+never_faulty (Listen skip) left left' reads reads' writes writes' input fine unread = fine.no_read (unread.fault refl)
 never_faulty (Spell letter) left left' reads reads' writes writes' input fine unread = unread.no_fault refl
 never_faulty Letters left left' reads reads' writes writes' input fine unread = fine.no_read (unread.fault refl)
 never_faulty (Group which members) left left' reads reads' writes writes' input fine unread = fine.no_read (unread.fault refl)

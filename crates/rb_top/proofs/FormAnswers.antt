@@ -21,14 +21,14 @@ use Rattle.rb_rules.specs.Goodness.{Scenario}
 use Rattle.rb_run.specs.Runs.{WritesPart}
 use Rattle.rb_run.specs.Turns.{AreAll, AreGiven, records_in}
 use Rattle.rb_top.specs.declared.form.Form.{Form}
-use Rattle.rb_top.specs.declared.form.Form.TheVariants.{Run, Check, Gen, Stress, Record, Replay, Spell, Letters, Group}
+use Rattle.rb_top.specs.declared.form.Form.TheVariants.{Run, Check, Gen, Stress, Record, Replay, Spell, Letters, Group, Listen}
 use Rattle.rb_top.specs.declared.status.Status.{Status}
 use Rattle.rb_top.specs.declared.status.Status.TheVariants.{Done, Breach, Usage, Refused, TooLong, ReadFault, WriteFault, OutOfMemory}
-use Rattle.rb_top.specs.Answers.{EndsAs, IsDue, IsDueSoFar, IsRefusedAlone, IsReplay, IsReport, IsReportSoFar}
+use Rattle.rb_top.specs.Answers.{EndsAs, IsDue, IsDueSoFar, IsOverheard, IsRefusedAlone, IsReplay, IsReport, IsReportSoFar}
 use Rattle.rb_top.specs.CheckText.{check_text}
-use Rattle.rb_top.specs.Inputs.{BreaksLog, BreaksRule, IsRead, IsRefusedWith, IsTextOf, IsUnread, IsUnreadOver, LacksNode, LacksMember, log_limit, member_text, rule_text, scenario_limit}
+use Rattle.rb_top.specs.Inputs.{BreaksLog, BreaksRule, IsOfRmu, IsRead, IsRefusedWith, IsTextOf, IsUnread, IsUnreadOver, LacksMember, LacksNode, log_limit, member_text, rule_text, scenario_limit}
 use Rattle.rb_top.specs.Reading.{ReadsNone, ReadsScenario}
-use Rattle.rb_top.specs.Serving.{Answers, FailsToReplay, FailsToSum, IsGrouped, IsLettered, IsLogged, IsNotRead, IsOfLog, IsOfRun, IsOfText, IsReplayed, IsReported, IsSummed, RefusesLog}
+use Rattle.rb_top.specs.Serving.{Answers, FailsToListen, FailsToReplay, FailsToSum, IsGrouped, IsLettered, IsListened, IsLogged, IsNotRead, IsOfLog, IsOfRun, IsOfText, IsReplayed, IsReported, IsSummed, RefusesLog, RefusesToListen}
 use Rattle.rb_top.specs.Statuses.{HasEnded, MayRefuse, RunsNothing, WritesNothing}
 use Rattle.rb_top.specs.Texts.{Telling, generated_text, told_by_group, told_by_letters, told_by_run}
 
@@ -570,6 +570,38 @@ replay_answers bytes status left left' reads reads' held held' writes writes' is
       record { rose = x.cause e; input = bytes; text = part.text; read = read; due = due_of_replay bytes part.text is_plain told part.due; written = part.written };
 }
 
+-- a log, or what is none of a BIU, has been read to be listened to
+pub record Listens (skip : ℕ) (bytes : List ℕ) (status : Status) (held held' : Option (List ℕ)) (writes writes' : ℕ) : Type 0 where
+  pub done : status ≡ Done → IsListened skip bytes held held'
+  pub refused : status ≡ Refused → RefusesToListen bytes held held'
+  pub part : status ≡ WriteFault → FailsToListen skip bytes held held'
+  pub cause : status ≡ WriteFault → Rose writes writes'
+  pub one_of : IsOfLog status
+
+due_of_listening : (skip : ℕ) (bytes text : List ℕ) (is_plain : Bool) (told : Option (List Turn))
+    → (BreaksLog bytes text ⊎ IsOfRmu bytes text) ⊎ IsOverheard skip bytes text
+    → IsRefusedAlone (Listen skip) bytes told told text ⊎ IsDueSoFar (Listen skip) bytes is_plain told told text
+due_of_listening skip bytes text is_plain told (inl refused) = inl (record { refused = refused; silent = refl })
+due_of_listening skip bytes text is_plain told (inr overheard) = inr (overheard, record { done = refl; silent = refl })
+
+pub listen_answers : (skip : ℕ) (bytes : List ℕ) (status : Status) (left left' : Option (List ℕ)) (reads reads' : ℕ) (held held' : Option (List ℕ))
+    (writes writes' : ℕ) (is_plain : Bool) (told : Option (List Turn)) → ReadsToEnd left left' bytes → Gave left left' (λ n. n ≤ log_limit)
+    → Listens skip bytes status held held' writes writes'
+    → Answers (Listen skip) status left left' reads reads' held held' writes writes' is_plain told told
+listen_answers skip bytes status left left' reads reads' held held' writes writes' is_plain told read short x = record {
+  known = no_log status Usage (λ h. h) x.one_of;
+  ended = λ h. let done = only_replayed status x.one_of h in let all = x.done done in
+      record { input = bytes; text = all.text; read = read; written = all.written; due = (all.overheard, record { done = done; silent = refl }) };
+  refused = λ e. let r = x.refused e in record { input = bytes; line = r.line; read = read; refused = r.refused; written = r.written };
+  unread = record {
+    too_long = λ e. absurd (no_log status TooLong (λ h. h) x.one_of e);
+    short_enough = λ e. short;
+    fault = λ e. absurd (no_log status ReadFault (λ h. h) x.one_of e);
+  };
+  failed = λ e. let part = x.part e in
+      record { rose = x.cause e; input = bytes; text = part.text; read = read; due = due_of_listening skip bytes part.text is_plain told part.due; written = part.written };
+}
+
 unread_is_no_end : (status : Status) → IsNotRead status → ¬ HasEnded status
 unread_is_no_end Done one_of h = one_of
 unread_is_no_end Breach one_of h = one_of
@@ -584,6 +616,17 @@ pub unread_answers : (status : Status) (left left' : Option (List ℕ)) (reads r
     → IsNotRead status → IsUnreadOver log_limit status left left' reads reads'
     → Answers Replay status left left' reads reads' held held writes writes is_plain told told
 unread_answers status left left' reads reads' held writes is_plain told one_of unread = record {
+  known = λ e. let P : Status → Type 0 = λ s. IsNotRead s in subst P e one_of;
+  ended = λ h. absurd (unread_is_no_end status one_of h);
+  refused = λ e. let P : Status → Type 0 = λ s. IsNotRead s in absurd (subst P e one_of);
+  unread = unread;
+  failed = λ e. let P : Status → Type 0 = λ s. IsNotRead s in absurd (subst P e one_of);
+}
+
+pub unread_to_listen : (skip : ℕ) (status : Status) (left left' : Option (List ℕ)) (reads reads' : ℕ) (held : Option (List ℕ)) (writes : ℕ) (is_plain : Bool) (told : Option (List Turn))
+    → IsNotRead status → IsUnreadOver log_limit status left left' reads reads'
+    → Answers (Listen skip) status left left' reads reads' held held writes writes is_plain told told
+unread_to_listen skip status left left' reads reads' held writes is_plain told one_of unread = record {
   known = λ e. let P : Status → Type 0 = λ s. IsNotRead s in subst P e one_of;
   ended = λ h. absurd (unread_is_no_end status one_of h);
   refused = λ e. let P : Status → Type 0 = λ s. IsNotRead s in absurd (subst P e one_of);

@@ -14,7 +14,7 @@ use Rattle.rb_group.specs.declared.voters.Which.{Which}
 use Rattle.rb_group.specs.declared.voters.Which.TheVariants.{Most, Mid}
 use Rattle.rb_report.specs.Report.{node_text}
 use Rattle.rb_top.specs.declared.form.Form.{Form}
-use Rattle.rb_top.specs.declared.form.Form.TheVariants.{Run, Check, Gen, Stress, Record, Replay, Spell, Letters, Group}
+use Rattle.rb_top.specs.declared.form.Form.TheVariants.{Run, Check, Gen, Stress, Record, Replay, Spell, Letters, Group, Listen}
 use Rattle.rb_top.specs.Words.{AreNumbers, AskFor, IsInRange, IsLetter, IsMask, voter_text, words_of}
 
 -- equal numbers
@@ -24,6 +24,10 @@ same_numbers make seed frames seed' frames' a b is_seed is_frames =
     let s : seed ≡ seed' = decimal_injective seed seed' a.seed_fits b.seed_fits is_seed in
     let f : frames ≡ frames' = decimal_injective frames frames' (omega (arith, a.most_frames)) (omega (arith, b.most_frames)) is_frames in
     ap (λ x. make x frames) s ∙ ap (λ x. make seed' x) f
+
+first : List (List ℕ) → List ℕ
+first [] = []
+first (a ∷ bs) = a
 
 second : List (List ℕ) → List ℕ
 second [] = []
@@ -73,7 +77,7 @@ same_group which which' members members' a b is_voter is_members =
     ap (λ x. Group x members) w ∙ ap (λ x. Group which' x) m
 
 same_form : (a b : Form) → IsInRange a → IsInRange b → words_of a ≡ words_of b → a ≡ b
-unfolding second third
+unfolding first second third
 same_form Run Run i j e = refl
 same_form Run Check i j e = cc
 same_form Run (Gen seed' frames') i j e = cc
@@ -83,6 +87,7 @@ same_form Run Replay i j e = cc
 same_form Run (Spell letter') i j e = cc
 same_form Run Letters i j e = cc
 same_form Run (Group which' members') i j e = cc
+same_form Run (Listen skip') i j e = cc
 same_form Check Run i j e = cc
 same_form Check Check i j e = refl
 same_form Check (Gen seed' frames') i j e = cc
@@ -92,6 +97,7 @@ same_form Check Replay i j e = cc
 same_form Check (Spell letter') i j e = cc
 same_form Check Letters i j e = cc
 same_form Check (Group which' members') i j e = cc
+same_form Check (Listen skip') i j e = cc
 same_form (Gen seed frames) Run i j e = cc
 same_form (Gen seed frames) Check i j e = cc
 same_form (Gen seed frames) (Gen seed' frames') i j e = same_numbers Gen seed frames seed' frames' i j (ap second e) (ap third e)
@@ -101,6 +107,7 @@ same_form (Gen seed frames) Replay i j e = cc
 same_form (Gen seed frames) (Spell letter') i j e = cc
 same_form (Gen seed frames) Letters i j e = cc
 same_form (Gen seed frames) (Group which' members') i j e = cc
+same_form (Gen seed frames) (Listen skip') i j e = cc
 same_form (Stress seed frames) Run i j e = cc
 same_form (Stress seed frames) Check i j e = cc
 same_form (Stress seed frames) (Gen seed' frames') i j e = cc
@@ -110,6 +117,7 @@ same_form (Stress seed frames) Replay i j e = cc
 same_form (Stress seed frames) (Spell letter') i j e = cc
 same_form (Stress seed frames) Letters i j e = cc
 same_form (Stress seed frames) (Group which' members') i j e = cc
+same_form (Stress seed frames) (Listen skip') i j e = cc
 same_form (Record node) Run i j e = cc
 same_form (Record node) Check i j e = cc
 same_form (Record node) (Gen seed' frames') i j e = cc
@@ -119,6 +127,8 @@ same_form (Record node) Replay i j e = cc
 same_form (Record node) (Spell letter') i j e = cc
 same_form (Record node) Letters i j e = cc
 same_form (Record node) (Group which' members') i j e = cc
+same_form (Record node) (Listen skip') i j e =
+    let letters : 114 ≡ 108 = ap (λ words. get_or (first words) 0 0) e in absurd (omega (arith, letters))
 same_form Replay Run i j e = cc
 same_form Replay Check i j e = cc
 same_form Replay (Gen seed' frames') i j e = cc
@@ -128,6 +138,7 @@ same_form Replay Replay i j e = refl
 same_form Replay (Spell letter') i j e = cc
 same_form Replay Letters i j e = cc
 same_form Replay (Group which' members') i j e = cc
+same_form Replay (Listen skip') i j e = cc
 same_form (Spell letter) Run i j e = cc
 same_form (Spell letter) Check i j e = cc
 same_form (Spell letter) (Gen seed' frames') i j e = cc
@@ -137,6 +148,7 @@ same_form (Spell letter) Replay i j e = cc
 same_form (Spell letter) (Spell letter') i j e = ap Spell (same_letter letter letter' i j (ap second e))
 same_form (Spell letter) Letters i j e = cc
 same_form (Spell letter) (Group which' members') i j e = cc
+same_form (Spell letter) (Listen skip') i j e = cc
 same_form Letters Run i j e = cc
 same_form Letters Check i j e = cc
 same_form Letters (Gen seed' frames') i j e = cc
@@ -146,6 +158,7 @@ same_form Letters Replay i j e = cc
 same_form Letters (Spell letter') i j e = cc
 same_form Letters Letters i j e = refl
 same_form Letters (Group which' members') i j e = cc
+same_form Letters (Listen skip') i j e = cc
 same_form (Group which members) Run i j e = cc
 same_form (Group which members) Check i j e = cc
 same_form (Group which members) (Gen seed' frames') i j e = cc
@@ -155,6 +168,19 @@ same_form (Group which members) Replay i j e = cc
 same_form (Group which members) (Spell letter') i j e = cc
 same_form (Group which members) Letters i j e = cc
 same_form (Group which members) (Group which' members') i j e = same_group which which' members members' i j (ap second e) (ap third e)
+same_form (Group which members) (Listen skip') i j e = cc
+same_form (Listen skip) Run i j e = cc
+same_form (Listen skip) Check i j e = cc
+same_form (Listen skip) (Gen seed' frames') i j e = cc
+same_form (Listen skip) (Stress seed' frames') i j e = cc
+same_form (Listen skip) (Record node') i j e =
+    let letters : 108 ≡ 114 = ap (λ words. get_or (first words) 0 0) e in absurd (omega (arith, letters))
+same_form (Listen skip) Replay i j e = cc
+same_form (Listen skip) (Spell letter') i j e = cc
+same_form (Listen skip) Letters i j e = cc
+same_form (Listen skip) (Group which' members') i j e = cc
+same_form (Listen skip) (Listen skip') i j e =
+    ap Listen (decimal_injective skip skip' (omega (arith, i)) (omega (arith, j)) (ap second e))
 
 pub one_form : (words : List (String Global)) (a b : Form) → AskFor words a → AskFor words b → a ≡ b
 one_form words a b is_a is_b = same_form a b is_a.in_range is_b.in_range (sym is_a.same ∙ is_b.same)

@@ -7,7 +7,7 @@ use Rattle.rb_book.specs.declared.turn.Turn.{Turn}
 use Rattle.rb_outside.specs.Bytes.{ReadsToEnd}
 use Rattle.rb_run.proofs.Plain.{plain-records}
 use Rattle.rb_top.specs.declared.form.Form.{Form}
-use Rattle.rb_top.specs.declared.form.Form.TheVariants.{Run, Check, Gen, Stress, Record, Replay, Spell, Letters, Group}
+use Rattle.rb_top.specs.declared.form.Form.TheVariants.{Run, Check, Gen, Stress, Record, Replay, Spell, Letters, Group, Listen}
 use Rattle.rb_top.specs.declared.status.Status.{Status}
 use Rattle.rb_top.specs.Answers.{Ends, IsReport}
 use Rattle.rb_top.specs.Promise.{KeepsItsPromise, KeepsTheHeadline}
@@ -53,3 +53,4 @@ promised Letters status left left' held held' told told' e =
 promised (Group which members) status left left' held held' told told' e =
     let group = e.due in
     told_headline (told_by_group which members) status left left' held held' told told' e.input e.text e.read group.report e.written
+promised (Listen skip) status left left' held held' told told' e = tt

@@ -1,5 +1,5 @@
 -- When each answer of the top call comes, and what it leaves written.
-use Rattle.std.specs.Prelude.{⊤, ℕ, ◌≡◌, ◌≤◌, ◌⊎◌, Bool, List, [], length, String, Option, Some, None, Ok}
+use Rattle.std.specs.Prelude.{⊤, ℕ, ◌≡◌, ◌≤◌, ◌⊎◌, Bool, true, List, [], length, String, Option, Some, None, Ok}
 use Rattle.std.specs.declared.alloc.Global.{Global}
 use Rattle.std.specs.Io.KnownBytes.{Appends}
 use Rattle.rb_outside.specs.Bytes.{AppendsPart}
@@ -13,6 +13,7 @@ use Rattle.rb_book.specs.declared.turn.Turn.{Turn}
 use Rattle.rb_history.specs.Given.{AreGiven as AreGivenTo}
 use Rattle.rb_history.specs.Replays.{replay_text}
 use Rattle.rb_log.specs.LogText.{Log, log_in}
+use Rattle.rb_overheard.specs.Overhearing.{is_of_biu, overheard_text}
 use Rattle.rb_record.specs.Recording.{log_text}
 use Rattle.rb_group.specs.declared.voters.Which.{Which}
 use Rattle.rb_hearing.specs.Texts.{spelling_text}
@@ -22,7 +23,7 @@ use Rattle.rb_run.specs.Turns.{AreAll, AreGiven, records_in}
 use Rattle.rb_run.specs.declared.ending.Ending.{Ending}
 use Rattle.rb_run.specs.declared.ending.Ending.TheVariants as ending
 use Rattle.rb_top.specs.declared.form.Form.{Form}
-use Rattle.rb_top.specs.declared.form.Form.TheVariants.{Run, Check, Gen, Stress, Record, Replay, Spell, Letters, Group}
+use Rattle.rb_top.specs.declared.form.Form.TheVariants.{Run, Check, Gen, Stress, Record, Replay, Spell, Letters, Group, Listen}
 use Rattle.rb_top.specs.declared.status.Status.{Status}
 use Rattle.rb_top.specs.declared.status.Status.TheVariants as answer
 use Rattle.rb_top.specs.CheckText.{check_text}
@@ -54,6 +55,7 @@ IsEnd Replay input status = (log : Log) × (log_in input ≡ Ok log) × (status 
 IsEnd (Spell letter) input status = status ≡ answer.Done
 IsEnd Letters input status = (sc : Scenario) × IsTextOf input sc × EndsAs sc status
 IsEnd (Group which members) input status = (sc : Scenario) × IsTextOf input sc × AreMembers sc.sizes members × EndsAs sc status
+IsEnd (Listen skip) input status = (log : Log) × (log_in input ≡ Ok log) × (is_of_biu log.node ≡ true) × (status ≡ answer.Done)
 
 -- What is due.
 
@@ -110,6 +112,13 @@ pub record IsReplay (input text : List ℕ) : Type 0 where
   pub spells : log_in input ≡ Ok log
   pub text_is : text ≡ replay_text log.timetable.sizes log.timetable.plan log.node log.events
 
+-- `listen` is due what a passive listener tells when it is given the events of a BIU's log from a tick on
+pub record IsOverheard (skip : ℕ) (input text : List ℕ) : Type 0 where
+  pub log : Log
+  pub spells : log_in input ≡ Ok log
+  pub biu : is_of_biu log.node ≡ true
+  pub text_is : text ≡ overheard_text log.timetable.sizes log.timetable.plan log.node skip log.events
+
 -- a form without a run ends as done, and the drive gave nothing
 pub record IsAlone (told told' : Option (List Turn)) (status : Status) : Type 0 where
   pub done : status ≡ answer.Done
@@ -126,6 +135,7 @@ IsDue Replay input is_plain told told' status text = IsReplay input text × IsAl
 IsDue (Spell letter) input is_plain told told' status text = (text ≡ spelling_text letter.items) × IsAlone told told' status
 IsDue Letters input is_plain told told' status text = IsReport told_by_letters input is_plain told told' status text
 IsDue (Group which members) input is_plain told told' status text = IsGroupReport which members input is_plain told told' status text
+IsDue (Listen skip) input is_plain told told' status text = IsOverheard skip input text × IsAlone told told' status
 
 -- of a run that goes on, what is told of the turns that the drive gave so far is due
 pub record IsReportSoFar (tells : Telling) (input : List ℕ) (is_plain : Bool) (told told' : Option (List Turn)) (text : List ℕ) : Type 0 where
@@ -150,6 +160,7 @@ IsDueSoFar Replay input is_plain told told' text = IsDue Replay input is_plain t
 IsDueSoFar (Spell letter) input is_plain told told' text = IsDue (Spell letter) input is_plain told told' answer.Done text
 IsDueSoFar Letters input is_plain told told' text = IsReportSoFar told_by_letters input is_plain told told' text
 IsDueSoFar (Group which members) input is_plain told told' text = IsGroupSoFar which members input is_plain told told' text
+IsDueSoFar (Listen skip) input is_plain told told' text = IsDue (Listen skip) input is_plain told told' answer.Done text
 
 -- Answers.
 

@@ -1,5 +1,5 @@
 -- What a form reads, and how its input is refused or not read to its end.
-use Rattle.std.specs.Prelude.{ℕ, ◌≡◌, ◌≤◌, ◌<◌, ◌⊎◌, List, [], Option, Some, None, IsSome, unwrap_or, Err, false, true}
+use Rattle.std.specs.Prelude.{ℕ, ◌≡◌, ◌≤◌, ◌<◌, ◌⊎◌, List, [], Option, Some, None, IsSome, unwrap_or, Ok, Err, false, true}
 use Rattle.rb_outside.specs.Bytes.{Gave, ReadsToEnd}
 use Rattle.rb_outside.specs.Causes.{Rose}
 use Rattle.rb_base.specs.declared.node.NodeName.{NodeName}
@@ -9,14 +9,15 @@ use Rattle.rb_report.specs.Report.{refused_text}
 use Rattle.rb_entries.specs.Codes.{code_of, detail_of}
 use Rattle.rb_entries.specs.declared.refusal.Refusal.{Refusal}
 use Rattle.rb_entries.specs.declared.refusal.Refusal.TheVariants.{NoSuchNode}
-use Rattle.rb_log.specs.LogText.{log_in}
+use Rattle.rb_log.specs.LogText.{Log, log_in}
+use Rattle.rb_overheard.specs.Overhearing.{is_of_biu}
 use Rattle.rb_replicas.specs.Members.{AreMembers}
 use Rattle.rb_log.specs.declared.refusal.LogRefusal.{LogRefusal}
 use Rattle.rb_log.specs.declared.refusal.LogRefusal.TheVariants.{BadMagic, BadField, Truncated, AfterEnd}
 use Rattle.rb_scenario.specs.Acceptance.{IsAccepted, IsRefused, as_scenario}
 use Rattle.rb_scenario.specs.declared.scenario.Scenario.{Scenario as Accepted}
 use Rattle.rb_top.specs.declared.form.Form.{Form}
-use Rattle.rb_top.specs.declared.form.Form.TheVariants.{Run, Check, Gen, Stress, Record, Replay, Spell, Letters, Group}
+use Rattle.rb_top.specs.declared.form.Form.TheVariants.{Run, Check, Gen, Stress, Record, Replay, Spell, Letters, Group, Listen}
 use Rattle.rb_top.specs.declared.status.Status.{Status}
 use Rattle.rb_top.specs.declared.status.Status.TheVariants as answer
 
@@ -41,6 +42,7 @@ limit_of Replay = Some log_limit
 limit_of (Spell letter) = None
 limit_of Letters = Some scenario_limit
 limit_of (Group which members) = Some scenario_limit
+limit_of (Listen skip) = Some log_limit
 
 -- by that limit: this is all that the source had left, and nothing where nothing is read
 abbrev pub IsReadBy : Option ℕ → Option (List ℕ) → Option (List ℕ) → List ℕ → Type 0
@@ -115,6 +117,17 @@ pub record BreaksLog (input line : List ℕ) : Type 0 where
   pub spells : log_in input ≡ Err fault
   pub line_is : line ≡ fault_text fault
 
+-- the line that says that a log is not that of a BIU
+abbrev pub rmu_text : List ℕ
+rmu_text = refused_text 5 None true
+
+-- the input spells the log of an RMU, and this is the line that says so
+pub record IsOfRmu (input line : List ℕ) : Type 0 where
+  pub log : Log
+  pub spells : log_in input ≡ Ok log
+  pub rmu : is_of_biu log.node ≡ false
+  pub line_is : line ≡ rmu_text
+
 -- the form's input is refused with this line
 abbrev pub IsRefusedWith : Form → List ℕ → List ℕ → Type 0
 IsRefusedWith Run input line = BreaksRule input line
@@ -126,6 +139,7 @@ IsRefusedWith Replay input line = BreaksLog input line
 IsRefusedWith (Spell letter) input line = ⊥
 IsRefusedWith Letters input line = BreaksRule input line
 IsRefusedWith (Group which members) input line = BreaksRule input line ⊎ LacksMember members input line
+IsRefusedWith (Listen skip) input line = BreaksLog input line ⊎ IsOfRmu input line
 
 -- Reading that doesn't come to the end.
 

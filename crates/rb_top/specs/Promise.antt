@@ -8,7 +8,7 @@ use Rattle.rb_rules.specs.Rounds.{records_of}
 use Rattle.rb_rules.specs.StandsFor.{StandsFor}
 use Rattle.rb_gen.specs.Generated.{generated}
 use Rattle.rb_top.specs.declared.form.Form.{Form}
-use Rattle.rb_top.specs.declared.form.Form.TheVariants.{Run, Check, Gen, Stress, Record, Replay, Spell, Letters, Group}
+use Rattle.rb_top.specs.declared.form.Form.TheVariants.{Run, Check, Gen, Stress, Record, Replay, Spell, Letters, Group, Listen}
 use Rattle.rb_top.specs.declared.status.Status.{Status}
 use Rattle.rb_top.specs.Answers.{EndsAs}
 use Rattle.rb_top.specs.Inputs.{IsTextOf}
@@ -43,3 +43,4 @@ KeepsItsPromise Replay status left left' held held' = ⊤
 KeepsItsPromise (Spell letter) status left left' held held' = ⊤
 KeepsItsPromise Letters status left left' held held' = KeepsTheHeadline told_by_letters status left left' held held'
 KeepsItsPromise (Group which members) status left left' held held' = KeepsTheHeadline (told_by_group which members) status left left' held held'
+KeepsItsPromise (Listen skip) status left left' held held' = ⊤

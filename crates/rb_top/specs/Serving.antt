@@ -13,8 +13,8 @@ use Rattle.rb_replies.specs.Runs.{WritesAll as WritesGroups}
 use Rattle.rb_top.specs.declared.form.Form.{Form}
 use Rattle.rb_top.specs.declared.status.Status.{Status}
 use Rattle.rb_top.specs.declared.status.Status.TheVariants as answer
-use Rattle.rb_top.specs.Answers.{Ends, EndsAs, FailsToWrite, IsReplay, IsSummary, Refuses}
-use Rattle.rb_top.specs.Inputs.{BreaksLog, IsUnread}
+use Rattle.rb_top.specs.Answers.{Ends, EndsAs, FailsToWrite, IsOverheard, IsReplay, IsSummary, Refuses}
+use Rattle.rb_top.specs.Inputs.{BreaksLog, IsOfRmu, IsUnread}
 use Rattle.rb_top.specs.Statuses.{HasEnded}
 
 -- all that is said of the answer for a form
@@ -117,4 +117,22 @@ pub record RefusesLog (bytes : List ℕ) (held held' : Option (List ℕ)) : Type
 pub record FailsToReplay (bytes : List ℕ) (held held' : Option (List ℕ)) : Type 0 where
   pub text : List ℕ
   pub due : BreaksLog bytes text ⊎ IsReplay bytes text
+  pub written : AppendsPart held held' text
+
+-- the log of a BIU that the bytes spell was given to a listener
+pub record IsListened (skip : ℕ) (bytes : List ℕ) (held held' : Option (List ℕ)) : Type 0 where
+  pub text : List ℕ
+  pub overheard : IsOverheard skip bytes text
+  pub written : Appends held held' text
+
+-- or they spell none, or that of an RMU, and the line that says so was written
+pub record RefusesToListen (bytes : List ℕ) (held held' : Option (List ℕ)) : Type 0 where
+  pub line : List ℕ
+  pub refused : BreaksLog bytes line ⊎ IsOfRmu bytes line
+  pub written : Appends held held' line
+
+-- or the first bytes of what was due were
+pub record FailsToListen (skip : ℕ) (bytes : List ℕ) (held held' : Option (List ℕ)) : Type 0 where
+  pub text : List ℕ
+  pub due : (BreaksLog bytes text ⊎ IsOfRmu bytes text) ⊎ IsOverheard skip bytes text
   pub written : AppendsPart held held' text

@@ -9,7 +9,7 @@ use Rattle.rb_group.specs.declared.voters.Which.TheVariants.{Most, Mid}
 use Rattle.rb_long.specs.Spelling.{is_length}
 use Rattle.std.specs.declared.alloc.Global.{Global}
 use Rattle.rb_top.specs.declared.form.Form.{Form}
-use Rattle.rb_top.specs.declared.form.Form.TheVariants.{Run, Check, Gen, Stress, Record, Replay, Spell, Letters, Group}
+use Rattle.rb_top.specs.declared.form.Form.TheVariants.{Run, Check, Gen, Stress, Record, Replay, Spell, Letters, Group, Listen}
 
 -- the word of a voter
 abbrev pub voter_text : Which → List ℕ
@@ -28,6 +28,7 @@ words_of Replay = codes "replay" ∷ []
 words_of (Spell letter) = codes "spell" ∷ encode_lower letter.items ∷ []
 words_of Letters = codes "letters" ∷ []
 words_of (Group which members) = codes "group" ∷ voter_text which ∷ decimal members ∷ []
+words_of (Listen skip) = codes "listen" ∷ decimal skip ∷ []
 
 -- a seed, and a number of frames
 pub record AreNumbers (seed frames : ℕ) : Type 0 where
@@ -61,6 +62,7 @@ IsInRange Replay = ⊤
 IsInRange (Spell letter) = IsLetter letter.items
 IsInRange Letters = ⊤
 IsInRange (Group which members) = IsMask members
+IsInRange (Listen skip) = skip < 2 ^ 31
 
 -- the words, byte by byte, are those of the form, whose numbers and letter are in range
 pub record AskFor (words : List (String Global)) (form : Form) : Type 0 where

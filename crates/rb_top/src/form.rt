@@ -34,10 +34,15 @@ pub enum Form {
     Letters,
     /// To run a scenario and write what its good BIUs find for a group, by a voter, of the members in a mask that is not 0.
     Group(Which, u16),
+    /// To give the log of a BIU to a passive listener, from the tick of this number on, which is below 2^31.
+    Listen(u32),
 }
 
 /// The most frames of a generated scenario.
 const MOST_FRAMES: u64 = 4096;
+
+/// How many ticks a log can have.
+const MOST_TICKS: u64 = 2_147_483_648;
 
 /// The mask of all 16 nodes.
 const MOST_MASK: u64 = 65535;
@@ -65,6 +70,17 @@ fn frames_in(text: &str) -> Option<u32>
 {
     match number_in(text) {
         Some(number) if number >= 1 && number <= MOST_FRAMES => Some(number as u32),
+        _ => None,
+    }
+}
+
+// The number of a tick that the text is.
+fn tick_in(text: &str) -> Option<u32>
+    ensures some { IfSome result (λ n. (text.now ≡ decimal n) × (n < 2 ^ 31)) }
+    ensures none { IfNone result ((n : ℕ) → n < 2 ^ 31 → text.now ≢ decimal n) }
+{
+    match number_in(text) {
+        Some(number) if number < MOST_TICKS => Some(number as u32),
         _ => None,
     }
 }
@@ -216,6 +232,17 @@ fn spell_of(digits: &str) -> Option<Form>
     }
 }
 
+// `listen` from this tick on.
+fn listen_of(skip: &str) -> Option<Form>
+    ensures some { IfSome result (λ form. (words_of form ≡ codes "listen" ∷ skip.now ∷ []) × IsInRange form) }
+    ensures none { IfNone result ((form : Form) → IsInRange form → words_of form ≢ codes "listen" ∷ skip.now ∷ []) }
+{
+    match tick_in(skip) {
+        Some(skip) => Some(Form::Listen(skip)),
+        None => None,
+    }
+}
+
 // The form of two words.
 fn form_with_one(word: &str, other: &str) -> Option<Form>
     ensures some { IfSome result (λ form. (words_of form ≡ word.now ∷ other.now ∷ []) × IsInRange form) }
@@ -224,6 +251,7 @@ fn form_with_one(word: &str, other: &str) -> Option<Form>
     match word {
         "record" => record_of(other),
         "spell" => spell_of(other),
+        "listen" => listen_of(other),
         _ => None,
     }
 }

@@ -5,6 +5,7 @@ mod check;
 pub mod form;
 mod generating;
 mod lines;
+mod listening;
 mod reading;
 mod recording;
 mod replaying;

@@ -36,8 +36,8 @@ fn place_of(fault: LogRefusal) -> Option<u64>
     }
 }
 
-// Writes the line of a log's fault.
-fn write_fault<K: Sink>(fault: LogRefusal, output: &mut K) -> Result<(), Failed>
+/// Writes the line of a log's fault.
+pub(crate) fn write_fault<K: Sink>(fault: LogRefusal, output: &mut K) -> Result<(), Failed>
     ensures all { OnOk result (Appends (K.held output.old) (K.held output.new) (fault_text fault)) }
     ensures part { OnErr result (AppendsPart (K.held output.old) (K.held output.new) (fault_text fault)) }
     ensures cause { HasCause (K.faults output.old) (K.faults output.new) result }

@@ -1,7 +1,7 @@
 //! Serving a form of words.
 ghost use Rattle.std.specs.Prelude.{ℕ, ◌≡◌, Bool, List, None, Option};
 ghost use Rattle.rb_book.specs.declared.turn.Turn.{Turn};
-ghost use Rattle.rb_top.specs.declared.form.Form.TheVariants.{Run, Check, Stress, Record, Replay, Letters, Group};
+ghost use Rattle.rb_top.specs.declared.form.Form.TheVariants.{Run, Check, Stress, Record, Replay, Letters, Group, Listen};
 ghost use Rattle.rb_top.specs.Inputs.{limit_of};
 ghost use Rattle.rb_top.specs.Serving.{Answers};
 ghost use Rattle.rb_top.specs.Statuses.{RunsNothing, WritesNothing};
@@ -10,6 +10,7 @@ ghost use Rattle.rb_top.specs.Words.{IsInRange};
 use crate::check::show_sides;
 use crate::form::Form;
 use crate::generating::generate_text;
+use crate::listening::listen_to;
 use crate::reading::{read_log, read_scenario, refuse, refuse_member};
 use crate::recording::{has_node, write_log};
 use crate::replaying::replay_bytes;
@@ -142,6 +143,19 @@ fn group<S: Source, K: Sink, D: Drive>(
     tell_group(alloc, scenario, &asked, output, apps, drive, voters)
 }
 
+// Reads a log, gives it to a passive listener and writes what that tells.
+fn listen<S: Source, K: Sink>(alloc: Global, skip: u32, input: &mut S, output: &mut K) -> Status
+    ensures answers { (is_plain : Bool) (told : Option (List Turn))
+        → Answers (Listen skip) result (S.left input.old) (S.left input.new) (S.faults input.old) (S.faults input.new)
+        (K.held output.old) (K.held output.new) (K.faults output.old) (K.faults output.new) is_plain told told }
+    ensures unwritten { WritesNothing result → output.new ≡ output.old }
+{
+    match read_log(alloc, input) {
+        Ok(bytes) => listen_to(&bytes, skip, output),
+        Err(status) => status,
+    }
+}
+
 /// Serves the form.
 pub(crate) fn serve<S: Source, K: Sink, D: Drive>(
     alloc: Global,
@@ -168,6 +182,7 @@ pub(crate) fn serve<S: Source, K: Sink, D: Drive>(
         Form::Stress(seed, frames) => stress(alloc, seed, frames, output, apps, drive),
         Form::Record(node) => record(alloc, node, input, output, apps),
         Form::Replay => replay(alloc, input, output),
+        Form::Listen(skip) => listen(alloc, skip, input, output),
         Form::Spell(letter) => spell(&letter, output),
         Form::Letters => letters(alloc, input, output, apps, drive),
         Form::Group(which, members) => {

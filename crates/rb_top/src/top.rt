@@ -26,6 +26,7 @@ use std::alloc::Global;
 /// | `stress SEED FRAMES` | runs the generated scenario and writes four numbers of the drive's turns; reads nothing |
 /// | `record NODE` | reads a scenario, runs it by first choices and writes the log of all that the node is given |
 /// | `replay` | reads a log, gives it to its node and writes what that tells |
+/// | `listen SKIP` | reads the log of a BIU, gives it to a passive listener from tick SKIP on and writes what that tells |
 /// | `spell HEX` | writes the words that spell a letter of 1 to 255 bytes, each byte being two digits in lower case; reads nothing |
 /// | `letters` | reads a scenario, runs it and writes each letter that a port receives whole in the drive's turns |
 /// | `group most MASK`, `group mid MASK` | reads a scenario, runs it and writes what the good BIUs find for a group, by majority or as the middle word, in each complete frame of the drive's turns |
@@ -33,7 +34,7 @@ use std::alloc::Global;
 /// The members of a group are the bits of MASK, 1 to 65535. `Done`: all is written. `Breach`: the run of `run`, `stress`, `record`, `letters`
 /// or `group` ended with a breach of the fault premise; `run`, `letters` and `group` have written what they tell up to it, `record` the log,
 /// `stress` nothing. `Usage`: the words are of no known form; nothing was read or written. `Refused`: the input breaks a rule, has no such
-/// node or member, or is no log; one line with the code says why. `TooLong`: the source gave more than 4,194,304 bytes
+/// node or member, is no log, or for `listen` is that of an RMU; one line with the code says why. `TooLong`: the source gave more than 4,194,304 bytes
 /// of a scenario, or 67,108,864 of a log. `ReadFault`, `WriteFault`: the source or the sink failed; what a failing sink took is a first part
 /// of what was due. `OutOfMemory`: an allocation failed before anything was written.
 pub fn run_robus<S: Source, K: Sink, D: Drive>(

@@ -51,6 +51,13 @@ returns-in-Replay-clause-answers g c =
     (g.D.Drive.is_plain c.args.drive.now) (g.D.Drive.told c.args.drive.now) (g.D.Drive.told c.args.drive.now) in
     subst P (sym c.in-Replay.is) (c.replay.ensures.answers (g.D.Drive.is_plain c.args.drive.now) (g.D.Drive.told c.args.drive.now))
 
+pub returns-in-Listen-clause-answers : goal.returns-in-Listen-clause-answers
+returns-in-Listen-clause-answers g c =
+    let P : Form → Type 0 = λ f. Answers f c.listen.result (g.S.Source.left c.args.input.now) (g.S.Source.left c.listen.new.input) (g.S.Source.faults c.args.input.now) (g.S.Source.faults c.listen.new.input)
+    (g.K.Sink.held c.args.output.now) (g.K.Sink.held c.listen.new.output) (g.K.Sink.faults c.args.output.now) (g.K.Sink.faults c.listen.new.output)
+    (g.D.Drive.is_plain c.args.drive.now) (g.D.Drive.told c.args.drive.now) (g.D.Drive.told c.args.drive.now) in
+    subst P (sym c.in-Listen.is) (c.listen.ensures.answers (g.D.Drive.is_plain c.args.drive.now) (g.D.Drive.told c.args.drive.now))
+
 pub returns-in-Spell-clause-answers : goal.returns-in-Spell-clause-answers
 returns-in-Spell-clause-answers g c =
     let P : Form → Type 0 = λ f. Answers f c.spell.result (g.S.Source.left c.args.input.now) (g.S.Source.left c.args.input.now) (g.S.Source.faults c.args.input.now) (g.S.Source.faults c.args.input.now)
