@@ -1,6 +1,6 @@
 # make run SCENARIO=examples/one_silent_rmu.toml   runs a scenario
 # make picture SCENARIO=.. > run.svg               draws its run, or with FRAMES="FIRST LAST" these frames of it
-# make build                                       proves and builds the programs
+# make build                                       proves and builds the programs, where they are not up to date
 # make test                                        the gate: every proof, must-fail edit, test and program, and the documents
 # make bench                                       builds the programs and measures them
 # make examples                                    runs each example, and looks for the lines that its page names
@@ -26,8 +26,8 @@ picture:
 	@tools/picture "$(SCENARIO)" $(FRAMES)
 
 build:
-	cd crates/robus && rt run -- run < stdin > /dev/null
-	cd crates/robus_picture && rt run < stdin > /dev/null
+	tools/proved $(ROBUS) || (cd crates/robus && rt run -- run < stdin > /dev/null)
+	tools/proved $(PICTURE) || (cd crates/robus_picture && rt run < stdin > /dev/null)
 
 test:
 	.ci/run
