@@ -16,6 +16,22 @@ const PART_OF_B3: &str =
 const FILLED_WRONG_BY_B3: &str =
     "fault = [{ node = 'B3', frame = 0, slot = 7 }]\nsay = [\n{ from = 'B3', to = 'R', frames = [0, 0], slots = [7, 7], stages = [1, 1], word = 16777218 },\n{ from = 'B3', to = 'R', frames = [0, 0], slots = [11, 11], stages = [1, 1], word = 40397057 },\n]\n";
 
+// B3 owns the last three slots, is faulty from the first of them on, and says the first word of a letter of two bytes in it.
+const OPENED_BY_B3: &str =
+    "biu = 4\nrmu = 3\nslots = 6\nframes = 1\nrequests = [1, 1, 1, 3]\nfault = [{ node = 'B3', frame = 0, slot = 7 }]\nsay = [\n{ from = 'B3', to = 'R', frames = [0, 0], slots = [7, 7], stages = [1, 1], word = 16777218 },\n";
+
+// The bytes come in the last slot.
+const CLOSED_BY_B3: &str =
+    "{ from = 'B3', to = 'R', frames = [0, 0], slots = [9, 9], stages = [1, 1], word = 40397056 },\n]\n";
+
+// Nothing is said in between.
+const ZERO_BY_B3: &str =
+    "{ from = 'B3', to = 'R', frames = [0, 0], slots = [8, 8], stages = [1, 1], word = 0 },\n";
+
+// A letter of one byte begins, and its byte comes.
+const ANOTHER_BY_B3: &str =
+    "{ from = 'B3', to = 'R', frames = [0, 0], slots = [8, 8], stages = [1, 1], word = 16777217 },\n{ from = 'B3', to = 'R', frames = [0, 0], slots = [9, 9], stages = [1, 1], word = 40370176 },\n]\n";
+
 const CASES: &[Case] = &[
     Case {
         words: "spell 6869",
@@ -64,6 +80,36 @@ const CASES: &[Case] = &[
         input: &[ORDINARY, "delay = 15001\n"],
         status: Status::Refused,
         lines: &[("", "refused 8 DelayBounds")],
+    },
+    // The longest letter.
+    Case {
+        words: "spell 000000000000000000000000000000000000000000000000000000000000000000000000000000000000000000000000000000000000000000000000000000000000000000000000000000000000000000000000000000000000000000000000000000000000000000000000000000000000000000000000000000000000000000000000000000000000000000000000000000000000000000000000000000000000000000000000000000000000000000000000000000000000000000000000000000000000000000000000000000000000000000000000000000000000000000000000000000000000000000000000000000000000000000000000000000",
+        input: &[],
+        status: Status::Done,
+        lines: &[(
+            "",
+            "w 16777471\nw 33554432\nw 33554432\nw 33554432\nw 33554432\nw 33554432\nw 33554432\nw 33554432\nw 33554432\nw 33554432\nw 33554432\nw 33554432\nw 33554432\nw 33554432\nw 33554432\nw 33554432\nw 33554432\nw 33554432\nw 33554432\nw 33554432\nw 33554432\nw 33554432\nw 33554432\nw 33554432\nw 33554432\nw 33554432\nw 33554432\nw 33554432\nw 33554432\nw 33554432\nw 33554432\nw 33554432\nw 33554432\nw 33554432\nw 33554432\nw 33554432\nw 33554432\nw 33554432\nw 33554432\nw 33554432\nw 33554432\nw 33554432\nw 33554432\nw 33554432\nw 33554432\nw 33554432\nw 33554432\nw 33554432\nw 33554432\nw 33554432\nw 33554432\nw 33554432\nw 33554432\nw 33554432\nw 33554432\nw 33554432\nw 33554432\nw 33554432\nw 33554432\nw 33554432\nw 33554432\nw 33554432\nw 33554432\nw 33554432\nw 33554432\nw 33554432\nw 33554432\nw 33554432\nw 33554432\nw 33554432\nw 33554432\nw 33554432\nw 33554432\nw 33554432\nw 33554432\nw 33554432\nw 33554432\nw 33554432\nw 33554432\nw 33554432\nw 33554432\nw 33554432\nw 33554432\nw 33554432\nw 33554432\nw 33554432",
+        )],
+    },
+    // Across a slot in which nothing was delivered there is no letter.
+    Case {
+        words: "letters",
+        input: &[OPENED_BY_B3, CLOSED_BY_B3],
+        status: Status::Done,
+        lines: &[("", "end 1")],
+    },
+    Case {
+        words: "letters",
+        input: &[OPENED_BY_B3, ZERO_BY_B3, CLOSED_BY_B3],
+        status: Status::Done,
+        lines: &[("B0 B1 B2", "m 0 9 * B3 6869"), ("", "end 1")],
+    },
+    // A first word inside a letter begins anew.
+    Case {
+        words: "letters",
+        input: &[OPENED_BY_B3, ANOTHER_BY_B3],
+        status: Status::Done,
+        lines: &[("B0 B1 B2", "m 0 9 * B3 68"), ("", "end 1")],
     },
 ];
 
