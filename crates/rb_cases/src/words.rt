@@ -6,7 +6,7 @@ use rb_top::Status;
 use rb_world::FirstDrive;
 use std::test::Fail;
 
-const NO_FORMS: [&str; 61] = [
+const NO_FORMS: [&str; 62] = [
     "",
     "RUN",
     "Run",
