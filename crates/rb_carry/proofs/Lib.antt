@@ -6,3 +6,5 @@ pub mod Told
 pub mod Ports
 pub mod Crossed
 pub mod Ordered
+pub mod Beginnings
+pub mod Stayed

@@ -1,5 +1,5 @@
 -- What is proved of a bridge: what is handed in comes from the records as they are in the end, and words cross.
-use Rattle.std.specs.Prelude.{ℕ, ◌≡◌, ◌+◌, ◌<◌, ◌≤◌, ◌==◌, ◌&&◌, not, All, Bool, true, false, Option, None, is_some, List, [], ◌∷◌, ◌++◌, filter}
+use Rattle.std.specs.Prelude.{ℕ, ◌≡◌, ◌⊎◌, ◌+◌, ◌<◌, ◌≤◌, ◌==◌, ◌&&◌, not, All, Bool, true, false, Option, Some, None, is_some, List, [], ◌∷◌, ◌++◌, filter}
 use Rattle.rb_base.specs.Counting.{count_if}
 use Rattle.rb_base.specs.Nodes.Side.{Biu}
 use Rattle.rb_base.specs.Sizes.{sync_slot_of}
@@ -11,6 +11,7 @@ use Rattle.rb_rules.specs.Lawful.{IsLawful}
 use Rattle.rb_rules.specs.Moments.{IsComplete}
 use Rattle.rb_rules.specs.Ports.{HandIn}
 use Rattle.rb_rules.specs.Rounds.{records_of}
+use Rattle.rb_rules.specs.WorldStep.{IsPrefix, frame_in}
 use Rattle.rb_agree.specs.Histories.{delivered_in}
 use Rattle.rb_group.specs.Portions.{port_deliveries, value_at}
 use Rattle.rb_group.specs.declared.voters.Which.TheVariants.{Most}
@@ -66,6 +67,45 @@ FramesAreToldInOrder =
     (sc : Scenario) (hands : List HandIn) (records rest : List Record) (r : Record) (frame : ℕ)
     → records_of sc hands ≡ records ++ r ∷ rest → frame < frame_told sc.frames r → TellAll sc hands frame (records ++ r ∷ [])
 
+-- the record is the last of a run
+abbrev pub ends_run : Record → Bool
+ends_run (Frame frame nodes ports) = false
+ends_run (Slot frame slot lines) = false
+ends_run Ended = true
+ends_run (Breach place cause) = true
+
+-- no BIU is good at a frame's begin, and the run ends with this record of the frame
+pub record EndsDeserted (sc : Scenario) (frame : ℕ) (r : Record) : Type 0 where
+  pub nobody : (i : ℕ) → is_good sc Biu i frame 0 ≡ false
+  pub last : ends_run r ≡ true
+  pub its : frame_told sc.frames r ≡ frame
+
+-- the frame begins with this record; or no BIU is good at its begin, and the run ends
+abbrev pub BeginsOrEnds : Scenario → ℕ → Record → Type 0
+BeginsOrEnds sc frame r = (frame_in (Some r) ≡ Some frame) ⊎ EndsDeserted sc frame r
+
+-- each of the records is of this frame, or of an earlier one
+abbrev pub AreUpTo : ℕ → ℕ → List Record → Type 0
+AreUpTo frames frame records = (before after : List Record) (r : Record) → records ≡ before ++ r ∷ after → frame_told frames r ≤ frame
+
+-- so the first record of a later frame is the one with which the next frame begins, and where no BIU is good there, the last
+abbrev pub FramesBeginInOrder : Type 0
+FramesBeginInOrder =
+    (sc : Scenario) → IsLawful sc → (hands : List HandIn) (records rest : List Record) (r : Record) (frame : ℕ)
+    → records_of sc hands ≡ records ++ r ∷ rest → AreUpTo sc.frames frame records → frame < frame_told sc.frames r → frame < sc.frames
+    → BeginsOrEnds sc (frame + 1) r
+
+-- These are the first records of a run. Where the last of them ends a run, they are all
+pub record AreFirstOf (records run : List Record) : Type 0 where
+  pub first : IsPrefix records run
+  pub whole : (before : List Record) (r : Record) → records ≡ before ++ r ∷ [] → ends_run r ≡ true → run ≡ records
+
+-- so the first records of a run, up to a frame, stay the first, whatever is handed in for later frames
+abbrev pub EarlierRecordsStay : Type 0
+EarlierRecordsStay =
+    (sc : Scenario) (hands more : List HandIn) (records : List Record) (frame : ℕ) → All (λ h. frame < h.frame) more
+    → IsPrefix records (records_of sc hands) → AreUpTo sc.frames frame records → AreFirstOf records (records_of sc (hands ++ more))
+
 -- What a pair carries.
 
 -- in a complete slot, a BIU that is good there delivers what the bus does
@@ -110,10 +150,13 @@ abbrev pub word_on : Bridge → Bank → ℕ → ℕ
 word_on b bank frame = word_of (delivered_in (bus_on b bank) (hands_on bank (hands_of b)) frame (carried_slot b bank))
 
 -- then in the next frame each BIU on the far bank that is good in all of it finds the word of the near bus
-abbrev pub WordsCross : Type 0
-WordsCross =
-    (b : Bridge) → IsBridge b → (bank : Bank) (frame : ℕ) → AreUnbroken b (frame + 1)
+abbrev pub WordsCrossOn : Bridge → Type 0
+WordsCrossOn b =
+    (bank : Bank) (frame : ℕ) → AreUnbroken b (frame + 1)
     → (owner : ℕ → Option ℕ) → IsSchedule (bus_on b bank) (hands_on bank (hands_of b)) (frame + 1) owner
     → SoundPairsOutnumber b bank owner frame
     → (receiver : ℕ) → is_good_through (bus_on b bank) (frame + 1) receiver ≡ true
     → crossing_value b bank (frame + 1) receiver ≡ Word (word_on b (across bank) frame)
+
+abbrev pub WordsCross : Type 0
+WordsCross = (b : Bridge) → IsBridge b → WordsCrossOn b

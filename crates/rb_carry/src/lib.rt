@@ -1,7 +1,7 @@
 //! What crosses a bridge of two buses. Each law is the contract of a function that does nothing.
 #![tactic(auto)]
 
-ghost use Rattle.rb_carry.specs.Laws.{FramesAreToldInOrder, FramesGoByTheEarlier, GoodBiusTellTheBus, HandInsAreCarried, LaterHandInsTellNothing, OtherBiusTellNothing, WordsCross};
+ghost use Rattle.rb_carry.specs.Laws.{EarlierRecordsStay, FramesAreToldInOrder, FramesBeginInOrder, FramesGoByTheEarlier, GoodBiusTellTheBus, HandInsAreCarried, LaterHandInsTellNothing, OtherBiusTellNothing, WordsCross};
 
 /// In every scenario, what is handed in for frames after this one changes nothing that a port delivers in this frame, nor a breach in it.
 pub fn later_hand_ins_tell_nothing()
@@ -21,6 +21,18 @@ pub fn hand_ins_are_carried()
 /// In every scenario, once a record of a later frame is given, all is told of a frame: what its ports deliver, and a breach in it.
 pub fn frames_are_told_in_order()
     ensures { FramesAreToldInOrder }
+{}
+
+/// In every lawful scenario, once a record of a later frame is given, the next frame begins with it. Where no BIU is good at that frame's
+/// begin, it is the last of the run, so nothing is handed in there.
+pub fn frames_begin_in_order()
+    ensures { FramesBeginInOrder }
+{}
+
+/// In every scenario, the first records of a run, up to a frame, stay the first, whatever is handed in for later frames. Where the last of
+/// them ends the run, they stay all.
+pub fn earlier_records_stay()
+    ensures { EarlierRecordsStay }
 {}
 
 /// In a slot that is complete without a breach, each BIU that is good there delivers what the bus does.

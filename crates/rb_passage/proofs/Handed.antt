@@ -1,4 +1,4 @@
--- Words that are handed over one after another.
+-- Words that are handed over one after another, and what a frame is handed by them.
 use Rattle.std.proofs.Common.{◌≡◌, ℕ, ◌+◌, ◌<◌, Bool, true, false, cond, Option, Some, None, List, [], ◌∷◌, ◌++◌, filter, map, take, length, get_or, append_assoc, refl, sym, ◌∙◌, ap, subst}
 use Rattle.std.proofs.lemmas.List.{append-nil, take_more}
 use Rattle.rb_base.specs.Nodes.Side.{Biu}
