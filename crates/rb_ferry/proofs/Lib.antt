@@ -1,0 +1,10 @@
+pub mod Begun
+pub mod Heads
+pub mod Handed
+pub mod Passed
+pub mod Exchanged
+pub mod Whole
+pub mod Told
+pub mod Found
+pub mod Opened
+pub mod Crossed
