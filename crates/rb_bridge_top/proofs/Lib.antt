@@ -1,0 +1,4 @@
+pub mod Accepted
+pub mod Opening
+pub mod Answered
+pub mod Completed

@@ -1,0 +1,46 @@
+-- A bridge that was read, as its sides are opened.
+use Rattle.std.proofs.Common.{◌≡◌, ◌==◌, ℕ, List, sym, ◌∙◌, ap, subst}
+use Rattle.std.specs.List.{list_any}
+use Rattle.rb_base.specs.Nodes.{set_of}
+use Rattle.rb_bridging.specs.declared.bridge.Bridge.{Bridge as Kept}
+use Rattle.rb_bridging.specs.Acceptance.{as_bridge}
+use Rattle.rb_crossing.specs.declared.bank.Bank.TheVariants.{Left, Right}
+use Rattle.rb_crossing.specs.declared.bank.Pair.{Pair}
+use Rattle.rb_crossing.specs.Bridges.{biu_on}
+use Rattle.rb_run.specs.declared.ending.Ending.{Ending}
+use Rattle.rb_run.specs.declared.ending.Ending.TheVariants as ending
+use Rattle.rb_scenario.specs.Acceptance.{as_scenario}
+use Rattle.rb_ferry.specs.declared.side.Side.{Side}
+use Rattle.rb_ferry.specs.Crossing.{HaveOpened}
+use Rattle.rb_ferry.specs.Sides.{HasOpened}
+use Rattle.rb_bridge_top.specs.declared.status.Status.{Status}
+use Rattle.rb_bridge_top.specs.declared.status.Status.TheVariants.{WriteFault, OutOfMemory}
+use Rattle.rb_bridge_top.specs.Statuses.{HasEnded, IsOfRun, status_of}
+
+-- both sides, opened with the BIUs of these pairs
+pub both-opened : (kept : Kept) (ps qs : List Pair) (m n : ℕ) (l r : Side) → ps ≡ kept.pairs.items → qs ≡ kept.pairs.items
+    → m ≡ set_of (λ i. list_any (λ pair. biu_on Left pair == i) ps) → n ≡ set_of (λ i. list_any (λ pair. biu_on Right pair == i) qs)
+    → HasOpened (as_scenario kept.left) m kept.left_slot l → HasOpened (as_scenario kept.right) n kept.right_slot r → HaveOpened (as_bridge kept) l r
+both-opened kept ps qs m n l r of_left of_right m_is n_is is_l is_r = record {
+  left = subst (λ k. HasOpened (as_scenario kept.left) k kept.left_slot l) (m_is ∙ ap (λ ps. set_of (λ i. list_any (λ pair. biu_on Left pair == i) ps)) of_left) is_l;
+  right = subst (λ k. HasOpened (as_scenario kept.right) k kept.right_slot r) (n_is ∙ ap (λ ps. set_of (λ i. list_any (λ pair. biu_on Right pair == i) ps)) of_right) is_r;
+}
+
+-- The answer to an end.
+
+ended-of : (e : Ending) → HasEnded (status_of e)
+ended-of ending.Ended = tt
+ended-of ending.Breach = tt
+
+run-of : (e : Ending) → IsOfRun (status_of e)
+run-of ending.Ended = tt
+run-of ending.Breach = tt
+
+pub end-runs : (e : Ending) (status : Status) → status ≡ status_of e → IsOfRun status
+end-runs e status is = subst IsOfRun (sym is) (run-of e)
+
+pub end-written : (e : Ending) (status : Status) → status ≡ status_of e → ¬ (status ≡ WriteFault)
+end-written e status is failed = subst HasEnded (sym is ∙ failed) (ended-of e)
+
+pub end-opened : (e : Ending) (status : Status) → status ≡ status_of e → ¬ (status ≡ OutOfMemory)
+end-opened e status is failed = subst HasEnded (sym is ∙ failed) (ended-of e)

@@ -1,0 +1,87 @@
+-- When each answer of the top call comes, and what it leaves written.
+use Rattle.std.specs.Prelude.{ℕ, ◌≡◌, ◌≤◌, ◌⊎◌, Bool, true, List, length, Option, Some, String}
+use Rattle.std.specs.declared.alloc.Global.{Global}
+use Rattle.rb_outside.specs.Bytes.{ReadsToEnd}
+use Rattle.rb_outside.specs.Causes.{Rose}
+use Rattle.rb_book.specs.declared.turn.Turn.{Turn}
+use Rattle.rb_run.specs.declared.ending.Ending.{Ending}
+use Rattle.rb_crossing.specs.Bridges.{Bridge, IsBridge}
+use Rattle.rb_bridging.specs.Acceptance.{IsBridgeAccepted}
+use Rattle.rb_ferry.specs.Crossing.{WritesAll, WritesPart}
+use Rattle.rb_bridge_top.specs.declared.status.Status.{Status}
+use Rattle.rb_bridge_top.specs.declared.status.Status.TheVariants as answer
+use Rattle.rb_bridge_top.specs.Inputs.{AreRun, IsRefusedWith, IsUnread, RefusesText, FailsToRefuse, input_limit}
+use Rattle.rb_bridge_top.specs.Statuses.{HasEnded, HasFailed, MayRefuse, RunsNothing, WritesNothing, end_of, status_of}
+
+-- Usage comes exactly where the words are not `run` alone
+pub record UsageExactly (status : Status) (words : List (String Global)) : Type 0 where
+  pub unknown : status ≡ answer.Usage → ¬ AreRun words
+  pub refused : ¬ AreRun words → status ≡ answer.Usage
+
+-- the source, the sink and the drives are as they were, where the answer leaves them so
+pub record Untouched {S K D : Type 0} (status : Status) (source source' : S) (sink sink' : K) (left left' right right' : D) : Type 0 where
+  pub unread : status ≡ answer.Usage → source' ≡ source
+  pub unwritten : WritesNothing status → sink' ≡ sink
+  pub left_idle : RunsNothing status → left' ≡ left
+  pub right_idle : RunsNothing status → right' ≡ right
+
+-- Where `both` is true, both drives are plain. The drives gave turns of the bridge's runs, and with two plain ones its text was written: all of it, and
+-- this is the answer
+pub record IsCrossed (b : Bridge) (both : Bool) (status : Status) (lp : Bool) (ltold lsince : Option (List Turn)) (rp : Bool) (rtold rsince : Option (List Turn)) (held held' : Option (List ℕ)) : Type 0 where
+  pub ending : Ending
+  pub answer_is : status ≡ status_of ending
+  pub written : WritesAll b both lp ltold lsince rp rtold rsince held held' ending
+
+-- the input has been read, and it says this bridge
+pub record Ends (both : Bool) (status : Status) (left left' held held' : Option (List ℕ)) (lp : Bool) (ltold lsince : Option (List Turn)) (rp : Bool) (rtold rsince : Option (List Turn)) : Type 0 where
+  pub input : List ℕ
+  pub bridge : Bridge
+  pub read : ReadsToEnd left left' input
+  pub accepted : IsBridgeAccepted input bridge
+  pub is : IsBridge bridge
+  pub crossed : IsCrossed bridge both status lp ltold lsince rp rtold rsince held held'
+
+-- the input has been read and is refused, and the one line of the refusal is written
+abbrev pub Refuses : Option (List ℕ) → Option (List ℕ) → Option (List ℕ) → Option (List ℕ) → Type 0
+Refuses left left' held held' = RefusesText left left' held held'
+
+-- the first bytes of a bridge's text are written
+pub record EndsPart (both : Bool) (left left' held held' : Option (List ℕ)) (faults faults' : ℕ) (lp : Bool) (ltold lsince : Option (List Turn)) (rp : Bool) (rtold rsince : Option (List Turn)) : Type 0 where
+  pub input : List ℕ
+  pub bridge : Bridge
+  pub read : ReadsToEnd left left' input
+  pub accepted : IsBridgeAccepted input bridge
+  pub written : WritesPart bridge both lp ltold lsince rp rtold rsince held held'
+  pub rose : Rose faults faults'
+
+-- a write failed: the count of the sink's faults rose, and of the line of a refusal or of a bridge's text the first bytes are written
+abbrev pub FailsToWrite : Bool → Option (List ℕ) → Option (List ℕ) → Option (List ℕ) → Option (List ℕ) → ℕ → ℕ → Bool → Option (List Turn) → Option (List Turn) → Bool → Option (List Turn) → Option (List Turn) → Type 0
+FailsToWrite both left left' held held' faults faults' lp ltold lsince rp rtold rsince =
+    FailsToRefuse left left' held held' faults faults' ⊎ EndsPart both left left' held held' faults faults' lp ltold lsince rp rtold rsince
+
+-- all that is said of the answer to `run`
+pub record Answers (both : Bool) (status : Status) (left left' : Option (List ℕ)) (reads reads' : ℕ) (held held' : Option (List ℕ)) (writes writes' : ℕ)
+    (lp : Bool) (ltold lsince : Option (List Turn)) (rp : Bool) (rtold rsince : Option (List Turn)) : Type 0 where
+  pub known : ¬ (status ≡ answer.Usage)
+  pub ended : HasEnded status → Ends both status left left' held held' lp ltold lsince rp rtold rsince
+  pub refused : status ≡ answer.Refused → Refuses left left' held held'
+  pub unread : IsUnread status left left' reads reads'
+  pub failed : status ≡ answer.WriteFault → FailsToWrite both left left' held held' writes writes' lp ltold lsince rp rtold rsince
+
+-- Completeness.
+
+-- nothing fails: the input is within the limit, and no count of faults rises
+pub record NothingFails (input : List ℕ) (reads reads' writes writes' : ℕ) : Type 0 where
+  pub within : length input ≤ input_limit
+  pub no_read : ¬ Rose reads reads'
+  pub no_write : ¬ Rose writes writes'
+
+-- The answers that must come, where the source tells its input: of a bridge, with two plain drives, the one with which its text ends, and of a refused
+-- input Refused, unless something fails. Want of memory alone may come in their place where nothing else fails
+pub record Completes (both : Bool) (status : Status) (left : Option (List ℕ)) (reads reads' writes writes' : ℕ) : Type 0 where
+  pub ended : (input : List ℕ) (b : Bridge) → left ≡ Some input → IsBridgeAccepted input b → both ≡ true → (status ≡ end_of b) ⊎ HasFailed status
+  pub ended_at_once : (input : List ℕ) (b : Bridge) → left ≡ Some input → IsBridgeAccepted input b → NothingFails input reads reads' writes writes'
+      → HasEnded status ⊎ (status ≡ answer.OutOfMemory)
+  pub refused : (input line : List ℕ) → left ≡ Some input → IsRefusedWith input line → MayRefuse status
+  pub refused_at_once : (input line : List ℕ) → left ≡ Some input → IsRefusedWith input line → NothingFails input reads reads' writes writes'
+      → (status ≡ answer.Refused) ⊎ (status ≡ answer.OutOfMemory)

@@ -1,0 +1,4 @@
+pub mod Statuses
+pub mod Inputs
+pub mod Answers
+pub mod Promise

@@ -1,0 +1,12 @@
+//! The top call of a bridge: words, input and output of the program as values.
+#![tactic(auto)]
+
+mod reading;
+mod running;
+pub mod status;
+#[cfg(test)]
+mod tests;
+pub mod top;
+
+pub use status::Status;
+pub use top::run_bridge;

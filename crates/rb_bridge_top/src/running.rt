@@ -1,0 +1,82 @@
+//! A bridge that is opened, and taken to its end.
+ghost use Rattle.std.specs.Prelude.{◌≡◌, Bool};
+ghost use Rattle.rb_outside.specs.Causes.{Rose};
+ghost use Rattle.rb_crossing.specs.Bridges.{IsBridge};
+ghost use Rattle.rb_bridging.specs.Acceptance.{as_bridge};
+ghost use Rattle.rb_ferry.specs.Crossing.{ArePlain, WritesPart};
+ghost use Rattle.rb_bridge_top.specs.Answers.{IsCrossed};
+ghost use Rattle.rb_bridge_top.specs.Statuses.{HasEnded, IsOfRun, status_of};
+
+use crate::status::Status;
+use rb_base::OutOfMemory;
+use rb_bridging::Bridge;
+use rb_crossing::Bank;
+use rb_ferry::{cross, members_on, open_side};
+use rb_outside::{Failed, Sink};
+use rb_port::Apps;
+use rb_run::Ending;
+use rb_world::Drive;
+use std::alloc::Global;
+
+// The answer where a bridge ends so and all is written.
+fn status_of(ending: Ending) -> Status
+    ensures { result ≡ status_of ending }
+{
+    match ending {
+        Ending::Ended => Status::Done,
+        Ending::Breach => Status::Breach,
+    }
+}
+
+/// Opens both buses of a bridge, and writes what is said of it.
+pub(crate) fn report<K: Sink, D: Drive>(
+    alloc: Global,
+    bridge: Bridge,
+    output: &mut K,
+    apps: &Apps,
+    left_drive: &mut D,
+    right_drive: &mut D,
+) -> Status
+    requires { IsBridge (as_bridge bridge) }
+    ensures ended { HasEnded result → (both : Bool) → ArePlain both (D.is_plain left_drive.old) (D.is_plain right_drive.old)
+        → IsCrossed (as_bridge bridge) both result (D.is_plain left_drive.old) (D.told left_drive.old) (D.told left_drive.new) (D.is_plain right_drive.old) (D.told right_drive.old) (D.told right_drive.new)
+        (K.held output.old) (K.held output.new) }
+    ensures part { result ≡ Status.WriteFault → (both : Bool) → ArePlain both (D.is_plain left_drive.old) (D.is_plain right_drive.old)
+        → WritesPart (as_bridge bridge) both (D.is_plain left_drive.old) (D.told left_drive.old) (D.told left_drive.new) (D.is_plain right_drive.old) (D.told right_drive.old) (D.told right_drive.new)
+        (K.held output.old) (K.held output.new) }
+    ensures cause { result ≡ Status.WriteFault → Rose (K.faults output.old) (K.faults output.new) }
+    ensures unopened { result ≡ Status.OutOfMemory → (output.new ≡ output.old) × ((left_drive.new ≡ left_drive.old) × (right_drive.new ≡ right_drive.old)) }
+    ensures one_of { IsOfRun result }
+{
+    let Bridge {
+        left,
+        right,
+        pairs,
+        left_slot,
+        right_slot,
+    } = bridge;
+    let frames = left.frames;
+    let left_members = members_on(Bank::Left, pairs.as_slice());
+    let right_members = members_on(Bank::Right, pairs.as_slice());
+    let mut left = match open_side(alloc, left, left_members, left_slot) {
+        Ok(side) => side,
+        Err(OutOfMemory) => return Status::OutOfMemory,
+    };
+    let mut right = match open_side(alloc, right, right_members, right_slot) {
+        Ok(side) => side,
+        Err(OutOfMemory) => return Status::OutOfMemory,
+    };
+    match cross(
+        &mut left,
+        &mut right,
+        pairs.as_slice(),
+        frames,
+        apps,
+        left_drive,
+        right_drive,
+        output,
+    ) {
+        Ok(ending) => status_of(ending),
+        Err(Failed) => Status::WriteFault,
+    }
+}
