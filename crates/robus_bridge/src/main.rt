@@ -1,0 +1,94 @@
+//! The program: `run_bridge` over standard input and standard output, with the three applications and a plain drive for each bus. It ends
+//! with the number of the status.
+#![tactic(auto)]
+
+use rb_bridge_top::run_bridge;
+use rb_outside::{StdSink, StdSource};
+use rb_port::{App, Apps};
+use rb_world::FirstDrive;
+use std::alloc::AllocError;
+use std::io::ErrorKind;
+use std::process::ExitCode;
+use std::{env, io};
+
+/// The status where an application or the text of an argument finds no memory.
+const NO_MEMORY: u8 = 7;
+
+/// The status where the arguments cannot be had for another cause, as where one is no text.
+const NO_ARGUMENTS: u8 = 8;
+
+/// The arguments without the program's own name, or the status to end with.
+fn arguments(rt: &HostRuntime) -> Result<Vec<String>, u8> {
+    let arguments = match env::args(rt) {
+        Ok(arguments) => arguments,
+        Err(error) => {
+            return Err(match error.kind() {
+                ErrorKind::OutOfMemory => NO_MEMORY,
+                _ => NO_ARGUMENTS,
+            });
+        }
+    };
+    arguments.skip(1).collect(rt.alloc()).map_err(|_| NO_MEMORY)
+}
+
+/// The top call with the words and these applications.
+fn serve_with(rt: &HostRuntime, words: &[String], apps: &Apps) -> u8 {
+    let mut input = StdSource::new(rt.reader());
+    let mut output = StdSink::new(io::writer(rt));
+    let mut left = FirstDrive::new();
+    let mut right = FirstDrive::new();
+    let status = run_bridge(
+        rt.alloc(),
+        words,
+        &mut input,
+        &mut output,
+        apps,
+        &mut left,
+        &mut right,
+    );
+    status as u8
+}
+
+/// The same, or want of memory for the applications. They are made here, where their entries are known to answer as `Apps::new` asks.
+fn serve(rt: &HostRuntime, words: &[String]) -> Result<u8, AllocError> {
+    let alloc = rt.alloc();
+    let table = App {
+        offer: Box::new(alloc, |state: u64, _slot: u16| (state % 4294967296) as u32)?,
+        learn: Box::new(
+            alloc,
+            |state: u64, _slot: u16, _sender: u8, _value: Option<u32>| state,
+        )?,
+    };
+    let counter = App {
+        offer: Box::new(alloc, |state: u64, _slot: u16| (state % 4294967296) as u32)?,
+        learn: Box::new(
+            alloc,
+            |state: u64, _slot: u16, _sender: u8, _value: Option<u32>| state.wrapping_add(1),
+        )?,
+    };
+    let follow = App {
+        offer: Box::new(alloc, |state: u64, slot: u16| {
+            ((u128::from(state) + u128::from(slot)) % 4294967296) as u32
+        })?,
+        learn: Box::new(
+            alloc,
+            |state: u64, _slot: u16, _sender: u8, value: Option<u32>| {
+                ((31 * u128::from(state) + u128::from(value.unwrap_or(0)))
+                    % 18446744073709551616) as u64
+            },
+        )?,
+    };
+    let apps = Apps::new(table, counter, follow);
+    Ok(serve_with(rt, words, &apps))
+}
+
+fn main(rt: HostRuntime) -> ExitCode {
+    let words = match arguments(&rt) {
+        Ok(words) => words,
+        Err(status) => return ExitCode::from(status),
+    };
+    match serve(&rt, &words) {
+        Ok(status) => ExitCode::from(status),
+        Err(_) => ExitCode::from(NO_MEMORY),
+    }
+}
