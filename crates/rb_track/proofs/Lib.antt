@@ -1,0 +1,9 @@
+pub mod Sides
+pub mod Tracking
+pub mod VotesAlike
+pub mod WindowSteps
+pub mod SyncTracks
+pub mod ListenerMiddles
+pub mod NextEpochs
+pub mod ListenerNear
+pub mod FramesNear

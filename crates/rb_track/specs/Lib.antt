@@ -1,0 +1,4 @@
+pub mod Judged
+pub mod Holding
+pub mod Calls
+pub mod Laws
