@@ -63,7 +63,7 @@ next-at sc hands n k agreed before me i now h =
       later = λ less. omega (arith, w.later (omega (arith, less, f)), e);
     }
 
-turn-number : (sc : Scenario) (hands : List HandIn) (m : Moment) → (next_frame sc hands m).frame ≡ m.frame + 1
+pub turn-number : (sc : Scenario) (hands : List HandIn) (m : Moment) → (next_frame sc hands m).frame ≡ m.frame + 1
 unfolding begin_frame
 turn-number sc hands m = refl
 
@@ -127,7 +127,7 @@ far-apart low then_at p f h l v z u d least most eps w e some c1 c2 c4 c7 wu wd 
 -- Both together.
 
 -- a moment of a later frame comes later
-later-moment : (size f w g v m n : ℕ) → m ≡ f * size + w → n ≡ g * size + v → f < g → w < size → m ≤ n
+pub later-moment : (size f w g v m n : ℕ) → m ≡ f * size + w → n ≡ g * size + v → f < g → w < size → m ≤ n
 later-moment size f w g v m n at_m at_n less small =
     let le : (f + 1) * size ≤ g * size = mul-le-mul_right size (omega (arith, less)) in
     omega (arith, at_m, at_n, le, small)
@@ -171,7 +171,7 @@ lows sc hands law m n j t at_n at_m less sends a b =
     rises = times_rise_to (clock_of sc Rmu j) (was.st.epoch + tail_start_of sc.sizes sc.plan) sends.state.epoch (was.later less)
 
 -- a time so much later has a stamp so much later
-far-stamps : (u d : ℕ) (clock : Timeline) → Steady u d clock → (x y a b reach : ℕ) → IsStamp clock x a → IsStamp clock y b → 1 ≤ a → x + (u + d) + reach * (u + d) < y → a + reach < b
+pub far-stamps : (u d : ℕ) (clock : Timeline) → Steady u d clock → (x y a b reach : ℕ) → IsStamp clock x a → IsStamp clock y b → 1 ≤ a → x + (u + d) + reach * (u + d) < y → a + reach < b
 far-stamps u d clock steady x y zero b reach is_a is_b some far = absurd (omega (arith, some))
 far-stamps u d clock steady x y (suc a) b reach is_a is_b some far =
     elim (cases_lt (suc a + reach) b) [

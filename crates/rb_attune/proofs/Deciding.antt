@@ -134,7 +134,7 @@ may-pass-well sc hands ear shape most k n s h (Some frame) e = pass-well sc hand
 
 -- Messages.
 
-newest-well : (sc : Scenario) (hands : List HandIn) (ear : Ear) (k n j frame : ℕ) (s : Search) → j < sc.sizes.rmus → (is_always_good sc j ≡ true → IsHeardCall sc hands ear j frame k)
+pub newest-well : (sc : Scenario) (hands : List HandIn) (ear : Ear) (k n j frame : ℕ) (s : Search) → j < sc.sizes.rmus → (is_always_good sc j ≡ true → IsHeardCall sc hands ear j frame k)
     → IsWell sc hands ear k n s → IsWell sc hands ear k n (newest_with j frame s)
 newest-well sc hands ear k n j frame s within calls h = record {
   had = h.had;
@@ -167,7 +167,7 @@ noted-frame sizes j at m lesson = by (has_place sizes lesson.frame m)
     by true = (refl, refl)
     by false = (refl, refl)
 
-recorded-well : (sc : Scenario) (hands : List HandIn) (ear : Ear) (k n j : ℕ) (m : Message) (s : Search) → IsWell sc hands ear k n s → IsWell sc hands ear k n (recorded sc.sizes j m s)
+pub recorded-well : (sc : Scenario) (hands : List HandIn) (ear : Ear) (k n j : ℕ) (m : Message) (s : Search) → IsWell sc hands ear k n s → IsWell sc hands ear k n (recorded sc.sizes j m s)
 recorded-well sc hands ear k n j m s h = by s.learns
   where
     by : (b : Bool) → IsWell sc hands ear k n (elim b as (λ _. Search) [ true ↦ record s { lesson = noted sc.sizes j s.had m s.lesson } | false ↦ s ])
@@ -196,11 +196,11 @@ message-well sc hands ear shape most k n j (Some m) s within calls h = by (is_ca
         (pass_of sc.sizes sc.plan (newest_with j m.frame (recorded sc.sizes j m s)).newest) refl
     by false e r = r
 
-some-stamp : (sc : Scenario) (ear : Ear) → IsEar sc ear → (k : ℕ) (c : Coming) → IsHeard ear k c → 1 ≤ k
+pub some-stamp : (sc : Scenario) (ear : Ear) → IsEar sc ear → (k : ℕ) (c : Coming) → IsHeard ear k c → 1 ≤ k
 some-stamp sc ear is zero c h = absurd (is.after_start c h)
 some-stamp sc ear is (suc k) c h = omega arith
 
-heard-call : (sc : Scenario) (hands : List HandIn) → IsLawful sc → (ear : Ear) → IsEar sc ear → (k : ℕ) (c : Coming) → k < ear.ticks → IsHeard ear k c → IsOfGood sc hands ear c → (m : Message)
+pub heard-call : (sc : Scenario) (hands : List HandIn) → IsLawful sc → (ear : Ear) → IsEar sc ear → (k : ℕ) (c : Coming) → k < ear.ticks → IsHeard ear k c → IsOfGood sc hands ear c → (m : Message)
     → message_in sc.plan.version c.bytes ≡ Some m → is_call sc.sizes m ≡ true → IsHeardCall sc hands ear c.from m.frame k
 heard-call sc hands law ear is k c in_time heard good m reads call = record {
   n = good.n;
@@ -249,12 +249,12 @@ heard-well sc hands law ear is run k n c in_time there s h = by (nat_lt c.from s
     by true e false = onward s h
     by false e b = onward s h
 
-kept-well : (sc : Scenario) (hands : List HandIn) → IsLawful sc → (ear : Ear) → IsEar sc ear → HearsTheRun sc hands ear → IsKept sc ear (IsWell sc hands ear)
+pub kept-well : (sc : Scenario) (hands : List HandIn) → IsLawful sc → (ear : Ear) → IsEar sc ear → HearsTheRun sc hands ear → IsKept sc ear (IsWell sc hands ear)
 kept-well sc hands law ear is run = record {
   first = first-well sc hands ear;
   heard = heard-well sc hands law ear is run;
-  decided = λ k n s in_time h deciding. learning-well sc hands ear (suc k) 0 (frame_after s.lesson.frame) (later s) (on k n s h);
-  later = λ k n s in_time h going. on k n s h;
+  decided = λ k n s in_time whole h deciding. learning-well sc hands ear (suc k) 0 (frame_after s.lesson.frame) (later s) (on k n s h);
+  later = λ k n s in_time whole h going. on k n s h;
   lasts = λ k n s in_time h. not-over sc ear is k s.had in_time h.had;
 }
   where

@@ -112,7 +112,7 @@ pub kept-inside : (sc : Scenario) → IsShape sc.sizes → (ear : Ear) → IsEar
 kept-inside sc shape ear is = record {
   first = first-inside sc;
   heard = λ k n c in_time there s h. heard-inside sc shape k n c s h;
-  decided = λ k n s in_time h deciding. record { had = omega (arith, h.had); none = begun-none sc.sizes (frame_after s.lesson.frame) (later s) };
-  later = λ k n s in_time h going. record { had = omega (arith, h.had); none = h.none };
+  decided = λ k n s in_time whole h deciding. record { had = omega (arith, h.had); none = begun-none sc.sizes (frame_after s.lesson.frame) (later s) };
+  later = λ k n s in_time whole h going. record { had = omega (arith, h.had); none = h.none };
   lasts = λ k n s in_time h. not-over sc ear is k s.had in_time h.had;
 }

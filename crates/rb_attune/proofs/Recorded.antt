@@ -118,12 +118,12 @@ reads-sent sc hands law ear c good m reads =
     (sym (read_back sc.plan.version good.sending.message (in-place sc hands law good.n c.from good.sending good.sent).fits)
     ∙ ap (λ (x : Coming). message_in sc.plan.version x.bytes) (sym good.is) ∙ reads)
 
-three : (a b c : Bool) → (a && b && c) ≡ true → (a ≡ true) × (c ≡ true)
+pub three : (a b c : Bool) → (a && b && c) ≡ true → (a ≡ true) × (c ≡ true)
 three true true c h = (refl, h)
 three true false c h = cc
 three false b c h = cc
 
-placed : (sc : Scenario) (frame : ℕ) (m : Message) → has_place sc.sizes frame m ≡ true → IsOfPlace sc frame m.slot m
+pub placed : (sc : Scenario) (frame : ℕ) (m : Message) → has_place sc.sizes frame m ≡ true → IsOfPlace sc frame m.slot m
 placed sc frame m h =
     let parts = three (m.frame == frame) (nat_le m.slot (sync_slot_of sc.sizes)) (m.stage == stage_recorded (role_of sc.sizes m.slot)) h in
     record { frame_is = equal_from m.frame frame parts.0; slot_is = refl; stage_is = equal_from m.stage (stage_recorded (role_of sc.sizes m.slot)) parts.1 }

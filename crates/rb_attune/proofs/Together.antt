@@ -65,7 +65,7 @@ call-time sc hands law n j s at sent synced = (second_calls sc law (moment sc ha
     called = (call_sent sc.sizes sc.plan Rmu j sent.state 2 (word_at sc (moment sc hands n) (sync_slot_of sc.sizes) j) s sends).0
 
 -- times at most `most` apart have stamps at most so many ticks apart as take that long
-near-stamps : (u d : ℕ) (clock : Timeline) → Steady u d clock → (x y a b reach most : ℕ) → IsStamp clock x a → IsStamp clock y b → 1 ≤ a → y ≤ x + most → most ≤ reach * u → b ≤ a + reach
+pub near-stamps : (u d : ℕ) (clock : Timeline) → Steady u d clock → (x y a b reach most : ℕ) → IsStamp clock x a → IsStamp clock y b → 1 ≤ a → y ≤ x + most → most ≤ reach * u → b ≤ a + reach
 near-stamps u d clock steady x y a b reach most is_a is_b some near enough =
     elim (cases_lt (a + reach) b) [
       | inl more ↦
@@ -83,7 +83,7 @@ enough-more : (low p f h l v z u d least most eps : ℕ) → most ≡ least + ep
     → low + p + (f + h) * (u + d) + most + (u + d) + l * (u + d) + most ≤ low + (f + h) * u + least + l * u + least + z * u
 enough-more low p f h l v z u d least most eps e c6 = omega (arith, e, c6)
 
-min-either : (P : ℕ → Type 0) (a b : ℕ) → P a → P b → P (min a b)
+pub min-either : (P : ℕ → Type 0) (a b : ℕ) → P a → P b → P (min a b)
 min-either P a b pa pb = elim (cases_lt a b) [ inl less ↦ subst P (let e : a ≡ min a b = omega (arith, less) in e) pa | inr more ↦ subst P (let e : b ≡ min a b = omega (arith, more) in e) pb ]
 
 pub come-together : (sc : Scenario) (hands : List HandIn) → IsLawful sc → (ear : Ear) → IsEar sc ear → CallsComeTogether sc hands ear

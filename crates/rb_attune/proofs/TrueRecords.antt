@@ -114,8 +114,8 @@ kept : (sc : Scenario) (hands : List HandIn) → IsLawful sc → (ear : Ear) →
 kept sc hands law ear is run = record {
   first = first-true sc hands ear;
   heard = heard-true sc hands law ear is run;
-  decided = λ k n s in_time h deciding. learning-true sc hands ear (suc k) 0 (frame_after s.lesson.frame) (later s) (omega (arith, h.had));
-  later = λ k n s in_time h not_deciding. record {
+  decided = λ k n s in_time whole h deciding. learning-true sc hands ear (suc k) 0 (frame_after s.lesson.frame) (later s) (omega (arith, h.had));
+  later = λ k n s in_time whole h not_deciding. record {
     had = omega (arith, h.had);
     records = λ learns. all-tick sc hands ear k n s.lesson (h.records learns);
   };

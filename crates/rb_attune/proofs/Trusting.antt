@@ -190,10 +190,10 @@ trusted-in sc hands law ear frame slot stage i kind below some few staged sender
 
 -- Both kinds.
 
-schedule-role : (sizes : Sizes) (i : ℕ) → i < sizes.bius → role_of sizes i ≡ Schedule i
+pub schedule-role : (sizes : Sizes) (i : ℕ) → i < sizes.bius → role_of sizes i ≡ Schedule i
 schedule-role sizes i below = let e : nat_lt i sizes.bius ≡ true = grind (arith, nat_tests, below) in rw e refl
 
-diagnosis-role : (sizes : Sizes) (i : ℕ) → i < sizes.rmus → role_of sizes (first_diagnosis_of Rmu sizes + i) ≡ DiagRmu i
+pub diagnosis-role : (sizes : Sizes) (i : ℕ) → i < sizes.rmus → role_of sizes (first_diagnosis_of Rmu sizes + i) ≡ DiagRmu i
 diagnosis-role sizes i below =
     let slot : ℕ = 2 * sizes.bius + sizes.data_slots + i in
     let a : nat_lt (2 * sizes.bius + sizes.data_slots + i) sizes.bius ≡ false = grind (arith, nat_tests) in

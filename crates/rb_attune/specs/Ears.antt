@@ -7,7 +7,7 @@ use Rattle.rb_rules.specs.Clock.{IsClock, IsStamp, Timeline, time_of}
 use Rattle.rb_rules.specs.Goodness.{Scenario, clock_of}
 use Rattle.rb_rules.specs.Hearing.{Coming, Sending}
 use Rattle.rb_rules.specs.Lawful.{IsDelay}
-use Rattle.rb_rules.specs.Moments.{IsGoodBefore, IsRunning, time_in_frame}
+use Rattle.rb_rules.specs.Moments.{IsGoodBefore, IsRunning, before_slot, time_in_frame}
 use Rattle.rb_rules.specs.NodeState.{NodeState}
 use Rattle.rb_rules.specs.Plan.{longest_of, shortest_of}
 use Rattle.rb_rules.specs.Ports.{HandIn}
@@ -64,11 +64,13 @@ pub record IsOfGood (sc : Scenario) (hands : List HandIn) (ear : Ear) (c : Comin
   pub sent : SendsIn sc hands n c.from sending
   pub is : c ≡ coming_to sc ear c.from (moment sc hands n).frame sending
 
--- the RMU that sent this is not good from some slot on, and it comes less than a tick before some good node begins that slot, or later
+-- the RMU that sent this is not good from some slot on, to which the run comes before its end, and it comes less than a tick before some good
+-- node begins that slot, or later
 pub record IsOfFaulty (sc : Scenario) (hands : List HandIn) (c : Coming) : Type 0 where
   pub frame : ℕ
   pub slot : ℕ
   pub onset : get_or sc.rmu_onsets c.from None ≡ Some (frame, slot)
+  pub running : IsRunning (before_slot sc hands frame slot)
   pub me : Side
   pub i : ℕ
   pub state : NodeState

@@ -1,17 +1,23 @@
 -- What is proved of a listener beside a run of the bus.
-use Rattle.std.specs.Prelude.{ℕ, ◌≡◌, ◌<◌, List}
+use Rattle.std.specs.Prelude.{ℕ, ◌≡◌, ◌<◌, Some, List}
+use Rattle.rb_base.specs.Sizes.{sync_slot_of}
+use Rattle.rb_listen.specs.Lessons.{first_of, trusted_bius, trusted_rmus}
 use Rattle.rb_listen.specs.Listening.{first_search, told_of}
 use Rattle.rb_listen.specs.Listening as now
+use Rattle.rb_listen.specs.declared.lesson.First.{First}
+use Rattle.rb_listen.specs.declared.search.Search.{Search}
 use Rattle.rb_rules.specs.Goodness.{Scenario}
 use Rattle.rb_rules.specs.Lawful.{IsLawful}
 use Rattle.rb_rules.specs.Ports.{HandIn}
 use Rattle.rb_attune.specs.Calling.{EachIsHeardToCall}
-use Rattle.rb_attune.specs.Deciding.{DecidesAfterTheCalls}
+use Rattle.rb_attune.specs.Deciding.{DecidesAfterTheCalls, DecidesBy}
 use Rattle.rb_attune.specs.Ears.{Ear, HearsTheRun, IsEar}
 use Rattle.rb_attune.specs.Feeding.{events_from, told_from}
-use Rattle.rb_attune.specs.Learned.{TrustsTheTrusted}
-use Rattle.rb_attune.specs.Records.{RecordsAreTrue}
+use Rattle.rb_attune.specs.Learned.{AreTrusted, HasLearned, TrustsTheTrusted}
+use Rattle.rb_attune.specs.Receivers.{IsCalm}
+use Rattle.rb_attune.specs.Records.{RecordsAreTrue, RecordsAreWhole}
 use Rattle.rb_attune.specs.Seeking.{SeeksAFrame}
+use Rattle.rb_attune.specs.Waiting.{WaitsFor}
 use Rattle.rb_attune.specs.Together.{CallsComeTogether, LaterCallsComeLater}
 
 -- what a listener tells beside a run is what it tells where it is given these events one after another
@@ -56,3 +62,38 @@ abbrev pub DecisionsComeAfterTheCalls : Type 0
 DecisionsComeAfterTheCalls =
     (sc : Scenario) (hands : List HandIn) → IsLawful sc → (ear : Ear) → IsEar sc ear → HearsTheRun sc hands ear
     → (k : ℕ) → k < ear.ticks → DecidesAfterTheCalls sc hands ear k
+
+-- and it has whole what it learned
+abbrev pub RecordsOfTheGoodAreWhole : Type 0
+RecordsOfTheGoodAreWhole =
+    (sc : Scenario) (hands : List HandIn) → IsLawful sc → (ear : Ear) → IsEar sc ear → HearsTheRun sc hands ear
+    → (learned tick : ℕ) (s : Search) → DecidesBy sc hands ear learned tick s → RecordsAreWhole sc hands ear learned s.lesson.records
+
+-- So it trusts in the learned frame just whom the bus trusts
+abbrev pub ListenersTrustAsTheBus : Type 0
+ListenersTrustAsTheBus =
+    (sc : Scenario) (hands : List HandIn) → IsLawful sc → (ear : Ear) → IsEar sc ear → HearsTheRun sc hands ear
+    → (learned tick : ℕ) (s : Search) → DecidesBy sc hands ear learned tick s
+    → AreTrusted sc hands learned (sync_slot_of sc.sizes) (trusted_bius sc.sizes s.lesson.records) (trusted_rmus sc.sizes s.lesson.records)
+
+-- and its first frame begins after the decision
+abbrev pub DecisionsComeInTime : Type 0
+DecisionsComeInTime =
+    (sc : Scenario) (hands : List HandIn) → IsLawful sc → (ear : Ear) → IsEar sc ear → HearsTheRun sc hands ear
+    → (learned tick : ℕ) (s : Search) → DecidesBy sc hands ear learned tick s
+    → (first : First) × ((first_of sc.sizes sc.plan s.lesson ≡ Some first) × (tick < first.epoch))
+
+-- Where the learned frame comes to its end before the first breach of the premise with the listener, it convicts as the bus does, too: it has
+-- learned all that it needs to follow
+abbrev pub ListenersLearn : Type 0
+ListenersLearn =
+    (sc : Scenario) (hands : List HandIn) → IsLawful sc → (ear : Ear) → IsEar sc ear → HearsTheRun sc hands ear
+    → (learned tick : ℕ) (s : Search) → DecidesBy sc hands ear learned tick s → IsCalm sc hands ear learned s.lesson.records learned (sync_slot_of sc.sizes)
+    → (first : First) × ((first_of sc.sizes sc.plan s.lesson ≡ Some first) × HasLearned sc hands ear learned tick s.lesson.records first)
+
+-- From the decision it waits up to the first tick of its first frame, and with that it begins to follow
+abbrev pub ListenersWait : Type 0
+ListenersWait =
+    (sc : Scenario) (hands : List HandIn) → IsLawful sc → (ear : Ear) → IsEar sc ear → HearsTheRun sc hands ear
+    → (learned tick : ℕ) (s : Search) → DecidesBy sc hands ear learned tick s
+    → (first : First) → first_of sc.sizes sc.plan s.lesson ≡ Some first → tick < first.epoch → WaitsFor sc ear tick first

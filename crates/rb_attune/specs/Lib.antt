@@ -1,7 +1,9 @@
 pub mod Ears
 pub mod Seeking
 pub mod Records
+pub mod Receivers
 pub mod Learned
+pub mod Waiting
 pub mod Together
 pub mod Deciding
 pub mod Calling

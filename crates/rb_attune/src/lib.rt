@@ -1,7 +1,7 @@
 //! Laws of a passive listener beside a run of the bus. Each law is the contract of a function that does nothing.
 #![tactic(auto)]
 
-ghost use Rattle.rb_attune.specs.Laws.{DecisionsComeAfterTheCalls, EarsAreFedEvents, FramesComeApart, GoodCallsComeTogether, GoodRmusAreHeardToCall, ListenersTrustTheTrusted, RecordsOfTheGoodAreTrue, TheFrameSoughtIsReal};
+ghost use Rattle.rb_attune.specs.Laws.{DecisionsComeAfterTheCalls, DecisionsComeInTime, EarsAreFedEvents, FramesComeApart, GoodCallsComeTogether, GoodRmusAreHeardToCall, ListenersLearn, ListenersTrustAsTheBus, ListenersTrustTheTrusted, ListenersWait, RecordsOfTheGoodAreTrue, RecordsOfTheGoodAreWhole, TheFrameSoughtIsReal};
 
 /// What a listener tells beside a run is what it tells where it is given the ticks and messages one after another.
 pub fn ears_are_fed_events()
@@ -41,4 +41,30 @@ pub fn frames_come_apart()
 /// Where the tick is fixed at which a listener decides, all calls of good RMUs in the frame that it learns come before it.
 pub fn decisions_come_after_the_calls()
     ensures { DecisionsComeAfterTheCalls }
+{}
+
+/// Where a listener decides, all is recorded that an RMU, good in the learned frame up to its sync slot, sent in that frame in the places that are recorded.
+pub fn records_of_the_good_are_whole()
+    ensures { RecordsOfTheGoodAreWhole }
+{}
+
+/// Where a listener decides, it trusts by what it has recorded just the nodes that the bus trusts in the learned frame.
+pub fn listeners_trust_as_the_bus()
+    ensures { ListenersTrustAsTheBus }
+{}
+
+/// Where a listener decides, it finds its first frame, and the first tick of that is still to come.
+pub fn decisions_come_in_time()
+    ensures { DecisionsComeInTime }
+{}
+
+/// Where a listener decides by a frame that comes to its end before the first breach of the premise with the listener, it has learned what it needs to follow: whom the
+/// bus trusts in that frame and in the next, the calls of the good RMUs, and the first tick of the next frame by their middle.
+pub fn listeners_learn()
+    ensures { ListenersLearn }
+{}
+
+/// A listener that has decided waits up to the first tick of its first frame, whatever it hears, and with that it begins to follow.
+pub fn listeners_wait()
+    ensures { ListenersWait }
 {}
