@@ -1,5 +1,6 @@
 # make run SCENARIO=examples/one_silent_rmu.toml   runs a scenario
 # make picture SCENARIO=.. > run.svg               draws its run, or with FRAMES="FIRST LAST" these frames of it
+# make bridge SCENARIO=examples/bridges/carried_words.toml   runs a bridge of two buses
 # make build                                       proves and builds the programs, where they are not up to date
 # make test                                        the gate: every proof, must-fail edit, test and program, and the documents
 # make bench                                       builds the programs and measures them
@@ -11,11 +12,12 @@
 PREFIX ?= /usr/local
 ROBUS = crates/robus/out/robus
 PICTURE = crates/robus_picture/out/robus_picture
+BRIDGE = crates/robus_bridge/out/robus_bridge
 AT = $(DESTDIR)$(PREFIX)
 COUNT = 1000
 SEED = 1
 
-.PHONY: run picture build test bench examples tutorial compare install uninstall
+.PHONY: run picture bridge build test bench examples tutorial compare install uninstall
 
 run:
 	@test -n "$(SCENARIO)" || { echo "usage: make run SCENARIO=examples/one_silent_rmu.toml (or another of examples/)" >&2; exit 2; }
@@ -25,9 +27,14 @@ picture:
 	@test -n "$(SCENARIO)" || { echo "usage: make picture SCENARIO=examples/one_silent_rmu.toml > run.svg (or another of examples/)" >&2; exit 2; }
 	@tools/picture "$(SCENARIO)" $(FRAMES)
 
+bridge:
+	@test -n "$(SCENARIO)" || { echo "usage: make bridge SCENARIO=examples/bridges/carried_words.toml (or another of examples/bridges/)" >&2; exit 2; }
+	@tools/bridge "$(SCENARIO)"
+
 build:
 	tools/proved $(ROBUS) || (cd crates/robus && rt run -- run < stdin > /dev/null)
 	tools/proved $(PICTURE) || (cd crates/robus_picture && rt run < stdin > /dev/null)
+	tools/proved $(BRIDGE) || (cd crates/robus_bridge && rt run -- run < stdin > /dev/null)
 
 test:
 	.ci/run
@@ -46,16 +53,18 @@ compare: build
 	tools/compare_models $(COUNT) $(SEED)
 
 install:
-	@tools/proved $(ROBUS) && tools/proved $(PICTURE) || { echo "make install: no proved programs are up to date: make build first" >&2; exit 2; }
+	@tools/proved $(ROBUS) && tools/proved $(PICTURE) && tools/proved $(BRIDGE) || { echo "make install: no proved programs are up to date: make build first" >&2; exit 2; }
 	install -d "$(AT)/bin" "$(AT)/share/man/man1" "$(AT)/share/man/man5" "$(AT)/share/doc/robus"
 	install -m 755 $(ROBUS) "$(AT)/bin/robus"
 	install -m 755 $(PICTURE) "$(AT)/bin/robus_picture"
+	install -m 755 $(BRIDGE) "$(AT)/bin/robus_bridge"
 	tools/manual docs/robus.md robus 1 > "$(AT)/share/man/man1/robus.1"
 	tools/manual docs/robus_picture.md robus_picture 1 > "$(AT)/share/man/man1/robus_picture.1"
+	tools/manual docs/robus_bridge.md robus_bridge 1 > "$(AT)/share/man/man1/robus_bridge.1"
 	tools/manual docs/SCENARIOS.md robus_scenario 5 "scenarios of a fault-tolerant broadcast bus" > "$(AT)/share/man/man5/robus_scenario.5"
 	tools/manual docs/FORMATS.md robus_formats 5 "messages and logs of a fault-tolerant broadcast bus" > "$(AT)/share/man/man5/robus_formats.5"
 	cp -R README.md docs examples "$(AT)/share/doc/robus"
 
 uninstall:
-	rm -f "$(AT)/bin/robus" "$(AT)/bin/robus_picture" "$(AT)/share/man/man1/robus.1" "$(AT)/share/man/man1/robus_picture.1" "$(AT)/share/man/man5/robus_scenario.5" "$(AT)/share/man/man5/robus_formats.5"
+	rm -f "$(AT)/bin/robus" "$(AT)/bin/robus_picture" "$(AT)/bin/robus_bridge" "$(AT)/share/man/man1/robus.1" "$(AT)/share/man/man1/robus_picture.1" "$(AT)/share/man/man1/robus_bridge.1" "$(AT)/share/man/man5/robus_scenario.5" "$(AT)/share/man/man5/robus_formats.5"
 	rm -rf "$(AT)/share/doc/robus"
