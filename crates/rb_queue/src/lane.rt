@@ -51,6 +51,7 @@ impl Lane {
         self.room - self.events.len()
     }
 
+    #[inline(always)]
     #[tactic(auto, using(crate::proofs::Times::least_pushed))]
     pub(crate) fn push(&mut self, pending: Pending)
         requires { 1 ≤ spare_of self.old }
@@ -100,6 +101,7 @@ impl Lane {
         &self.events[place_ready(&self.events, self.head, self.first, i)].event
     }
 
+    #[inline(always)]
     pub(crate) fn take(&mut self, i: usize) -> Event
         requires { i < length (ready_of self.old) }
         ensures event { ready_event i self.old ≡ Some result }

@@ -74,6 +74,7 @@ impl Lanes {
     }
 
     /// Adds an event, due at this time in reference units, to the lane of its node. The lane has room for it.
+    #[inline(always)]
     pub fn push(&mut self, time: u64, event: Event)
         requires in_shape { HasLane self.old event.node }
         requires spare { 1 ≤ spare_of (lane_of self.old event.node) }
@@ -142,6 +143,7 @@ impl Lanes {
     }
 
     /// Takes the ready event at place `i`, counted from 0, out of the node's lane, and no other.
+    #[inline(always)]
     pub fn take(&mut self, node: NodeName, i: usize) -> Event
         requires in_shape { HasLane self.old node }
         requires below { i < length (ready_of (lane_of self.old node)) }
