@@ -19,7 +19,7 @@ use rb_eligible::{Inbox, Standing, Taking, is_quiet, single_of, take_single, tak
 pub use rb_rules::Closing;
 use rb_rules::Expect;
 use rb_vote::majority_taken;
-pub use sheet::Sheet;
+pub use sheet::{Sheet, close_on_sheet};
 
 pub mod over;
 pub mod sheet;

@@ -61,6 +61,31 @@ fn leave_blank<K: Copy>(written: &mut NodeSet<K>, closing: &mut Closing, sees: &
     }
 }
 
+/// Closes a stage as `close_stage` does, in place: what was taken in it is written over what was taken in an earlier stage, and
+/// what is shown over what was shown, and only of the sources in `written` there may be something. Where nothing came and no
+/// trusted source is expected, that costs a few instructions.
+#[inline(always)]
+pub fn close_on_sheet<K: Copy>(
+    inbox: &Inbox<K>,
+    standing: &mut Standing<K>,
+    expect: &Expect,
+    expected: NodeSet<K>,
+    written: &mut NodeSet<K>,
+    closing: &mut Closing,
+    sees: &mut [See; 16],
+)
+    requires { IsSheet written.old closing.old.taken sees.old }
+    ensures closing { ClosesBy inbox.now (standing_of standing.old) expect.now expected closing.new }
+    ensures accused { AccusesBy inbox.now (standing_of standing.old) expect.now expected (standing_of standing.new) }
+    ensures sheet { IsSheet written.new closing.new.taken sees.new }
+{
+    if is_quiet(inbox, standing, expected) {
+        leave_blank(written, closing, sees);
+    } else {
+        close_busy(inbox, standing, expect, expected, written, closing, sees);
+    }
+}
+
 impl<K: Copy> Sheet<K> {
     /// A closing in which nothing was taken.
     pub fn new() -> Sheet<K>
@@ -100,18 +125,14 @@ impl<K: Copy> Sheet<K> {
         ensures closing { ClosesBy inbox.now (standing_of standing.old) expect.now expected self.new }
         ensures accused { AccusesBy inbox.now (standing_of standing.old) expect.now expected (standing_of standing.new) }
     {
-        if is_quiet(inbox, standing, expected) {
-            leave_blank(&mut self.written, &mut self.closing, &mut self.sees);
-        } else {
-            close_busy(
-                inbox,
-                standing,
-                expect,
-                expected,
-                &mut self.written,
-                &mut self.closing,
-                &mut self.sees,
-            );
-        }
+        close_on_sheet(
+            inbox,
+            standing,
+            expect,
+            expected,
+            &mut self.written,
+            &mut self.closing,
+            &mut self.sees,
+        );
     }
 }
