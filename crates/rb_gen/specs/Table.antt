@@ -9,7 +9,7 @@ use Rattle.rb_rules.specs.declared.link.Rule.{Rule}
 use Rattle.rb_rules.specs.declared.say.Say.{Say}
 use Rattle.rb_rules.specs.Clock.{Timeline}
 use Rattle.rb_rules.specs.Goodness.{Scenario}
-use Rattle.rb_gen.specs.Text.{named, node_at, word_in}
+use Rattle.rb_gen.specs.Text.{named, node_at, word_said}
 
 -- Values.
 
@@ -64,7 +64,7 @@ say_table say =
     (member (codes "slots") (pair say.slots)
     (member (codes "stages") (pair say.stages)
     (member (codes "to") (name (named say.to))
-    (member (codes "word") (number (word_in say.content))
+    (member (codes "word") (number (word_said say.content))
     no_members)))))
 
 -- The document.

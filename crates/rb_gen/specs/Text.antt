@@ -89,11 +89,11 @@ fault_lines node onset =
     ∷ []
 
 -- the word that is said
-abbrev pub word_in : Content → ℕ
-word_in (Word word) = word
-word_in Fault = 0
-word_in Sync = 0
-word_in (Raw bytes) = 0
+abbrev pub word_said : Content → ℕ
+word_said (Word word) = word
+word_said Fault = 0
+word_said Sync = 0
+word_said (Raw bytes) = 0
 
 -- a word that a node says at the offset at which good nodes send
 abbrev pub say_lines : Say → List (List ℕ)
@@ -104,7 +104,7 @@ say_lines say =
     ∷ pair_line (codes "frames") say.frames
     ∷ pair_line (codes "slots") say.slots
     ∷ pair_line (codes "stages") say.stages
-    ∷ number_line (codes "word") (word_in say.content)
+    ∷ number_line (codes "word") (word_said say.content)
     ∷ []
 
 -- The text.

@@ -2,7 +2,7 @@
 ghost use Rattle.std.specs.Prelude.{◌≡◌, ◌≤◌, ◌<◌, ◌↔◌, IsNone, [], get_or, length, slice_get, option_map, codes};
 ghost use Rattle.rb_scenario.specs.Acceptance.{as_scenario};
 ghost use Rattle.rb_gen.specs.Generated.{IsGenerated};
-ghost use Rattle.rb_gen.specs.Text.{clock_lines, fault_lines, lines_of, link_lines, named, node_at, node_line, number_line, pair_line, root_lines, say_lines, segment_line, word_in};
+ghost use Rattle.rb_gen.specs.Text.{clock_lines, fault_lines, lines_of, link_lines, named, node_at, node_line, number_line, pair_line, root_lines, say_lines, segment_line, word_said};
 
 use crate::generator::{receiver_of, sender_of};
 use arrayvec::ArrayString;
@@ -157,8 +157,8 @@ fn named(pattern: Pattern) -> NodeName
     }
 }
 
-fn word_in(content: &Content) -> u32
-    ensures { result ≡ word_in content.now }
+fn word_said(content: &Content) -> u32
+    ensures { result ≡ word_said content.now }
 {
     match content {
         Content::Word(word) => *word,
@@ -178,7 +178,7 @@ fn say_line(say: &Say, part: usize) -> ArrayString<64>
         3 => pair_line("frames", say.frames),
         4 => pair_line("slots", (u32::from(slots.0), u32::from(slots.1))),
         5 => pair_line("stages", (u32::from(stages.0), u32::from(stages.1))),
-        _ => number_line("word", u64::from(word_in(&say.content))),
+        _ => number_line("word", u64::from(word_said(&say.content))),
     }
 }
 
