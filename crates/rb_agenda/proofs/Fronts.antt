@@ -1,15 +1,14 @@
 -- The place of the least of the keys.
-use Rattle.std.proofs.Common.{◌≡◌, ◌≢◌, ℕ, zero, suc, ◌+◌, ◌<◌, ◌≤◌, ◌==◌, ◌&&◌, ◌⊎◌, nat_lt, min, Bool, true, false, List, [], ◌∷◌, length, take, drop, set, get_or, if◌then◌else◌, refl, sym, ap, ◌∙◌, subst, arith, inl, inr}
+use Rattle.std.proofs.Common.{◌≡◌, ◌≢◌, ℕ, zero, suc, ◌+◌, ◌<◌, ◌≤◌, ◌==◌, ◌&&◌, ◌⊎◌, nat_lt, min, Bool, true, false, List, [], ◌∷◌, length, take, set, get_or, if◌then◌else◌, refl, sym, ap, ◌∙◌, subst, arith, inl, inr}
 use Rattle.std.proofs.lemmas.Bool.{cases_lt}
 use Rattle.std.proofs.lemmas.Bool.Decides.{nat_tests}
-use Rattle.std.proofs.lemmas.List.{get_or-set_other, get_or-set_same, length-set, take-append-drop}
+use Rattle.std.proofs.lemmas.List.{get_or-set_other, get_or-set_same, length-set}
 use Rattle.rb_rules.specs.Book.{Each, in_order}
 use Rattle.rb_queue.specs.declared.pending.Pending.{Pending}
 use Rattle.rb_queue.specs.Waiting.{Held, lane_of, ready_of}
 use Rattle.rb_agenda.specs.declared.scan.Front.{Front}
 use Rattle.rb_agenda.specs.Agenda.{AreKept, StandsAt, due_count, due_in, key_of, least_key, node_at}
 use Rattle.rb_agenda.specs.Fronts.{IsFront, lowered}
-use Rattle.rb_agenda.proofs.Dues.{count-append}
 use Rattle.rb_agenda.proofs.Scans.{count-more, is-here, least-more}
 
 same-or-not : (k n : ℕ) → (k ≡ n) ⊎ (k ≢ n)
@@ -224,9 +223,6 @@ front-raised keys place key front h up apart is = record {
 not-due : (t : ℕ) (l : Held) → (key_of l == t) ≡ false → length (due_in t l) ≡ 0
 not-due t l e = ap (λ b. length (elim b as (λ _. List (ℕ × Pending)) [ true ↦ ready_of l | false ↦ [] ])) e
 
-is-due : (t : ℕ) (l : Held) → (key_of l == t) ≡ true → length (due_in t l) ≡ length (ready_of l)
-is-due t l e = ap (λ b. length (elim b as (λ _. List (ℕ × Pending)) [ true ↦ ready_of l | false ↦ [] ])) e
-
 -- nothing is due before the front
 none-before : (lanes : Each Held) (keys : List ℕ) (bius : ℕ) (front : Front) → AreKept lanes keys bius → IsFront keys front → front.first ≤ length keys
     → (p : ℕ) → p ≤ front.first → due_count front.least (take p (in_order lanes)) ≡ 0
@@ -260,17 +256,3 @@ stands-first lanes keys bius front kept is within least ready =
       ready = ready;
       before = omega (arith, none-before lanes keys bius front kept is (omega (arith, within)) front.first (omega arith));
     }
-
--- then something is due
-pub some-due : (lanes : Each Held) (keys : List ℕ) (bius : ℕ) (front : Front) → AreKept lanes keys bius → front.first < length keys
-    → get_or keys front.first 0 ≡ front.least → 0 < length (ready_of (lane_of lanes (node_at bius front.first)))
-    → 0 < due_count front.least (in_order lanes)
-some-due lanes keys bius front kept within least ready =
-    let here = is-here lanes keys bius front.first kept within in
-    let l : Held = lane_of lanes (node_at bius front.first) in
-    let key : get_or keys front.first 0 ≡ key_of l = here.key in
-    let now : (key_of l == front.least) ≡ true = grind (arith, nat_tests) in
-    let more = count-more lanes bius front.first (get_or keys front.first 0) front.least here in
-    let parts = sym (ap (due_count front.least) (take-append-drop (front.first + 1) (in_order lanes)))
-    ∙ count-append front.least (take (front.first + 1) (in_order lanes)) (drop (front.first + 1) (in_order lanes)) in
-    omega (arith, parts, more, is-due front.least l now, ready)

@@ -115,6 +115,10 @@ pub record AreKept (lanes : Each Held) (keys : List ℕ) (bius : ℕ) : Type 0 w
 abbrev pub AreTicks : Each Held → List ℕ → Type 0
 AreTicks lanes ticks = ticks ≡ map (λ (l : Held). first_tick_of l.events) (in_order lanes)
 
+-- the time of the first tick of all, and where none is pending the last time that there is
+abbrev pub first_tick_time : Each Held → ℕ
+first_tick_time lanes = least_key (map (λ (l : Held). first_tick_of l.events) (in_order lanes))
+
 -- the time of the first tick after an event was taken: an arrival leaves it
 abbrev pub tick_after : EventKind → ℕ → ℕ → ℕ
 tick_after (kind.Arrive from bytes) before after = before

@@ -1,5 +1,5 @@
 //! The agenda of all nodes.
-ghost use Rattle.std.specs.Prelude.{◌≡◌, ℕ, ◌<◌, ◌≤◌, [], length, IfOk, Some, IsTrue, ◌↔◌};
+ghost use Rattle.std.specs.Prelude.{◌≡◌, ℕ, ◌<◌, ◌≤◌, [], length, IfOk, Some};
 ghost use Rattle.std.proofs.Math.ListN.{replicate};
 ghost use Rattle.rb_base.specs.Nodes.{Side};
 ghost use Rattle.rb_base.specs.Sizes.{Sizes};
@@ -8,12 +8,12 @@ ghost use Rattle.rb_rules.specs.Goodness.{Scenario};
 ghost use Rattle.rb_rules.specs.Links.{name_of};
 ghost use Rattle.rb_rules.specs.WorldStep.{Site, World};
 ghost use Rattle.rb_queue.specs.Waiting.{HasLane, empty_lane, head_of, lane_of, ready_event, ready_of, spare_of, with_event, with_lane, without_events, without_ready};
-ghost use Rattle.rb_agenda.specs.Agenda.{IsDue, IsFirstAhead, StandsAt, Takes, TakesDue, due_now, first_time, how_many, key_of};
+ghost use Rattle.rb_agenda.specs.Agenda.{IsDue, IsFirstAhead, StandsAt, Takes, TakesDue, due_now, first_tick_time, first_time, how_many, key_of};
 ghost use Rattle.rb_agenda.specs.Holding.{HoldsSites};
 
 use crate::scan::{
-    Front, add_tick, are_some, drop_tick, due_count, front_of, is_at_front, key_of, locate,
-    node_at, position_of, put_key, take_tick, tick_time,
+    Front, add_tick, change_key, drop_tick, due_count, front_now, front_of, key_of, locate,
+    node_at, position_of, put_key, set_key, take_tick, tick_time,
 };
 use rb_base::{Event, NodeName, OutOfMemory, Shape};
 use rb_queue::Lanes;
@@ -27,11 +27,13 @@ pub struct Agenda {
     keys: Vec<u64>,
     ticks: Vec<u64>,
     bius: usize,
-    // Where the least of the keys stands.
+    // Where the least of the keys stands, as long as it is not stale.
     front: Front,
+    stale: bool,
 }
 
 impl Model for Agenda {
+    ghost use Rattle.std.specs.Prelude.{◌≡◌, false};
     ghost use Rattle.rb_rules.specs.Book.{Each};
     ghost use Rattle.rb_queue.specs.Waiting.{Held};
     ghost use Rattle.rb_agenda.specs.Agenda.{AreKept, AreTicks};
@@ -41,7 +43,7 @@ impl Model for Agenda {
 
     ghost view = { λ a. a.lanes };
 
-    ghost invariant = { λ a. AreKept a.lanes a.keys.items a.bius × IsFront a.keys.items a.front × AreTicks a.lanes a.ticks.items };
+    ghost invariant = { λ a. AreKept a.lanes a.keys.items a.bius × (a.stale ≡ false → IsFront a.keys.items a.front) × AreTicks a.lanes a.ticks.items };
 }
 
 // So many least times of nodes at which nothing is pending.
@@ -68,6 +70,7 @@ impl Agenda {
             ticks,
             bius,
             front,
+            stale: false,
         })
     }
 
@@ -80,6 +83,7 @@ impl Agenda {
     }
 
     /// Adds an event of a node, due at this time in reference units. There is room for it.
+    #[inline(always)]
     pub fn push(&mut self, time: u64, event: Event)
         requires in_shape { HasLane self.old event.node }
         requires spare { 1 ≤ spare_of (lane_of self.old event.node) }
@@ -92,7 +96,7 @@ impl Agenda {
         self.lanes.push(time, event);
         let key = key_of(&self.lanes, node);
         let place = position_of(self.bius, node);
-        self.front = put_key(&mut self.keys, self.front, place, key);
+        self.front = change_key(&mut self.keys, self.front, self.stale, place, key);
         add_tick(&mut self.ticks, place, tick);
     }
 
@@ -100,7 +104,7 @@ impl Agenda {
     pub fn first_time(&self) -> u64
         ensures value { result ≡ first_time self.now }
     {
-        self.front.least
+        front_now(&self.keys, self.front, self.stale).least
     }
 
     /// How many events are due: those of the least time that may be taken.
@@ -108,19 +112,8 @@ impl Agenda {
         ensures value { result ≡ how_many self.now }
         ensures world { (sc : Scenario) → (w : World) → HoldsSites sc.sizes self.now w.sites → result ≡ length (due_now sc w) }
     {
-        due_count(&self.lanes, &self.keys, self.bius, self.front.least)
-    }
-
-    /// Whether an event is due.
-    pub fn is_due(&self) -> bool
-        ensures value { IsTrue result ↔ 0 < how_many self.now }
-        ensures world { (sc : Scenario) → (w : World) → HoldsSites sc.sizes self.now w.sites → IsTrue result ↔ 0 < length (due_now sc w) }
-    {
-        if is_at_front(&self.lanes, &self.keys, self.bius, self.front) {
-            true
-        } else {
-            are_some(self.due())
-        }
+        let front = front_now(&self.keys, self.front, self.stale);
+        due_count(&self.lanes, &self.keys, self.bius, front.least)
     }
 
     /// The node at which the i-th due event waits, counted from 0, and the event's place among those that are ready there.
@@ -129,7 +122,8 @@ impl Agenda {
         ensures stands { StandsAt self.now (first_time self.now) i result.0 result.1 }
         ensures world { (sc : Scenario) → (w : World) → HoldsSites sc.sizes self.now w.sites → IsDue sc w self.now i result.0 result.1 }
     {
-        locate(&self.lanes, &self.keys, self.bius, self.front, i)
+        let front = front_now(&self.keys, self.front, self.stale);
+        locate(&self.lanes, &self.keys, self.bius, front, i)
     }
 
     /// The event at this place among those that are ready at the node.
@@ -148,11 +142,13 @@ impl Agenda {
         ensures world { (sc : Scenario) → (w : World) → HoldsSites sc.sizes self.old w.sites
             → TakesDue sc w i (first_time self.old) result.0 result.1 self.new }
     {
-        let (node, place) = locate(&self.lanes, &self.keys, self.bius, self.front, i);
+        let front = front_now(&self.keys, self.front, self.stale);
+        let (node, place) = locate(&self.lanes, &self.keys, self.bius, front, i);
         let event = self.lanes.take(node, place);
         let key = key_of(&self.lanes, node);
         let place = position_of(self.bius, node);
-        self.front = put_key(&mut self.keys, self.front, place, key);
+        self.front = put_key(&mut self.keys, front, place, key);
+        self.stale = false;
         take_tick(&mut self.ticks, place, &self.lanes, node, &event.kind);
         (node, event)
     }
@@ -162,6 +158,7 @@ impl Agenda {
     pub fn first_tick(&self) -> (NodeName, u64)
         ensures world { (sizes : Sizes) (sites : Each Site) → HoldsSites sizes self.now sites → (me : Side) (i time : ℕ) → IsFirstAhead sites me i time
             → (result.0 ≡ name_of me i) × (result.1 ≡ time) }
+        ensures time { result.1 ≡ first_tick_time self.now }
     {
         let front = front_of(&self.ticks);
         if front.first >= self.ticks.len() {
@@ -179,6 +176,7 @@ impl Agenda {
     }
 
     /// Takes the first event that is ready at the node out of its lane, and no other.
+    #[inline(always)]
     pub fn take_at(&mut self, node: NodeName) -> Event
         requires in_shape { HasLane self.old node }
         requires some { 0 < length (ready_of (lane_of self.old node)) }
@@ -188,7 +186,8 @@ impl Agenda {
         let event = self.lanes.take(node, 0);
         let key = key_of(&self.lanes, node);
         let place = position_of(self.bius, node);
-        self.front = put_key(&mut self.keys, self.front, place, key);
+        set_key(&mut self.keys, place, key);
+        self.stale = true;
         take_tick(&mut self.ticks, place, &self.lanes, node, &event.kind);
         event
     }
@@ -200,7 +199,7 @@ impl Agenda {
     {
         self.lanes.drop_all(node);
         let place = position_of(self.bius, node);
-        self.front = put_key(&mut self.keys, self.front, place, u64::MAX);
+        self.front = change_key(&mut self.keys, self.front, self.stale, place, u64::MAX);
         drop_tick(&mut self.ticks, place);
     }
 }

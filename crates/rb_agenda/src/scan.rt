@@ -1,5 +1,5 @@
 //! What is looked up among the least times of all nodes.
-ghost use Rattle.std.specs.Prelude.{◌≡◌, ℕ, ◌+◌, ◌<◌, ◌≤◌, get_or, length, min, nat_lt, slice_set, if◌then◌else◌, IsTrue, ◌↔◌};
+ghost use Rattle.std.specs.Prelude.{◌≡◌, ℕ, ◌+◌, ◌<◌, ◌≤◌, false, get_or, length, min, nat_lt, slice_set, if◌then◌else◌, IsTrue};
 ghost use Rattle.rb_rules.specs.Book.{in_order};
 ghost use Rattle.rb_queue.specs.Waiting.{HasLane, first_tick_of, lane_of, tick_time_of};
 ghost use Rattle.rb_agenda.specs.Agenda.{AreKept, StandsAt, due_count, due_in, key_of, node_at, position_of, tick_after};
@@ -111,6 +111,42 @@ pub(crate) fn put_key(keys: &mut Vec<u64>, front: Front, place: usize, key: u64)
     }
 }
 
+// The front as it is kept, or looked for anew where it may be stale.
+pub(crate) fn front_now(keys: &[u64], front: Front, stale: bool) -> Front
+    requires { stale ≡ false → IsFront keys.now front }
+    ensures { IsFront keys.now result }
+{
+    if stale { front_of(keys) } else { front }
+}
+
+// The key at a place changes, and the front with it unless it is stale.
+pub(crate) fn change_key(
+    keys: &mut Vec<u64>,
+    front: Front,
+    stale: bool,
+    place: usize,
+    key: u64,
+) -> Front
+    requires within { place < length keys.old.items }
+    requires front { stale ≡ false → IsFront keys.old.items front }
+    ensures keys { keys.new.items ≡ slice_set keys.old.items place key }
+    ensures front { stale ≡ false → IsFront keys.new.items result }
+{
+    if stale {
+        set_key(keys, place, key);
+        return front;
+    }
+    put_key(keys, front, place, key)
+}
+
+// The key at a place changes.
+pub(crate) fn set_key(keys: &mut Vec<u64>, place: usize, key: u64)
+    requires { place < length keys.old.items }
+    ensures { keys.new.items ≡ slice_set keys.old.items place key }
+{
+    keys[place] = key;
+}
+
 // The time of a tick. An arrival has none: the last time that there is.
 pub(crate) fn tick_time(kind: &EventKind, time: u64) -> u64
     ensures value { result ≡ tick_time_of kind.now time }
@@ -179,11 +215,10 @@ fn due_in(lanes: &Lanes, node: NodeName, key: u64, time: u64) -> usize
 }
 
 // Whether an event is due at the node of the least key.
-pub(crate) fn is_at_front(lanes: &Lanes, keys: &[u64], bius: usize, front: Front) -> bool
+fn is_at_front(lanes: &Lanes, keys: &[u64], bius: usize, front: Front) -> bool
     requires kept { AreKept lanes.now keys.now bius }
     requires front { IsFront keys.now front }
-    ensures stands { IsTrue result → StandsAt lanes.now front.least 0 (node_at bius front.first) 0 }
-    ensures some { IsTrue result → 0 < due_count front.least (in_order lanes.now) }
+    ensures { IsTrue result → StandsAt lanes.now front.least 0 (node_at bius front.first) 0 }
 {
     if front.first >= keys.len() {
         return false;
@@ -192,13 +227,6 @@ pub(crate) fn is_at_front(lanes: &Lanes, keys: &[u64], bius: usize, front: Front
         return false;
     }
     lanes.is_ready(node_at(bius, front.first))
-}
-
-// Whether there are any.
-pub(crate) fn are_some(count: usize) -> bool
-    ensures { IsTrue result ↔ 0 < count }
-{
-    count > 0
 }
 
 // How many events are due at a time.

@@ -36,6 +36,7 @@ pub mod Taken
 pub mod Passed
 pub mod Spans
 pub mod Swept
+pub mod OneTaken
 pub mod Behind
 pub mod GoneOn
 pub mod CaughtUp

@@ -1,55 +1,22 @@
 //! How arrivals that were left behind are taken.
 ghost use Rattle.std.specs.Prelude.{◌≡◌, ℕ, ◌+◌, ◌<◌, ◌≤◌, IfSome, List, length};
 ghost use Rattle.rb_base.specs.Nodes.{Side, side_of};
-ghost use Rattle.rb_base.specs.Sizes.{Sizes};
 ghost use Rattle.rb_rules.specs.Book.{Each};
-ghost use Rattle.rb_rules.specs.Goodness.{Scenario};
 ghost use Rattle.rb_rules.specs.Lawful.{kind_of};
 ghost use Rattle.rb_rules.specs.Links.{name_of};
 ghost use Rattle.rb_rules.specs.Slots.{count_of};
 ghost use Rattle.rb_rules.specs.WorldStep.{Site as WorldSite, World as RunWorld};
-ghost use Rattle.rb_queue.specs.Waiting.{HasLane, Held, lane_of};
+ghost use Rattle.rb_queue.specs.Waiting.{HasLane, Held};
 ghost use Rattle.rb_site.specs.Sites.{Kept as KeptSite, number_of};
 ghost use Rattle.rb_sweep.specs.AheadOf.{until_tick};
 ghost use Rattle.rb_traffic.specs.Arriving.{number_of as number_in};
-ghost use Rattle.rb_world.specs.Buses.{HaveRooms};
-ghost use Rattle.rb_world.specs.Sweeping.{IsPending, TakesSoonest, taken_of};
 ghost use Rattle.rb_world.specs.Trailing.{HasCaughtUp, HaveCaughtUp, MayCatchUp, MaySweep, Sweeps, Trails, until_from};
 
 use crate::bus::Bus;
 use crate::scene::Scene;
 use rb_agenda::Agenda;
-use rb_base::{Biu, Event, EventKind, Kind, NodeName, Rmu};
+use rb_base::{Biu, EventKind, Kind, NodeName, Rmu};
 use rb_site::Site;
-
-/// What comes first at a node.
-#[derive(Drop)]
-pub enum Soonest {
-    Nothing,
-    OwnTick,
-    Arrival { time: u64, event: Event },
-}
-
-// What comes first at a node is taken, if it comes before this time.
-fn take_soonest(agenda: &mut Agenda, node: NodeName, until: u64) -> Soonest
-    requires lane { HasLane agenda.old node }
-    requires pending { (sizes : Sizes) × (sites : Each WorldSite) × (me : Side) × (i : ℕ) × (s : WorldSite) × IsPending sizes me i agenda.old sites s node }
-    ensures takes { (sizes : Sizes) (sites : Each WorldSite) (me : Side) (i : ℕ) (s : WorldSite) → IsPending sizes me i agenda.old sites s node
-        → TakesSoonest sizes me i until agenda.old agenda.new sites s result }
-    ensures lanes { (other : NodeName) → HasLane agenda.old other → HasLane agenda.new other }
-    ensures rooms { (sc : Scenario) → HaveRooms sc agenda.old → HaveRooms sc agenda.new }
-    ensures fewer { length (lane_of agenda.new node).events + taken_of result ≤ length (lane_of agenda.old node).events }
-{
-    let time = agenda.time_at(node);
-    if time >= until {
-        return Soonest::Nothing;
-    }
-    let event = agenda.take_at(node);
-    match &event.kind {
-        EventKind::Tick { .. } => Soonest::OwnTick,
-        EventKind::Arrive { .. } => Soonest::Arrival { time, event },
-    }
-}
 
 /// What comes to the node before this time is taken, one arrival after another, and with it a tick of the node before then.
 pub(crate) fn sweep<K: Kind>(
@@ -67,15 +34,20 @@ pub(crate) fn sweep<K: Kind>(
     ensures lanes { (other : NodeName) → HasLane agenda.old other → HasLane agenda.new other }
 {
     'events: loop {
-        match take_soonest(agenda, node, until) {
-            Soonest::Arrival { time, event } => match &event.kind {
-                EventKind::Arrive { from, bytes } => {
-                    site.arrive(bus.clock(node), time, *from, bytes);
-                }
-                EventKind::Tick { .. } => return,
-            },
-            Soonest::OwnTick => return,
-            Soonest::Nothing => return,
+        let time = agenda.time_at(node);
+        if time >= until {
+            return;
+        }
+        let pending = agenda.event_at(node, 0);
+        match &pending.kind {
+            EventKind::Arrive { from, bytes } => {
+                site.arrive(bus.clock(node), time, *from, bytes);
+                let _arrival = agenda.take_at(node);
+            }
+            EventKind::Tick { .. } => {
+                let _tick = agenda.take_at(node);
+                return;
+            }
         }
     }
 }

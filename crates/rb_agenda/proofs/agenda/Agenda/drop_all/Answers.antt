@@ -13,7 +13,7 @@ invariant_of-self c =
     let name = c.args.node in
     let empty = without_events (lane_of lanes name) in
     let h : HasLane lanes name = subst (λ x. HasLane x name) (sym c.self.view_is) c.requires.in_shape in
-    let call = c.put_key-self-inside in (
+    let call = c.change_key-self-inside in (
       subst (λ ks. AreKept c.drop_all.new.self ks bius) (sym call.ensures.keys)
           (kept-with lanes c.drop_all.new.self keys bius c.position_of-place.result name empty 18446744073709551615 c.position_of-place.ensures c.self.invariant.0 h c.drop_all.ensures.after
           (room-of lanes keys bius name c.self.invariant.0 h) (sym (ap (λ x. key_of (lane_of x name)) c.drop_all.ensures.after ∙ ap key_of (lane-with lanes name empty h)))

@@ -1,6 +1,7 @@
 use Rattle.std.proofs.Common.{◌≡◌, sym, ap, subst, ◌∙◌}
 use Rattle.rb_queue.specs.Waiting.{lane_of, without_ready}
 use Rattle.rb_agenda.specs.Agenda.{AreKept, AreTicks, StandsAt, TakesDue, first_time, least_key}
+use Rattle.rb_agenda.specs.Fronts.{IsFront}
 use Rattle.rb_agenda.specs.Holding.{HoldsSites}
 use Rattle.rb_agenda.proofs.Keeping.{kept-times, kept-with, room-of, room-without}
 use Rattle.rb_agenda.proofs.Taking.{takes-due}
@@ -20,7 +21,7 @@ invariant_of-self c =
           c.self.invariant.0 c.locate-node.ensures.lane c.take-event.ensures.after
           (room-without place (lane_of lanes name) (room-of lanes keys bius name c.self.invariant.0 c.locate-node.ensures.lane))
           c.key_of-key.ensures.value c.key_of-key.ensures.small),
-      call.ensures.front,
+      λ fresh. call.ensures.front,
       subst (AreTicks c.take-event.new.self) (sym c.take_tick.ensures)
           (ticks-taken lanes c.take-event.new.self c.self.inside.ticks.items bius c.position_of-place.result name place c.take-event.result c.self.invariant.0.split
           c.position_of-place.ensures c.self.invariant.2 c.locate-node.ensures.lane c.take-event.ensures.value c.take-event.ensures.after),
@@ -34,7 +35,7 @@ take_tick-requires-clause-within c =
 pub returns-clause-world : goal.returns-clause-world
 returns-clause-world c =
     let lanes = c.self.inside.lanes in
-    let first : c.self.inside.front.least ≡ first_time lanes = c.self.invariant.1.least_is ∙ ap least_key c.self.invariant.0.each in
+    let first : c.front_now-front.result.least ≡ first_time lanes = (subst (λ ks. IsFront ks c.front_now-front.result) c.deref.ensures.value c.front_now-front.ensures).least_is ∙ ap least_key c.self.invariant.0.each in
     λ sc w holds.
     subst (λ x. TakesDue sc w c.args.i (first_time x) c.locate-node.result.0 c.take-event.result c.take-event.new.self) c.self.view_is
     (takes-due sc w lanes c.take-event.new.self c.args.i c.take-event.result c.locate-node.result.0 c.locate-node.result.1
