@@ -1,8 +1,9 @@
 -- The time of a tick, a segment at a time.
-use Rattle.std.proofs.Common.{◌≡◌, ℕ, zero, suc, ◌+◌, ◌-◌, ◌*◌, ◌/◌, ◌%◌, ◌<◌, ◌≤◌, inl, inr, min, List, [], ◌∷◌, true, false, length, drop, arith, sym, ◌∙◌, refl, Fits, w64, nat_le, nat_lt, ◌==◌}
+use Rattle.std.proofs.Common.{◌≡◌, ℕ, zero, suc, ◌+◌, ◌-◌, ◌*◌, ◌/◌, ◌%◌, ◌<◌, ◌≤◌, inl, inr, min, List, [], ◌∷◌, true, false, length, take, drop, get_or, subst, arith, sym, ◌∙◌, refl, Fits, w64, nat_le, nat_lt, ◌==◌}
 use Rattle.std.proofs.lemmas.Bool.{cases_lt, and_parts, ltb-true, le-leb, lt-leb}
 use Rattle.std.proofs.lemmas.Grind.{common_steps, div_ceil_times}
-use Rattle.std.proofs.lemmas.List.{drop_all}
+use Rattle.std.proofs.lemmas.Bool.Decides.{nat_tests}
+use Rattle.std.proofs.lemmas.List.{drop_all, length-take}
 use Rattle.std.proofs.Math.Nat.{mul-le-mul_left}
 use Rattle.rb_rules.specs.Clock.{Timeline, ComesBy, IsClock, IsStamp, stamp_of, length_after, time_of, tick_length, rise_above, are_rising, are_within}
 use Rattle.rb_rules.proofs.Drift.{has_lengths, clock_moves, first_stands, times_rise_to, drift}
@@ -138,6 +139,33 @@ sum_fits clock now from ticks until tick left is at early le few =
 
 pub small_time : (clock : Timeline) (time tick : ℕ) → IsClock 1 2000000 clock → time ≡ time_of clock tick → tick ≤ 2147483648 → time < 9007199254740992
 small_time clock time tick is e few = omega (arith, time_bound clock tick is)
+
+-- the walk begins so, by the first of the segments
+pub begins : (clock : Timeline) (segments : List (ℕ × ℕ)) (ticks : ℕ) → IsClock 1 2000000 clock → clock.segments ≡ segments → 1 ≤ length segments
+    → ticks ≡ (get_or segments 0 (0, 0)).1 → IsAt clock clock.start 0 ticks (drop 1 segments)
+begins clock [] ticks is e some first = absurd (omega arith)
+begins clock (s ∷ rest) ticks is e some first = subst (λ t. IsAt clock clock.start 0 t rest) (sym first) (at_start clock s rest e is.rising)
+
+pub none_left : (segments : List (ℕ × ℕ)) → (length (take (length segments - 1) (drop 1 segments)) == 0) ≡ true → length (drop 1 segments) ≤ 0
+none_left [] e = omega arith
+none_left (s ∷ rest) e =
+    let none : length (take (length (s ∷ rest) - 1) rest) ≡ 0 = grind (arith, nat_tests) in
+    omega (arith, length-take (length (s ∷ rest) - 1) rest)
+
+-- where no segment is left after the first, its length stands
+pub one_length : (clock : Timeline) (ticks tick : ℕ) (left : List (ℕ × ℕ)) → IsAt clock clock.start 0 ticks left → length left ≤ 0
+    → clock.start + tick * ticks ≡ time_of clock tick
+one_length clock ticks tick left at none =
+    let all : tick - 0 ≡ tick = omega arith in
+    rw all at (time_to clock clock.start 0 ticks tick left at (stays_on ticks tick 0 left none) (omega arith))
+
+pub one_product : (clock : Timeline) (ticks tick : ℕ) (left : List (ℕ × ℕ)) → IsClock 1 2000000 clock → IsAt clock clock.start 0 ticks left
+    → tick ≤ 8589934592 → Fits w64 (tick * ticks)
+one_product clock ticks tick left is at few = omega (arith, product_bound tick ticks few (at_length clock clock.start 0 ticks left is at).1)
+
+pub one_sum : (clock : Timeline) (ticks tick : ℕ) (left : List (ℕ × ℕ)) → IsClock 1 2000000 clock → IsAt clock clock.start 0 ticks left
+    → tick ≤ 8589934592 → Fits w64 (clock.start + tick * ticks)
+one_sum clock ticks tick left is at few = omega (arith, product_bound tick ticks few (at_length clock clock.start 0 ticks left is at).1, is.start)
 
 -- ---- the stamp
 

@@ -1,6 +1,6 @@
 use Rattle.std.proofs.Common.{◌≤◌, drop}
 use Rattle.rb_clock.proofs.Times.{IsAt}
-use Rattle.rb_clock.proofs.Clock.late_at.Given as goal
+use Rattle.rb_clock.proofs.Clock.walked_to.Given as goal
 
 abbrev pub invariant-loop-next : goal.invariant-loop-next
 invariant-loop-next l = record {
