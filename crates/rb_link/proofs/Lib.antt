@@ -1,2 +1,3 @@
 pub mod LastRules
 pub mod PairIndex
+pub mod Latest

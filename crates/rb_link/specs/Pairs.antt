@@ -1,9 +1,10 @@
 -- The rules by the pair of nodes that they are for.
-use Rattle.std.specs.Prelude.{ℕ, ◌≡◌, ◌+◌, ◌-◌, ◌/◌, ◌%◌, ◌<◌, nat_lt, ◌&&◌, Bool, cond, if◌then◌else◌, List, [], ◌∷◌, length, slice_index, slice_range, Option, Some, None}
+use Rattle.std.specs.Prelude.{ℕ, true, ◌≡◌, ◌+◌, ◌-◌, ◌/◌, ◌%◌, ◌<◌, nat_lt, ◌&&◌, Bool, cond, if◌then◌else◌, List, [], ◌∷◌, length, slice_get, slice_index, slice_range, Option, Some, None}
 use Rattle.rb_base.specs.declared.node.NodeName.{NodeName}
 use Rattle.rb_base.specs.declared.node.NodeName.TheVariants.{Biu, Rmu}
+use Rattle.rb_base.specs.declared.values.Place.{Place}
 use Rattle.rb_rules.specs.declared.link.Rule.{Rule}
-use Rattle.rb_rules.specs.Links.{stands_for}
+use Rattle.rb_rules.specs.Links.{covers, delay_after, stands_for}
 
 -- the rule is for messages from the one node to the other
 abbrev pub is_between : NodeName → NodeName → Rule → Bool
@@ -38,3 +39,17 @@ pub record IsIndex (rules : List Rule) (starts places : List ℕ) : Type 0 where
 abbrev pub delay_or : ℕ → Option Rule → ℕ
 delay_or base None = base
 delay_or base (Some rule) = rule.delay
+
+-- at each place that the rule has, its delay is that of the messages from the one node to the other
+abbrev pub IsLatest : ℕ → List Rule → NodeName → NodeName → Rule → Type 0
+IsLatest base rules from to latest =
+    (place : Place) → covers latest.frames latest.slots latest.stages place ≡ true → latest.delay ≡ delay_after base rules from to place
+
+-- each pair has its latest rule at its number
+pub record AreLatest (base : ℕ) (rules latest : List Rule) : Type 0 where
+  pub each : (pair : ℕ) → (rule : Rule) → slice_get latest pair ≡ Some rule → IsLatest base rules (sender_of pair) (receiver_of pair) rule
+
+-- what is kept beside the rules fits them
+pub record ArePrepared (base : ℕ) (rules latest : List Rule) (starts places : List ℕ) : Type 0 where
+  pub latest_are : AreLatest base rules latest
+  pub index_is : IsIndex rules starts places

@@ -1,10 +1,11 @@
 //! How long each message of a bus is on its way. Rules on delays are this project's own.
 #![tactic(auto)]
 
-ghost use Rattle.std.specs.Prelude.{◌≡◌, ◌+◌, ◌<◌, ◌≤◌, ◌++◌, ◌∷◌, [], cond, IfOk, IfSome, length, reverse, slice_get};
+ghost use Rattle.std.specs.Prelude.{◌≡◌, ℕ, List, ◌+◌, ◌<◌, ◌≤◌, ◌++◌, ◌∷◌, [], cond, IfOk, IfSome, IsTrue, length, reverse, slice_get};
+ghost use Rattle.rb_rules.specs.declared.link.Rule.{Rule as KeptRule};
 ghost use Rattle.std.specs.List.{filter_map, find};
-ghost use Rattle.rb_rules.specs.Links.{applies, covers, delay_of, is_in_range, same_node, stands_for};
-ghost use Rattle.rb_link.specs.Pairs.{IsIndex, delay_or, is_between, places_from, places_of, receiver_of, sender_of};
+ghost use Rattle.rb_rules.specs.Links.{applies, covers, delay_after, delay_of, is_in_range, same_node, stands_for};
+ghost use Rattle.rb_link.specs.Pairs.{AreLatest, IsIndex, IsLatest, delay_or, is_between, places_from, places_of, receiver_of, sender_of};
 
 use rb_base::{NodeName, OutOfMemory, Place};
 pub use rb_rules::{Pattern, Rule};
@@ -18,11 +19,12 @@ const PAIRS: u16 = 512;
 const NUMBERED: usize = 65536;
 
 /// The delays of a bus, in reference units: the one of a message for which there is no rule, and the rules. Beside them it is
-/// kept which rules are for each pair of nodes, since each message is looked up.
+/// kept which rules are for each pair of nodes, and which is the latest of these, since each message is looked up.
 #[derive(Drop)]
 pub struct Delays {
     base: u32,
     rules: Vec<Rule>,
+    latest: Vec<Rule>,
     index: Index,
 }
 
@@ -31,11 +33,11 @@ impl Model for Delays {
 
     ghost Value = { DelayRules };
 
-    ghost use Rattle.rb_link.specs.Pairs.{IsIndex};
+    ghost use Rattle.rb_link.specs.Pairs.{ArePrepared};
 
     ghost view = { λ d. record { base = d.base; rules = d.rules.items } };
 
-    ghost invariant = { λ d. IsIndex d.rules.items d.index.starts.items d.index.places.items };
+    ghost invariant = { λ d. ArePrepared d.base d.rules.items d.latest.items d.index.starts.items d.index.places.items };
 }
 
 /// Which rules are for each pair of nodes: `places` holds the numbers of the rules, pair by pair, and `starts` where those of
@@ -138,13 +140,36 @@ impl Delays {
         ensures { IfOk result (λ d. d ≡ record { base = base; rules = rules.now }) }
     {
         let index = Index::new(alloc, rules)?;
+        let latest = latest_rules(alloc, base, rules)?;
         let rules = Vec::from_slice(alloc, rules)?;
-        Ok(Delays { base, rules, index })
+        Ok(Delays {
+            base,
+            rules,
+            latest,
+            index,
+        })
     }
 
     /// How long a message of this place from one node to another is on its way, in reference units. The place is the one
-    /// that the message's header names. Only the rules for these two nodes are looked at.
+    /// that the message's header names. Only the rules for these two nodes are looked at, the latest first.
+    #[inline]
     pub fn delay(&self, from: NodeName, to: NodeName, place: Place) -> u32
+        ensures { result ≡ delay_of self.now from to place }
+    {
+        if is_empty(&self.rules) {
+            return self.base;
+        }
+        let Some(pair) = pair_of(from, to) else {
+            return self.looked_up(from, to, place);
+        };
+        match latest_delay(&self.latest, pair, place) {
+            Some(delay) => delay,
+            None => self.looked_up(from, to, place),
+        }
+    }
+
+    // The delay by all rules that may be for this message.
+    fn looked_up(&self, from: NodeName, to: NodeName, place: Place) -> u32
         ensures { result ≡ delay_of self.now from to place }
     {
         match self.last(from, to, place) {
@@ -167,6 +192,72 @@ impl Delays {
     }
 }
 
+// The delay of the pair's latest rule, if this rule has the place.
+#[inline]
+#[tactic(auto, using(crate::proofs::Latest::by_latest))]
+fn latest_delay(latest: &[Rule], pair: u16, place: Place) -> Option<u32>
+    ensures { IfSome result (λ delay. (base : ℕ) → (rules : List KeptRule) → AreLatest base rules latest.now
+        → delay ≡ delay_after base rules (sender_of pair) (receiver_of pair) place) }
+{
+    let Some(rule) = rule_at(latest, pair) else {
+        return None;
+    };
+    if covers(&rule, place) {
+        Some(rule.delay)
+    } else {
+        None
+    }
+}
+
+#[inline]
+#[tactic(auto, using(crate::proofs::Latest::none_there))]
+fn is_empty(rules: &[Rule]) -> bool
+    ensures { IsTrue result → rules.now ≡ [] }
+{
+    rules.is_empty()
+}
+
+// The latest rule of each pair.
+fn latest_rules(alloc: Global, base: u32, rules: &[Rule]) -> Result<Vec<Rule>, OutOfMemory>
+    ensures { IfOk result (λ latest. AreLatest base rules.now latest.items) }
+{
+    let mut latest = Vec::with_capacity(alloc, usize::from(PAIRS))?;
+    for pair in 0..PAIRS {
+        let rule = latest_rule(base, rules, sender_of(pair), receiver_of(pair));
+        add(&mut latest, rule)?;
+    }
+    Ok(latest)
+}
+
+// The last of the rules that is for messages from the one node to the other. Where there is none it is one for all places,
+// with the base as its delay.
+#[tactic(auto, using(crate::proofs::Latest::finding))]
+fn latest_rule(base: u32, rules: &[Rule], from: NodeName, to: NodeName) -> Rule
+    ensures { IsLatest base rules.now from to result }
+{
+    match last_between(rules, from, to) {
+        Some(rule) => rule,
+        None => Rule {
+            from: Pattern::One(from),
+            to: Pattern::One(to),
+            frames: (0, u32::MAX),
+            slots: (0, u16::MAX),
+            stages: (0, u8::MAX),
+            delay: base,
+        },
+    }
+}
+
+fn last_between(rules: &[Rule], from: NodeName, to: NodeName) -> Option<Rule>
+    ensures { result ≡ find (is_between from to) (reverse rules.now) }
+{
+    rules
+        .iter()
+        .rev()
+        .copied()
+        .find(|rule| is_between(rule, from, to))
+}
+
 // The last of the rules that applies.
 fn last_rule(rules: &[Rule], from: NodeName, to: NodeName, place: Place) -> Option<Rule>
     ensures { result ≡ find (λ rule. applies rule from to place) (reverse rules.now) }
@@ -179,6 +270,7 @@ fn last_rule(rules: &[Rule], from: NodeName, to: NodeName, place: Place) -> Opti
 }
 
 // The number of the pair. None for nodes of one kind and for numbers that no node has.
+#[inline]
 fn pair_of(from: NodeName, to: NodeName) -> Option<u16>
     ensures { IfSome result (λ pair. (pair < PAIRS) × (sender_of pair ≡ from) × (receiver_of pair ≡ to)) }
 {
@@ -246,6 +338,7 @@ fn same_node(name: NodeName, node: NodeName) -> bool
 }
 
 // Whether the rule's ranges of frames, slots and stages have this place.
+#[inline]
 fn covers(rule: &Rule, place: Place) -> bool
     ensures { result ≡ covers rule.now.frames rule.now.slots rule.now.stages place }
 {
@@ -255,99 +348,4 @@ fn covers(rule: &Rule, place: Place) -> bool
         && place.slot <= rule.slots.1
         && rule.stages.0 <= place.stage
         && place.stage <= rule.stages.1
-}
-
-#[cfg(test)]
-mod tests {
-    use super::*;
-    use std::test::Fail;
-
-    const ALL_FRAMES: (u32, u32) = (0, 4095);
-
-    const ALL_SLOTS: (u16, u16) = (0, 112);
-
-    const ALL_STAGES: (u8, u8) = (1, 3);
-
-    #[test]
-    fn last_rule_wins(rt: HostRuntime) -> Result<(), Fail> {
-        let rules = [
-            Rule {
-                from: Pattern::AllBiu,
-                to: Pattern::AllRmu,
-                frames: ALL_FRAMES,
-                slots: ALL_SLOTS,
-                stages: ALL_STAGES,
-                delay: 7000,
-            },
-            Rule {
-                from: Pattern::One(NodeName::Biu(1)),
-                to: Pattern::AllRmu,
-                frames: (2, 3),
-                slots: ALL_SLOTS,
-                stages: ALL_STAGES,
-                delay: 5000,
-            },
-            Rule {
-                from: Pattern::AllBiu,
-                to: Pattern::One(NodeName::Rmu(2)),
-                frames: ALL_FRAMES,
-                slots: (4, 4),
-                stages: (2, 2),
-                delay: 15000,
-            },
-        ];
-        let delays = Delays::new(rt.alloc(), 10000, &rules)?;
-        let rows = [
-            (NodeName::Biu(0), NodeName::Rmu(0), (0, 0, 1), 7000),
-            (NodeName::Biu(1), NodeName::Rmu(0), (1, 0, 1), 7000),
-            (NodeName::Biu(1), NodeName::Rmu(0), (2, 0, 1), 5000),
-            (NodeName::Biu(1), NodeName::Rmu(0), (3, 0, 1), 5000),
-            (NodeName::Biu(1), NodeName::Rmu(0), (4, 0, 1), 7000),
-            (NodeName::Biu(1), NodeName::Rmu(2), (3, 4, 2), 15000),
-            (NodeName::Biu(1), NodeName::Rmu(2), (3, 4, 3), 5000),
-            (NodeName::Biu(15), NodeName::Rmu(2), (9, 5, 2), 7000),
-            (NodeName::Biu(16), NodeName::Rmu(2), (9, 4, 2), 15000),
-            (NodeName::Rmu(2), NodeName::Biu(1), (3, 4, 2), 10000),
-            (NodeName::Biu(1), NodeName::Biu(2), (3, 4, 2), 10000),
-        ];
-        for (from, to, (frame, slot, stage), delay) in rows {
-            let place = Place { frame, slot, stage };
-            assert_eq!(rt; delays.delay(from, to, place), delay);
-        }
-        Ok(())
-    }
-
-    #[test]
-    fn more_rules_than_can_be_numbered(rt: HostRuntime) -> Result<(), Fail> {
-        let rule = Rule {
-            from: Pattern::AllBiu,
-            to: Pattern::AllRmu,
-            frames: ALL_FRAMES,
-            slots: ALL_SLOTS,
-            stages: ALL_STAGES,
-            delay: 7000,
-        };
-        let last = Rule {
-            delay: 5000,
-            ..rule
-        };
-        let place = Place {
-            frame: 1,
-            slot: 2,
-            stage: 3,
-        };
-        let mut rules = vec![in rt.alloc(); rule; 65536]?;
-        let numbered = Delays::new(rt.alloc(), 10000, &rules)?;
-        assert_eq!(rt;
-            numbered.delay(NodeName::Biu(15), NodeName::Rmu(15), place),
-            7000
-        );
-        rules.push(last)?;
-        let delays = Delays::new(rt.alloc(), 10000, &rules)?;
-        assert_eq!(rt;
-            delays.delay(NodeName::Biu(15), NodeName::Rmu(15), place),
-            5000
-        );
-        Ok(())
-    }
 }

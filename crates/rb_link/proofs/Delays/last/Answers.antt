@@ -23,7 +23,7 @@ returns-in-Some-places_of c =
     (ap (delay_or delays.base) (c.last_at.ensures
     ∙ ap (λ rules. find (λ rule. covers rule.frames rule.slots rule.stages c.args.place) (filter_map (slice_get rules) (reverse c.in-Some-places_of.places.now)))
     c.deref-in-Some-places_of.ensures.value)
-    ∙ last_by_index delays.base pair delays.rules.items _ _ _ c.args.from c.args.to c.args.place c.self.invariant within found nodes.1 nodes.2)
+    ∙ last_by_index delays.base pair delays.rules.items _ _ _ c.args.from c.args.to c.args.place c.self.invariant.index_is within found nodes.1 nodes.2)
 
 pub returns-in-None : goal.returns-in-None
 unfolding delay_of

@@ -1,0 +1,101 @@
+-- The latest rule of a pair gives the delay at each place that it has.
+use Rattle.std.proofs.Common.{◌≡◌, ℕ, ◌+◌, ◌<◌, Bool, true, false, cond, ◌&&◌, ◌==◌, length, List, [], ◌∷◌, ◌++◌, Some, None, reverse, slice_get, get_or, refl, sym, ap, subst, inl, inr, ◌∙◌, arith, length-append}
+use Rattle.std.proofs.Math.Seq.{get_or-append_seam}
+use Rattle.std.proofs.lemmas.Bool.{cases_lt, eqb-true}
+use Rattle.std.proofs.lemmas.List.{get_or_append_left}
+use Rattle.std.proofs.lemmas.Option.{get_or_from_slice_get, slice_get-get_or, slice_get_within}
+use Rattle.std.specs.List.{find}
+use Rattle.rb_base.specs.declared.node.NodeName.{NodeName}
+use Rattle.rb_base.specs.declared.values.Place.{Place}
+use Rattle.rb_rules.specs.declared.link.Rule.{Rule}
+use Rattle.rb_rules.specs.Links.{applies, covers, delay_after}
+use Rattle.rb_link.specs.Pairs.{AreLatest, IsLatest, delay_or, is_between, receiver_of, sender_of}
+use Rattle.rb_link.proofs.LastRules.{last_of_all}
+
+-- the first that passes one test, and the other too, is the first that passes both
+find_both : (first second : Rule → Bool) (rules : List Rule) (r : Rule) → find first rules ≡ Some r → second r ≡ true
+    → find (λ x. first x && second x) rules ≡ Some r
+find_both first second [] r is both = let never : None ≡ Some r = is in absurd cc
+find_both first second (x ∷ xs) r is both = go (first x) refl (λ e. find_both first second xs r e both)
+  where
+    go : (b : Bool) → first x ≡ b → (find first xs ≡ Some r → find (λ y. first y && second y) xs ≡ Some r) → find (λ y. first y && second y) (x ∷ xs) ≡ Some r
+    go true e rest =
+        let here : Some x ≡ Some r = sym (ap (λ b. cond b (Some x) (find first xs)) e) ∙ is in
+        let same : x ≡ r = cc in
+        let passes : second x ≡ true = ap second same ∙ both in
+        ap (λ b. cond (b && second x) (Some x) (find (λ y. first y && second y) xs)) e
+        ∙ ap (λ b. cond b (Some x) (find (λ y. first y && second y) xs)) passes ∙ here
+    go false e rest =
+        let later : find first xs ≡ Some r = sym (ap (λ b. cond b (Some x) (find first xs)) e) ∙ is in
+        ap (λ b. cond (b && second x) (Some x) (find (λ y. first y && second y) xs)) e ∙ rest later
+
+-- where none passes the one test, none passes both
+find_neither : (first second : Rule → Bool) (rules : List Rule) → find first rules ≡ None → find (λ x. first x && second x) rules ≡ None
+find_neither first second [] is = refl
+find_neither first second (x ∷ xs) is = go (first x) refl (find_neither first second xs)
+  where
+    go : (b : Bool) → first x ≡ b → (find first xs ≡ None → find (λ y. first y && second y) xs ≡ None) → find (λ y. first y && second y) (x ∷ xs) ≡ None
+    go true e rest =
+        let never : Some x ≡ None = sym (ap (λ b. cond b (Some x) (find first xs)) e) ∙ is in absurd cc
+    go false e rest =
+        let later : find first xs ≡ None = sym (ap (λ b. cond b (Some x) (find first xs)) e) ∙ is in
+        ap (λ b. cond (b && second x) (Some x) (find (λ y. first y && second y) xs)) e ∙ rest later
+
+-- the last of the rules for the pair
+pub latest_found : (base : ℕ) (rules : List Rule) (from to : NodeName) (rule : Rule) → Some rule ≡ find (is_between from to) (reverse rules)
+    → IsLatest base rules from to rule
+latest_found base rules from to rule is place has =
+    let both : find (λ r. applies r from to place) (reverse rules) ≡ Some rule =
+    find_both (is_between from to) (λ r. covers r.frames r.slots r.stages place) (reverse rules) rule (sym is) has in
+    sym (ap (delay_or base) both) ∙ last_of_all base rules from to place
+
+-- where there is none, the base is the delay at each place
+pub latest_of_none : (base : ℕ) (rules : List Rule) (from to : NodeName) (place : Place) → None ≡ find (is_between from to) (reverse rules)
+    → base ≡ delay_after base rules from to place
+latest_of_none base rules from to place is =
+    let neither : find (λ r. applies r from to place) (reverse rules) ≡ None =
+    find_neither (is_between from to) (λ r. covers r.frames r.slots r.stages place) (reverse rules) (sym is) in
+    sym (ap (delay_or base) neither) ∙ last_of_all base rules from to place
+
+pub ruleset finding = (latest_found, latest_of_none)
+
+pub latest_at_none : (base : ℕ) (rules : List Rule) → AreLatest base rules []
+latest_at_none base rules = record { each = λ pair rule at. let never : None ≡ Some rule = at in absurd cc }
+
+-- the latest rule of one pair more
+pub latest_more : (base pair : ℕ) (rules latest : List Rule) (from to : NodeName) (rule : Rule) → AreLatest base rules latest → length latest ≡ pair
+    → from ≡ sender_of pair → to ≡ receiver_of pair → IsLatest base rules from to rule → AreLatest base rules (latest ++ rule ∷ [])
+latest_more base pair rules latest from to rule are many sender receiver is = record { each = λ n r at. here n r at }
+  where
+    last : IsLatest base rules (sender_of pair) (receiver_of pair) rule
+    last = subst (λ x. IsLatest base rules (sender_of pair) x rule) receiver (subst (λ x. IsLatest base rules x to rule) sender is)
+
+    here : (n : ℕ) (r : Rule) → slice_get (latest ++ rule ∷ []) n ≡ Some r → IsLatest base rules (sender_of n) (receiver_of n) r
+    here n r at =
+        let within : n < length (latest ++ rule ∷ []) = slice_get_within (latest ++ rule ∷ []) n r at in
+        let long : length (latest ++ rule ∷ []) ≡ length latest + 1 = length-append latest (rule ∷ []) in
+        let read : get_or (latest ++ rule ∷ []) n r ≡ r = get_or_from_slice_get (latest ++ rule ∷ []) n r r at in
+        elim (cases_lt n (length latest)) [
+          | inl less ↦
+              are.each n r (slice_get-get_or latest n r less ∙ ap Some (sym (get_or_append_left latest (rule ∷ []) r n less) ∙ read))
+          | inr more ↦
+              let e : n ≡ length latest = omega arith in
+              let same : rule ≡ r = sym (get_or-append_seam latest rule [] r) ∙ ap (λ k. get_or (latest ++ rule ∷ []) k r) (sym e) ∙ read in
+              let p : pair ≡ n = sym many ∙ sym e in
+              subst (λ k. IsLatest base rules (sender_of k) (receiver_of k) r) p (subst (λ x. IsLatest base rules (sender_of pair) (receiver_of pair) x) same last)
+        ]
+
+-- where there are no rules, the base is the delay
+pub base_alone : (base : ℕ) (rules : List Rule) (from to : NodeName) (place : Place) → rules ≡ [] → base ≡ delay_after base rules from to place
+base_alone base rules from to place none = subst (λ rs. base ≡ delay_after base rs from to place) (sym none) refl
+
+-- so with the latest rule that stands at the pair's number
+pub by_latest : (latest : List Rule) (pair : ℕ) (rule : Rule) (place : Place) → Some rule ≡ slice_get latest pair
+    → covers rule.frames rule.slots rule.stages place ≡ true
+    → (base : ℕ) → (rules : List Rule) → AreLatest base rules latest → rule.delay ≡ delay_after base rules (sender_of pair) (receiver_of pair) place
+by_latest latest pair rule place at has base rules are = are.each pair rule (sym at) place has
+
+-- there are none where their number is 0
+pub none_there : (rules : List Rule) (empty : Bool) → empty ≡ (length rules == 0) → empty ≡ true → rules ≡ []
+none_there [] empty is e = refl
+none_there (r ∷ rs) empty is e = let long : length (r ∷ rs) ≡ 0 = eqb-true (length (r ∷ rs)) 0 (sym is ∙ e) in absurd (omega arith)
