@@ -1,5 +1,6 @@
-pub mod Ticks
-pub mod Times
 pub mod Sources
 pub mod First
+pub mod Sorted
+pub mod Readiness
 pub mod EmptyLanes
+mod Idle

@@ -1,37 +1,54 @@
 -- How a lane is looked through.
-use Rattle.std.specs.Prelude.{⊤, ℕ, nat_le, nat_lt, ◌≡◌, ◌≤◌, min, ◌==◌, ◌&&◌, ◌||◌, Bool, Option, Some, None, List, [], ◌∷◌, slice_get}
-use Rattle.rb_queue.specs.declared.pending.Pending.{Pending}
-use Rattle.rb_queue.specs.Waiting.{source_of}
+use Rattle.std.specs.Prelude.{⊤, ℕ, nat_le, nat_lt, ◌≡◌, ◌≤◌, ◌==◌, ◌&&◌, ◌||◌, Bool, false, Option, None, Some, List, [], ◌∷◌, slice_get}
+use Rattle.rb_rules.specs.Hearing.{Coming}
+use Rattle.rb_queue.specs.Waiting.{Held, ready_of}
+use Rattle.rb_queue.specs.Waiting.Ready.{Comes, Ticks}
 
--- the earlier of two times, of which the first may be missing
-abbrev pub earlier : Option ℕ → ℕ → ℕ
-earlier None time = time
-earlier (Some other) time = min time other
+-- the arrival comes at this time from one of the sources that begin with the first and stand before the end
+abbrev pub is_between : ℕ → ℕ → ℕ → Coming → Bool
+is_between time first end c = nat_le first c.from && nat_lt c.from end && (c.time == time)
 
--- the event comes at this time from one of the sources that begin with the first and stand before the end
-abbrev pub is_between : ℕ → ℕ → ℕ → Pending → Bool
-is_between time first end p = nat_le first (source_of p.event.kind) && nat_lt (source_of p.event.kind) end && (p.time == time)
+-- the i-th that is listed is the arrival at this place of the lane
+pub record StandsAt (listed : List (ℕ × Coming)) (i : ℕ) (arrivals : List Coming) (place : ℕ) : Type 0 where
+  pub coming : Coming
+  pub found : slice_get listed i ≡ Some (place, coming)
+  pub stands : slice_get arrivals place ≡ Some coming
 
--- the i-th that is listed is the event at this place of the lane
-pub record StandsAt (listed : List (ℕ × Pending)) (i : ℕ) (events : List Pending) (place : ℕ) : Type 0 where
-  pub pending : Pending
-  pub found : slice_get listed i ≡ Some (place, pending)
-  pub stands : slice_get events place ≡ Some pending
+-- the arrival comes at an earlier time than the other, or at that time from a lower source
+abbrev pub comes_before : Coming → Coming → Bool
+comes_before c d = nat_lt c.time d.time || ((c.time == d.time) && nat_lt c.from d.from)
 
--- the event comes at an earlier time than the other, or at that time from a lower source
-abbrev pub comes_before : Pending → Pending → Bool
-comes_before p q = nat_lt p.time q.time || ((p.time == q.time) && nat_lt (source_of p.event.kind) (source_of q.event.kind))
+-- the arrival at this place is the first of all: of the least time, of the lowest source at that time, and of what comes so the first
+pub record IsFirst (arrivals : List Coming) (place : ℕ) : Type 0 where
+  pub coming : Coming
+  pub stands : slice_get arrivals place ≡ Some coming
+  pub known : coming.from ≤ 255
+  pub time : (k : ℕ) (c : Coming) → slice_get arrivals k ≡ Some c → coming.time ≤ c.time
+  pub source : (k : ℕ) (c : Coming) → slice_get arrivals k ≡ Some c → c.time ≡ coming.time → coming.from ≤ c.from
+  pub front : (k : ℕ) (c : Coming) → slice_get arrivals k ≡ Some c → c.time ≡ coming.time → c.from ≡ coming.from → place ≤ k
 
--- the event at this place is the first of all: of the least time, of the lowest source at that time, and of what comes so the first
-pub record IsFirst (events : List Pending) (place : ℕ) : Type 0 where
-  pub pending : Pending
-  pub stands : slice_get events place ≡ Some pending
-  pub known : source_of pending.event.kind ≤ 256
-  pub time : (k : ℕ) (p : Pending) → slice_get events k ≡ Some p → pending.time ≤ p.time
-  pub source : (k : ℕ) (p : Pending) → slice_get events k ≡ Some p → p.time ≡ pending.time → source_of pending.event.kind ≤ source_of p.event.kind
-  pub front : (k : ℕ) (p : Pending) → slice_get events k ≡ Some p → p.time ≡ pending.time → source_of p.event.kind ≡ source_of pending.event.kind → place ≤ k
-
--- where there are events, this is the place of the first
-abbrev pub HasFirst : List Pending → ℕ → Type 0
+-- where there are arrivals, this is the place of the first
+abbrev pub HasFirst : List Coming → ℕ → Type 0
 HasFirst [] place = ⊤
-HasFirst (p ∷ events) place = IsFirst (p ∷ events) place
+HasFirst (c ∷ arrivals) place = IsFirst (c ∷ arrivals) place
+
+-- each comes no sooner than those before it
+abbrev pub AreSorted : List Coming → Type 0
+AreSorted arrivals = (j k : ℕ) (c d : Coming) → j ≤ k → slice_get arrivals j ≡ Some c → slice_get arrivals k ≡ Some d
+    → (c.time ≤ d.time) × (c.time ≡ d.time → c.from ≤ d.from)
+
+-- the tick comes before this time
+abbrev pub is_sooner : Option ℕ → ℕ → Bool
+is_sooner None time = false
+is_sooner (Some ahead) time = nat_lt ahead time
+
+-- the i-th that is ready is the arrival at this place
+pub record ComesAt (i : ℕ) (lane : Held) (place : ℕ) : Type 0 where
+  pub coming : Coming
+  pub found : slice_get (ready_of lane) i ≡ Some (Comes place coming)
+  pub stands : slice_get lane.arrivals place ≡ Some coming
+
+-- the place of the i-th that is ready. Where there is none, it is the tick
+abbrev pub IsReadyAt : ℕ → Held → Option ℕ → Type 0
+IsReadyAt i lane None = slice_get (ready_of lane) i ≡ Some Ticks
+IsReadyAt i lane (Some place) = ComesAt i lane place

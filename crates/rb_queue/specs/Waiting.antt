@@ -1,103 +1,152 @@
 -- Pending events by node: which is the least time at a node, and which events are ready then.
-use Rattle.std.specs.Prelude.{ℕ, min, ◌-◌, ◌<◌, ◌==◌, ◌&&◌, Bool, Option, Some, None, option_map, unwrap_or, List, [], ◌∷◌, ◌++◌, filter, flat_map, length, map, remove, slice_get, slice_set}
+use Rattle.std.specs.Prelude.{ℕ, ◌≡◌, ◌+◌, ◌-◌, ◌<◌, ◌≤◌, ◌==◌, ◌&&◌, ◌⊎◌, Bool, true, false, Option, Some, None, option_map, option_to_list, unwrap_or, List, [], ◌∷◌, ◌++◌, filter, flat_map, length, map, remove, slice_get, slice_set}
 use Rattle.std.specs.List.{enumerate_from}
 use Rattle.rb_base.specs.Counting.{numbers}
 use Rattle.rb_base.specs.declared.event.Event.{Event}
 use Rattle.rb_base.specs.declared.event.EventKind.{EventKind}
-use Rattle.rb_base.specs.declared.event.EventKind.TheVariants.{Tick, Arrive}
+use Rattle.rb_base.specs.declared.event.EventKind.TheVariants as kind
 use Rattle.rb_base.specs.declared.node.NodeName.{NodeName}
 use Rattle.rb_base.specs.declared.node.NodeName.TheVariants as node
 use Rattle.rb_rules.specs.Book.{Each}
+use Rattle.rb_rules.specs.Hearing.{Coming}
 use Rattle.rb_rules.specs.WorldStep.{least}
-use Rattle.rb_queue.specs.declared.pending.Pending.{Pending}
 
--- the time of a tick. An arrival has none, which is the last time that there is
-abbrev pub tick_time_of : EventKind → ℕ → ℕ
-tick_time_of (Arrive from bytes) time = 18446744073709551615
-tick_time_of (Tick word wanted) time = time
-
--- the least time of a tick among the events, and where there is none the last time that there is
-unfoldable pub first_tick_of : List Pending → ℕ
-first_tick_of [] = 18446744073709551615
-first_tick_of (p ∷ events) = min (tick_time_of p.event.kind p.time) (first_tick_of events)
-
--- what a lane holds: its events, in the order of pushing, and its room
+-- what a lane holds: what comes to the node, in the order of pushing, the time of its tick, and room for so many events
 pub record Held : Type 0 where
-  pub events : List Pending
+  pub arrivals : List Coming
+  pub tick : Option ℕ
   pub room : ℕ
 
 -- One lane.
 
 -- how many events more it has room for
 abbrev pub spare_of : Held → ℕ
-spare_of lane = lane.room - length lane.events
+spare_of lane = lane.room - (length lane.arrivals + length (option_to_list lane.tick))
 
--- where an event comes from: an arrival from its sender, and a tick from the node's own clock, which stands behind all senders
-abbrev pub source_of : EventKind → ℕ
-source_of (Arrive from bytes) = from
-source_of (Tick word wanted) = 256
+-- the time of the tick, and where none is pending the last time that there is
+abbrev pub tick_time_of : Held → ℕ
+tick_time_of lane = unwrap_or lane.tick 18446744073709551615
 
--- the event comes from this source at this time
-abbrev pub comes : ℕ → ℕ → Pending → Bool
-comes time source p = (source_of p.event.kind == source) && (p.time == time)
+-- the arrival comes from this source at this time
+abbrev pub comes : ℕ → ℕ → Coming → Bool
+comes time source c = (c.from == source) && (c.time == time)
 
--- what comes from a source at a time, in the order of pushing, each with its place in the lane
-abbrev pub coming_at : ℕ → List Pending → ℕ → List (ℕ × Pending)
-coming_at time events source = filter (λ c. comes time source c.1) (enumerate_from 0 events)
+-- what comes from a source at a time, in the order of pushing, each with its place among the arrivals
+abbrev pub coming_at : ℕ → List Coming → ℕ → List (ℕ × Coming)
+coming_at time arrivals source = filter (λ c. comes time source c.1) (enumerate_from 0 arrivals)
 
 -- all arrivals of a time, by sender
-unfoldable pub arrivals_at : ℕ → List Pending → List (ℕ × Pending)
-arrivals_at time events = flat_map (coming_at time events) (numbers 256)
+unfoldable pub arrivals_at : ℕ → List Coming → List (ℕ × Coming)
+arrivals_at time arrivals = flat_map (coming_at time arrivals) (numbers 256)
 
--- the node's ticks of a time
-unfoldable pub ticks_at : ℕ → List Pending → List (ℕ × Pending)
-ticks_at time events = coming_at time events 256
+-- what may be taken: the arrival at this place, or the tick
+pub data Ready : Type 0 where
+  Comes : (place : ℕ) (coming : Coming) → Ready
+  Ticks : Ready
+
+-- the tick, if it is of this time
+abbrev pub tick_at : ℕ → Option ℕ → List Ready
+tick_at time None = []
+tick_at time (Some t) = elim (t == time) [ true ↦ Ticks ∷ [] | false ↦ [] ]
 
 -- a tick waits for all that comes at its time
-abbrev pub unless_any : List (ℕ × Pending) → List (ℕ × Pending) → List (ℕ × Pending)
+abbrev pub unless_any : List (ℕ × Coming) → List Ready → List Ready
 unless_any [] later = later
-unless_any (c ∷ cs) later = c ∷ cs
+unless_any (c ∷ cs) later = map (λ c. Comes c.0 c.1) (c ∷ cs)
 
--- what may happen at this time: what comes then, by sender and then in the order of pushing, else the node's ticks
-abbrev pub ready_at : ℕ → List Pending → List (ℕ × Pending)
-ready_at time events = unless_any (arrivals_at time events) (ticks_at time events)
+-- what may happen at this time: what comes then, by sender and then in the order of pushing, else the tick
+abbrev pub ready_at : ℕ → Held → List Ready
+ready_at time lane = unless_any (arrivals_at time lane.arrivals) (tick_at time lane.tick)
 
--- the least time of an event
+-- the least time at which anything is due
 abbrev pub head_of : Held → Option ℕ
-head_of lane = least (map (λ p. p.time) lane.events)
+head_of lane = least (option_to_list lane.tick ++ map (λ c. c.time) lane.arrivals)
+
+-- nothing is pending
+abbrev pub IsIdle : Held → Type 0
+IsIdle lane = (lane.arrivals ≡ []) × (lane.tick ≡ None)
 
 -- nothing is ready where there is no least time
-abbrev pub ready_from : Option ℕ → List Pending → List (ℕ × Pending)
-ready_from None events = []
-ready_from (Some time) events = ready_at time events
+abbrev pub ready_from : Option ℕ → Held → List Ready
+ready_from None lane = []
+ready_from (Some time) lane = ready_at time lane
 
--- the events of the least time that are ready, each with its place
-abbrev pub ready_of : Held → List (ℕ × Pending)
-ready_of lane = ready_from (head_of lane) lane.events
+-- what is ready at the least time
+abbrev pub ready_of : Held → List Ready
+ready_of lane = ready_from (head_of lane) lane
 
--- one event more, at this time
-abbrev pub with_event : Pending → Held → Held
-with_event p lane = record lane { events = lane.events ++ p ∷ [] }
+-- one arrival more
+abbrev pub with_arrival : Coming → Held → Held
+with_arrival c lane = record lane { arrivals = lane.arrivals ++ c ∷ [] }
 
--- the i-th of the ready events
-abbrev pub ready_event : ℕ → Held → Option Event
-ready_event i lane = option_map (λ c. c.1.event) (slice_get (ready_of lane) i)
+-- a tick at this time
+abbrev pub with_tick : ℕ → Held → Held
+with_tick time lane = record lane { tick = Some time }
 
-abbrev pub without_found : Option (ℕ × Pending) → Held → Held
+-- an event of this kind more, at this time
+abbrev pub with_event : ℕ → EventKind → Held → Held
+with_event time (kind.Arrive from bytes) lane = with_arrival (record { time = time; from = from; bytes = bytes.items }) lane
+with_event time (kind.Tick word wanted) lane = with_tick time lane
+
+-- the kind of event that this is
+abbrev pub kind_with : Ready → EventKind
+kind_with (Comes place c) = kind.Arrive c.from (record { items = c.bytes })
+kind_with Ticks = kind.Tick 0 false
+
+-- it is this event of a node
+abbrev pub event_with : NodeName → Ready → Event
+event_with name r = record { node = name; quiet = 0; kind = kind_with r }
+
+-- the i-th of what is ready, as an event of the node
+abbrev pub ready_event : NodeName → ℕ → Held → Option Event
+ready_event name i lane = option_map (event_with name) (slice_get (ready_of lane) i)
+
+-- the arrival at this place is taken out, and no other
+abbrev pub without_place : ℕ → Held → Held
+without_place place lane = record lane { arrivals = remove lane.arrivals place }
+
+-- the tick is taken out
+abbrev pub without_tick : Held → Held
+without_tick lane = record lane { tick = None }
+
+abbrev pub without : Ready → Held → Held
+without (Comes place c) lane = without_place place lane
+without Ticks lane = without_tick lane
+
+abbrev pub without_found : Option Ready → Held → Held
 without_found None lane = lane
-without_found (Some c) lane = record lane { events = remove lane.events c.0 }
+without_found (Some r) lane = without r lane
 
--- the i-th of the ready events is taken out, and no other
+-- the i-th of what is ready is taken out, and no other
 abbrev pub without_ready : ℕ → Held → Held
 without_ready i lane = without_found (slice_get (ready_of lane) i) lane
 
--- all events are dropped
-abbrev pub without_events : Held → Held
-without_events lane = record lane { events = [] }
+-- the first that is ready is the arrival at this place, and it is due before this time
+pub record IsReadyBefore (until : ℕ) (lane : Held) (place : ℕ) : Type 0 where
+  pub coming : Coming
+  pub ready : slice_get (ready_of lane) 0 ≡ Some (Comes place coming)
+  pub stands : slice_get lane.arrivals place ≡ Some coming
+  pub head : head_of lane ≡ Some coming.time
+  pub before : coming.time < until
 
--- no event, and this room
+-- the tick is ready at this time
+pub record IsTickReady (time : ℕ) (lane : Held) : Type 0 where
+  pub ready : ready_of lane ≡ Ticks ∷ []
+  pub tick : lane.tick ≡ Some time
+
+-- the place of the first arrival that is ready, where it is due before this time. If there is none, nothing is due before then but the
+-- tick
+abbrev pub IsFirstBefore : ℕ → Held → Option ℕ → Type 0
+IsFirstBefore until lane None = (time : ℕ) → head_of lane ≡ Some time → (until ≤ time) ⊎ IsTickReady time lane
+IsFirstBefore until lane (Some place) = IsReadyBefore until lane place
+
+-- all is dropped
+abbrev pub without_events : Held → Held
+without_events lane = record lane { arrivals = []; tick = None }
+
+-- nothing, and this room
 abbrev pub empty_lane : ℕ → Held
-empty_lane room = record { events = []; room = room }
+empty_lane room = record { arrivals = []; tick = None; room = room }
 
 -- The lanes of all nodes.
 

@@ -1,124 +1,289 @@
 //! The pending events of one node.
-ghost use Rattle.std.specs.Prelude.{◌≡◌, ◌<◌, ◌≤◌, length, [], Some, IfOk, IsNone, IsTrue, ◌↔◌};
-ghost use Rattle.rb_queue.specs.Waiting.{ready_event, empty_lane, first_tick_of, without_events, head_of, with_event, ready_of, spare_of, without_ready};
+ghost use Rattle.std.specs.Prelude.{◌≡◌, ◌+◌, ◌-◌, ◌<◌, ◌≤◌, drop, length, Some, IfOk, slice_get, IsNone, IsTrue, ◌↔◌, vec_capacity};
+ghost use Rattle.rb_queue.specs.Waiting.{IsFirstBefore, IsIdle, empty_lane, event_with, head_of, ready_event, ready_of, spare_of, with_arrival, with_tick, without_events, without_place, without_ready, without_tick};
+ghost use Rattle.rb_queue.specs.Waiting.Ready.{Comes, Ticks};
+ghost use Rattle.rb_queue.specs.Scanning.{HasFirst, IsReadyAt};
 
-use crate::pending::Pending;
+use crate::arrival::Arrival;
 use crate::scan::{
-    count_ready, earlier, first_of, first_tick, first_with, least_time, place_ready,
+    count, count_ready, first_of, first_sorted, is_sooner, is_sorted_with, least_time, place_of,
 };
-use rb_base::{Event, OutOfMemory};
+use rb_base::{Event, EventKind, NodeName, OutOfMemory};
 use std::alloc::Global;
 use std::marker::Model;
 
-// The events in the order of pushing, beside their least time and the place of the first that is ready. The room is taken from
-// memory at the start.
+// The arrivals in the order of pushing, those before the start being gone, and the time of the tick. The room is taken from memory
+// at the start.
 #[derive(Drop)]
 pub(crate) struct Lane {
-    events: Vec<Pending>,
+    kept: Vec<Arrival>,
+    start: usize,
+    // If so, each arrival comes no sooner than those before it.
+    sorted: bool,
+    tick: Option<u64>,
     room: usize,
-    head: Option<u64>,
-    first: usize,
 }
 
 impl Model for Lane {
-    ghost use Rattle.std.specs.Prelude.{vec_capacity};
+    ghost use Rattle.std.specs.Prelude.{drop, vec_capacity};
     ghost use Rattle.rb_queue.specs.Waiting.{Held};
     ghost use Rattle.rb_queue.specs.Keeping.{IsLane};
 
     ghost Value = { Held };
 
-    ghost view = { λ l. record { events = l.events.items; room = l.room } };
+    ghost view = { λ l. record { arrivals = drop l.start l.kept.items; tick = l.tick; room = l.room } };
 
-    ghost invariant = { λ l. IsLane l.events.items l.room (vec_capacity l.events) l.head l.first };
+    ghost invariant = { λ l. IsLane l.kept.items l.start l.room (vec_capacity l.kept) l.sorted };
+}
+
+// Where those before the start are gone, and there is no room behind, the others move to the front. Returns the new start.
+#[inline(always)]
+fn make_room(kept: &mut Vec<Arrival>, start: usize, room: usize) -> usize
+    requires begins { start ≤ length kept.old.items }
+    requires fits { length kept.old.items - start < room }
+    ensures same { drop result kept.new.items ≡ drop start kept.old.items }
+    ensures begins { result ≤ length kept.new.items }
+    ensures room { length kept.new.items < room }
+    ensures capacity { vec_capacity kept.new ≡ vec_capacity kept.old }
+{
+    if kept.len() < room {
+        return start;
+    }
+    kept.drain(..start);
+    0
+}
+
+// The tick, as an event of the node.
+fn tick_event(node: NodeName) -> Event
+    ensures { result ≡ event_with node Ticks }
+{
+    let kind = EventKind::Tick {
+        word: 0,
+        wanted: false,
+    };
+    Event {
+        node,
+        quiet: 0,
+        kind,
+    }
 }
 
 impl Lane {
     pub(crate) fn new(alloc: Global, room: usize) -> Result<Lane, OutOfMemory>
         ensures { IfOk result (λ lane. lane ≡ empty_lane room) }
     {
-        let events = Vec::with_capacity(alloc, room)?;
+        let kept = Vec::with_capacity(alloc, room)?;
         Ok(Lane {
-            events,
+            kept,
+            start: 0,
+            sorted: true,
+            tick: None,
             room,
-            head: None,
-            first: 0,
         })
+    }
+
+    #[inline(always)]
+    fn waiting(&self) -> &[Arrival]
+        ensures { result.now ≡ self.now.arrivals }
+    {
+        &self.kept[self.start..]
     }
 
     pub(crate) fn spare(&self) -> usize
         ensures { result ≡ spare_of self.now }
     {
-        self.room - self.events.len()
+        let ticks = usize::from(self.tick.is_some());
+        self.room.saturating_sub(self.waiting().len() + ticks)
     }
 
     #[inline(always)]
-    #[tactic(auto, using(crate::proofs::Times::least_pushed))]
-    pub(crate) fn push(&mut self, pending: Pending)
+    pub(crate) fn push(&mut self, arrival: Arrival)
         requires { 1 ≤ spare_of self.old }
-        ensures { self.new ≡ with_event pending self.old }
+        ensures { self.new ≡ with_arrival arrival self.old }
     {
-        self.first = first_with(&self.events, self.first, &pending);
-        self.head = Some(earlier(self.head, pending.time));
-        // There is room, so this takes no memory and can't fail.
-        let _ = self.events.push(pending);
+        self.start = make_room(&mut self.kept, self.start, self.room);
+        self.sorted = is_sorted_with(&self.kept[self.start..], self.sorted, &arrival);
+        self.kept.push_reserved(arrival);
     }
 
-    #[tactic(auto, using(crate::proofs::Times::none_left))]
+    #[inline(always)]
+    pub(crate) fn push_tick(&mut self, time: u64)
+        ensures { self.new ≡ with_tick time self.old }
+    {
+        self.tick = Some(time);
+    }
+
+    // The place of the first arrival.
+    #[inline(always)]
+    fn first(&self) -> usize
+        ensures { HasFirst self.now.arrivals result }
+    {
+        if self.sorted {
+            return first_sorted(self.waiting());
+        }
+        first_of(self.waiting())
+    }
+
+    #[inline(never)]
+    #[tactic(auto, using(crate::proofs::Idle::none_pending))]
     pub(crate) fn head(&self) -> Option<u64>
         ensures value { result ≡ head_of self.now }
-        ensures none { IsNone result ↔ (self.now.events ≡ []) }
+        ensures none { IsNone result ↔ IsIdle self.now }
     {
-        self.head
-    }
-
-    // Whether an event is ready.
-    pub(crate) fn is_ready(&self) -> bool
-        ensures { IsTrue result ↔ 0 < length (ready_of self.now) }
-    {
-        self.head.is_some()
-    }
-
-    pub(crate) fn first_tick(&self) -> u64
-        ensures { result ≡ first_tick_of self.now.events }
-    {
-        first_tick(&self.events)
+        least_time(self.waiting(), self.first(), self.tick)
     }
 
     pub(crate) fn ready(&self) -> usize
         ensures value { result ≡ length (ready_of self.now) }
-        ensures few { result ≤ self.now.room }
+        ensures few { result ≤ self.now.room + 1 }
     {
-        match self.head {
+        match self.head() {
             None => 0,
-            Some(time) => count_ready(&self.events, time),
+            Some(time) => count_ready(self.waiting(), self.tick, time),
         }
     }
 
-    pub(crate) fn event(&self, i: usize) -> &Event
+    // The place of the i-th that is ready. None for the tick. The first is mostly looked for.
+    #[inline(always)]
+    fn place(&self, i: usize) -> Option<usize>
         requires { i < length (ready_of self.now) }
-        ensures { ready_event i self.now ≡ Some result.now }
+        ensures { IsReadyAt i self.now result }
     {
-        &self.events[place_ready(&self.events, self.head, self.first, i)].event
+        if i == 0 {
+            return self.first_place();
+        }
+        self.place_among(i)
+    }
+
+    // The place of the first that is ready.
+    #[inline(always)]
+    fn first_place(&self) -> Option<usize>
+        requires { 0 < length (ready_of self.now) }
+        ensures { IsReadyAt 0 self.now result }
+    {
+        match self.first_before(u64::MAX) {
+            None => self.place_among(0),
+            Some(place) => Some(place),
+        }
+    }
+
+    // The place of the i-th, among all arrivals of the least time.
+    #[inline(never)]
+    fn place_among(&self, i: usize) -> Option<usize>
+        requires { i < length (ready_of self.now) }
+        ensures { IsReadyAt i self.now result }
+    {
+        let time = self.head().unwrap_or(0);
+        if count(self.waiting(), time, 0, 256) == 0 {
+            return None;
+        }
+        Some(place_of(self.waiting(), time, i))
+    }
+
+    pub(crate) fn event(&self, node: NodeName, i: usize) -> Event
+        requires { i < length (ready_of self.now) }
+        ensures { ready_event node i self.now ≡ Some result }
+    {
+        match self.place(i) {
+            None => tick_event(node),
+            Some(place) => self.waiting()[place].event(node),
+        }
+    }
+
+    pub(crate) fn take(&mut self, node: NodeName, i: usize) -> Event
+        requires { i < length (ready_of self.old) }
+        ensures event { ready_event node i self.old ≡ Some result }
+        ensures after { self.new ≡ without_ready i self.old }
+    {
+        match self.place(i) {
+            None => {
+                self.take_tick();
+                tick_event(node)
+            }
+            Some(place) => {
+                let event = self.waiting()[place].event(node);
+                self.drop_at(place);
+                event
+            }
+        }
+    }
+
+    // The place of the first arrival that is ready, where it is due before this time.
+    #[inline(always)]
+    pub(crate) fn first_before(&self, until: u64) -> Option<usize>
+        ensures { IsFirstBefore until self.now result }
+    {
+        let first = self.first();
+        let arrivals = self.waiting();
+        if first >= arrivals.len() {
+            return None;
+        }
+        let time = arrivals[first].time();
+        if time >= until {
+            return None;
+        }
+        if is_sooner(self.tick, time) {
+            return None;
+        }
+        Some(first)
     }
 
     #[inline(always)]
-    pub(crate) fn take(&mut self, i: usize) -> Event
-        requires { i < length (ready_of self.old) }
-        ensures event { ready_event i self.old ≡ Some result }
-        ensures after { self.new ≡ without_ready i self.old }
+    pub(crate) fn arrival(&self, place: usize) -> &Arrival
+        requires { place < length self.now.arrivals }
+        ensures { slice_get self.now.arrivals place ≡ Some result.now }
     {
-        let place = place_ready(&self.events, self.head, self.first, i);
-        let pending = self.events.remove(place);
-        self.first = first_of(&self.events);
-        self.head = least_time(&self.events, self.first);
-        pending.event
+        &self.waiting()[place]
+    }
+
+    // Drops the first in the order of pushing.
+    #[inline(always)]
+    fn drop_front(&mut self)
+        requires { 0 < length self.old.arrivals }
+        ensures { self.new ≡ without_place 0 self.old }
+    {
+        if self.start + 1 < self.kept.len() {
+            self.start += 1;
+            return;
+        }
+        self.kept.clear();
+        self.start = 0;
+        self.sorted = true;
+    }
+
+    #[inline(always)]
+    pub(crate) fn drop_at(&mut self, place: usize)
+        requires { place < length self.old.arrivals }
+        ensures { self.new ≡ without_place place self.old }
+    {
+        if place == 0 {
+            self.drop_front();
+            return;
+        }
+        let _ = self.kept.remove(self.start + place);
+        self.sorted = false;
+    }
+
+    #[inline(always)]
+    pub(crate) fn tick(&self) -> Option<u64>
+        ensures { result ≡ self.now.tick }
+    {
+        self.tick
+    }
+
+    #[inline(always)]
+    pub(crate) fn take_tick(&mut self)
+        ensures { self.new ≡ without_tick self.old }
+    {
+        self.tick = None;
     }
 
     pub(crate) fn clear(&mut self)
         ensures { self.new ≡ without_events self.old }
     {
-        self.events.clear();
-        self.head = None;
-        self.first = 0;
+        self.kept.clear();
+        self.start = 0;
+        self.sorted = true;
+        self.tick = None;
     }
 }

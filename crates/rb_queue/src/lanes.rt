@@ -1,17 +1,18 @@
 //! The pending events of all nodes.
-ghost use Rattle.std.specs.Prelude.{◌≡◌, ◌<◌, ◌≤◌, [], ◌∷◌, ◌++◌, length, map, Some, IfOk, IsNone, IsTrue, ◌↔◌};
+ghost use Rattle.std.specs.Prelude.{◌≡◌, ◌+◌, ◌<◌, ◌≤◌, [], ◌∷◌, ◌++◌, length, map, slice_get, Some, IfOk, IsNone, ◌↔◌};
 ghost use Rattle.rb_base.specs.Counting.{numbers};
 ghost use Rattle.rb_rules.specs.Book.{each_of};
-ghost use Rattle.rb_queue.specs.Waiting.{HasLane, empty_lane, first_tick_of, without_events, head_of, lane_of, with_event, ready_event, ready_of, spare_of, with_lane, without_ready};
+ghost use Rattle.rb_queue.specs.Waiting.{HasLane, IsFirstBefore, IsIdle, empty_lane, head_of, lane_of, ready_event, ready_of, spare_of, with_arrival, with_event, with_lane, with_tick, without_events, without_place, without_ready, without_tick};
 
+use crate::arrival::Arrival;
 use crate::lane::Lane;
-use crate::pending::Pending;
-use rb_base::{Event, NodeName, OutOfMemory, Shape};
+use arrayvec::ArrayVec;
+use rb_base::{Event, EventKind, NodeName, OutOfMemory, Shape};
 use std::alloc::Global;
 use std::marker::Model;
 
-/// The pending events of the nodes of a bus, a lane for each node. A lane keeps its events in the order of pushing, and has room
-/// for a fixed number of them.
+/// The pending events of the nodes of a bus, a lane for each node. A lane keeps what comes to the node in the order of pushing,
+/// and the node's tick, with room for a fixed number of events.
 #[derive(Drop)]
 pub struct Lanes {
     bius: Vec<Lane>,
@@ -55,6 +56,7 @@ impl Lanes {
         Ok(Lanes { bius, rmus })
     }
 
+    #[inline(always)]
     fn lane(&self, node: NodeName) -> &Lane
         requires { HasLane self.now node }
         ensures { result.now ≡ lane_of self.now node }
@@ -65,7 +67,7 @@ impl Lanes {
         }
     }
 
-    /// How many events more the node's lane has room for.
+    /// How many events more the node's lane has room for: the room less the number of its events.
     pub fn spare(&self, node: NodeName) -> usize
         requires in_shape { HasLane self.now node }
         ensures value { result ≡ spare_of (lane_of self.now node) }
@@ -73,20 +75,45 @@ impl Lanes {
         self.lane(node).spare()
     }
 
-    /// Adds an event, due at this time in reference units, to the lane of its node. The lane has room for it.
-    #[inline(always)]
+    /// Adds an event to its node's lane, due at this time in reference units. The lane has room for it. Of a tick the time is kept:
+    /// one tick of a node is pending at most, and a further one takes its place.
     pub fn push(&mut self, time: u64, event: Event)
         requires in_shape { HasLane self.old event.node }
         requires spare { 1 ≤ spare_of (lane_of self.old event.node) }
-        ensures after { self.new ≡ with_lane event.node
-            (with_event (record { time = time; event = event }) (lane_of self.old event.node))
+        ensures after { self.new ≡ with_lane event.node (with_event time event.kind (lane_of self.old event.node)) self.old }
+    {
+        let Event { node, kind, .. } = event;
+        match kind {
+            EventKind::Arrive { from, bytes } => self.push_arrival(node, time, from, bytes),
+            EventKind::Tick { .. } => self.push_tick(node, time),
+        }
+    }
+
+    /// Adds what comes to a node from a sender, due at this time in reference units, to its lane. The lane has room for it.
+    #[inline(always)]
+    pub fn push_arrival(&mut self, node: NodeName, time: u64, from: u8, bytes: ArrayVec<u8, 32>)
+        requires in_shape { HasLane self.old node }
+        requires spare { 1 ≤ spare_of (lane_of self.old node) }
+        ensures after { self.new ≡ with_lane node
+            (with_arrival (record { time = time; from = from; bytes = bytes.items }) (lane_of self.old node))
             self.old }
     {
-        let node = event.node;
-        let pending = Pending { time, event };
+        let arrival = Arrival::new(time, from, bytes);
         match node {
-            NodeName::Biu(i) => self.bius[usize::from(i)].push(pending),
-            NodeName::Rmu(i) => self.rmus[usize::from(i)].push(pending),
+            NodeName::Biu(i) => self.bius[usize::from(i)].push(arrival),
+            NodeName::Rmu(i) => self.rmus[usize::from(i)].push(arrival),
+        }
+    }
+
+    /// The node's tick is pending, due at this time in reference units.
+    #[inline(always)]
+    pub fn push_tick(&mut self, node: NodeName, time: u64)
+        requires in_shape { HasLane self.old node }
+        ensures after { self.new ≡ with_lane node (with_tick time (lane_of self.old node)) self.old }
+    {
+        match node {
+            NodeName::Biu(i) => self.bius[usize::from(i)].push_tick(time),
+            NodeName::Rmu(i) => self.rmus[usize::from(i)].push_tick(time),
         }
     }
 
@@ -94,65 +121,93 @@ impl Lanes {
     pub fn head(&self, node: NodeName) -> Option<u64>
         requires in_shape { HasLane self.now node }
         ensures value { result ≡ head_of (lane_of self.now node) }
-        ensures none { IsNone result ↔ ((lane_of self.now node).events ≡ []) }
+        ensures none { IsNone result ↔ IsIdle (lane_of self.now node) }
     {
         self.lane(node).head()
     }
 
-    /// The least time, in reference units, at which a tick of the node is due; 2^64 - 1 where there is none.
-    pub fn first_tick(&self, node: NodeName) -> u64
-        requires in_shape { HasLane self.now node }
-        ensures value { result ≡ first_tick_of (lane_of self.now node).events }
-    {
-        self.lane(node).first_tick()
-    }
-
-    /// Whether an event of the node is ready.
-    pub fn is_ready(&self, node: NodeName) -> bool
-        requires in_shape { HasLane self.now node }
-        ensures value { IsTrue result ↔ 0 < length (ready_of (lane_of self.now node)) }
-    {
-        self.lane(node).is_ready()
-    }
-
-    /// How many events of the node are ready: the arrivals of its least time or, where there are none, its ticks of that time.
+    /// How many events of the node are ready: the arrivals of its least time or, where there are none, its tick.
     pub fn ready(&self, node: NodeName) -> usize
         requires in_shape { HasLane self.now node }
         ensures value { result ≡ length (ready_of (lane_of self.now node)) }
-        ensures few { result ≤ (lane_of self.now node).room }
+        ensures few { result ≤ (lane_of self.now node).room + 1 }
     {
         self.lane(node).ready()
     }
 
     /// The ready event at place `i`, counted from 0. They are listed by sender and then in the order of pushing.
-    pub fn event_at(&self, node: NodeName, i: usize) -> &Event
-        requires in_shape { HasLane self.now node }
-        requires below { i < length (ready_of (lane_of self.now node)) }
-        ensures value { ready_event i (lane_of self.now node) ≡ Some result.now }
-    {
-        self.lane(node).event(i)
-    }
-
-    /// A copy of the ready event at place `i`, counted from 0.
     pub fn event(&self, node: NodeName, i: usize) -> Event
         requires in_shape { HasLane self.now node }
         requires below { i < length (ready_of (lane_of self.now node)) }
-        ensures value { ready_event i (lane_of self.now node) ≡ Some result }
+        ensures value { ready_event node i (lane_of self.now node) ≡ Some result }
     {
-        self.event_at(node, i).clone().unwrap()
+        self.lane(node).event(node, i)
     }
 
     /// Takes the ready event at place `i`, counted from 0, out of the node's lane, and no other.
-    #[inline(always)]
     pub fn take(&mut self, node: NodeName, i: usize) -> Event
         requires in_shape { HasLane self.old node }
         requires below { i < length (ready_of (lane_of self.old node)) }
-        ensures value { ready_event i (lane_of self.old node) ≡ Some result }
+        ensures value { ready_event node i (lane_of self.old node) ≡ Some result }
         ensures after { self.new ≡ with_lane node (without_ready i (lane_of self.old node)) self.old }
     {
         match node {
-            NodeName::Biu(index) => self.bius[usize::from(index)].take(i),
-            NodeName::Rmu(index) => self.rmus[usize::from(index)].take(i),
+            NodeName::Biu(index) => self.bius[usize::from(index)].take(node, i),
+            NodeName::Rmu(index) => self.rmus[usize::from(index)].take(node, i),
+        }
+    }
+
+    /// The place, among the arrivals of the node in the order of pushing, of the first that is ready, where it is due before this time.
+    /// None exactly where nothing is due at the node before then but its tick.
+    #[inline(always)]
+    pub fn first_before(&self, node: NodeName, until: u64) -> Option<usize>
+        requires in_shape { HasLane self.now node }
+        ensures first { IsFirstBefore until (lane_of self.now node) result }
+    {
+        self.lane(node).first_before(until)
+    }
+
+    /// The arrival at this place among those of the node, in the order of pushing.
+    #[inline(always)]
+    pub fn arrival(&self, node: NodeName, place: usize) -> &Arrival
+        requires in_shape { HasLane self.now node }
+        requires below { place < length (lane_of self.now node).arrivals }
+        ensures value { slice_get (lane_of self.now node).arrivals place ≡ Some result.now }
+    {
+        self.lane(node).arrival(place)
+    }
+
+    /// Drops the arrival at this place among those of the node, in the order of pushing, and nothing else.
+    #[inline(always)]
+    pub fn drop_at(&mut self, node: NodeName, place: usize)
+        requires in_shape { HasLane self.old node }
+        requires below { place < length (lane_of self.old node).arrivals }
+        ensures after { self.new ≡ with_lane node (without_place place (lane_of self.old node)) self.old }
+    {
+        match node {
+            NodeName::Biu(i) => self.bius[usize::from(i)].drop_at(place),
+            NodeName::Rmu(i) => self.rmus[usize::from(i)].drop_at(place),
+        }
+    }
+
+    /// The time of the node's tick, in reference units, if one is pending.
+    #[inline(always)]
+    pub fn tick(&self, node: NodeName) -> Option<u64>
+        requires in_shape { HasLane self.now node }
+        ensures value { result ≡ (lane_of self.now node).tick }
+    {
+        self.lane(node).tick()
+    }
+
+    /// The node's tick is pending no more. Nothing else changes.
+    #[inline(always)]
+    pub fn take_tick(&mut self, node: NodeName)
+        requires in_shape { HasLane self.old node }
+        ensures after { self.new ≡ with_lane node (without_tick (lane_of self.old node)) self.old }
+    {
+        match node {
+            NodeName::Biu(i) => self.bius[usize::from(i)].take_tick(),
+            NodeName::Rmu(i) => self.rmus[usize::from(i)].take_tick(),
         }
     }
 

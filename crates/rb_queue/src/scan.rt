@@ -1,128 +1,162 @@
-//! What is looked up among the events of one lane.
-ghost use Rattle.std.specs.Prelude.{◌≡◌, ℕ, ◌+◌, ◌<◌, ◌≤◌, ◌++◌, ◌∷◌, [], length, map, MatchResult, Option};
+//! What is looked up among the arrivals of one lane.
+ghost use Rattle.std.specs.Prelude.{◌≡◌, ℕ, ◌+◌, ◌<◌, ◌≤◌, ◌++◌, ◌∷◌, [], length, map, true, MatchResult, Option, option_to_list};
 ghost use Rattle.rb_base.specs.Counting.{count_if};
 ghost use Rattle.rb_rules.specs.WorldStep.{least};
-ghost use Rattle.rb_queue.specs.Waiting.{coming_at, comes, first_tick_of, ready_at, ready_from};
-ghost use Rattle.rb_queue.specs.Scanning.{HasFirst, StandsAt, earlier, is_between};
+ghost use Rattle.rb_queue.specs.Waiting.{arrivals_at, coming_at, comes, tick_at, unless_any};
+ghost use Rattle.rb_queue.specs.Scanning.{AreSorted, HasFirst, StandsAt, is_between, is_sooner};
 
-use crate::pending::Pending;
+use crate::arrival::Arrival;
 
-pub(crate) fn earlier(other: Option<u64>, time: u64) -> u64
-    ensures { result ≡ earlier other time }
-{
-    match other {
-        None => time,
-        Some(other) => time.min(other),
-    }
-}
-
-// The place of the first event, with one more behind the others.
+// The place of the first arrival, with one more behind the others.
 #[inline(always)]
-pub(crate) fn first_with(events: &[Pending], first: usize, pending: &Pending) -> usize
-    requires { HasFirst events.now first }
-    ensures { HasFirst (events.now ++ pending.now ∷ []) result }
+pub(crate) fn first_with(arrivals: &[Arrival], first: usize, arrival: &Arrival) -> usize
+    requires { HasFirst arrivals.now first }
+    ensures { HasFirst (arrivals.now ++ arrival.now ∷ []) result }
 {
-    let _source = pending.source();
-    if first >= events.len() {
-        return events.len();
+    let _source = arrival.source();
+    if first >= arrivals.len() {
+        return arrivals.len();
     }
-    if pending.comes_before(&events[first]) {
-        events.len()
+    if arrival.comes_before(&arrivals[first]) {
+        arrivals.len()
     } else {
         first
     }
 }
 
-// The place of the first event.
-pub(crate) fn first_of(events: &[Pending]) -> usize
-    ensures { HasFirst events.now result }
+// The place of the first arrival.
+#[inline(always)]
+pub(crate) fn first_of(arrivals: &[Arrival]) -> usize
+    ensures { HasFirst arrivals.now result }
 {
     let mut first = 0;
-    for (place, pending) in events.iter().enumerate() {
-        first = first_with(&events[..place], first, pending);
+    for (place, arrival) in arrivals.iter().enumerate() {
+        first = first_with(&arrivals[..place], first, arrival);
     }
     first
 }
 
-// The least time of the events, the first of which stands at this place.
-pub(crate) fn least_time(events: &[Pending], first: usize) -> Option<u64>
-    requires { HasFirst events.now first }
-    ensures { result ≡ least (map (λ p. p.time) events.now) }
+// The same, where they are sorted.
+#[inline(always)]
+pub(crate) fn first_sorted(arrivals: &[Arrival]) -> usize
+    requires { AreSorted arrivals.now }
+    ensures { HasFirst arrivals.now result }
 {
-    if first < events.len() {
-        Some(events[first].time)
-    } else {
-        None
+    if arrivals.len() == 0 {
+        return 0;
+    }
+    let _source = arrivals[0].source();
+    0
+}
+
+// Whether they are sorted with one more behind them.
+#[inline(always)]
+pub(crate) fn is_sorted_with(arrivals: &[Arrival], sorted: bool, arrival: &Arrival) -> bool
+    requires { sorted ≡ true → AreSorted arrivals.now }
+    ensures { result ≡ true → AreSorted (arrivals.now ++ arrival.now ∷ []) }
+{
+    if arrivals.len() == 0 {
+        return true;
+    }
+    if !sorted {
+        return false;
+    }
+    !arrival.comes_before(&arrivals[arrivals.len() - 1])
+}
+
+// Whether the tick comes before a time.
+#[inline(always)]
+pub(crate) fn is_sooner(tick: Option<u64>, time: u64) -> bool
+    ensures { result ≡ is_sooner tick time }
+{
+    match tick {
+        None => false,
+        Some(ahead) => ahead < time,
     }
 }
 
-// The least time of a tick, or the last time that there is.
-pub(crate) fn first_tick(events: &[Pending]) -> u64
-    ensures { result ≡ first_tick_of events.now }
+// The least time, where the first arrival stands at this place.
+pub(crate) fn least_time(arrivals: &[Arrival], first: usize, tick: Option<u64>) -> Option<u64>
+    requires { HasFirst arrivals.now first }
+    ensures { result ≡ least (option_to_list tick ++ map (λ c. c.time) arrivals.now) }
 {
-    let mut least = u64::MAX;
-    for pending in events {
-        least = least.min(pending.tick_time());
+    if first >= arrivals.len() {
+        return tick;
     }
-    least
+    let time = arrivals[first].time();
+    if is_sooner(tick, time) {
+        return tick;
+    }
+    Some(time)
 }
 
-fn is_between(pending: &Pending, time: u64, first: u16, end: u16) -> bool
-    ensures { result ≡ is_between time first end pending.now }
+// How many ticks there are at a time.
+fn count_tick(tick: Option<u64>, time: u64) -> usize
+    ensures value { result ≡ length (tick_at time tick) }
+    ensures few { result ≤ 1 }
 {
-    let source = pending.source();
-    first <= source && source < end && pending.time == time
+    match tick {
+        None => 0,
+        Some(ahead) => if ahead == time { 1 } else { 0 },
+    }
 }
 
-// How many events come at a time from the sources that begin with the first and stand before the end.
-pub(crate) fn count(events: &[Pending], time: u64, first: u16, end: u16) -> usize
-    ensures value { result ≡ count_if (is_between time first end) events.now }
-    ensures few { result ≤ length events.now }
+// How many are ready at a time.
+pub(crate) fn count_ready(arrivals: &[Arrival], tick: Option<u64>, time: u64) -> usize
+    ensures value { result ≡ length (unless_any (arrivals_at time arrivals.now) (tick_at time tick)) }
+    ensures few { result ≤ length arrivals.now + 1 }
+{
+    let arriving = count(arrivals, time, 0, 256);
+    if arriving > 0 {
+        return arriving;
+    }
+    count_tick(tick, time)
+}
+
+fn is_between(arrival: &Arrival, time: u64, first: u16, end: u16) -> bool
+    ensures { result ≡ is_between time first end arrival.now }
+{
+    let source = arrival.source();
+    first <= source && source < end && arrival.time() == time
+}
+
+// How many arrivals come at a time from the sources that begin with the first and stand before the end.
+pub(crate) fn count(arrivals: &[Arrival], time: u64, first: u16, end: u16) -> usize
+    ensures value { result ≡ count_if (is_between time first end) arrivals.now }
+    ensures few { result ≤ length arrivals.now }
 {
     let mut count = 0;
-    for pending in events {
-        count += usize::from(is_between(pending, time, first, end));
+    for arrival in arrivals {
+        count += usize::from(is_between(arrival, time, first, end));
     }
     count
 }
 
-// How many events are ready at a time.
-pub(crate) fn count_ready(events: &[Pending], time: u64) -> usize
-    ensures value { result ≡ length (ready_at time events.now) }
-    ensures few { result ≤ length events.now }
-{
-    let arrivals = count(events, time, 0, 256);
-    if arrivals > 0 {
-        return arrivals;
-    }
-    count(events, time, 256, 257)
-}
-
-// The lowest source, from this one on, of which something comes at a time. The clock, where there is none.
-fn lowest_source(events: &[Pending], time: u64, first: u16) -> u16
+// The lowest source, from this one on, of which something comes at a time. 256, where there is none.
+fn lowest_source(arrivals: &[Arrival], time: u64, first: u16) -> u16
     requires { first ≤ 256 }
     ensures low { first ≤ result }
     ensures high { result ≤ 256 }
-    ensures none { (j : ℕ) → first ≤ j → j < result → count_if (comes time j) events.now ≡ 0 }
+    ensures none { (j : ℕ) → first ≤ j → j < result → count_if (comes time j) arrivals.now ≡ 0 }
 {
     let mut lowest = 256;
-    for pending in events {
-        if is_between(pending, time, first, lowest) {
-            lowest = pending.source();
+    for arrival in arrivals {
+        if is_between(arrival, time, first, lowest) {
+            lowest = arrival.source();
         }
     }
     lowest
 }
 
-// The place of the event that comes from a source at a time after so many others. Where there is none, how many of those others
+// The place of the arrival that comes from a source at a time after so many others. Where there is none, how many of those others
 // are still to be found elsewhere.
-fn place_among(events: &[Pending], time: u64, source: u16, others: usize) -> Result<usize, usize>
-    ensures { MatchResult result (λ place. StandsAt (coming_at time events.now source) others events.now place)
-        (λ left. left + length (coming_at time events.now source) ≡ others) }
+fn place_among(arrivals: &[Arrival], time: u64, source: u16, others: usize) -> Result<usize, usize>
+    ensures { MatchResult result (λ place. StandsAt (coming_at time arrivals.now source) others arrivals.now place)
+        (λ left. left + length (coming_at time arrivals.now source) ≡ others) }
 {
     let mut left = others;
-    for (place, pending) in events.iter().enumerate() {
-        if pending.comes(time, source) {
+    for (place, arrival) in arrivals.iter().enumerate() {
+        if arrival.comes(time, source) {
             if left == 0 {
                 return Ok(place);
             }
@@ -132,35 +166,21 @@ fn place_among(events: &[Pending], time: u64, source: u16, others: usize) -> Res
     Err(left)
 }
 
-// The place of the i-th event that is ready at a time.
-pub(crate) fn place_of(events: &[Pending], time: u64, i: usize) -> usize
-    requires { i < length (ready_at time events.now) }
-    ensures { StandsAt (ready_at time events.now) i events.now result }
+// The place of the i-th arrival of a time, by sender and then in the order of pushing.
+pub(crate) fn place_of(arrivals: &[Arrival], time: u64, i: usize) -> usize
+    requires { i < length (arrivals_at time arrivals.now) }
+    ensures { StandsAt (arrivals_at time arrivals.now) i arrivals.now result }
 {
     let mut first = 0;
     let mut left = i;
     'sources: loop {
-        let source = lowest_source(events, time, first);
-        match place_among(events, time, source, left) {
+        let source = lowest_source(arrivals, time, first);
+        match place_among(arrivals, time, source, left) {
             Ok(place) => return place,
             Err(others) => {
                 left = others;
                 first = source + 1;
             }
         }
-    }
-}
-
-// The place of the i-th event that is ready, where the least time is this one and the first event stands at this place.
-pub(crate) fn place_ready(events: &[Pending], head: Option<u64>, first: usize, i: usize) -> usize
-    requires head { head ≡ least (map (λ p. p.time) events.now) }
-    requires first { HasFirst events.now first }
-    requires below { i < length (ready_from head events.now) }
-    ensures { StandsAt (ready_from head events.now) i events.now result }
-{
-    if i == 0 {
-        first
-    } else {
-        place_of(events, head.unwrap_or(0), i)
     }
 }

@@ -1,15 +1,16 @@
 use Rattle.std.proofs.Common.{◌≡◌, length, arith, sym, ◌∙◌}
-use Rattle.rb_queue.specs.Waiting.{arrivals_at, ticks_at}
-use Rattle.rb_queue.proofs.Sources.{count_arrivals, count_ticks, unless_any-none, unless_any-some}
+use Rattle.rb_queue.specs.Waiting.{arrivals_at, tick_at}
+use Rattle.rb_queue.proofs.Sources.{count_arrivals}
+use Rattle.rb_queue.proofs.Readiness.{counted, uncounted}
 use Rattle.rb_queue.proofs.scan.count_ready.Goals as goal
 
-pub returns-then-arrivals-gt0-clause-value : goal.returns-then-arrivals-gt0-clause-value
-returns-then-arrivals-gt0-clause-value c =
-    let so_many : c.count-arrivals.result ≡ length (arrivals_at c.args.time c.args.events.now) = c.count-arrivals.ensures.value ∙ sym (count_arrivals c.args.time c.args.events.now) in
-    so_many ∙ sym (unless_any-some (arrivals_at c.args.time c.args.events.now) (ticks_at c.args.time c.args.events.now) (omega arith))
+pub returns-then-arriving-gt0-clause-value : goal.returns-then-arriving-gt0-clause-value
+returns-then-arriving-gt0-clause-value c =
+    let so_many : c.count-arriving.result ≡ length (arrivals_at c.args.time c.args.arrivals.now) = c.count-arriving.ensures.value ∙ sym (count_arrivals c.args.time c.args.arrivals.now) in
+    so_many ∙ sym (counted (arrivals_at c.args.time c.args.arrivals.now) (tick_at c.args.time c.args.tick) (omega (arith, so_many, c.if-arriving-gt0.true)))
 
 pub returns-clause-value : goal.returns-clause-value
 returns-clause-value c =
-    let so_many : c.count-arrivals.result ≡ length (arrivals_at c.args.time c.args.events.now) = c.count-arrivals.ensures.value ∙ sym (count_arrivals c.args.time c.args.events.now) in
-    c.count.ensures.value ∙ sym (count_ticks c.args.time c.args.events.now)
-    ∙ sym (unless_any-none (arrivals_at c.args.time c.args.events.now) (ticks_at c.args.time c.args.events.now) (omega arith))
+    let so_many : c.count-arriving.result ≡ length (arrivals_at c.args.time c.args.arrivals.now) = c.count-arriving.ensures.value ∙ sym (count_arrivals c.args.time c.args.arrivals.now) in
+    c.count_tick.ensures.value
+    ∙ sym (uncounted (arrivals_at c.args.time c.args.arrivals.now) (tick_at c.args.time c.args.tick) (omega (arith, so_many, c.if-arriving-gt0.false)))

@@ -4,5 +4,5 @@ use Rattle.rb_queue.proofs.scan.first_of.Goals as goal
 
 pub loop-place-preserved : goal.loop-place-preserved
 loop-place-preserved c =
-    let within : c.loop-place.place < length c.args.events.now = c.loop-place-test.true in
-    first_more c.args.events.now c.loop-place.place c.first_with-first.result c.index-events-place.result within c.index-events-place.is c.first_with-first.ensures
+    let within : c.loop-place.place < length c.args.arrivals.now = c.loop-place-test.true in
+    first_more c.args.arrivals.now c.loop-place.place c.first_with-first.result c.index-arrivals-place.result within c.index-arrivals-place.is c.first_with-first.ensures

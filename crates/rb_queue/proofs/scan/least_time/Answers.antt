@@ -1,8 +1,15 @@
-use Rattle.rb_queue.proofs.First.{least_of, none_least}
+use Rattle.std.proofs.Common.{Some, arith, sym, ap, ◌∙◌}
+use Rattle.rb_queue.specs.Scanning.{is_sooner}
+use Rattle.rb_queue.proofs.Readiness.{first_least, tick_least}
 use Rattle.rb_queue.proofs.scan.least_time.Goals as goal
 
-pub returns-then-first-events : goal.returns-then-first-events
-returns-then-first-events c = least_of c.args.events.now c.args.first c.index-events-first.result c.requires c.if-first-events.true
+pub returns-then-is_sooner : goal.returns-then-is_sooner
+returns-then-is_sooner c =
+    tick_least c.args.arrivals.now c.args.first c.index-arrivals-first.result c.args.tick c.requires (omega (arith, c.if-first-arrivals.false)) c.index-arrivals-first.is
+    (ap (is_sooner c.args.tick) (sym c.time-time.ensures) ∙ sym c.is_sooner.ensures ∙ c.if-is_sooner.true)
 
-pub returns-else-first-events : goal.returns-else-first-events
-returns-else-first-events c = none_least c.args.events.now c.args.first c.requires c.if-first-events.false
+pub returns : goal.returns
+returns c =
+    ap (λ n. Some n) c.time-time.ensures
+    ∙ first_least c.args.arrivals.now c.args.first c.index-arrivals-first.result c.args.tick c.requires (omega (arith, c.if-first-arrivals.false)) c.index-arrivals-first.is
+    (ap (is_sooner c.args.tick) (sym c.time-time.ensures) ∙ sym c.is_sooner.ensures ∙ c.if-is_sooner.false)

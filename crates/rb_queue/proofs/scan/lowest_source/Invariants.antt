@@ -1,5 +1,5 @@
 use Rattle.rb_queue.proofs.Sources.{IsLowest}
 use Rattle.rb_queue.proofs.scan.lowest_source.Given as goal
 
-abbrev pub invariant-loop-pending : goal.invariant-loop-pending
-invariant-loop-pending l = IsLowest l.time l.events l.pending-index l.first l.lowest
+abbrev pub invariant-loop-arrival : goal.invariant-loop-arrival
+invariant-loop-arrival l = IsLowest l.time l.arrivals l.arrival-index l.first l.lowest

@@ -5,6 +5,6 @@ use Rattle.rb_queue.proofs.scan.place_among.Given as goal
 
 abbrev pub invariant-loop-place : goal.invariant-loop-place
 invariant-loop-place l = record {
-  same : slice_get (passing_from (comes l.time l.source) l.events l.place) l.left ≡ slice_get (coming_at l.time l.events l.source) l.others;
-  many : l.left + length (coming_at l.time l.events l.source) ≡ l.others + length (passing_from (comes l.time l.source) l.events l.place);
+  same : slice_get (passing_from (comes l.time l.source) l.arrivals l.place) l.left ≡ slice_get (coming_at l.time l.arrivals l.source) l.others;
+  many : l.left + length (coming_at l.time l.arrivals l.source) ≡ l.others + length (passing_from (comes l.time l.source) l.arrivals l.place);
 }
