@@ -1,10 +1,8 @@
 -- One node's lane and site change, and those of no other.
 use Rattle.std.proofs.Common.{◌≡◌, ℕ, zero, suc, ◌+◌, ◌<◌, ◌==◌, ◌&&◌, Bool, true, false, Some, None, List, [], ◌∷◌, ◌++◌, All, length, slice_get, refl, sym, ap, ◌∙◌, subst, arith}
-use Rattle.std.specs.Prelude.{option_map, option_to_list, unwrap_or, slice_set}
-use Rattle.std.specs.List.{cons_option}
+use Rattle.std.specs.Prelude.{option_map, unwrap_or, slice_set}
 use Rattle.std.proofs.lemmas.Bool.Decides.{nat_tests}
-use Rattle.std.proofs.lemmas.List.{append-nil}
-use Rattle.std.proofs.lemmas.List.Elements.{All-append, All-cons, All-nil, filter_map-append}
+use Rattle.std.proofs.lemmas.List.Elements.{All-append, All-cons, All-nil}
 use Rattle.rb_base.specs.Nodes.{Side, other}
 use Rattle.rb_base.specs.Nodes.Side.{Biu, Rmu}
 use Rattle.rb_base.specs.Sizes.{Sizes}
@@ -13,9 +11,8 @@ use Rattle.rb_rules.specs.Links.{name_of}
 use Rattle.rb_rules.specs.WorldStep.{Site, Timed, at_node}
 use Rattle.rb_rules.specs.Hearing.{Coming}
 use Rattle.rb_rules.specs.Slots.{count_of}
-use Rattle.rb_queue.specs.declared.pending.Pending.{Pending}
-use Rattle.rb_queue.specs.Waiting.{HasLane, Held, empty_lane, lane_of, with_event, with_lane, without_events}
-use Rattle.rb_agenda.specs.Holding.{HoldsAll, HoldsSite, HoldsSites, arrivals_in, coming_with, tick_with, ticks_in}
+use Rattle.rb_queue.specs.Waiting.{HasLane, Held, empty_lane, lane_of, with_arrival, with_lane, with_tick, without_events}
+use Rattle.rb_agenda.specs.Holding.{HoldsAll, HoldsSite, HoldsSites}
 
 -- the site with number n of a kind, if the kind is this one
 abbrev changed : Bool → ℕ → (Site → Site) → ℕ → Site → Site
@@ -74,34 +71,24 @@ holds-at sizes lanes sites Rmu n new change holds h step = record {
 -- One more, or none.
 
 -- an arrival is pushed
-pub holds-arrival : (sizes : Sizes) (me : Side) (lane : Held) (s : Site) (p : Pending) (c : Coming) → HoldsSite sizes me lane s
-    → coming_with p.time p.event.kind ≡ Some c → tick_with p.time p.event.kind ≡ None → c.from < count_of (other me) sizes
-    → HoldsSite sizes me (with_event p lane) (record s { coming = s.coming ++ c ∷ [] })
-holds-arrival sizes me lane s p c holds is none small = record {
-  coming = filter_map-append (λ q. coming_with q.time q.event.kind) lane.events (p ∷ []) ∙ ap (λ o. arrivals_in lane.events ++ cons_option o []) is
-      ∙ ap (λ l. l ++ c ∷ []) holds.coming;
-  ahead = filter_map-append (λ q. tick_with q.time q.event.kind) lane.events (p ∷ []) ∙ ap (λ o. ticks_in lane.events ++ cons_option o []) none
-      ∙ append-nil (ticks_in lane.events) ∙ holds.ahead;
+pub holds-arrival : (sizes : Sizes) (me : Side) (lane : Held) (s : Site) (c : Coming) → HoldsSite sizes me lane s → c.from < count_of (other me) sizes
+    → HoldsSite sizes me (with_arrival c lane) (record s { coming = s.coming ++ c ∷ [] })
+holds-arrival sizes me lane s c holds small = record {
+  coming = ap (λ cs. cs ++ c ∷ []) holds.coming;
+  ahead = holds.ahead;
   senders = All-append (λ c. c.from < count_of (other me) sizes) s.coming (c ∷ []) holds.senders
       (All-cons (λ c. c.from < count_of (other me) sizes) c [] small (All-nil (λ c. c.from < count_of (other me) sizes)));
 }
 
--- a tick is pushed where none waits
-pub holds-tick : (sizes : Sizes) (me : Side) (lane : Held) (s : Site) (p : Pending) (a : Timed) → HoldsSite sizes me lane s → s.ahead ≡ None
-    → coming_with p.time p.event.kind ≡ None → tick_with p.time p.event.kind ≡ Some a.time
-    → HoldsSite sizes me (with_event p lane) (record s { ahead = Some a })
-holds-tick sizes me lane s p a holds none no_coming is = record {
-  coming = filter_map-append (λ q. coming_with q.time q.event.kind) lane.events (p ∷ []) ∙ ap (λ o. arrivals_in lane.events ++ cons_option o []) no_coming
-      ∙ append-nil (arrivals_in lane.events) ∙ holds.coming;
-  ahead = filter_map-append (λ q. tick_with q.time q.event.kind) lane.events (p ∷ []) ∙ ap (λ o. ticks_in lane.events ++ cons_option o []) is
-      ∙ ap (λ l. l ++ a.time ∷ []) (holds.ahead ∙ ap (λ o. option_to_list (option_map (λ a. a.time) o)) none);
-  senders = holds.senders;
-}
+-- a tick is pending
+pub holds-tick : (sizes : Sizes) (me : Side) (lane : Held) (s : Site) (a : Timed) → HoldsSite sizes me lane s
+    → HoldsSite sizes me (with_tick a.time lane) (record s { ahead = Some a })
+holds-tick sizes me lane s a holds = record { coming = holds.coming; ahead = refl; senders = holds.senders }
 
 -- all that waits is dropped
 pub holds-nothing : (sizes : Sizes) (me : Side) (lane : Held) (s : Site) → s.ahead ≡ None → s.coming ≡ [] → HoldsSite sizes me (without_events lane) s
 holds-nothing sizes me lane s no_tick nothing = record {
   coming = sym nothing;
-  ahead = sym (ap (λ o. option_to_list (option_map (λ a. a.time) o)) no_tick);
+  ahead = sym (ap (λ o. option_map (λ a. a.time) o) no_tick);
   senders = subst (All (λ c. c.from < count_of (other me) sizes)) (sym nothing) (All-nil (λ c. c.from < count_of (other me) sizes));
 }

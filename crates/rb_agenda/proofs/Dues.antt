@@ -33,13 +33,13 @@ sites_due sizes o me i (s ∷ ss) = site_due sizes o me i s ++ sites_due sizes o
 unfoldable pub dues_from : ℕ → Side → ℕ → List Held → List Site → List Due
 dues_from time me i [] ss = []
 dues_from time me i (l ∷ ls) [] = []
-dues_from time me i (l ∷ ls) (s ∷ ss) = map (due_with me i l.events s) (due_in time l) ++ dues_from time me (i + 1) ls ss
+dues_from time me i (l ∷ ls) (s ∷ ss) = map (due_with me i s) (due_in time l) ++ dues_from time me (i + 1) ls ss
 
 one-due : (sizes : Sizes) (o : Option ℕ) (me : Side) (i : ℕ) (l : Held) (s : Site) → count_of (other me) sizes ≤ 256 → HoldsSite sizes me l s → IsLow o (head_of l) → IsTime o
-    → site_due sizes o me i s ≡ map (due_with me i l.events s) (due_in (unwrap_or o 18446744073709551615) l)
-one-due sizes None me i l s few holds low time = ap (map (due_with me i l.events s)) (sym (due-by None (head_of l) l.events refl low time))
+    → site_due sizes o me i s ≡ map (due_with me i s) (due_in (unwrap_or o 18446744073709551615) l)
+one-due sizes None me i l s few holds low time = ap (map (due_with me i s)) (sym (due-by None (head_of l) l refl low time))
 one-due sizes (Some t) me i l s few holds low time =
-    ready-is sizes me i t l s few holds ∙ ap (map (due_with me i l.events s)) (sym (due-by (Some t) (head_of l) l.events refl low time))
+    ready-is sizes me i t l s few holds ∙ ap (map (due_with me i s)) (sym (due-by (Some t) (head_of l) l refl low time))
 
 all-due : (sizes : Sizes) (o : Option ℕ) (me : Side) (i : ℕ) (ls : List Held) (ss : List Site) → count_of (other me) sizes ≤ 256 → HoldsAll sizes me ls ss → AreLow o ls → IsTime o
     → sites_due sizes o me i ss ≡ dues_from (unwrap_or o 18446744073709551615) me i ls ss
@@ -49,7 +49,7 @@ all-due sizes o me i [] (s ∷ ss) few holds low time = absurd holds
 all-due sizes o me i (l ∷ ls) [] few holds low time = absurd holds
 all-due sizes o me i (l ∷ ls) (s ∷ ss) few holds low time =
     ap (λ d. d ++ sites_due sizes o me (i + 1) ss) (one-due sizes o me i l s few holds.0 low.0 time)
-    ∙ ap (λ d. map (due_with me i l.events s) (due_in (unwrap_or o 18446744073709551615) l) ++ d) (all-due sizes o me (i + 1) ls ss few holds.1 low.1 time)
+    ∙ ap (λ d. map (due_with me i s) (due_in (unwrap_or o 18446744073709551615) l) ++ d) (all-due sizes o me (i + 1) ls ss few holds.1 low.1 time)
 
 due-none : (sizes : Sizes) (me : Side) (i : ℕ) (ss : List Site) → sites_due sizes None me i ss ≡ []
 due-none sizes me i [] = refl
@@ -97,8 +97,8 @@ unfolding dues_from due_count
 length-dues sizes t me i [] ss holds = refl
 length-dues sizes t me i (l ∷ ls) [] holds = absurd holds
 length-dues sizes t me i (l ∷ ls) (s ∷ ss) holds =
-    length-append (map (due_with me i l.events s) (due_in t l)) (dues_from t me (i + 1) ls ss)
-    ∙ omega (arith, length-map (due_in t l) (due_with me i l.events s), length-dues sizes t me (i + 1) ls ss holds.1)
+    length-append (map (due_with me i s) (due_in t l)) (dues_from t me (i + 1) ls ss)
+    ∙ omega (arith, length-map (due_in t l) (due_with me i s), length-dues sizes t me (i + 1) ls ss holds.1)
 
 pub many-due : (sc : Scenario) (w : World) (lanes : Each Held) → HoldsSites sc.sizes lanes w.sites → AreTimes (in_order lanes) → length (due_now sc w) ≡ how_many lanes
 many-due sc w lanes holds times =

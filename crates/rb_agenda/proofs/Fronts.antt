@@ -1,14 +1,14 @@
 -- The place of the least of the keys.
-use Rattle.std.proofs.Common.{◌≡◌, ◌≢◌, ℕ, zero, suc, ◌+◌, ◌<◌, ◌≤◌, ◌==◌, ◌&&◌, ◌⊎◌, nat_lt, min, Bool, true, false, List, [], ◌∷◌, length, take, set, get_or, if◌then◌else◌, refl, sym, ap, ◌∙◌, subst, arith, inl, inr}
+use Rattle.std.proofs.Common.{◌≡◌, ◌≢◌, ℕ, zero, suc, ◌+◌, ◌<◌, ◌≤◌, ◌==◌, ◌&&◌, ◌⊎◌, nat_lt, min, Bool, true, false, List, [], ◌∷◌, length, take, drop, set, get_or, if◌then◌else◌, refl, sym, ap, ◌∙◌, subst, arith, inl, inr}
 use Rattle.std.proofs.lemmas.Bool.{cases_lt}
 use Rattle.std.proofs.lemmas.Bool.Decides.{nat_tests}
-use Rattle.std.proofs.lemmas.List.{get_or-set_other, get_or-set_same, length-set}
+use Rattle.std.proofs.lemmas.List.{get_or-set_other, get_or-set_same, length-set, take-append-drop}
 use Rattle.rb_rules.specs.Book.{Each, in_order}
-use Rattle.rb_queue.specs.declared.pending.Pending.{Pending}
-use Rattle.rb_queue.specs.Waiting.{Held, lane_of, ready_of}
+use Rattle.rb_queue.specs.Waiting.{Held, Ready, lane_of, ready_of}
 use Rattle.rb_agenda.specs.declared.scan.Front.{Front}
 use Rattle.rb_agenda.specs.Agenda.{AreKept, StandsAt, due_count, due_in, key_of, least_key, node_at}
 use Rattle.rb_agenda.specs.Fronts.{IsFront, lowered}
+use Rattle.rb_agenda.proofs.Dues.{count-append}
 use Rattle.rb_agenda.proofs.Scans.{count-more, is-here, least-more}
 
 same-or-not : (k n : ℕ) → (k ≡ n) ⊎ (k ≢ n)
@@ -72,6 +72,13 @@ front-more keys i front h small is = go (nat_lt (get_or keys i 0) front.least) r
           low = λ k below. at k below (λ k. front.least ≤ get_or keys k 0) is.low most;
           before = is.before;
         }
+
+-- one key more
+pub front-key : (keys : List ℕ) (i key : ℕ) (front next : Front) → i < length keys → get_or keys i 0 ≡ key → key ≤ 18446744073709551615 → IsFrontOf keys i front
+    → next ≡ (if nat_lt key front.least then record { first = i; least = key } else front) → IsFrontOf keys (i + 1) next
+front-key keys i key front next h at small is after =
+    subst (IsFrontOf keys (i + 1)) (sym (after ∙ ap (λ k. if nat_lt k front.least then record { first = i; least = k } else front) (sym at)))
+    (front-more keys i front h (omega (arith, at, small)) is)
 
 pub front-all : (keys : List ℕ) (i : ℕ) (front : Front) → take i keys ≡ keys → IsFrontOf keys i front → IsFront keys front
 front-all keys i front all is = record {
@@ -221,7 +228,10 @@ front-raised keys place key front h up apart is = record {
 -- ---- what is due first
 
 not-due : (t : ℕ) (l : Held) → (key_of l == t) ≡ false → length (due_in t l) ≡ 0
-not-due t l e = ap (λ b. length (elim b as (λ _. List (ℕ × Pending)) [ true ↦ ready_of l | false ↦ [] ])) e
+not-due t l e = ap (λ b. length (elim b as (λ _. List Ready) [ true ↦ ready_of l | false ↦ [] ])) e
+
+its-due : (t : ℕ) (l : Held) → (key_of l == t) ≡ true → length (due_in t l) ≡ length (ready_of l)
+its-due t l e = ap (λ b. length (elim b as (λ _. List Ready) [ true ↦ ready_of l | false ↦ [] ])) e
 
 -- nothing is due before the front
 none-before : (lanes : Each Held) (keys : List ℕ) (bius : ℕ) (front : Front) → AreKept lanes keys bius → IsFront keys front → front.first ≤ length keys
@@ -250,9 +260,23 @@ stands-first lanes keys bius front kept is within least ready =
     record {
       position = front.first;
       within = here.within;
-      node = ap (λ b. node_at b front.first) kept.split;
+      node = ap (λ b. node_at b front.first) kept.few.split;
       lane = here.lane;
       first = grind (arith, nat_tests);
       ready = ready;
       before = omega (arith, none-before lanes keys bius front kept is (omega (arith, within)) front.first (omega arith));
     }
+
+-- then something is due
+pub some-due : (lanes : Each Held) (keys : List ℕ) (bius : ℕ) (front : Front) → AreKept lanes keys bius → front.first < length keys
+    → get_or keys front.first 0 ≡ front.least → 0 < length (ready_of (lane_of lanes (node_at bius front.first)))
+    → 0 < due_count front.least (in_order lanes)
+some-due lanes keys bius front kept within least ready =
+    let here = is-here lanes keys bius front.first kept within in
+    let l : Held = lane_of lanes (node_at bius front.first) in
+    let key : get_or keys front.first 0 ≡ key_of l = here.key in
+    let now : (key_of l == front.least) ≡ true = grind (arith, nat_tests) in
+    let more = count-more lanes bius front.first (get_or keys front.first 0) front.least here in
+    let parts = sym (ap (due_count front.least) (take-append-drop (front.first + 1) (in_order lanes)))
+    ∙ count-append front.least (take (front.first + 1) (in_order lanes)) (drop (front.first + 1) (in_order lanes)) in
+    omega (arith, parts, more, its-due front.least l now, ready)

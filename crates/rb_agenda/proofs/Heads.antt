@@ -1,24 +1,22 @@
 -- The least time of all lanes is that of the world.
-use Rattle.std.proofs.Common.{◌≡◌, ℕ, ◌+◌, ◌<◌, ◌≤◌, ◌==◌, ◌&&◌, min, Bool, true, false, Option, Some, None, List, [], ◌∷◌, ◌++◌, length, map, refl, sym, ap, ◌∙◌, arith}
-use Rattle.std.specs.Prelude.{⊤, option_map, option_to_list, unwrap_or}
-use Rattle.std.specs.List.{cons_option, flat_map}
+use Rattle.std.proofs.Common.{◌≡◌, ℕ, ◌+◌, ◌<◌, ◌≤◌, ◌==◌, ◌&&◌, min, Bool, true, false, Option, Some, None, List, [], ◌∷◌, ◌++◌, map, refl, sym, ap, ◌∙◌, arith}
+use Rattle.std.specs.Prelude.{⊤, option_to_list, unwrap_or}
+use Rattle.std.specs.List.{flat_map}
 use Rattle.std.proofs.lemmas.Bool.Decides.{nat_tests}
 use Rattle.std.proofs.lemmas.Grind.{flat_map-append}
 use Rattle.rb_base.specs.Counting.{count_if}
 use Rattle.rb_base.specs.Nodes.{Side}
 use Rattle.rb_base.specs.Nodes.Side.{Biu, Rmu}
 use Rattle.rb_base.specs.Sizes.{Sizes}
-use Rattle.rb_base.specs.declared.event.EventKind.{EventKind}
-use Rattle.rb_base.specs.declared.event.EventKind.TheVariants as kind
 use Rattle.rb_rules.specs.Book.{Each, in_order}
 use Rattle.rb_rules.specs.Hearing.{Coming}
 use Rattle.rb_rules.specs.WorldStep.{Site, least, times_of}
-use Rattle.rb_queue.specs.declared.pending.Pending.{Pending}
-use Rattle.rb_queue.specs.Waiting.{Held, comes, coming_at, head_of, ready_from, source_of}
-use Rattle.rb_queue.specs.Waiting.{ready_at as ready_in, unless_any as unless_some, arrivals_at as arrivals_of, ticks_at as ticks_of}
-use Rattle.rb_queue.proofs.Sources.{arrivals_are, from_on, from_on-skip, from_on-zero, length-coming_at}
+use Rattle.rb_queue.specs.Waiting.{Held, Ready, comes, head_of, ready_from}
+use Rattle.rb_queue.specs.Waiting.{ready_at as ready_in, unless_any as unless_some, arrivals_at as arrivals_of, tick_at as tick_in}
+use Rattle.rb_queue.specs.Waiting.Ready.{Ticks}
+use Rattle.rb_queue.proofs.Sources.{arrivals_are, from_on, from_on-skip, from_on-zero}
 use Rattle.rb_agenda.specs.Agenda.{key_of, least_key}
-use Rattle.rb_agenda.specs.Holding.{HoldsAll, HoldsSite, HoldsSites, arrivals_in, coming_with, tick_with, ticks_in}
+use Rattle.rb_agenda.specs.Holding.{HoldsAll, HoldsSite, HoldsSites}
 
 -- The sooner of two times, each of which may be missing.
 abbrev pub sooner : Option ℕ → Option ℕ → Option ℕ
@@ -31,12 +29,6 @@ sooner-assoc None b c = refl
 sooner-assoc (Some a) None c = refl
 sooner-assoc (Some a) (Some b) None = refl
 sooner-assoc (Some a) (Some b) (Some c) = ap Some (omega arith)
-
-sooner-swap : (a b c : Option ℕ) → sooner a (sooner b c) ≡ sooner b (sooner a c)
-sooner-swap None b c = refl
-sooner-swap (Some a) None c = refl
-sooner-swap (Some a) (Some b) None = ap Some (omega arith)
-sooner-swap (Some a) (Some b) (Some c) = ap Some (omega arith)
 
 least-cons : (t : ℕ) (ts : List ℕ) → least (t ∷ ts) ≡ sooner (Some t) (least ts)
 least-cons t ts =
@@ -51,27 +43,12 @@ least-append (x ∷ xs) ys =
     ∙ ap (λ o. sooner o (least ys)) (sym (least-cons x xs))
 
 -- One lane.
-one_time : (time : ℕ) (ticks : List ℕ) (arrivals : List Coming) (k : EventKind)
-    → sooner (Some time) (sooner (least ticks) (least (map (λ c. c.time) arrivals)))
-    ≡ sooner (least (cons_option (tick_with time k) ticks)) (least (map (λ c. c.time) (cons_option (coming_with time k) arrivals)))
-one_time time ticks arrivals (kind.Arrive from bytes) =
-    sooner-swap (Some time) (least ticks) (least (map (λ c. c.time) arrivals)) ∙ ap (sooner (least ticks)) (sym (least-cons time (map (λ c. c.time) arrivals)))
-one_time time ticks arrivals (kind.Tick word wanted) =
-    sym (sooner-assoc (Some time) (least ticks) (least (map (λ c. c.time) arrivals))) ∙ ap (λ o. sooner o (least (map (λ c. c.time) arrivals))) (sym (least-cons time ticks))
-
-least-lane : (events : List Pending) → least (map (λ p. p.time) events) ≡ sooner (least (ticks_in events)) (least (map (λ c. c.time) (arrivals_in events)))
-least-lane [] = refl
-least-lane (x ∷ events) =
-    least-cons x.time (map (λ p. p.time) events) ∙ ap (sooner (Some x.time)) (least-lane events)
-    ∙ one_time x.time (ticks_in events) (arrivals_in events) x.event.kind
 
 -- the head of a lane is the least time at its site
 pub head-is : (sizes : Sizes) (me : Side) (lane : Held) (s : Site) → HoldsSite sizes me lane s → least (times_of s) ≡ head_of lane
 head-is sizes me lane s holds =
-    let ticks : List ℕ = option_to_list (option_map (λ a. a.time) s.ahead) in
-    let arrivals : List ℕ = map (λ c. c.time) s.coming in
-    least-append ticks arrivals ∙ ap (λ ts. sooner (least ts) (least arrivals)) (sym holds.ahead)
-    ∙ ap (λ cs. sooner (least (ticks_in lane.events)) (least (map (λ c. c.time) cs))) (sym holds.coming) ∙ sym (least-lane lane.events)
+    ap (λ o. least (option_to_list o ++ map (λ c. c.time) s.coming)) (sym holds.ahead)
+    ∙ ap (λ cs. least (option_to_list lane.tick ++ map (λ c. c.time) cs)) (sym holds.coming)
 
 -- All lanes.
 abbrev pub first_head : List Held → Option ℕ
@@ -191,47 +168,49 @@ later t (u ∷ us) low =
 not-then : (t j s u : ℕ) → t < u → ((s == j) && (u == t)) ≡ false
 not-then t j s u h = grind (arith, nat_tests)
 
-none-then : (t j : ℕ) (events : List Pending) → AllLater t (map (λ p. p.time) events) → count_if (comes t j) events ≡ 0
+none-then : (t j : ℕ) (arrivals : List Coming) → AllLater t (map (λ c. c.time) arrivals) → count_if (comes t j) arrivals ≡ 0
 none-then t j [] h = refl
-none-then t j (x ∷ events) h =
-    let more : count_if (comes t j) events ≡ 0 = none-then t j events h.1 in
-    rw (not-then t j (source_of x.event.kind) x.time h.0) (omega (arith, more))
+none-then t j (x ∷ arrivals) h =
+    let more : count_if (comes t j) arrivals ≡ 0 = none-then t j arrivals h.1 in
+    rw (not-then t j x.from x.time h.0) (omega (arith, more))
 
-no_items : {X : Type 0} (xs : List X) → length xs ≡ 0 → xs ≡ []
-no_items [] e = refl
-no_items (x ∷ xs) e = absurd (omega arith)
+no-tick : (t u : ℕ) → t < u → tick_in t (Some u) ≡ []
+no-tick t u less =
+    let other : (u == t) ≡ false = grind (arith, nat_tests) in
+    ap (λ b. elim b as (λ _. List Ready) [ true ↦ Ticks ∷ [] | false ↦ [] ]) other
 
-ticks_are_one : (t : ℕ) (events : List Pending) → ticks_of t events ≡ coming_at t events 256
-unfolding ticks_of
-ticks_are_one t events = refl
+-- nothing comes at a time where all comes later
+none-come : (t : ℕ) (arrivals : List Coming) → AllLater t (map (λ c. c.time) arrivals) → arrivals_of t arrivals ≡ []
+none-come t arrivals h =
+    arrivals_are t arrivals ∙ ap (from_on t arrivals 0) (let e : 256 ≡ 256 + 0 = omega arith in e)
+    ∙ from_on-skip t arrivals 0 256 0 (λ j low high. none-then t j arrivals h) ∙ from_on-zero t arrivals (0 + 256)
 
--- nothing is ready at a time where no source has anything then
-none-ready : (t : ℕ) (events : List Pending) → ((j : ℕ) → count_if (comes t j) events ≡ 0) → ready_in t events ≡ []
-none-ready t events none =
-    let arrivals : arrivals_of t events ≡ [] =
-    arrivals_are t events ∙ ap (from_on t events 0) (let e : 256 ≡ 256 + 0 = omega arith in e) ∙ from_on-skip t events 0 256 0 (λ j low high. none j) ∙ from_on-zero t events (0 + 256) in
-    let ticks : ticks_of t events ≡ [] = ticks_are_one t events ∙ no_items (coming_at t events 256) (length-coming_at t events 256 ∙ none 256) in
-    ap (λ l. unless_some l (ticks_of t events)) arrivals ∙ ticks
+-- nothing is ready at a time where all comes later
+none-ready : (t : ℕ) (arrivals : List Coming) (tick : Option ℕ) → AllLater t (option_to_list tick ++ map (λ c. c.time) arrivals)
+    → unless_some (arrivals_of t arrivals) (tick_in t tick) ≡ []
+none-ready t arrivals None h = ap (λ l. unless_some l (tick_in t None)) (none-come t arrivals h)
+none-ready t arrivals (Some u) h = ap (λ l. unless_some l (tick_in t (Some u))) (none-come t arrivals h.1) ∙ no-tick t u h.0
 
 -- the lane of which this is the head, where o is the first of all heads
-pub due-by : (o h : Option ℕ) (events : List Pending) → h ≡ least (map (λ p. p.time) events) → IsLow o h → IsTime o
-    → elim (unwrap_or h 18446744073709551615 == unwrap_or o 18446744073709551615) [ true ↦ ready_from h events | false ↦ [] ] ≡ ready_from o events
-due-by o None [] is low time =
-    let key : ℕ = unwrap_or o 18446744073709551615 in
-    let go : (b : Bool) → ◌≡◌ {A = List (ℕ × Pending)} (elim b [ true ↦ [] | false ↦ [] ]) [] =
-    λ b. elim b as (λ b. ◌≡◌ {A = List (ℕ × Pending)} (elim b [ true ↦ [] | false ↦ [] ]) []) [ true ↦ refl | false ↦ refl ] in
-    let none : (o : Option ℕ) → ready_from o [] ≡ [] = λ o. elim o as (λ o. ready_from o [] ≡ []) [ None ↦ refl | Some t ↦ none-ready t [] (λ j. refl) ] in
-    go (18446744073709551615 == key) ∙ sym (none o)
-due-by o None (x ∷ events) is low time =
-    let never : None ≡ least (map (λ p. p.time) (x ∷ events)) = is in cc
-due-by None (Some h) events is low time = absurd low
-due-by (Some t) (Some h) events is low time =
-    let go : (b : Bool) → (h == t) ≡ b → elim b [ true ↦ ready_in h events | false ↦ [] ] ≡ ready_in t events =
-    λ b. elim b as (λ b. (h == t) ≡ b → elim b [ true ↦ ready_in h events | false ↦ [] ] ≡ ready_in t events) [
-      | true ↦ λ e. let same : h ≡ t = grind (arith, nat_tests) in ap (λ t. ready_in t events) same
-      | false ↦ λ e.
-          let less : t < h = grind (arith, nat_tests) in
-          sym (none-ready t events (λ j. none-then t j events (later t (map (λ p. p.time) events) (λ u eu.
-          let same : h ≡ u = ap (λ o. unwrap_or o h) (is ∙ eu) in omega arith))))
-    ] in
-    go (h == t) refl
+pub due-by : (o h : Option ℕ) (lane : Held) → h ≡ head_of lane → IsLow o h → IsTime o
+    → elim (unwrap_or h 18446744073709551615 == unwrap_or o 18446744073709551615) [ true ↦ ready_from h lane | false ↦ [] ] ≡ ready_from o lane
+due-by o None lane is low time = go (18446744073709551615 == unwrap_or o 18446744073709551615) ∙ sym (none o)
+  where
+    go : (b : Bool) → ◌≡◌ {A = List Ready} (elim b as (λ _. List Ready) [ true ↦ [] | false ↦ [] ]) []
+    go true = refl
+    go false = refl
+
+    none : (o : Option ℕ) → ready_from o lane ≡ []
+    none None = refl
+    none (Some t) =
+        none-ready t lane.arrivals lane.tick
+        (later t (option_to_list lane.tick ++ map (λ c. c.time) lane.arrivals) (λ u e. absurd (let never : ◌≡◌ {A = Option ℕ} None (Some u) = is ∙ e in cc)))
+due-by None (Some h) lane is low time = absurd low
+due-by (Some t) (Some h) lane is low time = go (h == t) refl
+  where
+    go : (b : Bool) → (h == t) ≡ b → elim b as (λ _. List Ready) [ true ↦ ready_in h lane | false ↦ [] ] ≡ ready_in t lane
+    go true e = let same : h ≡ t = grind (arith, nat_tests) in ap (λ t. ready_in t lane) same
+    go false e =
+        let less : t < h = grind (arith, nat_tests) in
+        sym (none-ready t lane.arrivals lane.tick (later t (option_to_list lane.tick ++ map (λ c. c.time) lane.arrivals) (λ u eu.
+        let same : h ≡ u = ap (λ o. unwrap_or o h) (is ∙ eu) in omega (arith, same, less))))

@@ -11,9 +11,9 @@ use Rattle.rb_base.specs.Sizes.{IsShape, Sizes}
 use Rattle.rb_base.specs.declared.node.NodeName.{NodeName}
 use Rattle.rb_base.specs.declared.node.NodeName.TheVariants as node
 use Rattle.rb_rules.specs.Book.{Each, each_of, in_order}
-use Rattle.rb_queue.specs.declared.pending.Pending.{Pending}
-use Rattle.rb_queue.specs.Waiting.{HasLane, Held, empty_lane, head_of, lane_of, ready_of, with_lane, without_found, without_ready}
-use Rattle.rb_agenda.specs.Agenda.{AreKept, key_of, node_at, position_of}
+use Rattle.rb_queue.specs.Waiting.{HasLane, Held, Ready, empty_lane, head_of, lane_of, ready_of, with_lane, without_found, without_ready}
+use Rattle.rb_queue.specs.Waiting.Ready.{Comes, Ticks}
+use Rattle.rb_agenda.specs.Agenda.{AreFew, AreKept, AreKeptUnless, key_of, keys_of, node_at, position_of}
 use Rattle.rb_agenda.proofs.Heads.{AreTimes, IsTime}
 
 -- A lane changes.
@@ -42,22 +42,28 @@ with-in-order lanes (node.Rmu i) lane h =
 
 -- Least times.
 
-kept-there : (lanes new : Each Held) (keys : List ℕ) (bius : ℕ) (name : NodeName) (lane : Held) (key : ℕ) → AreKept lanes keys bius → HasLane lanes name
-    → new ≡ with_lane name lane lanes → lane.room ≤ 65536 → key ≡ key_of (lane_of new name) → key ≤ 18446744073709551615
-    → AreKept new (slice_set keys (position_of bius name) key) bius
-kept-there lanes new keys bius name lane key kept h after room is small =
-    let changed : key ≡ key_of lane = is ∙ ap (λ x. key_of (lane_of x name)) after ∙ ap key_of (lane-with lanes name lane h) in
-    let order : in_order new ≡ slice_set (in_order lanes) (position_of bius name) lane =
-    ap in_order after ∙ with-in-order lanes name lane h ∙ ap (λ b. slice_set (in_order lanes) (position_of b name) lane) (sym kept.split) in
+order-with : (lanes new : Each Held) (bius : ℕ) (name : NodeName) (lane : Held) → bius ≡ length lanes.bius → HasLane lanes name → new ≡ with_lane name lane lanes
+    → in_order new ≡ slice_set (in_order lanes) (position_of bius name) lane
+order-with lanes new bius name lane split h after =
+    ap in_order after ∙ with-in-order lanes name lane h ∙ ap (λ b. slice_set (in_order lanes) (position_of b name) lane) (sym split)
+
+-- as many keys as before
+pub many-with : (lanes new : Each Held) (bius : ℕ) (name : NodeName) (lane : Held) → bius ≡ length lanes.bius → HasLane lanes name → new ≡ with_lane name lane lanes
+    → length (keys_of lanes) ≡ length (keys_of new)
+many-with lanes new bius name lane split h after =
+    length-map (in_order lanes) key_of ∙ sym (length-set (in_order lanes) (position_of bius name) lane)
+    ∙ ap length (sym (order-with lanes new bius name lane split h after)) ∙ sym (length-map (in_order new) key_of)
+
+pub few-with : (lanes new : Each Held) (bius : ℕ) (name : NodeName) (lane : Held) → AreFew lanes bius → HasLane lanes name
+    → new ≡ with_lane name lane lanes → lane.room ≤ 65536 → AreFew new bius
+few-with lanes new bius name lane few h after room =
+    let order = order-with lanes new bius name lane few.split h after in
     let as_many = many name in
     record {
-      each = ap (slice_set keys (position_of bius name)) changed ∙ ap (λ ks. slice_set ks (position_of bius name) (key_of lane)) kept.each
-          ∙ sym (map-set key_of (in_order lanes) (position_of bius name) lane) ∙ ap (map key_of) (sym order);
-      small = All-set (λ k. k ≤ 18446744073709551615) keys (position_of bius name) key small kept.small;
-      split = kept.split ∙ sym (ap (λ x. length x.bius) after ∙ as_many.0);
-      few_bius = subst (λ n. n ≤ 16) (sym (ap (λ x. length x.bius) after ∙ as_many.0)) kept.few_bius;
-      few_rmus = subst (λ n. n ≤ 16) (sym (ap (λ x. length x.rmus) after ∙ as_many.1)) kept.few_rmus;
-      short = subst (All (λ l. l.room ≤ 65536)) (sym order) (All-set (λ l. l.room ≤ 65536) (in_order lanes) (position_of bius name) lane room kept.short);
+      split = few.split ∙ sym (ap (λ x. length x.bius) after ∙ as_many.0);
+      few_bius = subst (λ n. n ≤ 16) (sym (ap (λ x. length x.bius) after ∙ as_many.0)) few.few_bius;
+      few_rmus = subst (λ n. n ≤ 16) (sym (ap (λ x. length x.rmus) after ∙ as_many.1)) few.few_rmus;
+      short = subst (All (λ l. l.room ≤ 65536)) (sym order) (All-set (λ l. l.room ≤ 65536) (in_order lanes) (position_of bius name) lane room few.short);
     }
   where
     many : (name : NodeName) → (length (with_lane name lane lanes).bius ≡ length lanes.bius) × (length (with_lane name lane lanes).rmus ≡ length lanes.rmus)
@@ -65,12 +71,41 @@ kept-there lanes new keys bius name lane key kept h after room is small =
     many (node.Rmu i) = (refl, length-set lanes.rmus i lane)
 
 -- a lane changes, and its key with it
-pub kept-with : (lanes new : Each Held) (keys : List ℕ) (bius position : ℕ) (name : NodeName) (lane : Held) (key : ℕ) → position ≡ position_of bius name → AreKept lanes keys bius → HasLane lanes name
+kept-with : (lanes new : Each Held) (keys : List ℕ) (bius : ℕ) (name : NodeName) (lane : Held) (key : ℕ) → AreKept lanes keys bius → HasLane lanes name
     → new ≡ with_lane name lane lanes → lane.room ≤ 65536 → key ≡ key_of (lane_of new name) → key ≤ 18446744073709551615
-    → AreKept new (slice_set keys position key) bius
-kept-with lanes new keys bius position name lane key place kept h after room is small =
-    subst (λ p. AreKept new (slice_set keys p key) bius) (sym place)
-    (kept-there lanes new keys bius name lane key kept h after room is small)
+    → AreKept new (slice_set keys (position_of bius name) key) bius
+kept-with lanes new keys bius name lane key kept h after room is small =
+    let changed : key ≡ key_of lane = is ∙ ap (λ x. key_of (lane_of x name)) after ∙ ap key_of (lane-with lanes name lane h) in
+    let order = order-with lanes new bius name lane kept.few.split h after in
+    record {
+      few = few-with lanes new bius name lane kept.few h after room;
+      each = ap (slice_set keys (position_of bius name)) changed ∙ ap (λ ks. slice_set ks (position_of bius name) (key_of lane)) kept.each
+          ∙ sym (map-set key_of (in_order lanes) (position_of bius name) lane) ∙ ap (map key_of) (sym order);
+      small = All-set (λ k. k ≤ 18446744073709551615) keys (position_of bius name) key small kept.small;
+    }
+
+-- keys that are kept
+pub unless-kept : (stale : Bool) (lanes : Each Held) (keys : List ℕ) (bius : ℕ) → AreKept lanes keys bius → AreKeptUnless stale lanes keys bius
+unless-kept stale lanes keys bius kept = record { few = kept.few; many = ap length kept.each; kept = λ fresh. kept }
+
+-- a lane changes, and the keys are stale
+pub stale-with : (stale : Bool) (lanes new : Each Held) (keys : List ℕ) (bius : ℕ) (name : NodeName) (lane : Held) → AreKeptUnless stale lanes keys bius → HasLane lanes name
+    → new ≡ with_lane name lane lanes → lane.room ≤ 65536 → AreKeptUnless true new keys bius
+stale-with stale lanes new keys bius name lane unless h after room = record {
+  few = few-with lanes new bius name lane unless.few h after room;
+  many = unless.many ∙ many-with lanes new bius name lane unless.few.split h after;
+  kept = λ fresh. absurd (let never : true ≡ false = fresh in cc);
+}
+
+-- a lane changes, and its key with it unless it is stale
+pub fresh-with : (stale : Bool) (lanes new : Each Held) (keys : List ℕ) (bius position : ℕ) (name : NodeName) (lane : Held) (key : ℕ) → position ≡ position_of bius name
+    → AreKeptUnless stale lanes keys bius → HasLane lanes name → new ≡ with_lane name lane lanes → lane.room ≤ 65536 → key ≡ key_of (lane_of new name)
+    → key ≤ 18446744073709551615 → AreKeptUnless stale new (slice_set keys position key) bius
+fresh-with stale lanes new keys bius position name lane key at unless h after room is small = record {
+  few = few-with lanes new bius name lane unless.few h after room;
+  many = length-set keys position key ∙ unless.many ∙ many-with lanes new bius name lane unless.few.split h after;
+  kept = λ fresh. subst (λ p. AreKept new (slice_set keys p key) bius) (sym at) (kept-with lanes new keys bius name lane key (unless.kept fresh) h after room is small);
+}
 
 -- the lane at a position
 pub lane-at : (lanes : Each Held) (bius position : ℕ) → bius ≡ length lanes.bius → position < length (in_order lanes)
@@ -102,8 +137,8 @@ lane-at lanes bius position split h = go (nat_lt position bius) refl
         (within, ap (slice_get (in_order lanes)) at ∙ right lanes.bius lanes.rmus (position - bius) within)
 
 -- what holds of all lanes holds of the lane of a node
-pub room-of : (lanes : Each Held) (keys : List ℕ) (bius : ℕ) (name : NodeName) → AreKept lanes keys bius → HasLane lanes name → (lane_of lanes name).room ≤ 65536
-room-of lanes keys bius name kept h = go name h
+pub room-of : (lanes : Each Held) (bius : ℕ) (name : NodeName) → AreFew lanes bius → HasLane lanes name → (lane_of lanes name).room ≤ 65536
+room-of lanes bius name few h = go name h
   where
     at : (xs : List Held) (i : ℕ) → All (λ l. l.room ≤ 65536) xs → i < length xs → (unwrap_or (slice_get xs i) (empty_lane 0)).room ≤ 65536
     at [] i all h = absurd (omega arith)
@@ -120,8 +155,8 @@ room-of lanes keys bius name kept h = go name h
     back (x ∷ xs) ys (suc i) all h = back xs ys i (All-tail (λ l. l.room ≤ 65536) x (xs ++ ys) all) (omega arith)
 
     go : (name : NodeName) → HasLane lanes name → (lane_of lanes name).room ≤ 65536
-    go (node.Biu i) h = back lanes.bius lanes.rmus i kept.short h
-    go (node.Rmu i) h = at lanes.rmus i (front lanes.bius lanes.rmus kept.short) h
+    go (node.Biu i) h = back lanes.bius lanes.rmus i few.short h
+    go (node.Rmu i) h = at lanes.rmus i (front lanes.bius lanes.rmus few.short) h
 
 -- the keys of all lanes are times
 times-of : (ls : List Held) (keys : List ℕ) → keys ≡ map key_of ls → All (λ k. k ≤ 18446744073709551615) keys → AreTimes ls
@@ -161,13 +196,15 @@ kept-empty sizes lanes keys room bius n shape small split all are is =
     let bius_are : length lanes.bius ≡ length b = ap (λ x. length x.bius) is in
     let rmus_are : length lanes.rmus ≡ length r = ap (λ x. length x.rmus) is in
     record {
+      few = record {
+        split = split ∙ omega arith;
+        few_bius = omega arith;
+        few_rmus = omega arith;
+        short = subst (All (λ l. l.room ≤ 65536)) (sym order) (all-const (numbers sizes.bius ++ numbers sizes.rmus));
+      };
       each = are ∙ ap (λ n. replicate n 18446744073709551615) (sym long)
           ∙ sym (map-const key_of l 18446744073709551615 (numbers sizes.bius ++ numbers sizes.rmus) refl) ∙ ap (map key_of) (sym order);
       small = subst (All (λ k. k ≤ 18446744073709551615)) (sym are) (All-replicate (λ k. k ≤ 18446744073709551615) n 18446744073709551615 (omega arith));
-      split = split ∙ omega arith;
-      few_bius = omega arith;
-      few_rmus = omega arith;
-      short = subst (All (λ l. l.room ≤ 65536)) (sym order) (all-const (numbers sizes.bius ++ numbers sizes.rmus));
     }
   where
     all-const : (xs : List ℕ) → All (λ l. l.room ≤ 65536) (map (λ _. empty_lane room) xs)
@@ -178,6 +215,7 @@ kept-empty sizes lanes keys room bius n shape small split all are is =
 pub room-without : (place : ℕ) (lane : Held) → lane.room ≤ 65536 → (without_ready place lane).room ≤ 65536
 room-without place lane h = go (slice_get (ready_of lane) place)
   where
-    go : (o : Option (ℕ × Pending)) → (without_found o lane).room ≤ 65536
+    go : (o : Option Ready) → (without_found o lane).room ≤ 65536
     go None = h
-    go (Some c) = h
+    go (Some (Comes n c)) = h
+    go (Some Ticks) = h

@@ -1,13 +1,12 @@
 -- The least times are looked through, one node after the other.
-use Rattle.std.proofs.Common.{◌≡◌, ℕ, ◌+◌, ◌<◌, ◌≤◌, ◌==◌, min, Bool, true, false, Some, List, [], ◌∷◌, ◌++◌, length, take, get_or, slice_get, refl, sym, ap, ◌∙◌, arith, length-append}
+use Rattle.std.proofs.Common.{◌≡◌, ℕ, ◌+◌, ◌<◌, ◌≤◌, ◌==◌, min, Bool, true, false, Some, List, [], ◌∷◌, ◌++◌, length, take, get_or, slice_get, refl, sym, ap, ◌∙◌, arith, subst, length-append}
 use Rattle.std.specs.Prelude.{unwrap_or}
 use Rattle.std.proofs.lemmas.List.{length-map, get_or-map, take_more}
 use Rattle.std.proofs.lemmas.Option.{unwrap_or-slice_get}
 use Rattle.rb_base.specs.declared.node.NodeName.{NodeName}
 use Rattle.rb_rules.specs.Book.{Each, in_order}
-use Rattle.rb_queue.specs.declared.pending.Pending.{Pending}
-use Rattle.rb_queue.specs.Waiting.{HasLane, Held, empty_lane, lane_of, ready_of}
-use Rattle.rb_agenda.specs.Agenda.{AreKept, StandsAt, due_count, due_in, key_of, least_key, node_at}
+use Rattle.rb_queue.specs.Waiting.{HasLane, Held, Ready, empty_lane, lane_of, ready_of}
+use Rattle.rb_agenda.specs.Agenda.{AreFew, AreKept, StandsAt, due_count, due_in, key_of, keys_of, least_key, node_at}
 use Rattle.rb_agenda.proofs.Dues.{count-append}
 use Rattle.rb_agenda.proofs.Keeping.{lane-at, room-of}
 
@@ -33,31 +32,38 @@ pub record IsHere (lanes : Each Held) (bius position time : ℕ) : Type 0 where
   pub within : position < length (in_order lanes)
   pub few : position < 32
 
-pub many-keys : (lanes : Each Held) (keys : List ℕ) (bius : ℕ) → AreKept lanes keys bius → (length keys ≡ length (in_order lanes)) × (length keys ≤ 32)
-many-keys lanes keys bius kept =
-    let many : length keys ≡ length (in_order lanes) = ap length kept.each ∙ length-map (in_order lanes) key_of in
+pub many-few : (lanes : Each Held) (bius : ℕ) → AreFew lanes bius → (length (keys_of lanes) ≡ length (in_order lanes)) × (length (keys_of lanes) ≤ 32)
+many-few lanes bius few =
+    let many : length (keys_of lanes) ≡ length (in_order lanes) = length-map (in_order lanes) key_of in
     let all : length (in_order lanes) ≡ length lanes.bius + length lanes.rmus = length-append lanes.bius lanes.rmus in
-    let b : length lanes.bius ≤ 16 = kept.few_bius in
-    let r : length lanes.rmus ≤ 16 = kept.few_rmus in
-    (many, omega arith)
+    let b : length lanes.bius ≤ 16 = few.few_bius in
+    let r : length lanes.rmus ≤ 16 = few.few_rmus in
+    (many, omega (arith, many, all, b, r))
 
-pub is-here : (lanes : Each Held) (keys : List ℕ) (bius position : ℕ) → AreKept lanes keys bius → position < length keys
-    → IsHere lanes bius position (get_or keys position 0)
-is-here lanes keys bius position kept h =
-    let many = many-keys lanes keys bius kept in
-    let within : position < length (in_order lanes) = omega (arith, many.0) in
-    let lane = lane-at lanes bius position kept.split within in
+many-keys : (lanes : Each Held) (keys : List ℕ) (bius : ℕ) → AreKept lanes keys bius → length keys ≡ length (in_order lanes)
+many-keys lanes keys bius kept = ap length kept.each ∙ (many-few lanes bius kept.few).0
+
+pub few-here : (lanes : Each Held) (bius position : ℕ) → AreFew lanes bius → position < length (keys_of lanes) → IsHere lanes bius position (get_or (keys_of lanes) position 0)
+few-here lanes bius position few h =
+    let many = many-few lanes bius few in
+    let within : position < length (in_order lanes) = omega (arith, h, many.0) in
+    let lane = lane-at lanes bius position few.split within in
     let name : NodeName = node_at bius position in
     let there : get_or (in_order lanes) position (empty_lane 0) ≡ lane_of lanes name =
     sym (unwrap_or-slice_get (in_order lanes) position (empty_lane 0)) ∙ ap (λ o. unwrap_or o (empty_lane 0)) lane.1 in
     record {
       lane = lane.0;
       at = lane.1;
-      key = ap (λ ks. get_or ks position 0) kept.each ∙ get_or-map key_of (in_order lanes) position (empty_lane 0) 0 within ∙ ap key_of there;
-      short = room-of lanes keys bius name kept lane.0;
+      key = get_or-map key_of (in_order lanes) position (empty_lane 0) 0 within ∙ ap key_of there;
+      short = room-of lanes bius name few lane.0;
       within = within;
-      few = omega (arith, many.1);
+      few = omega (arith, h, many.1);
     }
+
+pub is-here : (lanes : Each Held) (keys : List ℕ) (bius position : ℕ) → AreKept lanes keys bius → position < length keys
+    → IsHere lanes bius position (get_or keys position 0)
+is-here lanes keys bius position kept h =
+    subst (λ ks. IsHere lanes bius position (get_or ks position 0)) (sym kept.each) (few-here lanes bius position kept.few (subst (λ ks. position < length ks) kept.each h))
 
 one : (t : ℕ) (l : Held) → due_count t (l ∷ []) ≡ length (due_in t l)
 unfolding due_count
@@ -82,12 +88,12 @@ take-all (x ∷ xs) n e = ap (λ n. take n (x ∷ xs)) e ∙ ap (λ l. x ∷ l) 
 -- after the last
 pub count-all : (lanes : Each Held) (keys : List ℕ) (bius position t : ℕ) → AreKept lanes keys bius → position ≡ length keys
     → due_count t (take position (in_order lanes)) ≡ due_count t (in_order lanes)
-count-all lanes keys bius position t kept last = ap (due_count t) (take-all (in_order lanes) position (last ∙ (many-keys lanes keys bius kept).0))
+count-all lanes keys bius position t kept last = ap (due_count t) (take-all (in_order lanes) position (last ∙ many-keys lanes keys bius kept))
 
 in-due : (t : ℕ) (l : Held) (n : ℕ) → n < length (due_in t l) → ((key_of l == t) ≡ true) × (n < length (ready_of l))
 in-due t l n h = go (key_of l == t) refl h
   where
-    go : (b : Bool) → (key_of l == t) ≡ b → n < length (elim b as (λ _. List (ℕ × Pending)) [ true ↦ ready_of l | false ↦ [] ])
+    go : (b : Bool) → (key_of l == t) ≡ b → n < length (elim b as (λ _. List Ready) [ true ↦ ready_of l | false ↦ [] ])
         → ((key_of l == t) ≡ true) × (n < length (ready_of l))
     go true e h = (e, h)
     go false e h = absurd (omega arith)

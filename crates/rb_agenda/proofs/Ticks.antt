@@ -1,11 +1,10 @@
 -- The first ticks of all nodes, kept beside the lanes.
-use Rattle.std.proofs.Common.{◌≡◌, ℕ, suc, ◌+◌, ◌-◌, ◌<◌, ◌≤◌, min, nat_lt, true, false, if◌then◌else◌, Option, Some, None, List, [], ◌∷◌, ◌++◌, length, map, slice_get, get_or, refl, sym, ap, ◌∙◌, subst, arith, inl, inr, length-append}
-use Rattle.std.specs.Prelude.{option_map, option_to_list, slice_set, unwrap_or}
-use Rattle.std.specs.List.{cons_option}
+use Rattle.std.proofs.Common.{◌≡◌, ℕ, suc, ◌+◌, ◌-◌, ◌<◌, ◌≤◌, nat_lt, true, false, if◌then◌else◌, Option, Some, None, List, [], ◌∷◌, ◌++◌, length, map, slice_get, get_or, refl, sym, ap, ◌∙◌, subst, arith, inl, inr, length-append}
+use Rattle.std.specs.Prelude.{option_map, slice_set, unwrap_or}
 use Rattle.std.proofs.Math.ListN.{replicate}
 use Rattle.std.proofs.lemmas.Bool.{cases_lt}
 use Rattle.std.proofs.lemmas.Bool.Decides.{nat_tests}
-use Rattle.std.proofs.lemmas.List.{get_or-map, length-map, map-append, map-set}
+use Rattle.std.proofs.lemmas.List.{get_or-map, length-map, map-append, map-set, set-get_or}
 use Rattle.std.proofs.lemmas.List.FromFn.{length-range_with_len}
 use Rattle.std.proofs.lemmas.Option.{unwrap_or-slice_get}
 use Rattle.rb_base.specs.Counting.{numbers}
@@ -13,39 +12,32 @@ use Rattle.rb_base.specs.Nodes.{Side}
 use Rattle.rb_base.specs.Nodes.Side.{Biu, Rmu}
 use Rattle.rb_base.specs.Sizes.{Sizes}
 use Rattle.rb_base.specs.declared.event.Event.{Event}
-use Rattle.rb_base.specs.declared.event.EventKind.{EventKind}
-use Rattle.rb_base.specs.declared.event.EventKind.TheVariants as kind
 use Rattle.rb_base.specs.declared.node.NodeName.{NodeName}
 use Rattle.rb_base.specs.declared.node.NodeName.TheVariants as node
 use Rattle.rb_rules.specs.Book.{Each, each_of, in_order, of_kind}
 use Rattle.rb_rules.specs.Links.{name_of}
 use Rattle.rb_rules.specs.WorldStep.{Site, Timed}
-use Rattle.rb_queue.specs.declared.pending.Pending.{Pending}
-use Rattle.rb_queue.specs.Waiting.{HasLane, Held, empty_lane, first_tick_of, lane_of, ready_event, ready_of, tick_time_of, with_event, with_lane, without_events, without_found, without_ready}
+use Rattle.rb_queue.specs.Waiting.{HasLane, Held, Ready, empty_lane, event_with, kind_with, lane_of, ready_event, ready_of, tick_time_of, with_lane, without_events, without_found, without_ready}
+use Rattle.rb_queue.specs.Waiting.Ready.{Comes, Ticks}
 use Rattle.rb_queue.proofs.Sources.{get-left, get-right, is_within}
-use Rattle.rb_queue.proofs.Ticks.{tick-push, tick-small, tick-without}
 use Rattle.rb_agenda.specs.declared.scan.Front.{Front}
-use Rattle.rb_agenda.specs.Agenda.{AreKept, AreTicks, IsFirstAhead, least_key, node_at, position_of, tick_after}
+use Rattle.rb_agenda.specs.Agenda.{AreFew, AreTicks, IsFirstAhead, key_of, keys_of, node_at, position_of, ticks_after}
 use Rattle.rb_agenda.specs.Fronts.{IsFront}
-use Rattle.rb_agenda.specs.Holding.{HoldsAll, HoldsSite, HoldsSites, tick_with, ticks_in}
+use Rattle.rb_agenda.specs.Holding.{HoldsAll, HoldsSite, HoldsSites}
 use Rattle.rb_agenda.proofs.Fronts.{least-low}
-use Rattle.rb_agenda.proofs.Keeping.{lane-with, map-const, with-in-order}
-use Rattle.rb_agenda.proofs.Places.{ready-at}
-use Rattle.rb_agenda.proofs.Scans.{many-keys}
+use Rattle.rb_agenda.proofs.Keeping.{map-const, with-in-order}
+use Rattle.rb_agenda.proofs.Scans.{many-few}
 use Rattle.rb_agenda.proofs.Which.{has-item}
 
 -- A lane changes.
 
-abbrev tick_of : Held → ℕ
-tick_of l = first_tick_of l.events
-
 pub ticks-with : (lanes new : Each Held) (ticks : List ℕ) (bius place : ℕ) (name : NodeName) (lane : Held) (tick : ℕ) → bius ≡ length lanes.bius → place ≡ position_of bius name
-    → AreTicks lanes ticks → HasLane lanes name → new ≡ with_lane name lane lanes → tick ≡ first_tick_of lane.events → AreTicks new (slice_set ticks place tick)
+    → AreTicks lanes ticks → HasLane lanes name → new ≡ with_lane name lane lanes → tick ≡ tick_time_of lane → AreTicks new (slice_set ticks place tick)
 ticks-with lanes new ticks bius place name lane tick split at kept h after is =
     let order : in_order new ≡ slice_set (in_order lanes) place lane =
     ap in_order after ∙ with-in-order lanes name lane h ∙ ap (λ b. slice_set (in_order lanes) (position_of b name) lane) (sym split)
     ∙ ap (λ p. slice_set (in_order lanes) p lane) (sym at) in
-    ap (slice_set ticks place) is ∙ ap (λ ts. slice_set ts place (tick_of lane)) kept ∙ sym (map-set tick_of (in_order lanes) place lane) ∙ ap (map tick_of) (sym order)
+    ap (slice_set ticks place) is ∙ ap (λ ts. slice_set ts place (tick_time_of lane)) kept ∙ sym (map-set tick_time_of (in_order lanes) place lane) ∙ ap (map tick_time_of) (sym order)
 
 -- the lane at the position of a node
 name-lane : (lanes : Each Held) (name : NodeName) → HasLane lanes name
@@ -62,112 +54,96 @@ name-lane lanes (node.Rmu i) h =
     )
 
 pub tick-place : (lanes : Each Held) (ticks : List ℕ) (bius place : ℕ) (name : NodeName) → bius ≡ length lanes.bius → place ≡ position_of bius name → AreTicks lanes ticks → HasLane lanes name
-    → (place < length ticks) × (get_or ticks place 0 ≡ first_tick_of (lane_of lanes name).events)
+    → (place < length ticks) × (get_or ticks place 0 ≡ tick_time_of (lane_of lanes name))
 tick-place lanes ticks bius place name split at kept h =
     let here = name-lane lanes name h in
     let p : ℕ = position_of (length lanes.bius) name in
     let same : place ≡ p = at ∙ ap (λ b. position_of b name) split in
-    let many : length ticks ≡ length (in_order lanes) = ap length kept ∙ length-map (in_order lanes) tick_of in
+    let many : length ticks ≡ length (in_order lanes) = ap length kept ∙ length-map (in_order lanes) tick_time_of in
     let within = here.0 in (
       omega (arith, within, many, same),
-      ap (λ k. get_or ticks k 0) same ∙ ap (λ ts. get_or ts p 0) kept ∙ get_or-map tick_of (in_order lanes) p (empty_lane 0) 0 within ∙ ap tick_of here.1,
+      ap (λ k. get_or ticks k 0) same ∙ ap (λ ts. get_or ts p 0) kept ∙ get_or-map tick_time_of (in_order lanes) p (empty_lane 0) 0 within ∙ ap tick_time_of here.1,
     )
 
--- one event more
-pub ticks-pushed : (lanes new : Each Held) (ticks : List ℕ) (bius place : ℕ) (name : NodeName) (p : Pending) (t : ℕ) → bius ≡ length lanes.bius → place ≡ position_of bius name
-    → AreTicks lanes ticks → HasLane lanes name → new ≡ with_lane name (with_event p (lane_of lanes name)) lanes → t ≡ tick_time_of p.event.kind p.time → t ≤ 18446744073709551615
-    → AreTicks new (slice_set ticks place (min (get_or ticks place 0) t))
-ticks-pushed lanes new ticks bius place name p t split at kept h after is small =
-    let lane : Held = lane_of lanes name in
-    let here = (tick-place lanes ticks bius place name split at kept h).1 in
-    let one : first_tick_of (lane.events ++ p ∷ []) ≡ min (first_tick_of lane.events) (tick_time_of p.event.kind p.time) = tick-push lane.events p (omega (arith, is, small)) in
-    ticks-with lanes new ticks bius place name (with_event p lane) (min (get_or ticks place 0) t) split at kept h after (omega (arith, here, is, one))
+pub place-within : (lanes : Each Held) (keys : List ℕ) (bius : ℕ) (name : NodeName) → AreFew lanes bius → length keys ≡ length (keys_of lanes) → HasLane lanes name
+    → position_of bius name < length keys
+place-within lanes keys bius name few long h =
+    let within = (name-lane lanes name h).0 in
+    let same : position_of bius name ≡ position_of (length lanes.bius) name = ap (λ b. position_of b name) few.split in
+    let many : length (keys_of lanes) ≡ length (in_order lanes) = length-map (in_order lanes) key_of in
+    omega (arith, within, same, many, long)
+
+-- the ticks stay where the lane's does
+pub ticks-same : (lanes new : Each Held) (ticks : List ℕ) (bius : ℕ) (name : NodeName) (lane : Held) → bius ≡ length lanes.bius → AreTicks lanes ticks → HasLane lanes name
+    → new ≡ with_lane name lane lanes → tick_time_of lane ≡ tick_time_of (lane_of lanes name) → AreTicks new ticks
+ticks-same lanes new ticks bius name lane split kept h after same =
+    let place : ℕ = position_of bius name in
+    subst (AreTicks new) (set-get_or ticks place 0)
+    (ticks-with lanes new ticks bius place name lane (get_or ticks place 0) split refl kept h after ((tick-place lanes ticks bius place name split refl kept h).1 ∙ sym same))
 
 some-same : {X : Type 0} (a b : X) → Some a ≡ Some b → a ≡ b
 some-same a b e = ap (λ o. unwrap_or o a) e
 
--- one event less
-left-tick : (lane : Held) (i : ℕ) (event : Event) (before : ℕ) → ready_event i lane ≡ Some event → before ≡ first_tick_of lane.events
-    → tick_after event.kind before (first_tick_of (without_ready i lane).events) ≡ first_tick_of (without_ready i lane).events
-left-tick lane i event before shown is = by (slice_get (ready_of lane) i) refl
-  where
-    kinds : (c : ℕ × Pending) → slice_get lane.events c.0 ≡ Some c.1 → (k : EventKind) → c.1.event.kind ≡ k
-        → tick_after k before (first_tick_of (without_found (Some c) lane).events) ≡ first_tick_of (without_found (Some c) lane).events
-    kinds c there (kind.Arrive from bytes) e =
-        is ∙ sym (tick-without lane.events c.0 c.1 there (ap (λ k. tick_time_of k c.1.time) e))
-    kinds c there (kind.Tick word wanted) e = refl
-
-    by : (o : Option (ℕ × Pending)) → slice_get (ready_of lane) i ≡ o
-        → tick_after event.kind before (first_tick_of (without_ready i lane).events) ≡ first_tick_of (without_ready i lane).events
-    by None e = absurd (let never : ◌≡◌ {A = Option Event} None (Some event) = sym (ap (option_map (λ c. c.1.event)) e) ∙ shown in cc)
-    by (Some c) e =
-        let same : c.1.event ≡ event = some-same c.1.event event (sym (ap (option_map (λ c. c.1.event)) e) ∙ shown) in
-        subst (λ o. tick_after event.kind before (first_tick_of (without_found o lane).events) ≡ first_tick_of (without_found o lane).events) (sym e)
-        (kinds c (ready-at lane i c e) event.kind (ap (λ (e : Event). e.kind) same))
-
+-- one that is ready is taken
 pub ticks-taken : (lanes new : Each Held) (ticks : List ℕ) (bius place : ℕ) (name : NodeName) (i : ℕ) (event : Event) → bius ≡ length lanes.bius → place ≡ position_of bius name
-    → AreTicks lanes ticks → HasLane lanes name → ready_event i (lane_of lanes name) ≡ Some event → new ≡ with_lane name (without_ready i (lane_of lanes name)) lanes
-    → AreTicks new (slice_set ticks place (tick_after event.kind (get_or ticks place 0) (first_tick_of (lane_of new name).events)))
-ticks-taken lanes new ticks bius place name i event split at kept h shown after =
-    let lane : Held = without_ready i (lane_of lanes name) in
-    let now : lane_of new name ≡ lane = ap (λ ls. lane_of ls name) after ∙ lane-with lanes name lane h in
-    let before : ℕ = get_or ticks place 0 in
-    ticks-with lanes new ticks bius place name lane (tick_after event.kind before (first_tick_of (lane_of new name).events)) split at kept h after
-    (ap (λ (l : Held). tick_after event.kind before (first_tick_of l.events)) now
-    ∙ left-tick (lane_of lanes name) i event before shown (tick-place lanes ticks bius place name split at kept h).1)
+    → AreTicks lanes ticks → HasLane lanes name → ready_event name i (lane_of lanes name) ≡ Some event → new ≡ with_lane name (without_ready i (lane_of lanes name)) lanes
+    → AreTicks new (ticks_after event.kind place ticks)
+ticks-taken lanes new ticks bius place name i event split at kept h shown after = by (slice_get (ready_of (lane_of lanes name)) i) refl
+  where
+    lane : Held
+    lane = lane_of lanes name
+
+    kinds : (r : Ready) → new ≡ with_lane name (without_found (Some r) lane) lanes → AreTicks new (ticks_after (kind_with r) place ticks)
+    kinds (Comes n c) gone = ticks-same lanes new ticks bius name (without_found (Some (Comes n c)) lane) split kept h gone refl
+    kinds Ticks gone = ticks-with lanes new ticks bius place name (without_found (Some Ticks) lane) 18446744073709551615 split at kept h gone refl
+
+    by : (o : Option Ready) → slice_get (ready_of lane) i ≡ o → AreTicks new (ticks_after event.kind place ticks)
+    by None e = absurd (let never : ◌≡◌ {A = Option Event} None (Some event) = sym (ap (option_map (event_with name)) e) ∙ shown in cc)
+    by (Some r) e =
+        let same : event_with name r ≡ event = some-same (event_with name r) event (sym (ap (option_map (event_with name)) e) ∙ shown) in
+        subst (λ (x : Event). AreTicks new (ticks_after x.kind place ticks)) same
+        (kinds r (after ∙ ap (λ o. with_lane name (without_found o lane) lanes) e))
 
 -- no event is left
 pub ticks-dropped : (lanes new : Each Held) (ticks : List ℕ) (bius place : ℕ) (name : NodeName) → bius ≡ length lanes.bius → place ≡ position_of bius name
     → AreTicks lanes ticks → HasLane lanes name → new ≡ with_lane name (without_events (lane_of lanes name)) lanes → AreTicks new (slice_set ticks place 18446744073709551615)
-unfolding first_tick_of
 ticks-dropped lanes new ticks bius place name split at kept h after =
     ticks-with lanes new ticks bius place name (without_events (lane_of lanes name)) 18446744073709551615 split at kept h after refl
 
 -- at first
 pub ticks-empty : (sizes : Sizes) (lanes : Each Held) (ticks : List ℕ) (room bius n : ℕ) → bius ≡ sizes.bius → n ≡ bius + sizes.rmus → ticks ≡ replicate n 18446744073709551615
     → lanes ≡ each_of sizes (λ side i. empty_lane room) → AreTicks lanes ticks
-unfolding first_tick_of
 ticks-empty sizes lanes ticks room bius n split all are is =
     let l : Held = empty_lane room in
     let ns : List ℕ = numbers sizes.bius ++ numbers sizes.rmus in
     let order : in_order lanes ≡ map (λ _. l) ns = ap in_order is ∙ sym (map-append (λ _. l) (numbers sizes.bius) (numbers sizes.rmus)) in
     let long : length ns ≡ n =
     length-append (numbers sizes.bius) (numbers sizes.rmus) ∙ omega (arith, length-range_with_len 0 sizes.bius, length-range_with_len 0 sizes.rmus, split, all) in
-    are ∙ ap (λ n. replicate n 18446744073709551615) (sym long) ∙ sym (map-const tick_of l 18446744073709551615 ns refl) ∙ ap (map tick_of) (sym order)
+    are ∙ ap (λ n. replicate n 18446744073709551615) (sym long) ∙ sym (map-const tick_time_of l 18446744073709551615 ns refl) ∙ ap (map tick_time_of) (sym order)
 
 -- Which is the first.
 
 -- the time of the tick that is pending
 abbrev ahead_key : Option Timed → ℕ
 ahead_key None = 18446744073709551615
-ahead_key (Some a) = min a.time 18446744073709551615
+ahead_key (Some a) = a.time
 
-first-least : (events : List Pending) → first_tick_of events ≡ least_key (ticks_in events)
-unfolding first_tick_of least_key
-first-least [] = refl
-first-least (p ∷ events) = by p.event.kind (first-least events)
+tick-site : (sizes : Sizes) (me : Side) (lane : Held) (s : Site) → HoldsSite sizes me lane s → tick_time_of lane ≡ ahead_key s.ahead
+tick-site sizes me lane s holds = ap (λ o. unwrap_or o 18446744073709551615) holds.ahead ∙ by s.ahead
   where
-    by : (k : EventKind) → first_tick_of events ≡ least_key (ticks_in events) → min (tick_time_of k p.time) (first_tick_of events) ≡ least_key (cons_option (tick_with p.time k) (ticks_in events))
-    by (kind.Arrive from bytes) rest = omega (arith, rest, tick-small events)
-    by (kind.Tick word wanted) rest = ap (min p.time) rest
-
-tick-site : (sizes : Sizes) (me : Side) (lane : Held) (s : Site) → HoldsSite sizes me lane s → tick_of lane ≡ ahead_key s.ahead
-unfolding least_key
-tick-site sizes me lane s holds = first-least lane.events ∙ ap least_key holds.ahead ∙ by s.ahead
-  where
-    by : (o : Option Timed) → least_key (option_to_list (option_map (λ (a : Timed). a.time) o)) ≡ ahead_key o
+    by : (o : Option Timed) → unwrap_or (option_map (λ (a : Timed). a.time) o) 18446744073709551615 ≡ ahead_key o
     by None = refl
     by (Some a) = refl
 
 ticks-sites : (sizes : Sizes) (me : Side) (ls : List Held) (ss : List Site) → HoldsAll sizes me ls ss
-    → (length ls ≡ length ss) × (map tick_of ls ≡ map (λ (s : Site). ahead_key s.ahead) ss)
+    → (length ls ≡ length ss) × (map tick_time_of ls ≡ map (λ (s : Site). ahead_key s.ahead) ss)
 ticks-sites sizes me [] [] h = (refl, refl)
 ticks-sites sizes me [] (s ∷ ss) h = absurd h
 ticks-sites sizes me (l ∷ ls) [] h = absurd h
 ticks-sites sizes me (l ∷ ls) (s ∷ ss) h =
     let rest = ticks-sites sizes me ls ss h.1 in (
       ap suc rest.0,
-      ap (λ t. t ∷ map tick_of ls) (tick-site sizes me l s h.0) ∙ ap (λ ts. ahead_key s.ahead ∷ ts) rest.1,
+      ap (λ t. t ∷ map tick_time_of ls) (tick-site sizes me l s h.0) ∙ ap (λ ts. ahead_key s.ahead ∷ ts) rest.1,
     )
 
 pub first-is : (sizes : Sizes) (lanes : Each Held) (sites : Each Site) (ticks : List ℕ) (bius : ℕ) (front : Front) → HoldsSites sizes lanes sites → AreTicks lanes ticks → bius ≡ length lanes.bius
@@ -204,7 +180,7 @@ first-is sizes lanes sites ticks bius front holds kept split is me i time first 
 
     all : ticks ≡ map key zs
     all =
-        kept ∙ map-append tick_of lanes.bius lanes.rmus ∙ ap (λ ts. ts ++ map tick_of lanes.rmus) (ticks-sites sizes Biu lanes.bius sites.bius holds.bius).1
+        kept ∙ map-append tick_time_of lanes.bius lanes.rmus ∙ ap (λ ts. ts ++ map tick_time_of lanes.rmus) (ticks-sites sizes Biu lanes.bius sites.bius holds.bius).1
         ∙ ap (λ ts. map key sites.bius ++ ts) (ticks-sites sizes Rmu lanes.rmus sites.rmus holds.rmus).1 ∙ sym (map-append key sites.bius sites.rmus)
 
     at-item : (k : ℕ) (z : Site) → slice_get zs k ≡ Some z → (k < length ticks) × (get_or ticks k 0 ≡ key z)
@@ -271,10 +247,10 @@ first-is sizes lanes sites ticks bius front holds kept split is me i time first 
 
 -- Names.
 
-pub few-ticks : (lanes : Each Held) (keys ticks : List ℕ) (bius : ℕ) → AreKept lanes keys bius → AreTicks lanes ticks → length ticks ≤ 32
-few-ticks lanes keys ticks bius kept are =
-    let many = many-keys lanes keys bius kept in
-    let all : length ticks ≡ length (in_order lanes) = ap length are ∙ length-map (in_order lanes) tick_of in
+pub few-ticks : (lanes : Each Held) (ticks : List ℕ) (bius : ℕ) → AreFew lanes bius → AreTicks lanes ticks → length ticks ≤ 32
+few-ticks lanes ticks bius few are =
+    let many = many-few lanes bius few in
+    let all : length ticks ≡ length (in_order lanes) = ap length are ∙ length-map (in_order lanes) tick_time_of in
     omega (arith, many.0, many.1, all)
 
 -- the node at a position that is its own

@@ -13,8 +13,7 @@ use Rattle.rb_base.specs.declared.node.NodeName.TheVariants as node
 use Rattle.rb_rules.specs.Book.{Each, in_order}
 use Rattle.rb_rules.specs.Goodness.{Scenario}
 use Rattle.rb_rules.specs.WorldStep.{Due, Site, World}
-use Rattle.rb_queue.specs.declared.pending.Pending.{Pending}
-use Rattle.rb_queue.specs.Waiting.{Held, empty_lane, lane_of, ready_of}
+use Rattle.rb_queue.specs.Waiting.{Held, Ready, empty_lane, lane_of, ready_of}
 use Rattle.rb_queue.proofs.Sources.{get-left, get-right, is_within}
 use Rattle.rb_agenda.specs.Agenda.{IsDue, StandsAt, due_count, due_in, first_time, key_of}
 use Rattle.rb_agenda.specs.Holding.{HoldsAll, HoldsSites, due_with}
@@ -35,19 +34,19 @@ has-item (x ∷ xs) (suc i) h = let more = has-item xs i (omega arith) in record
 pub record IsDueIn (t : ℕ) (me : Side) (i : ℕ) (ls : List Held) (ss : List Site) (n p : ℕ) (l : Held) (place : ℕ) : Type 0 where
   pub site : Site
   pub there : slice_get ss p ≡ Some site
-  pub event : ℕ × Pending
+  pub event : Ready
   pub ready : slice_get (ready_of l) place ≡ Some event
-  pub due : slice_get (dues_from t me i ls ss) n ≡ Some (due_with me (i + p) l.events site event)
+  pub due : slice_get (dues_from t me i ls ss) n ≡ Some (due_with me (i + p) site event)
 
 here-due : (t : ℕ) (me : Side) (i : ℕ) (l : Held) (s : Site) (rest : List Due) (n place : ℕ) → (key_of l == t) ≡ true → n ≡ place → place < length (ready_of l)
     → (c : HasItem (ready_of l) place)
-    → slice_get (map (due_with me i l.events s) (due_in t l) ++ rest) n ≡ Some (due_with me i l.events s c.item)
+    → slice_get (map (due_with me i s) (due_in t l) ++ rest) n ≡ Some (due_with me i s c.item)
 here-due t me i l s rest n place is at h c =
     let all : due_in t l ≡ ready_of l = ap (λ b. elim b [ true ↦ ready_of l | false ↦ [] ]) is in
-    let got : slice_get (map (due_with me i l.events s) (ready_of l)) place ≡ Some (due_with me i l.events s c.item) =
-    slice_get-map (due_with me i l.events s) (ready_of l) place ∙ ap (option_map (due_with me i l.events s)) c.is in
-    ap (λ d. slice_get (map (due_with me i l.events s) d ++ rest) n) all ∙ ap (slice_get (map (due_with me i l.events s) (ready_of l) ++ rest)) at
-    ∙ get-left (map (due_with me i l.events s) (ready_of l)) rest place (is_within (map (due_with me i l.events s) (ready_of l)) place _ got) ∙ got
+    let got : slice_get (map (due_with me i s) (ready_of l)) place ≡ Some (due_with me i s c.item) =
+    slice_get-map (due_with me i s) (ready_of l) place ∙ ap (option_map (due_with me i s)) c.is in
+    ap (λ d. slice_get (map (due_with me i s) d ++ rest) n) all ∙ ap (slice_get (map (due_with me i s) (ready_of l) ++ rest)) at
+    ∙ get-left (map (due_with me i s) (ready_of l)) rest place (is_within (map (due_with me i s) (ready_of l)) place _ got) ∙ got
 
 some-same : {X : Type 0} (a b : X) → Some a ≡ Some b → a ≡ b
 some-same a b e = ap (λ o. unwrap_or o a) e
@@ -67,13 +66,13 @@ due-in sizes t me i (k ∷ ls) (s ∷ ss) holds n zero l place at is before h =
       there = refl;
       event = c.item;
       ready = c.is;
-      due = ap (λ k. slice_get (map (due_with me i k.events s) (due_in t k) ++ dues_from t me (i + 1) ls ss) n) same
-          ∙ here-due t me i l s (dues_from t me (i + 1) ls ss) n place is f h c ∙ ap (λ m. Some (due_with me m l.events s c.item)) (sym e);
+      due = ap (λ k. slice_get (map (due_with me i s) (due_in t k) ++ dues_from t me (i + 1) ls ss) n) same
+          ∙ here-due t me i l s (dues_from t me (i + 1) ls ss) n place is f h c ∙ ap (λ m. Some (due_with me m s c.item)) (sym e);
     }
 due-in sizes t me i (k ∷ ls) (s ∷ ss) holds n (suc p) l place at is before h =
-    let front : List Due = map (due_with me i k.events s) (due_in t k) in
+    let front : List Due = map (due_with me i s) (due_in t k) in
     let m : ℕ = due_count t (take p ls) + place in
-    let long : length front ≡ length (due_in t k) = length-map (due_in t k) (due_with me i k.events s) in
+    let long : length front ≡ length (due_in t k) = length-map (due_in t k) (due_with me i s) in
     let f : n ≡ length front + m = omega arith in
     let more = due-in sizes t me (i + 1) ls ss holds.1 m p l place at is refl h in
     let e : i + 1 + p ≡ i + suc p = omega arith in
@@ -83,7 +82,7 @@ due-in sizes t me i (k ∷ ls) (s ∷ ss) holds n (suc p) l place at is before h
       event = more.event;
       ready = more.ready;
       due = ap (slice_get (front ++ dues_from t me (i + 1) ls ss)) f ∙ get-right front (dues_from t me (i + 1) ls ss) m ∙ more.due
-          ∙ ap (λ m. Some (due_with me m l.events more.site more.event)) e;
+          ∙ ap (λ m. Some (due_with me m more.site more.event)) e;
     }
 
 -- Of all lanes.
@@ -112,7 +111,7 @@ of-biu sc w lanes i p place holds times h is ready before =
       ready = got.ready;
       due = ap (λ d. slice_get d i) (due-lanes sc w lanes holds times)
           ∙ get-left front (dues_from t Rmu 0 lanes.rmus w.sites.rmus) i (is_within front i _ got.due) ∙ got.due
-          ∙ ap (λ m. Some (due_with Biu m l.events got.site got.event)) f;
+          ∙ ap (λ m. Some (due_with Biu m got.site got.event)) f;
     }
 
 of-rmu : (sc : Scenario) (w : World) (lanes : Each Held) (i p place : ℕ) → HoldsSites sc.sizes lanes w.sites → AreTimes (in_order lanes) → p < length lanes.rmus
@@ -139,7 +138,7 @@ of-rmu sc w lanes i p place holds times h is ready before =
       event = got.event;
       ready = got.ready;
       due = ap (λ d. slice_get d i) (due-lanes sc w lanes holds times) ∙ ap (slice_get (front ++ back)) at ∙ get-right front back m ∙ got.due
-          ∙ ap (λ m. Some (due_with Rmu m l.events got.site got.event)) f;
+          ∙ ap (λ m. Some (due_with Rmu m got.site got.event)) f;
     }
 
 -- what stands at the first time is due in the world

@@ -1,5 +1,5 @@
 -- What is due among all lanes: the events of the least time, node by node.
-use Rattle.std.specs.Prelude.{⊤, ◌≡◌, ℕ, option_map, ◌+◌, ◌-◌, ◌<◌, ◌≤◌, ◌==◌, nat_lt, min, true, false, if◌then◌else◌, unwrap_or, Some, List, [], ◌∷◌, All, flat_map, length, map, slice_get, take}
+use Rattle.std.specs.Prelude.{⊤, ◌≡◌, ℕ, option_map, ◌+◌, ◌-◌, ◌<◌, ◌≤◌, ◌==◌, nat_lt, min, true, false, if◌then◌else◌, unwrap_or, Bool, Some, List, [], ◌∷◌, All, flat_map, length, map, slice_get, slice_set, take}
 use Rattle.rb_base.specs.declared.event.Event.{Event}
 use Rattle.rb_base.specs.declared.node.NodeName.{NodeName}
 use Rattle.rb_base.specs.declared.node.NodeName.TheVariants as node
@@ -9,10 +9,9 @@ use Rattle.rb_rules.specs.Goodness.{Scenario}
 use Rattle.rb_rules.specs.Links.{name_of}
 use Rattle.rb_rules.specs.WorldStep.{Due, Pending as Waits, Site, Timed, World, at_node, due_at, least, times_of}
 use Rattle.rb_rules.specs.WorldStep.Pending.{Tick, Arrival}
-use Rattle.rb_queue.specs.declared.pending.Pending.{Pending}
 use Rattle.rb_base.specs.declared.event.EventKind.{EventKind}
 use Rattle.rb_base.specs.declared.event.EventKind.TheVariants as kind
-use Rattle.rb_queue.specs.Waiting.{Held, HasLane, first_tick_of, head_of, lane_of, ready_event, ready_of, with_lane, without_ready}
+use Rattle.rb_queue.specs.Waiting.{Held, HasLane, Ready, head_of, lane_of, ready_event, ready_of, tick_time_of, with_lane, without_ready}
 use Rattle.rb_agenda.specs.Holding.{HoldsSites, Shows, due_with, without_waiting}
 
 -- the least time of a lane. Where it holds nothing it is the last time that there is
@@ -25,7 +24,7 @@ least_key [] = 18446744073709551615
 least_key (k ∷ ks) = min k (least_key ks)
 
 -- what is due in a lane at this time: what is ready, if the time is the lane's least
-abbrev pub due_in : ℕ → Held → List (ℕ × Pending)
+abbrev pub due_in : ℕ → Held → List Ready
 due_in time lane = elim (key_of lane == time) [ true ↦ ready_of lane | false ↦ [] ]
 
 -- how many events are due in these lanes at this time
@@ -72,15 +71,15 @@ pub record IsDue (sc : Scenario) (w : World) (lanes : Each Held) (i : ℕ) (name
   pub named : name ≡ name_of side number
   pub site : Site
   pub there : slice_get (of_kind side w.sites) number ≡ Some site
-  pub event : ℕ × Pending
+  pub event : Ready
   pub ready : slice_get (ready_of (lane_of lanes name)) place ≡ Some event
-  pub due : slice_get (due_now sc w) i ≡ Some (due_with side number (lane_of lanes name).events site event)
+  pub due : slice_get (due_now sc w) i ≡ Some (due_with side number site event)
 
 -- the i-th event that is due is taken out of the lane of this node, and no other
 pub record Takes (before : Each Held) (i : ℕ) (node : NodeName) (event : Event) (after : Each Held) : Type 0 where
   pub place : ℕ
   pub stands : StandsAt before (first_time before) i node place
-  pub taken : ready_event place (lane_of before node) ≡ Some event
+  pub taken : ready_event node place (lane_of before node) ≡ Some event
   pub left : after ≡ with_lane node (without_ready place (lane_of before node)) before
 
 -- what waits, waits until this time
@@ -100,29 +99,47 @@ pub record TakesDue (sc : Scenario) (w : World) (i time : ℕ) (name : NodeName)
   pub shows : Shows due.pending event.kind
   pub left : HoldsSites sc.sizes after (at_node due.side due.node (without_waiting due.pending) w.sites)
 
--- beside the lanes their least times are kept. There are at most 16 nodes of a kind, and lanes are short
-pub record AreKept (lanes : Each Held) (keys : List ℕ) (bius : ℕ) : Type 0 where
-  pub each : keys ≡ map key_of (in_order lanes)
-  pub small : All (λ k. k ≤ 18446744073709551615) keys
+-- there are at most 16 nodes of a kind, and lanes are short
+pub record AreFew (lanes : Each Held) (bius : ℕ) : Type 0 where
   pub split : bius ≡ length lanes.bius
   pub few_bius : length lanes.bius ≤ 16
   pub few_rmus : length lanes.rmus ≤ 16
   pub short : All (λ l. l.room ≤ 65536) (in_order lanes)
 
+-- the least times of all lanes
+abbrev pub keys_of : Each Held → List ℕ
+keys_of lanes = map key_of (in_order lanes)
+
+-- beside the lanes their least times are kept
+pub record AreKept (lanes : Each Held) (keys : List ℕ) (bius : ℕ) : Type 0 where
+  pub few : AreFew lanes bius
+  pub each : keys ≡ keys_of lanes
+  pub small : All (λ k. k ≤ 18446744073709551615) keys
+
+-- they are, unless they are stale
+pub record AreKeptUnless (stale : Bool) (lanes : Each Held) (keys : List ℕ) (bius : ℕ) : Type 0 where
+  pub few : AreFew lanes bius
+  pub many : length keys ≡ length (keys_of lanes)
+  pub kept : stale ≡ false → AreKept lanes keys bius
+
 -- Ticks.
 
--- beside the lanes the times of their first ticks are kept
+-- beside the lanes the times of their ticks are kept
 abbrev pub AreTicks : Each Held → List ℕ → Type 0
-AreTicks lanes ticks = ticks ≡ map (λ (l : Held). first_tick_of l.events) (in_order lanes)
+AreTicks lanes ticks = ticks ≡ map tick_time_of (in_order lanes)
 
 -- the time of the first tick of all, and where none is pending the last time that there is
 abbrev pub first_tick_time : Each Held → ℕ
-first_tick_time lanes = least_key (map (λ (l : Held). first_tick_of l.events) (in_order lanes))
+first_tick_time lanes = least_key (map tick_time_of (in_order lanes))
 
--- the time of the first tick after an event was taken: an arrival leaves it
-abbrev pub tick_after : EventKind → ℕ → ℕ → ℕ
-tick_after (kind.Arrive from bytes) before after = before
-tick_after (kind.Tick word wanted) before after = after
+-- a tick
+abbrev pub is_tick : EventKind → Bool
+is_tick (kind.Arrive from bytes) = false
+is_tick (kind.Tick word wanted) = true
+
+-- the times of the ticks after an event was taken at this place: an arrival leaves them
+abbrev pub ticks_after : EventKind → ℕ → List ℕ → List ℕ
+ticks_after event place ticks = if is_tick event then slice_set ticks place 18446744073709551615 else ticks
 
 -- The tick that is pending at node i of kind me is the first of all in time, and of those at its time the first in the order of nodes. It
 -- comes at this time, which is not the last that there is

@@ -1,5 +1,5 @@
 //! The agenda of all nodes.
-ghost use Rattle.std.specs.Prelude.{◌≡◌, ℕ, ◌<◌, ◌≤◌, [], length, IfOk, Some};
+ghost use Rattle.std.specs.Prelude.{◌≡◌, ℕ, ◌<◌, ◌≤◌, [], length, slice_get, IfOk, Some, IsTrue, ◌↔◌};
 ghost use Rattle.std.proofs.Math.ListN.{replicate};
 ghost use Rattle.rb_base.specs.Nodes.{Side};
 ghost use Rattle.rb_base.specs.Sizes.{Sizes};
@@ -7,16 +7,17 @@ ghost use Rattle.rb_rules.specs.Book.{Each, each_of};
 ghost use Rattle.rb_rules.specs.Goodness.{Scenario};
 ghost use Rattle.rb_rules.specs.Links.{name_of};
 ghost use Rattle.rb_rules.specs.WorldStep.{Site, World};
-ghost use Rattle.rb_queue.specs.Waiting.{HasLane, empty_lane, head_of, lane_of, ready_event, ready_of, spare_of, with_event, with_lane, without_events, without_ready};
-ghost use Rattle.rb_agenda.specs.Agenda.{IsDue, IsFirstAhead, StandsAt, Takes, TakesDue, due_now, first_tick_time, first_time, how_many, key_of};
+ghost use Rattle.rb_queue.specs.Waiting.{HasLane, IsFirstBefore, empty_lane, lane_of, ready_event, ready_of, spare_of, with_arrival, with_lane, with_tick, without_events, without_place, without_tick};
+ghost use Rattle.rb_agenda.specs.Agenda.{IsDue, IsFirstAhead, StandsAt, Takes, TakesDue, due_now, first_tick_time, first_time, how_many};
 ghost use Rattle.rb_agenda.specs.Holding.{HoldsSites};
 
 use crate::scan::{
-    Front, add_tick, change_key, drop_tick, due_count, front_now, front_of, key_of, locate,
-    node_at, position_of, put_key, set_key, take_tick, tick_time,
+    Front, after_event, are_some, due_count, front_now, front_of, is_at_front, keep_key, locate,
+    node_at, position_of, put_tick,
 };
+use arrayvec::ArrayVec;
 use rb_base::{Event, NodeName, OutOfMemory, Shape};
-use rb_queue::Lanes;
+use rb_queue::{Arrival, Lanes};
 use std::alloc::Global;
 use std::marker::Model;
 
@@ -27,7 +28,7 @@ pub struct Agenda {
     keys: Vec<u64>,
     ticks: Vec<u64>,
     bius: usize,
-    // Where the least of the keys stands, as long as it is not stale.
+    // Where the least of the keys stands. Neither is kept once they are stale.
     front: Front,
     stale: bool,
 }
@@ -36,14 +37,14 @@ impl Model for Agenda {
     ghost use Rattle.std.specs.Prelude.{◌≡◌, false};
     ghost use Rattle.rb_rules.specs.Book.{Each};
     ghost use Rattle.rb_queue.specs.Waiting.{Held};
-    ghost use Rattle.rb_agenda.specs.Agenda.{AreKept, AreTicks};
+    ghost use Rattle.rb_agenda.specs.Agenda.{AreKeptUnless, AreTicks};
     ghost use Rattle.rb_agenda.specs.Fronts.{IsFront};
 
     ghost Value = { Each Held };
 
     ghost view = { λ a. a.lanes };
 
-    ghost invariant = { λ a. AreKept a.lanes a.keys.items a.bius × (a.stale ≡ false → IsFront a.keys.items a.front) × AreTicks a.lanes a.ticks.items };
+    ghost invariant = { λ a. AreKeptUnless a.stale a.lanes a.keys.items a.bius × (a.stale ≡ false → IsFront a.keys.items a.front) × AreTicks a.lanes a.ticks.items };
 }
 
 // So many least times of nodes at which nothing is pending.
@@ -82,29 +83,50 @@ impl Agenda {
         self.lanes.spare(node)
     }
 
-    /// Adds an event of a node, due at this time in reference units. There is room for it.
+    /// Adds what comes to a node from a sender, due at this time in reference units. There is room for it.
     #[inline(always)]
-    pub fn push(&mut self, time: u64, event: Event)
-        requires in_shape { HasLane self.old event.node }
-        requires spare { 1 ≤ spare_of (lane_of self.old event.node) }
-        ensures after { self.new ≡ with_lane event.node
-            (with_event (record { time = time; event = event }) (lane_of self.old event.node))
+    pub fn push_arrival(&mut self, node: NodeName, time: u64, from: u8, bytes: ArrayVec<u8, 32>)
+        requires in_shape { HasLane self.old node }
+        requires spare { 1 ≤ spare_of (lane_of self.old node) }
+        ensures after { self.new ≡ with_lane node
+            (with_arrival (record { time = time; from = from; bytes = bytes.items }) (lane_of self.old node))
             self.old }
     {
-        let node = event.node;
-        let tick = tick_time(&event.kind, time);
-        self.lanes.push(time, event);
-        let key = key_of(&self.lanes, node);
+        self.lanes.push_arrival(node, time, from, bytes);
+        self.front = keep_key(
+            &mut self.keys,
+            self.front,
+            self.stale,
+            self.bius,
+            &self.lanes,
+            node,
+        );
+    }
+
+    /// The node's tick is pending, due at this time in reference units.
+    #[inline(always)]
+    pub fn push_tick(&mut self, node: NodeName, time: u64)
+        requires in_shape { HasLane self.old node }
+        ensures after { self.new ≡ with_lane node (with_tick time (lane_of self.old node)) self.old }
+    {
+        self.lanes.push_tick(node, time);
+        self.front = keep_key(
+            &mut self.keys,
+            self.front,
+            self.stale,
+            self.bius,
+            &self.lanes,
+            node,
+        );
         let place = position_of(self.bius, node);
-        self.front = change_key(&mut self.keys, self.front, self.stale, place, key);
-        add_tick(&mut self.ticks, place, tick);
+        put_tick(&mut self.ticks, place, time);
     }
 
     /// The least time of all events, in reference units; 2^64 - 1 where there is none.
     pub fn first_time(&self) -> u64
         ensures value { result ≡ first_time self.now }
     {
-        front_now(&self.keys, self.front, self.stale).least
+        front_now(&self.lanes, &self.keys, self.bius, self.front, self.stale).least
     }
 
     /// How many events are due: those of the least time that may be taken.
@@ -112,8 +134,20 @@ impl Agenda {
         ensures value { result ≡ how_many self.now }
         ensures world { (sc : Scenario) → (w : World) → HoldsSites sc.sizes self.now w.sites → result ≡ length (due_now sc w) }
     {
-        let front = front_now(&self.keys, self.front, self.stale);
-        due_count(&self.lanes, &self.keys, self.bius, front.least)
+        let front = front_now(&self.lanes, &self.keys, self.bius, self.front, self.stale);
+        due_count(&self.lanes, &self.keys, self.bius, self.stale, front.least)
+    }
+
+    /// Whether an event is due. None is counted where the first is found at once.
+    pub fn is_due(&self) -> bool
+        ensures value { IsTrue result ↔ 0 < how_many self.now }
+        ensures world { (sc : Scenario) → (w : World) → HoldsSites sc.sizes self.now w.sites → IsTrue result ↔ 0 < length (due_now sc w) }
+    {
+        let front = front_now(&self.lanes, &self.keys, self.bius, self.front, self.stale);
+        if is_at_front(&self.lanes, &self.keys, self.bius, self.stale, front) {
+            return true;
+        }
+        are_some(self.due())
     }
 
     /// The node at which the i-th due event waits, counted from 0, and the event's place among those that are ready there.
@@ -122,17 +156,17 @@ impl Agenda {
         ensures stands { StandsAt self.now (first_time self.now) i result.0 result.1 }
         ensures world { (sc : Scenario) → (w : World) → HoldsSites sc.sizes self.now w.sites → IsDue sc w self.now i result.0 result.1 }
     {
-        let front = front_now(&self.keys, self.front, self.stale);
-        locate(&self.lanes, &self.keys, self.bius, front, i)
+        let front = front_now(&self.lanes, &self.keys, self.bius, self.front, self.stale);
+        locate(&self.lanes, &self.keys, self.bius, self.stale, front, i)
     }
 
     /// The event at this place among those that are ready at the node.
-    pub fn event_at(&self, node: NodeName, place: usize) -> &Event
+    pub fn event(&self, node: NodeName, place: usize) -> Event
         requires in_shape { HasLane self.now node }
         requires below { place < length (ready_of (lane_of self.now node)) }
-        ensures value { ready_event place (lane_of self.now node) ≡ Some result.now }
+        ensures value { ready_event node place (lane_of self.now node) ≡ Some result }
     {
-        self.lanes.event_at(node, place)
+        self.lanes.event(node, place)
     }
 
     /// Takes the i-th due event, counted from 0, out of the lane of its node, and no other.
@@ -142,14 +176,19 @@ impl Agenda {
         ensures world { (sc : Scenario) → (w : World) → HoldsSites sc.sizes self.old w.sites
             → TakesDue sc w i (first_time self.old) result.0 result.1 self.new }
     {
-        let front = front_now(&self.keys, self.front, self.stale);
-        let (node, place) = locate(&self.lanes, &self.keys, self.bius, front, i);
+        let front = front_now(&self.lanes, &self.keys, self.bius, self.front, self.stale);
+        let (node, place) = locate(&self.lanes, &self.keys, self.bius, self.stale, front, i);
         let event = self.lanes.take(node, place);
-        let key = key_of(&self.lanes, node);
+        self.front = keep_key(
+            &mut self.keys,
+            self.front,
+            self.stale,
+            self.bius,
+            &self.lanes,
+            node,
+        );
         let place = position_of(self.bius, node);
-        self.front = put_key(&mut self.keys, front, place, key);
-        self.stale = false;
-        take_tick(&mut self.ticks, place, &self.lanes, node, &event.kind);
+        after_event(&mut self.ticks, place, &event.kind);
         (node, event)
     }
 
@@ -167,29 +206,56 @@ impl Agenda {
         (node_at(self.bius, front.first), front.least)
     }
 
-    /// The least time of all events of the node, in reference units; 2^64 - 1 where there is none.
-    pub fn time_at(&self, node: NodeName) -> u64
+    /// The place, among the arrivals of the node in the order of pushing, of the first that is ready, where it is due before this time.
+    /// None exactly where nothing is due at the node before then but its tick.
+    #[inline(always)]
+    pub fn first_before(&self, node: NodeName, until: u64) -> Option<usize>
         requires in_shape { HasLane self.now node }
-        ensures value { result ≡ key_of (lane_of self.now node) }
+        ensures first { IsFirstBefore until (lane_of self.now node) result }
     {
-        key_of(&self.lanes, node)
+        self.lanes.first_before(node, until)
     }
 
-    /// Takes the first event that is ready at the node out of its lane, and no other.
+    /// The arrival at this place among those of the node, in the order of pushing.
     #[inline(always)]
-    pub fn take_at(&mut self, node: NodeName) -> Event
-        requires in_shape { HasLane self.old node }
-        requires some { 0 < length (ready_of (lane_of self.old node)) }
-        ensures value { ready_event 0 (lane_of self.old node) ≡ Some result }
-        ensures after { self.new ≡ with_lane node (without_ready 0 (lane_of self.old node)) self.old }
+    pub fn arrival(&self, node: NodeName, place: usize) -> &Arrival
+        requires in_shape { HasLane self.now node }
+        requires below { place < length (lane_of self.now node).arrivals }
+        ensures value { slice_get (lane_of self.now node).arrivals place ≡ Some result.now }
     {
-        let event = self.lanes.take(node, 0);
-        let key = key_of(&self.lanes, node);
-        let place = position_of(self.bius, node);
-        set_key(&mut self.keys, place, key);
+        self.lanes.arrival(node, place)
+    }
+
+    /// Drops the arrival at this place among those of the node, in the order of pushing, and nothing else.
+    #[inline(always)]
+    pub fn drop_at(&mut self, node: NodeName, place: usize)
+        requires in_shape { HasLane self.old node }
+        requires below { place < length (lane_of self.old node).arrivals }
+        ensures after { self.new ≡ with_lane node (without_place place (lane_of self.old node)) self.old }
+    {
+        self.lanes.drop_at(node, place);
         self.stale = true;
-        take_tick(&mut self.ticks, place, &self.lanes, node, &event.kind);
-        event
+    }
+
+    /// The time of the node's tick, in reference units, if one is pending.
+    #[inline(always)]
+    pub fn tick(&self, node: NodeName) -> Option<u64>
+        requires in_shape { HasLane self.now node }
+        ensures value { result ≡ (lane_of self.now node).tick }
+    {
+        self.lanes.tick(node)
+    }
+
+    /// The node's tick is pending no more. Nothing else changes.
+    #[inline(always)]
+    pub fn take_tick(&mut self, node: NodeName)
+        requires in_shape { HasLane self.old node }
+        ensures after { self.new ≡ with_lane node (without_tick (lane_of self.old node)) self.old }
+    {
+        self.lanes.take_tick(node);
+        self.stale = true;
+        let place = position_of(self.bius, node);
+        put_tick(&mut self.ticks, place, u64::MAX);
     }
 
     /// Drops all events of the node, and no others.
@@ -198,8 +264,15 @@ impl Agenda {
         ensures after { self.new ≡ with_lane node (without_events (lane_of self.old node)) self.old }
     {
         self.lanes.drop_all(node);
+        self.front = keep_key(
+            &mut self.keys,
+            self.front,
+            self.stale,
+            self.bius,
+            &self.lanes,
+            node,
+        );
         let place = position_of(self.bius, node);
-        self.front = change_key(&mut self.keys, self.front, self.stale, place, u64::MAX);
-        drop_tick(&mut self.ticks, place);
+        put_tick(&mut self.ticks, place, u64::MAX);
     }
 }

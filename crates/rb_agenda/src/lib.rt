@@ -3,7 +3,5 @@
 
 pub mod agenda;
 mod scan;
-#[cfg(test)]
-mod tests;
 
 pub use agenda::Agenda;

@@ -1,8 +1,8 @@
 //! What is looked up among the least times of all nodes.
-ghost use Rattle.std.specs.Prelude.{◌≡◌, ℕ, ◌+◌, ◌<◌, ◌≤◌, false, get_or, length, min, nat_lt, slice_set, if◌then◌else◌, IsTrue};
-ghost use Rattle.rb_rules.specs.Book.{in_order};
-ghost use Rattle.rb_queue.specs.Waiting.{HasLane, first_tick_of, lane_of, tick_time_of};
-ghost use Rattle.rb_agenda.specs.Agenda.{AreKept, StandsAt, due_count, due_in, key_of, node_at, position_of, tick_after};
+ghost use Rattle.std.specs.Prelude.{◌≡◌, ℕ, ◌<◌, ◌≤◌, false, length, nat_lt, slice_set, if◌then◌else◌, IsTrue, ◌↔◌};
+ghost use Rattle.rb_rules.specs.Book.{Each, in_order};
+ghost use Rattle.rb_queue.specs.Waiting.{HasLane, Held, lane_of, ready_of, with_lane};
+ghost use Rattle.rb_agenda.specs.Agenda.{AreFew, AreKept, AreKeptUnless, StandsAt, due_count, due_in, is_tick, key_of, keys_of, node_at, position_of, ticks_after};
 ghost use Rattle.rb_agenda.specs.Fronts.{IsFront, lowered};
 
 use rb_base::{EventKind, NodeName};
@@ -94,7 +94,8 @@ fn front_lowered(front: Front, place: usize, key: u64) -> Front
 }
 
 // The key at a place changes.
-pub(crate) fn put_key(keys: &mut Vec<u64>, front: Front, place: usize, key: u64) -> Front
+#[inline(never)]
+fn put_key(keys: &mut Vec<u64>, front: Front, place: usize, key: u64) -> Front
     requires within { place < length keys.old.items }
     requires front { IsFront keys.old.items front }
     ensures keys { keys.new.items ≡ slice_set keys.old.items place key }
@@ -111,132 +112,174 @@ pub(crate) fn put_key(keys: &mut Vec<u64>, front: Front, place: usize, key: u64)
     }
 }
 
-// The front as it is kept, or looked for anew where it may be stale.
-pub(crate) fn front_now(keys: &[u64], front: Front, stale: bool) -> Front
-    requires { stale ≡ false → IsFront keys.now front }
-    ensures { IsFront keys.now result }
+// The front of all nodes, whose keys are looked for anew.
+fn fresh_front(lanes: &Lanes, bius: usize, count: usize) -> Front
+    requires few { AreFew lanes.now bius }
+    requires many { count ≡ length (keys_of lanes.now) }
+    ensures front { IsFront (keys_of lanes.now) result }
+    ensures kept { AreKept lanes.now (keys_of lanes.now) bius }
 {
-    if stale { front_of(keys) } else { front }
+    let mut front = Front {
+        first: 0,
+        least: u64::MAX,
+    };
+    for position in 0..count {
+        let key = key_of(lanes, node_at(bius, position));
+        front = with_key(front, position, key);
+    }
+    front
 }
 
-// The key at a place changes, and the front with it unless it is stale.
-pub(crate) fn change_key(
+// The front as it is kept, or looked for anew where the keys are stale.
+pub(crate) fn front_now(
+    lanes: &Lanes,
+    keys: &[u64],
+    bius: usize,
+    front: Front,
+    stale: bool,
+) -> Front
+    requires unless { AreKeptUnless stale lanes.now keys.now bius }
+    requires front { stale ≡ false → IsFront keys.now front }
+    ensures front { IsFront (keys_of lanes.now) result }
+    ensures kept { AreKept lanes.now (keys_of lanes.now) bius }
+{
+    if stale {
+        return fresh_front(lanes, bius, keys.len());
+    }
+    front
+}
+
+// The lane of a node has changed: its key is kept, and the front with it, unless they are stale.
+#[inline(always)]
+pub(crate) fn keep_key(
     keys: &mut Vec<u64>,
     front: Front,
     stale: bool,
-    place: usize,
-    key: u64,
+    bius: usize,
+    lanes: &Lanes,
+    node: NodeName,
 ) -> Front
-    requires within { place < length keys.old.items }
+    requires bius { bius ≤ 16 }
+    requires lane { HasLane lanes.now node }
+    requires within { position_of bius node < length keys.old.items }
     requires front { stale ≡ false → IsFront keys.old.items front }
-    ensures keys { keys.new.items ≡ slice_set keys.old.items place key }
+    ensures kept { (before : Each Held) (lane : Held) → AreKeptUnless stale before keys.old.items bius → HasLane before node
+        → lanes.now ≡ with_lane node lane before → lane.room ≤ 65536 → AreKeptUnless stale lanes.now keys.new.items bius }
     ensures front { stale ≡ false → IsFront keys.new.items result }
 {
     if stale {
-        set_key(keys, place, key);
         return front;
     }
+    let key = key_of(lanes, node);
+    let place = position_of(bius, node);
     put_key(keys, front, place, key)
 }
 
-// The key at a place changes.
-pub(crate) fn set_key(keys: &mut Vec<u64>, place: usize, key: u64)
-    requires { place < length keys.old.items }
-    ensures { keys.new.items ≡ slice_set keys.old.items place key }
-{
-    keys[place] = key;
-}
-
-// The time of a tick. An arrival has none: the last time that there is.
-pub(crate) fn tick_time(kind: &EventKind, time: u64) -> u64
-    ensures value { result ≡ tick_time_of kind.now time }
-    ensures small { result ≤ 18446744073709551615 }
+#[inline(always)]
+pub(crate) fn is_tick(kind: &EventKind) -> bool
+    ensures { result ≡ is_tick kind.now }
 {
     match kind {
-        EventKind::Arrive { .. } => u64::MAX,
-        EventKind::Tick { .. } => time,
+        EventKind::Arrive { .. } => false,
+        EventKind::Tick { .. } => true,
     }
 }
 
-// A tick more at a place.
-pub(crate) fn add_tick(ticks: &mut Vec<u64>, place: usize, time: u64)
+// The time of the tick at a place.
+#[inline(always)]
+pub(crate) fn put_tick(ticks: &mut Vec<u64>, place: usize, time: u64)
     requires { place < length ticks.old.items }
-    ensures { ticks.new.items ≡ slice_set ticks.old.items place (min (get_or ticks.old.items place 0) time) }
+    ensures { ticks.new.items ≡ slice_set ticks.old.items place time }
 {
-    let least = ticks[place].min(time);
-    ticks[place] = least;
+    ticks[place] = time;
 }
 
-// The time of the first tick of a node after an event was taken there, where it was this before.
-fn tick_after(lanes: &Lanes, node: NodeName, kind: &EventKind, before: u64) -> u64
-    requires { HasLane lanes.now node }
-    ensures { result ≡ tick_after kind.now before (first_tick_of (lane_of lanes.now node).events) }
+// An event of the node whose place this is was taken.
+pub(crate) fn after_event(ticks: &mut Vec<u64>, place: usize, kind: &EventKind)
+    requires { place < length ticks.old.items }
+    ensures { ticks.new.items ≡ ticks_after kind.now place ticks.old.items }
 {
-    match kind {
-        EventKind::Arrive { .. } => before,
-        EventKind::Tick { .. } => lanes.first_tick(node),
+    if is_tick(kind) {
+        put_tick(ticks, place, u64::MAX);
     }
 }
 
-// An event of the node, whose place this is, was taken.
-pub(crate) fn take_tick(
-    ticks: &mut Vec<u64>,
-    place: usize,
-    lanes: &Lanes,
-    node: NodeName,
-    kind: &EventKind,
-)
-    requires within { place < length ticks.old.items }
+// The least time at a node: as it is kept, or looked for where it may be stale.
+fn key_now(lanes: &Lanes, node: NodeName, kept: u64, stale: bool) -> u64
     requires lane { HasLane lanes.now node }
-    ensures { ticks.new.items ≡ slice_set ticks.old.items place
-        (tick_after kind.now (get_or ticks.old.items place 0) (first_tick_of (lane_of lanes.now node).events)) }
+    requires kept { stale ≡ false → kept ≡ key_of (lane_of lanes.now node) }
+    ensures { result ≡ key_of (lane_of lanes.now node) }
 {
-    let tick = tick_after(lanes, node, kind, ticks[place]);
-    ticks[place] = tick;
+    if stale {
+        return key_of(lanes, node);
+    }
+    kept
 }
 
-// The tick at a place is dropped.
-pub(crate) fn drop_tick(ticks: &mut Vec<u64>, place: usize)
-    requires { place < length ticks.old.items }
-    ensures { ticks.new.items ≡ slice_set ticks.old.items place 18446744073709551615 }
-{
-    ticks[place] = u64::MAX;
-}
-
-// How many events of a node are due at a time, where the node has this least time.
-fn due_in(lanes: &Lanes, node: NodeName, key: u64, time: u64) -> usize
+// How many events of a node are due at a time, where this is the least time of the node unless it is stale.
+fn due_in(lanes: &Lanes, node: NodeName, kept: u64, stale: bool, time: u64) -> usize
     requires lane { HasLane lanes.now node }
-    requires key { key ≡ key_of (lane_of lanes.now node) }
+    requires kept { stale ≡ false → kept ≡ key_of (lane_of lanes.now node) }
     requires short { (lane_of lanes.now node).room ≤ 65536 }
     ensures value { result ≡ length (due_in time (lane_of lanes.now node)) }
-    ensures few { result ≤ 65536 }
+    ensures few { result ≤ 65537 }
 {
+    let key = key_now(lanes, node, kept, stale);
     if key == time { lanes.ready(node) } else { 0 }
 }
 
+// Whether an event is ready at a node. What arrives there is looked at first.
+fn is_any_ready(lanes: &Lanes, node: NodeName) -> bool
+    requires { HasLane lanes.now node }
+    ensures { IsTrue result → 0 < length (ready_of (lane_of lanes.now node)) }
+{
+    if lanes.first_before(node, u64::MAX).is_some() {
+        return true;
+    }
+    lanes.ready(node) > 0
+}
+
 // Whether an event is due at the node of the least key.
-fn is_at_front(lanes: &Lanes, keys: &[u64], bius: usize, front: Front) -> bool
-    requires kept { AreKept lanes.now keys.now bius }
-    requires front { IsFront keys.now front }
-    ensures { IsTrue result → StandsAt lanes.now front.least 0 (node_at bius front.first) 0 }
+pub(crate) fn is_at_front(
+    lanes: &Lanes,
+    keys: &[u64],
+    bius: usize,
+    stale: bool,
+    front: Front,
+) -> bool
+    requires unless { AreKeptUnless stale lanes.now keys.now bius }
+    requires kept { AreKept lanes.now (keys_of lanes.now) bius }
+    requires front { IsFront (keys_of lanes.now) front }
+    ensures stands { IsTrue result → StandsAt lanes.now front.least 0 (node_at bius front.first) 0 }
+    ensures some { IsTrue result → 0 < due_count front.least (in_order lanes.now) }
 {
     if front.first >= keys.len() {
         return false;
     }
-    if keys[front.first] != front.least {
+    let node = node_at(bius, front.first);
+    let key = key_now(lanes, node, keys[front.first], stale);
+    if key != front.least {
         return false;
     }
-    lanes.is_ready(node_at(bius, front.first))
+    is_any_ready(lanes, node)
+}
+
+// Whether there are any.
+pub(crate) fn are_some(count: usize) -> bool
+    ensures { IsTrue result ↔ 0 < count }
+{
+    count > 0
 }
 
 // How many events are due at a time.
-pub(crate) fn due_count(lanes: &Lanes, keys: &[u64], bius: usize, time: u64) -> usize
-    requires { AreKept lanes.now keys.now bius }
+pub(crate) fn due_count(lanes: &Lanes, keys: &[u64], bius: usize, stale: bool, time: u64) -> usize
+    requires unless { AreKeptUnless stale lanes.now keys.now bius }
+    requires kept { AreKept lanes.now (keys_of lanes.now) bius }
     ensures { result ≡ due_count time (in_order lanes.now) }
 {
     let mut count = 0;
     for (position, key) in keys.iter().enumerate() {
-        count += due_in(lanes, node_at(bius, position), *key, time);
+        count += due_in(lanes, node_at(bius, position), *key, stale, time);
     }
     count
 }
@@ -247,31 +290,41 @@ pub(crate) fn locate(
     lanes: &Lanes,
     keys: &[u64],
     bius: usize,
+    stale: bool,
     front: Front,
     i: usize,
 ) -> (NodeName, usize)
-    requires kept { AreKept lanes.now keys.now bius }
-    requires front { IsFront keys.now front }
+    requires unless { AreKeptUnless stale lanes.now keys.now bius }
+    requires kept { AreKept lanes.now (keys_of lanes.now) bius }
+    requires front { IsFront (keys_of lanes.now) front }
     requires below { i < due_count front.least (in_order lanes.now) }
     ensures { StandsAt lanes.now front.least i result.0 result.1 }
 {
-    if i == 0 && is_at_front(lanes, keys, bius, front) {
+    if i == 0 && is_at_front(lanes, keys, bius, stale, front) {
         return (node_at(bius, front.first), 0);
     }
-    locate_among(lanes, keys, bius, front.least, i)
+    locate_among(lanes, keys, bius, stale, front.least, i)
 }
 
 // The same, node by node.
 #[inline(never)]
-fn locate_among(lanes: &Lanes, keys: &[u64], bius: usize, time: u64, i: usize) -> (NodeName, usize)
-    requires kept { AreKept lanes.now keys.now bius }
+fn locate_among(
+    lanes: &Lanes,
+    keys: &[u64],
+    bius: usize,
+    stale: bool,
+    time: u64,
+    i: usize,
+) -> (NodeName, usize)
+    requires unless { AreKeptUnless stale lanes.now keys.now bius }
+    requires kept { AreKept lanes.now (keys_of lanes.now) bius }
     requires below { i < due_count time (in_order lanes.now) }
     ensures { StandsAt lanes.now time i result.0 result.1 }
 {
     let mut left = i;
     for (position, key) in keys.iter().enumerate() {
         let node = node_at(bius, position);
-        let due = due_in(lanes, node, *key, time);
+        let due = due_in(lanes, node, *key, stale, time);
         if left < due {
             return (node, left);
         }

@@ -6,6 +6,6 @@ use Rattle.rb_agenda.proofs.scan.due_count.Given as goal
 abbrev pub invariant-loop-position : goal.invariant-loop-position
 invariant-loop-position l = record {
   so_far : l.count ≡ due_count l.time (take l.position (in_order l.lanes));
-  few : l.count ≤ 65536 * l.position;
+  few : l.count ≤ 65537 * l.position;
   some : l.position ≤ 32;
 }

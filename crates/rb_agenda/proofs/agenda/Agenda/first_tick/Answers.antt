@@ -16,7 +16,7 @@ returns-then-front-len-clause-world c = λ sizes sites holds me i time first.
     let lanes = c.self.inside.lanes in
     let front : IsFront c.self.inside.ticks.items c.front_of-front.result = subst (λ ks. IsFront ks c.front_of-front.result) c.deref.ensures.value c.front_of-front.ensures in
     let is = first-is sizes lanes sites c.self.inside.ticks.items c.self.inside.bius c.front_of-front.result
-    (subst (λ x. HoldsSites sizes x sites) (sym c.self.view_is) holds) c.self.invariant.2 c.self.invariant.0.split front me i time first in
+    (subst (λ x. HoldsSites sizes x sites) (sym c.self.view_is) holds) c.self.invariant.2 c.self.invariant.0.few.split front me i time first in
     let within = is.0 in
     absurd (omega (arith, within, c.if-front-len.true))
 
@@ -30,8 +30,8 @@ returns-clause-world c = λ sizes sites holds me i time first.
     let lanes = c.self.inside.lanes in
     let front : IsFront c.self.inside.ticks.items c.front_of-front.result = subst (λ ks. IsFront ks c.front_of-front.result) c.deref.ensures.value c.front_of-front.ensures in
     let held : HoldsSites sizes lanes sites = subst (λ x. HoldsSites sizes x sites) (sym c.self.view_is) holds in
-    let is = first-is sizes lanes sites c.self.inside.ticks.items c.self.inside.bius c.front_of-front.result held c.self.invariant.2 c.self.invariant.0.split front me i time first in
-    (c.node_at.ensures ∙ name-there sizes lanes sites c.self.inside.bius c.front_of-front.result.first held c.self.invariant.0.split me i time first is.1.0, is.1.1)
+    let is = first-is sizes lanes sites c.self.inside.ticks.items c.self.inside.bius c.front_of-front.result held c.self.invariant.2 c.self.invariant.0.few.split front me i time first in
+    (c.node_at.ensures ∙ name-there sizes lanes sites c.self.inside.bius c.front_of-front.result.first held c.self.invariant.0.few.split me i time first is.1.0, is.1.1)
 
 pub returns-clause-time : goal.returns-clause-time
 returns-clause-time c =
@@ -40,11 +40,11 @@ returns-clause-time c =
 
 pub node_at-requires-clause-position : goal.node_at-requires-clause-position
 node_at-requires-clause-position c =
-    let few = few-ticks c.self.inside.lanes c.self.inside.keys.items c.self.inside.ticks.items c.self.inside.bius c.self.invariant.0 c.self.invariant.2 in
+    let few = few-ticks c.self.inside.lanes c.self.inside.ticks.items c.self.inside.bius c.self.invariant.0.few c.self.invariant.2 in
     omega (arith, few, c.if-front-len.false)
 
 pub node_at-requires-clause-bius : goal.node_at-requires-clause-bius
 node_at-requires-clause-bius c =
-    let few = c.self.invariant.0.few_bius in
-    let split = c.self.invariant.0.split in
+    let few = c.self.invariant.0.few.few_bius in
+    let split = c.self.invariant.0.few.split in
     omega (arith, few, split)

@@ -1,14 +1,15 @@
-use Rattle.std.proofs.Common.{◌+◌, ap, subst, ◌∙◌}
+use Rattle.std.proofs.Common.{◌+◌, false, ap, subst, ◌∙◌}
 use Rattle.rb_agenda.specs.Fronts.{IsFront}
-use Rattle.rb_agenda.proofs.Keeping.{kept-empty}
+use Rattle.rb_agenda.proofs.Keeping.{kept-empty, unless-kept}
 use Rattle.rb_agenda.proofs.Ticks.{ticks-empty}
 use Rattle.rb_agenda.proofs.agenda.Agenda.new.Goals as goal
 
 pub invariant_of-result : goal.invariant_of-result
 invariant_of-result c =
     let bius = c.from-bius.result in (
-      kept-empty c.args.shape.now c.in_ok-lanes.lanes c.in_ok-keys.keys.items c.args.room bius (bius + c.from.result) c.biu.ensures.shape c.requires
-          (c.from-bius.ensures ∙ c.biu.ensures.value) (ap (λ n. bius + n) (c.from.ensures ∙ c.rmu.ensures.value)) c.in_ok-keys.ensures c.in_ok-lanes.ensures,
+      unless-kept false c.in_ok-lanes.lanes c.in_ok-keys.keys.items bius
+          (kept-empty c.args.shape.now c.in_ok-lanes.lanes c.in_ok-keys.keys.items c.args.room bius (bius + c.from.result) c.biu.ensures.shape c.requires
+          (c.from-bius.ensures ∙ c.biu.ensures.value) (ap (λ n. bius + n) (c.from.ensures ∙ c.rmu.ensures.value)) c.in_ok-keys.ensures c.in_ok-lanes.ensures),
       λ fresh. subst (λ ks. IsFront ks c.front_of-front.result) c.deref.ensures.value c.front_of-front.ensures,
       ticks-empty c.args.shape.now c.in_ok-lanes.lanes c.in_ok-ticks.ticks.items c.args.room bius (bius + c.from-2.result)
           (c.from-bius.ensures ∙ c.biu.ensures.value) (ap (λ n. bius + n) (c.from-2.ensures ∙ c.rmu-2.ensures.value)) c.in_ok-ticks.ensures c.in_ok-lanes.ensures,

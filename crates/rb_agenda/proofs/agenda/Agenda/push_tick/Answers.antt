@@ -1,0 +1,41 @@
+use Rattle.std.proofs.Common.{refl, sym, subst, arith}
+use Rattle.rb_queue.specs.Waiting.{HasLane, Held, lane_of, with_tick}
+use Rattle.rb_agenda.specs.Agenda.{AreTicks}
+use Rattle.rb_agenda.proofs.Keeping.{has-with, room-of}
+use Rattle.rb_agenda.proofs.Ticks.{place-within, tick-place, ticks-with}
+use Rattle.rb_agenda.proofs.agenda.Agenda.push_tick.Goals as goal
+
+pub invariant_of-self : goal.invariant_of-self
+invariant_of-self c =
+    let lanes = c.self.inside.lanes in
+    let bius = c.self.inside.bius in
+    let name = c.args.node in
+    let lane : Held = with_tick c.args.time (lane_of lanes name) in
+    let h : HasLane lanes name = subst (λ x. HasLane x name) (sym c.self.view_is) c.requires.in_shape in (
+      c.keep_key-self-inside.ensures.kept lanes lane c.self.invariant.0 h c.push_tick.ensures.after (room-of lanes bius name c.self.invariant.0.few h),
+      c.keep_key-self-inside.ensures.front,
+      subst (AreTicks c.push_tick.new.self) (sym c.put_tick.ensures)
+          (ticks-with lanes c.push_tick.new.self c.self.inside.ticks.items bius c.position_of-place.result name lane c.args.time c.self.invariant.0.few.split
+          c.position_of-place.ensures c.self.invariant.2 h c.push_tick.ensures.after refl),
+    )
+
+pub keep_key-self-inside-requires-clause-bius : goal.keep_key-self-inside-requires-clause-bius
+keep_key-self-inside-requires-clause-bius c = let few = c.self.invariant.0.few.few_bius in let split = c.self.invariant.0.few.split in omega (arith, few, split)
+
+pub keep_key-self-inside-requires-clause-lane : goal.keep_key-self-inside-requires-clause-lane
+keep_key-self-inside-requires-clause-lane c =
+    let lanes = c.self.inside.lanes in
+    let name = c.args.node in
+    let h : HasLane lanes name = subst (λ x. HasLane x name) (sym c.self.view_is) c.requires.in_shape in
+    subst (λ x. HasLane x name) (sym c.push_tick.ensures.after) (has-with lanes name name (with_tick c.args.time (lane_of lanes name)) h)
+
+pub keep_key-self-inside-requires-clause-within : goal.keep_key-self-inside-requires-clause-within
+keep_key-self-inside-requires-clause-within c =
+    place-within c.self.inside.lanes c.self.inside.keys.items c.self.inside.bius c.args.node c.self.invariant.0.few c.self.invariant.0.many
+    (subst (λ x. HasLane x c.args.node) (sym c.self.view_is) c.requires.in_shape)
+
+pub put_tick-requires : goal.put_tick-requires
+put_tick-requires c =
+    let h : HasLane c.self.inside.lanes c.args.node = subst (λ x. HasLane x c.args.node) (sym c.self.view_is) c.requires.in_shape in
+    (tick-place c.self.inside.lanes c.self.inside.ticks.items c.self.inside.bius c.position_of-place.result c.args.node c.self.invariant.0.few.split c.position_of-place.ensures
+    c.self.invariant.2 h).0
