@@ -2,7 +2,7 @@
 use Rattle.std.proofs.Common.{◌≡◌, ℕ, zero, suc, ◌+◌, ◌<◌, ◌≤◌, Bool, true, false, cond, Some, List, [], ◌∷◌, ◌++◌, All, filter, get_or, length, map, slice_get, take, refl, sym, ap, ◌∙◌, subst, arith, append_assoc, length-append}
 use Rattle.std.specs.Prelude.{unwrap_or, slice_set}
 use Rattle.std.specs.List.{cons_option, flat_map, range_with_len}
-use Rattle.std.proofs.lemmas.List.{append-nil, map-append, take_more}
+use Rattle.std.proofs.lemmas.List.{append-nil, take_more}
 use Rattle.std.proofs.lemmas.List.Elements.{All-append, All-cons, All-nil, filter_map-append}
 use Rattle.std.proofs.lemmas.Option.{slice_get_past}
 use Rattle.rb_base.specs.Nodes.{Side, other}
@@ -18,12 +18,11 @@ use Rattle.rb_rules.specs.Lawful.{kind_of}
 use Rattle.rb_rules.specs.Links.{name_of}
 use Rattle.rb_rules.specs.Slots.{count_of}
 use Rattle.rb_rules.specs.WorldStep.{Site, at_node, says_in}
-use Rattle.rb_queue.specs.declared.pending.Pending.{Pending}
-use Rattle.rb_queue.specs.Waiting.{HasLane, Held, empty_lane, lane_of, spare_of, with_event, with_lane}
-use Rattle.rb_agenda.specs.Holding.{HoldsSite, HoldsSites, arrivals_in, coming_with, tick_with, ticks_in}
+use Rattle.rb_queue.specs.Waiting.{HasLane, Held, empty_lane, lane_of, spare_of, with_arrival, with_lane}
+use Rattle.rb_agenda.specs.Holding.{HoldsSite, HoldsSites}
 use Rattle.rb_agenda.proofs.Changes.{holds-at}
 use Rattle.rb_agenda.proofs.Keeping.{has-with, lane-with}
-use Rattle.rb_traffic.specs.Arriving.{arriving, number_of}
+use Rattle.rb_traffic.specs.Arriving.{number_of}
 use Rattle.rb_traffic.proofs.Says.{brought-append}
 use Rattle.rb_traffic.specs.Saying.{all_brought, brought, entries_at, hears, is_said_in, with_arrivals}
 
@@ -47,30 +46,29 @@ lane-again lanes (node.Biu i) x y = ap (λ ls. record lanes { bius = ls }) (set-
 lane-again lanes (node.Rmu i) x y = ap (λ ls. record lanes { rmus = ls }) (set-set lanes.rmus i x y)
 
 -- nothing more
-pub with-nothing : (lanes : Each Held) (to : NodeName) → HasLane lanes to → with_lane to (with_arrivals to [] (lane_of lanes to)) lanes ≡ lanes
-with-nothing lanes to h = lane-same lanes to (with_arrivals to [] (lane_of lanes to)) h (ap (λ e. record (lane_of lanes to) { events = e }) (append-nil (lane_of lanes to).events))
+pub with-nothing : (lanes : Each Held) (to : NodeName) → HasLane lanes to → with_lane to (with_arrivals [] (lane_of lanes to)) lanes ≡ lanes
+with-nothing lanes to h = lane-same lanes to (with_arrivals [] (lane_of lanes to)) h (ap (λ e. record (lane_of lanes to) { arrivals = e }) (append-nil (lane_of lanes to).arrivals))
 
 -- more, and again more
-pub with-both : (lanes now : Each Held) (to : NodeName) (xs ys : List Coming) → HasLane lanes to → now ≡ with_lane to (with_arrivals to xs (lane_of lanes to)) lanes
-    → with_lane to (with_arrivals to ys (lane_of now to)) now ≡ with_lane to (with_arrivals to (xs ++ ys) (lane_of lanes to)) lanes
+pub with-both : (lanes now : Each Held) (to : NodeName) (xs ys : List Coming) → HasLane lanes to → now ≡ with_lane to (with_arrivals xs (lane_of lanes to)) lanes
+    → with_lane to (with_arrivals ys (lane_of now to)) now ≡ with_lane to (with_arrivals (xs ++ ys) (lane_of lanes to)) lanes
 with-both lanes now to xs ys h is =
     let l : Held = lane_of lanes to in
-    let first : Held = with_arrivals to xs l in
+    let first : Held = with_arrivals xs l in
     let lane : lane_of now to ≡ first = ap (λ x. lane_of x to) is ∙ lane-with lanes to first h in
-    let all : (l.events ++ map (arriving to) xs) ++ map (arriving to) ys ≡ l.events ++ map (arriving to) (xs ++ ys) =
-    append_assoc l.events (map (arriving to) xs) (map (arriving to) ys) ∙ ap (λ m. l.events ++ m) (sym (map-append (arriving to) xs ys)) in
-    ap (λ x. with_lane to (with_arrivals to ys x) now) lane ∙ ap (with_lane to (with_arrivals to ys first)) is ∙ lane-again lanes to first (with_arrivals to ys first)
-    ∙ ap (λ e. with_lane to (record l { events = e }) lanes) all
+    let all : (l.arrivals ++ xs) ++ ys ≡ l.arrivals ++ (xs ++ ys) = append_assoc l.arrivals xs ys in
+    ap (λ x. with_lane to (with_arrivals ys x) now) lane ∙ ap (with_lane to (with_arrivals ys first)) is ∙ lane-again lanes to first (with_arrivals ys first)
+    ∙ ap (λ e. with_lane to (record l { arrivals = e }) lanes) all
 
--- one event more takes one place
-pub one-place : (lanes new : Each Held) (to : NodeName) (p : Pending) → HasLane lanes to → new ≡ with_lane to (with_event p (lane_of lanes to)) lanes
+-- one arrival more takes one place
+pub one-place : (lanes new : Each Held) (to : NodeName) (p : Coming) → HasLane lanes to → new ≡ with_lane to (with_arrival p (lane_of lanes to)) lanes
     → HasLane new to × (spare_of (lane_of lanes to) ≤ spare_of (lane_of new to) + 1)
 one-place lanes new to p h is =
     let l : Held = lane_of lanes to in
-    let lane : lane_of new to ≡ with_event p l = ap (λ x. lane_of x to) is ∙ lane-with lanes to (with_event p l) h in
-    let long : length (l.events ++ p ∷ []) ≡ length l.events + 1 = length-append l.events (p ∷ []) in
-    let less : spare_of l ≤ spare_of (with_event p l) + 1 = omega arith in
-    (subst (λ x. HasLane x to) (sym is) (has-with lanes to to (with_event p l) h), subst (λ x. spare_of l ≤ spare_of x + 1) (sym lane) less)
+    let lane : lane_of new to ≡ with_arrival p l = ap (λ x. lane_of x to) is ∙ lane-with lanes to (with_arrival p l) h in
+    let long : length (l.arrivals ++ p ∷ []) ≡ length l.arrivals + 1 = length-append l.arrivals (p ∷ []) in
+    let less : spare_of l ≤ spare_of (with_arrival p l) + 1 = omega arith in
+    (subst (λ x. HasLane x to) (sym is) (has-with lanes to to (with_arrival p l) h), subst (λ x. spare_of l ≤ spare_of x + 1) (sym lane) less)
 
 -- Entries.
 
@@ -85,21 +83,11 @@ one-brought sc clock span s b e =
     go false = refl
 
 -- The world.
-arrivals-are : (name : NodeName) (cs : List Coming) → arrivals_in (map (arriving name) cs) ≡ cs
-arrivals-are name [] = refl
-arrivals-are name (c ∷ cs) = ap (λ l. c ∷ l) (arrivals-are name cs)
-
-no-ticks : (name : NodeName) (cs : List Coming) → ticks_in (map (arriving name) cs) ≡ []
-no-ticks name [] = refl
-no-ticks name (c ∷ cs) = no-ticks name cs
-
-holds-arrivals : (sizes : Sizes) (me : Side) (name : NodeName) (lane : Held) (s : Site) (cs : List Coming) → HoldsSite sizes me lane s → All (λ c. c.from < count_of (other me) sizes) cs
-    → HoldsSite sizes me (with_arrivals name cs lane) (record s { coming = s.coming ++ cs })
-holds-arrivals sizes me name lane s cs holds small = record {
-  coming = filter_map-append (λ q. coming_with q.time q.event.kind) lane.events (map (arriving name) cs)
-      ∙ ap (λ l. l ++ arrivals_in (map (arriving name) cs)) holds.coming ∙ ap (λ l. s.coming ++ l) (arrivals-are name cs);
-  ahead = filter_map-append (λ q. tick_with q.time q.event.kind) lane.events (map (arriving name) cs)
-      ∙ ap (λ l. ticks_in lane.events ++ l) (no-ticks name cs) ∙ append-nil (ticks_in lane.events) ∙ holds.ahead;
+holds-arrivals : (sizes : Sizes) (me : Side) (lane : Held) (s : Site) (cs : List Coming) → HoldsSite sizes me lane s → All (λ c. c.from < count_of (other me) sizes) cs
+    → HoldsSite sizes me (with_arrivals cs lane) (record s { coming = s.coming ++ cs })
+holds-arrivals sizes me lane s cs holds small = record {
+  coming = ap (λ l. l ++ cs) holds.coming;
+  ahead = holds.ahead;
   senders = All-append (λ c. c.from < count_of (other me) sizes) s.coming cs holds.senders small;
 }
 
@@ -133,7 +121,7 @@ named (node.Rmu i) = refl
 
 -- the lanes hold the sites of the world once it is said
 pub said-holds : (sc : Scenario) (lanes new : Each Held) (sites : Each Site) (to : NodeName) (span : Span) → HoldsSites sc.sizes lanes sites → HasLane lanes to
-    → new ≡ with_lane to (with_arrivals to (says_in sc (kind_of to) (number_of to) span) (lane_of lanes to)) lanes
+    → new ≡ with_lane to (with_arrivals (says_in sc (kind_of to) (number_of to) span) (lane_of lanes to)) lanes
     → HoldsSites sc.sizes new (at_node (kind_of to) (number_of to) (hears sc to span) sites)
 said-holds sc lanes new sites to span holds h is =
     let me : Side = kind_of to in
@@ -141,9 +129,9 @@ said-holds sc lanes new sites to span holds h is =
     let cs : List Coming = says_in sc me i span in
     let n : to ≡ name_of me i = named to in
     let lane : lane_of lanes (name_of me i) ≡ lane_of lanes to = ap (lane_of lanes) (sym n) in
-    subst (λ x. HoldsSites sc.sizes x (at_node me i (hears sc to span) sites)) (sym (is ∙ ap (λ m. with_lane m (with_arrivals to cs (lane_of lanes to)) lanes) n))
-    (holds-at sc.sizes lanes sites me i (with_arrivals to cs (lane_of lanes to)) (hears sc to span) holds (subst (HasLane lanes) n h)
-    (λ s at its. holds-arrivals sc.sizes me to (lane_of lanes to) s cs (subst (λ x. HoldsSite sc.sizes me x s) lane its) (says-small sc me i span)))
+    subst (λ x. HoldsSites sc.sizes x (at_node me i (hears sc to span) sites)) (sym (is ∙ ap (λ m. with_lane m (with_arrivals cs (lane_of lanes to)) lanes) n))
+    (holds-at sc.sizes lanes sites me i (with_arrivals cs (lane_of lanes to)) (hears sc to span) holds (subst (HasLane lanes) n h)
+    (λ s at its. holds-arrivals sc.sizes me (lane_of lanes to) s cs (subst (λ x. HoldsSite sc.sizes me x s) lane its) (says-small sc me i span)))
 
 -- the entries with one number more
 pub entries-more : (says : List Say) (places : List ℕ) (i n : ℕ) → i < length places → n ≡ get_or places i 0
@@ -155,22 +143,22 @@ entries-more says places i n h is =
 -- one entry more is gone through
 pub so-far-said : (sc : Scenario) (clock : Timeline) (span : Span) (lanes now new : Each Held) (to : NodeName) (says : List Say) (places : List ℕ) (i n : ℕ) (s : Say) → HasLane lanes to
     → i < length places → n ≡ get_or places i 0 → slice_get says n ≡ Some s
-    → now ≡ with_lane to (with_arrivals to (all_brought sc clock span (entries_at says (take i places))) (lane_of lanes to)) lanes
-    → new ≡ with_lane to (with_arrivals to (all_brought sc clock span (s ∷ [])) (lane_of now to)) now
-    → new ≡ with_lane to (with_arrivals to (all_brought sc clock span (entries_at says (take (i + 1) places))) (lane_of lanes to)) lanes
+    → now ≡ with_lane to (with_arrivals (all_brought sc clock span (entries_at says (take i places))) (lane_of lanes to)) lanes
+    → new ≡ with_lane to (with_arrivals (all_brought sc clock span (s ∷ [])) (lane_of now to)) now
+    → new ≡ with_lane to (with_arrivals (all_brought sc clock span (entries_at says (take (i + 1) places))) (lane_of lanes to)) lanes
 so-far-said sc clock span lanes now new to says places i n s h within is at so_far more =
     let before : List Say = entries_at says (take i places) in
     let next : entries_at says (take (i + 1) places) ≡ before ++ s ∷ [] = entries-more says places i n within is ∙ ap (λ o. before ++ cons_option o []) at in
     more ∙ with-both lanes now to (all_brought sc clock span before) (all_brought sc clock span (s ∷ [])) h so_far
-    ∙ ap (λ cs. with_lane to (with_arrivals to cs (lane_of lanes to)) lanes) (sym (brought-append sc clock span before (s ∷ [])) ∙ ap (all_brought sc clock span) (sym next))
+    ∙ ap (λ cs. with_lane to (with_arrivals cs (lane_of lanes to)) lanes) (sym (brought-append sc clock span before (s ∷ [])) ∙ ap (all_brought sc clock span) (sym next))
 
 -- a number without an entry
 pub so-far-none : (sc : Scenario) (clock : Timeline) (span : Span) (lanes now : Each Held) (to : NodeName) (says : List Say) (places : List ℕ) (i n : ℕ)
     → i < length places → n ≡ get_or places i 0 → length says ≤ n
-    → now ≡ with_lane to (with_arrivals to (all_brought sc clock span (entries_at says (take i places))) (lane_of lanes to)) lanes
-    → now ≡ with_lane to (with_arrivals to (all_brought sc clock span (entries_at says (take (i + 1) places))) (lane_of lanes to)) lanes
+    → now ≡ with_lane to (with_arrivals (all_brought sc clock span (entries_at says (take i places))) (lane_of lanes to)) lanes
+    → now ≡ with_lane to (with_arrivals (all_brought sc clock span (entries_at says (take (i + 1) places))) (lane_of lanes to)) lanes
 so-far-none sc clock span lanes now to says places i n within is past so_far =
     let before : List Say = entries_at says (take i places) in
     let next : entries_at says (take (i + 1) places) ≡ before =
     entries-more says places i n within is ∙ ap (λ o. before ++ cons_option o []) (slice_get_past says n past) ∙ append-nil before in
-    so_far ∙ ap (λ es. with_lane to (with_arrivals to (all_brought sc clock span es) (lane_of lanes to)) lanes) (sym next)
+    so_far ∙ ap (λ es. with_lane to (with_arrivals (all_brought sc clock span es) (lane_of lanes to)) lanes) (sym next)

@@ -3,3 +3,4 @@ pub mod Sent
 pub mod EntryLists
 pub mod Says
 pub mod Arrivals
+pub mod Copies

@@ -12,15 +12,15 @@ use Rattle.rb_rules.specs.Clock.{Timeline, time_of}
 use Rattle.rb_rules.specs.Goodness.{Scenario, clock_of}
 use Rattle.rb_rules.specs.Hearing.{Coming, Sending, coming_of}
 use Rattle.rb_rules.specs.Lawful.{kind_of}
-use Rattle.rb_rules.specs.Links.{DelayRules, name_of}
+use Rattle.rb_rules.specs.Links.{DelayRules}
 use Rattle.rb_rules.specs.Slots.{count_of}
 use Rattle.rb_rules.specs.Spelling.{spelling_of}
 use Rattle.rb_rules.specs.WorldStep.{Site, sent_to, with_message}
-use Rattle.rb_queue.specs.Waiting.{Held, with_event}
+use Rattle.rb_queue.specs.Waiting.{Held, with_arrival}
 use Rattle.rb_agenda.specs.Holding.{HoldsAll, HoldsSite, HoldsSites}
 use Rattle.rb_agenda.proofs.Changes.{holds-arrival}
 use Rattle.rb_traffic.specs.declared.sending.Departure.{Departure}
-use Rattle.rb_traffic.specs.Arriving.{AreRunning, arriving, coming_to, lane_with, lanes_with, number_of}
+use Rattle.rb_traffic.specs.Arriving.{AreRunning, coming_to, lane_with, lanes_with, number_of}
 use Rattle.rb_traffic.specs.Departing.{IsOfScenario, with_departure, with_sent}
 
 -- the sites of a kind, each of which gets what comes to it if it runs
@@ -28,13 +28,13 @@ abbrev gets : (ℕ → Coming) → ℕ → Site → Site
 gets coming i s = elim (s.runs) as (λ _. Site) [ true ↦ record s { coming = s.coming ++ coming i ∷ [] } | false ↦ s ]
 
 one-gets : (sizes : Sizes) (side : Side) (coming : ℕ → Coming) (i : ℕ) (l : Held) (s : Site) (b : Bool) → b ≡ s.runs → (coming i).from < count_of (other side) sizes → HoldsSite sizes side l s
-    → HoldsSite sizes side (elim b as (λ _. Held) [ true ↦ with_event (arriving (name_of side i) (coming i)) l | false ↦ l ]) (gets coming i s)
+    → HoldsSite sizes side (elim b as (λ _. Held) [ true ↦ with_arrival (coming i) l | false ↦ l ]) (gets coming i s)
 one-gets sizes side coming i l s b is small holds = go b s.runs is
   where
     go : (b runs : Bool) → b ≡ runs
-        → HoldsSite sizes side (elim b as (λ _. Held) [ true ↦ with_event (arriving (name_of side i) (coming i)) l | false ↦ l ])
+        → HoldsSite sizes side (elim b as (λ _. Held) [ true ↦ with_arrival (coming i) l | false ↦ l ])
         (elim runs as (λ _. Site) [ true ↦ record s { coming = s.coming ++ coming i ∷ [] } | false ↦ s ])
-    go true true e = holds-arrival sizes side l s (arriving (name_of side i) (coming i)) (coming i) holds refl refl small
+    go true true e = holds-arrival sizes side l s (coming i) holds small
     go true false e = let never : true ≡ false = e in absurd cc
     go false true e = let never : false ≡ true = e in absurd cc
     go false false e = holds

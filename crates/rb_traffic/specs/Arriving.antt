@@ -1,8 +1,7 @@
--- What comes to nodes, as events of their lanes.
-use Rattle.std.specs.Prelude.{◌≡◌, ℕ, ◌+◌, ◌≤◌, Bool, true, false, List, slice_get, Some}
+-- What comes to nodes.
+use Rattle.std.specs.Prelude.{◌≡◌, ℕ, ◌+◌, ◌≤◌, Bool, true, false, List, length, slice_get, Some, ◌⊎◌}
 use Rattle.rb_base.specs.Nodes.{Side, has, other}
 use Rattle.rb_base.specs.Nodes.Side.{Biu, Rmu}
-use Rattle.rb_base.specs.declared.event.EventKind.TheVariants as kind
 use Rattle.rb_base.specs.declared.node.NodeName.{NodeName}
 use Rattle.rb_base.specs.declared.node.NodeName.TheVariants as node
 use Rattle.rb_base.specs.declared.values.Place.{Place}
@@ -11,19 +10,18 @@ use Rattle.rb_rules.specs.Hearing.{Coming}
 use Rattle.rb_rules.specs.Lawful.{kind_of}
 use Rattle.rb_rules.specs.Links.{DelayRules, delay_of, name_of}
 use Rattle.rb_rules.specs.WorldStep.{Site}
-use Rattle.rb_queue.specs.declared.pending.Pending.{Pending}
-use Rattle.rb_queue.specs.Waiting.{HasLane, Held, lane_of, spare_of, with_event}
+use Rattle.rb_queue.specs.Waiting.{HasLane, Held, lane_of, spare_of, with_arrival}
 
 -- the number of a node among those of its kind
 abbrev pub number_of : NodeName → ℕ
 number_of (node.Biu i) = i
 number_of (node.Rmu i) = i
 
--- what comes to a node, as an event of its lane
-abbrev pub arriving : NodeName → Coming → Pending
-arriving name c = record { time = c.time; event = record { node = name; quiet = 0; kind = kind.Arrive c.from (record { items = c.bytes }) } }
-
 -- Messages of good nodes.
+
+-- as long as a message is
+abbrev pub IsLong : List ℕ → Type 0
+IsLong bytes = (length bytes ≡ 11) ⊎ (length bytes ≡ 12)
 
 -- what a node sends at a time, as it comes to node i of the other kind
 abbrev pub coming_to : DelayRules → NodeName → ℕ → Place → List ℕ → ℕ → Coming
@@ -32,7 +30,7 @@ coming_to delays from time place bytes i =
 
 -- the lane of node i of a kind gets what comes to it, if the node is one of these
 abbrev pub lane_with : Side → (ℕ → Coming) → (ℕ → Bool) → ℕ → Held → Held
-lane_with side coming is_one i lane = elim (is_one i) [ true ↦ with_event (arriving (name_of side i) (coming i)) lane | false ↦ lane ]
+lane_with side coming is_one i lane = elim (is_one i) [ true ↦ with_arrival (coming i) lane | false ↦ lane ]
 
 -- so with the lanes of all nodes of the kind, and no others
 abbrev pub lanes_with : Side → (ℕ → Coming) → (ℕ → Bool) → Each Held → Each Held

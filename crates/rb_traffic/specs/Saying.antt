@@ -16,15 +16,15 @@ use Rattle.rb_rules.specs.Slots.{count_of}
 use Rattle.rb_rules.specs.WorldStep.{Site, says_in}
 use Rattle.rb_queue.specs.Waiting.{Held}
 use Rattle.rb_onset.specs.Faults.{Faults, faults_of}
-use Rattle.rb_traffic.specs.Arriving.{arriving, number_of}
+use Rattle.rb_traffic.specs.Arriving.{number_of}
 
 -- what is kept of a scenario: who is good where, how messages are spelled, and what is said
-pub record Kept : Type 0 where
+pub record KeptSayings : Type 0 where
   pub faults : Faults
   pub version : Version
   pub says : List Say
 
-abbrev pub kept_of : Scenario → Kept
+abbrev pub kept_of : Scenario → KeptSayings
 kept_of sc = record { faults = faults_of sc; version = sc.plan.version; says = sc.says }
 
 -- By receiver.
@@ -42,7 +42,7 @@ abbrev pub senders_to : Sizes → NodeName → ℕ
 senders_to sizes to = count_of (other (kind_of to)) sizes
 
 -- the most that is said to a node in a window: its entries
-abbrev pub most_to : Kept → NodeName → ℕ
+abbrev pub most_to : KeptSayings → NodeName → ℕ
 most_to k to = length (entries_to to (senders_to k.faults.sizes to) k.says)
 
 -- the entries with these numbers
@@ -81,8 +81,8 @@ abbrev pub all_brought : Scenario → Timeline → Span → List Say → List Co
 all_brought sc clock span says = map (brought sc.plan.version clock span) (filter (is_said_in sc span) says)
 
 -- a lane with more arrivals
-abbrev pub with_arrivals : NodeName → List Coming → Held → Held
-with_arrivals name more lane = record lane { events = lane.events ++ map (arriving name) more }
+abbrev pub with_arrivals : List Coming → Held → Held
+with_arrivals more lane = record lane { arrivals = lane.arrivals ++ more }
 
 -- what is said to a node in a window comes to it
 abbrev pub hears : Scenario → NodeName → Span → Site → Site

@@ -3,14 +3,15 @@ ghost use Rattle.std.specs.Prelude.{◌≡◌, ◌≤◌, length};
 ghost use Rattle.rb_base.specs.Nodes.{other};
 ghost use Rattle.rb_rules.specs.Lawful.{kind_of};
 ghost use Rattle.rb_rules.specs.Links.{name_of};
-ghost use Rattle.rb_queue.specs.Waiting.{HasLane, lane_of, spare_of, with_event, with_lane};
-ghost use Rattle.rb_traffic.specs.Arriving.{arriving, number_of};
+ghost use Rattle.rb_queue.specs.Waiting.{HasLane, lane_of, spare_of, with_arrival, with_lane};
+ghost use Rattle.rb_traffic.specs.Arriving.{IsLong, number_of};
 
 use arrayvec::ArrayVec;
 use rb_agenda::Agenda;
-use rb_base::{Event, EventKind, NodeName};
+use rb_base::NodeName;
 
 // The node of the other kind with this number.
+#[inline]
 pub(crate) fn receiver(from: NodeName, i: u8) -> NodeName
     ensures { result ≡ name_of (other (kind_of from)) i }
 {
@@ -21,6 +22,7 @@ pub(crate) fn receiver(from: NodeName, i: u8) -> NodeName
 }
 
 // The number of a node among those of its kind.
+#[inline]
 pub(crate) fn number_of(node: NodeName) -> u8
     ensures { result ≡ number_of node }
 {
@@ -31,6 +33,7 @@ pub(crate) fn number_of(node: NodeName) -> u8
 }
 
 // The bytes with room for as many as an arrival may have.
+#[inline(always)]
 fn copied(bytes: &[u8]) -> ArrayVec<u8, 32>
     requires { length bytes.now ≤ 32 }
     ensures { result.items ≡ bytes.now }
@@ -40,24 +43,39 @@ fn copied(bytes: &[u8]) -> ArrayVec<u8, 32>
     copy
 }
 
+// The bytes of a message with room for as many as an arrival may have. Where their number is known they are copied in place.
+#[inline(always)]
+#[tactic(auto, using(crate::proofs::Copies::copying))]
+fn copied_message(bytes: &[u8]) -> ArrayVec<u8, 32>
+    requires { IsLong bytes.now }
+    ensures { result.items ≡ bytes.now }
+{
+    if bytes.len() == 11 {
+        copied(&bytes[..11])
+    } else {
+        copied(&bytes[..12])
+    }
+}
+
+// A message comes to a node at a time: it is put into its lane.
+#[inline(always)]
+pub(crate) fn arrive_message(agenda: &mut Agenda, node: NodeName, time: u64, from: u8, bytes: &[u8])
+    requires in_shape { HasLane agenda.old node }
+    requires spare { 1 ≤ spare_of (lane_of agenda.old node) }
+    requires long { IsLong bytes.now }
+    ensures { agenda.new
+        ≡ with_lane node (with_arrival (record { time = time; from = from; bytes = bytes.now }) (lane_of agenda.old node)) agenda.old }
+{
+    agenda.push_arrival(node, time, from, copied_message(bytes));
+}
+
 // What comes to a node at a time is put into its lane.
 pub(crate) fn arrive(agenda: &mut Agenda, node: NodeName, time: u64, from: u8, bytes: &[u8])
     requires in_shape { HasLane agenda.old node }
     requires spare { 1 ≤ spare_of (lane_of agenda.old node) }
     requires few { length bytes.now ≤ 32 }
     ensures { agenda.new
-        ≡ with_lane node (with_event (arriving node (record { time = time; from = from; bytes = bytes.now })) (lane_of agenda.old node)) agenda.old }
+        ≡ with_lane node (with_arrival (record { time = time; from = from; bytes = bytes.now }) (lane_of agenda.old node)) agenda.old }
 {
-    let kind = EventKind::Arrive {
-        from,
-        bytes: copied(bytes),
-    };
-    agenda.push(
-        time,
-        Event {
-            node,
-            quiet: 0,
-            kind,
-        },
-    );
+    agenda.push_arrival(node, time, from, copied(bytes));
 }

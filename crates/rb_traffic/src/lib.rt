@@ -5,8 +5,6 @@ mod arriving;
 mod entries;
 pub mod saying;
 pub mod sending;
-#[cfg(test)]
-mod tests;
 
 pub use saying::{Sayings, Span};
 pub use sending::{Departure, send};

@@ -7,10 +7,10 @@ ghost use Rattle.rb_rules.specs.Hearing.{bytes_of, message_at};
 ghost use Rattle.rb_rules.specs.Lawful.{IsNodeOf, kind_of};
 ghost use Rattle.rb_rules.specs.Spelling.{IsZeroUnlessWord, spelling_of};
 ghost use Rattle.rb_rules.specs.WorldStep.{Site, at_node, says_in};
-ghost use Rattle.rb_queue.specs.Waiting.{HasLane, lane_of, spare_of, with_event, with_lane};
+ghost use Rattle.rb_queue.specs.Waiting.{HasLane, lane_of, spare_of, with_arrival, with_lane};
 ghost use Rattle.rb_onset.specs.Faults.{faults_of};
 ghost use Rattle.rb_agenda.specs.Holding.{HoldsSites};
-ghost use Rattle.rb_traffic.specs.Arriving.{arriving, number_of};
+ghost use Rattle.rb_traffic.specs.Arriving.{number_of};
 ghost use Rattle.rb_traffic.specs.Saying.{AreFor, all_brought, entries_at, hears, is_said_in, kept_of, most_to, senders_to, with_arrivals};
 ghost use Rattle.rb_traffic.specs.Spans.{span_of};
 
@@ -46,9 +46,9 @@ pub struct Sayings {
 }
 
 impl Model for Sayings {
-    ghost use Rattle.rb_traffic.specs.Saying.{AreIndexed, Kept};
+    ghost use Rattle.rb_traffic.specs.Saying.{AreIndexed, KeptSayings};
 
-    ghost Value = { Kept };
+    ghost Value = { KeptSayings };
 
     ghost view = { λ s. record { faults = s.onsets; version = s.version; says = s.says } };
 
@@ -85,7 +85,7 @@ fn bring(
     requires spare { 1 ≤ spare_of (lane_of agenda.old to) }
     requires stage { 1 ≤ place.stage }
     ensures { agenda.new
-        ≡ with_lane to (with_event (arriving to (record { time = time; from = from; bytes = bytes_of version place content.now })) (lane_of agenda.old to)) agenda.old }
+        ≡ with_lane to (with_arrival (record { time = time; from = from; bytes = bytes_of version place content.now }) (lane_of agenda.old to)) agenda.old }
 {
     match content {
         Content::Word(word) => {
@@ -138,7 +138,7 @@ fn say_one(
     requires stage { 1 ≤ span.now.place.stage }
     requires first { span.now.first ≤ 2 ^ 31 }
     ensures lanes { (sc : Scenario) → onsets.now ≡ faults_of sc → version ≡ sc.plan.version
-        → agenda.new ≡ with_lane to (with_arrivals to (all_brought sc clock.now (span_of span.now) (say.now ∷ [])) (lane_of agenda.old to)) agenda.old }
+        → agenda.new ≡ with_lane to (with_arrivals (all_brought sc clock.now (span_of span.now) (say.now ∷ [])) (lane_of agenda.old to)) agenda.old }
     ensures lane { HasLane agenda.new to }
     ensures spare { spare_of (lane_of agenda.old to) ≤ spare_of (lane_of agenda.new to) + 1 }
 {
@@ -150,6 +150,33 @@ fn say_one(
 }
 
 // What the entries with these numbers bring.
+fn say_each(
+    agenda: &mut Agenda,
+    says: &SayList,
+    places: &[u16],
+    onsets: &Onsets,
+    version: Version,
+    clock: &Clock,
+    to: NodeName,
+    span: &Span,
+)
+    requires lane { HasLane agenda.old to }
+    requires spare { length places.now ≤ spare_of (lane_of agenda.old to) }
+    requires stage { 1 ≤ span.now.place.stage }
+    requires first { span.now.first ≤ 2 ^ 31 }
+    ensures { (sc : Scenario) → onsets.now ≡ faults_of sc → version ≡ sc.plan.version
+        → agenda.new ≡ with_lane to (with_arrivals (all_brought sc clock.now (span_of span.now) (entries_at says.now places.now)) (lane_of agenda.old to)) agenda.old }
+{
+    for number in places {
+        let number = usize::from(*number);
+        if number < says.len() {
+            say_one(agenda, says.get(number), onsets, version, clock, to, span);
+        }
+    }
+}
+
+// The same. As a rule there are none.
+#[inline]
 fn say_all(
     agenda: &mut Agenda,
     says: &SayList,
@@ -165,14 +192,12 @@ fn say_all(
     requires stage { 1 ≤ span.now.place.stage }
     requires first { span.now.first ≤ 2 ^ 31 }
     ensures { (sc : Scenario) → onsets.now ≡ faults_of sc → version ≡ sc.plan.version
-        → agenda.new ≡ with_lane to (with_arrivals to (all_brought sc clock.now (span_of span.now) (entries_at says.now places.now)) (lane_of agenda.old to)) agenda.old }
+        → agenda.new ≡ with_lane to (with_arrivals (all_brought sc clock.now (span_of span.now) (entries_at says.now places.now)) (lane_of agenda.old to)) agenda.old }
 {
-    for number in places {
-        let number = usize::from(*number);
-        if number < says.len() {
-            say_one(agenda, says.get(number), onsets, version, clock, to, span);
-        }
+    if places.is_empty() {
+        return;
     }
+    say_each(agenda, says, places, onsets, version, clock, to, span);
 }
 
 impl Sayings {
@@ -200,6 +225,7 @@ impl Sayings {
         })
     }
 
+    #[inline]
     fn places(&self, to: NodeName) -> &[u16]
         requires { IsNodeOf self.now.faults.sizes to }
         ensures { AreFor self.now.says to (senders_to self.now.faults.sizes to) result.now }
@@ -220,6 +246,7 @@ impl Sayings {
 
     /// What nodes that are not good say to the node in a window comes to it: by sender, and then in the order of the entries. `clock`
     /// is the node's. There is room for as much as is said to it in a window at most.
+    #[inline]
     pub fn say(&self, agenda: &mut Agenda, clock: &Clock, to: NodeName, span: &Span)
         requires node { IsNodeOf self.now.faults.sizes to }
         requires in_shape { HasLane agenda.old to }
@@ -227,7 +254,7 @@ impl Sayings {
         requires stage { 1 ≤ span.now.place.stage }
         requires first { span.now.first ≤ 2 ^ 31 }
         ensures lanes { (sc : Scenario) → self.now ≡ kept_of sc → clock.now ≡ clock_of sc (kind_of to) (number_of to)
-            → agenda.new ≡ with_lane to (with_arrivals to (says_in sc (kind_of to) (number_of to) (span_of span.now)) (lane_of agenda.old to)) agenda.old }
+            → agenda.new ≡ with_lane to (with_arrivals (says_in sc (kind_of to) (number_of to) (span_of span.now)) (lane_of agenda.old to)) agenda.old }
         ensures world { (sc : Scenario) → (sites : Each Site) → self.now ≡ kept_of sc → clock.now ≡ clock_of sc (kind_of to) (number_of to)
             → HoldsSites sc.sizes agenda.old sites
             → HoldsSites sc.sizes agenda.new (at_node (kind_of to) (number_of to) (hears sc to (span_of span.now)) sites) }

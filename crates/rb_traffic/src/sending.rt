@@ -5,16 +5,16 @@ ghost use Rattle.rb_rules.specs.Book.{of_kind};
 ghost use Rattle.rb_rules.specs.Clock.{time_of};
 ghost use Rattle.rb_rules.specs.Lawful.{kind_of};
 ghost use Rattle.rb_rules.specs.Links.{name_of};
-ghost use Rattle.rb_queue.specs.Waiting.{HasLane, lane_of, spare_of, with_event, with_lane};
+ghost use Rattle.rb_queue.specs.Waiting.{HasLane, lane_of, spare_of, with_arrival, with_lane};
 ghost use Rattle.rb_rules.specs.Book.{Each};
 ghost use Rattle.rb_rules.specs.Goodness.{Scenario};
 ghost use Rattle.rb_rules.specs.Spelling.{IsZeroUnlessWord};
 ghost use Rattle.rb_rules.specs.WorldStep.{Site};
 ghost use Rattle.rb_agenda.specs.Holding.{HoldsSites};
-ghost use Rattle.rb_traffic.specs.Arriving.{AreRunning, HaveRoom, arriving, coming_to, lanes_with, number_of};
+ghost use Rattle.rb_traffic.specs.Arriving.{AreRunning, HaveRoom, IsLong, coming_to, lanes_with, number_of};
 ghost use Rattle.rb_traffic.specs.Departing.{IsOfScenario, with_departure, with_sent};
 
-use crate::arriving::{arrive, number_of, receiver};
+use crate::arriving::{arrive_message, number_of, receiver};
 use rb_agenda::Agenda;
 use rb_base::{NodeName, NodeSet, Place, Rmu};
 use rb_clock::Clock;
@@ -31,13 +31,6 @@ pub struct Departure {
     pub message: Message,
 }
 
-// Whether node i is in the set.
-fn is_one(running: u16, i: u8) -> bool
-    ensures { result ≡ has running i }
-{
-    NodeSet::<Rmu>::from_bits(running).has(i)
-}
-
 // What a node sends at a time comes to each of these nodes of the other kind, later by its delay.
 fn spread(
     agenda: &mut Agenda,
@@ -49,17 +42,16 @@ fn spread(
     running: u16,
 )
     requires room { HaveRoom (other (kind_of from)) running agenda.old }
-    requires few { length bytes.now ≤ 32 }
+    requires long { IsLong bytes.now }
     requires time { time < 2 ^ 53 }
     ensures { agenda.new ≡ lanes_with (other (kind_of from)) (coming_to delays.now from time place bytes.now) (has running) agenda.old }
 {
     let sender = number_of(from);
-    for i in 0..16 {
-        if is_one(running, i) {
-            let node = receiver(from, i);
-            let delay = delays.delay(from, node, place);
-            arrive(agenda, node, time + u64::from(delay), sender, bytes);
-        }
+    let mut left = NodeSet::<Rmu>::from_bits(running);
+    while let Some(id) = left.pop_first() {
+        let node = receiver(from, id.index());
+        let delay = delays.delay(from, node, place);
+        arrive_message(agenda, node, time + u64::from(delay), sender, bytes);
     }
 }
 

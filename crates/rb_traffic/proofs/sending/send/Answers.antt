@@ -5,6 +5,7 @@ use Rattle.rb_rules.specs.Lawful.{kind_of}
 use Rattle.rb_agenda.specs.Holding.{HoldsSites}
 use Rattle.rb_traffic.specs.Arriving.{coming_to, lanes_with}
 use Rattle.rb_traffic.specs.Departing.{place_of, with_departure, with_sent}
+use Rattle.rb_traffic.proofs.Copies.{long_spelled}
 use Rattle.rb_traffic.proofs.Sent.{sent-holds}
 use Rattle.rb_traffic.proofs.sending.send.Goals as goal
 
@@ -20,3 +21,6 @@ returns-clause-world c =
     λ sc sites is runs holds.
     subst (λ x. HoldsSites sc.sizes x (with_sent sc d sites)) (sym after)
     (sent-holds sc c.args.clock.now delays c.args.version d c.args.running c.args.agenda.now sites is runs holds)
+
+pub spread-requires-clause-long : goal.spread-requires-clause-long
+spread-requires-clause-long c = long_spelled c.args.version c.args.departure.now.message c.deref.result.now (c.deref.ensures.0 ∙ c.encode-bytes.ensures.spelled.1)
