@@ -1,7 +1,8 @@
 -- The sources of which it counts what was seen.
-use Rattle.std.proofs.Common.{◌≡◌, ℕ, ◌<◌, ◌&&◌, not, nat_lt, Bool, true, false, refl, sym, ◌∙◌, ap, arith}
+use Rattle.std.proofs.Common.{◌≡◌, ℕ, ◌<◌, ◌≤◌, ◌&&◌, not, nat_lt, Bool, true, false, refl, sym, ◌∙◌, ap, arith}
 use Rattle.rb_base.specs.Nodes.{has, set_of}
-use Rattle.rb_base.proofs.Sets.{has-set_of, has_none, is_set_of, same_set_of}
+use Rattle.std.proofs.lemmas.Bool.{ltb-true}
+use Rattle.rb_base.proofs.Sets.{has-is, has-set_of, has_none, is_set_of, same_set_of}
 
 -- those below a number that are not in a set
 abbrev pub are_counted : ℕ → ℕ → (ℕ → Bool) → ℕ
@@ -33,3 +34,17 @@ counted_none count lasting first counted p first_is is none =
     drop_last false b c e = refl
     drop_last true false c e = refl
     drop_last true true c e = absurd (cc)
+
+-- where none is left that doesn't last, all last
+pub all_counted : (count lasting first rest : ℕ) → count ≤ 16 → first ≡ set_of (λ i. nat_lt i count) → rest ≡ set_of (λ i. has first i && not (has lasting i)) → rest ≡ 0
+    → (j : ℕ) → nat_lt j count ≡ true → has lasting j ≡ true
+all_counted count lasting first rest few is_first is_rest none j e =
+    let below : j < count = ltb-true j count e in
+    let h : j < 16 = omega arith in
+    by (has first j) (has lasting j) (has-is first j (λ i. nat_lt i count) is_first h ∙ e)
+    (sym (has-is rest j (λ i. has first i && not (has lasting i)) is_rest h) ∙ ap (λ s. has s j) none ∙ has_none j)
+  where
+    by : (a b : Bool) → a ≡ true → (a && not b) ≡ false → b ≡ true
+    by true true ha o = refl
+    by true false ha o = absurd (cc)
+    by false b ha o = absurd (cc)

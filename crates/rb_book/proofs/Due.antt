@@ -1,5 +1,5 @@
 -- When a milestone is settled.
-use Rattle.std.proofs.Common.{◌≡◌, ℕ, zero, suc, ◌+◌, ◌<◌, ◌≤◌, ◌==◌, ◌&&◌, ◌||◌, not, nat_lt, Bool, true, false, List, [], ◌∷◌, ◌++◌, length, take, Option, Some, None, refl, sym, ◌∙◌, ap, subst, arith}
+use Rattle.std.proofs.Common.{◌≡◌, ℕ, zero, suc, ◌+◌, ◌<◌, ◌≤◌, ◌==◌, ◌&&◌, ◌||◌, not, nat_lt, Bool, true, false, List, [], ◌∷◌, ◌++◌, length, take, Option, Some, None, refl, sym, ◌∙◌, ap, subst, arith, if◌then◌else◌}
 use Rattle.std.specs.Prelude.{is_some, is_none, option_map}
 use Rattle.std.specs.List.{list_all}
 use Rattle.std.proofs.lemmas.Bool.Decides.{nat_tests}
@@ -14,7 +14,7 @@ use Rattle.rb_rules.specs.Book.{Begun, Book, Each, Record, Row, map_each, map_fr
 use Rattle.rb_rules.specs.Book.{Milestone as Mile}
 use Rattle.rb_rules.specs.Goodness.{Scenario, good_at, is_good}
 use Rattle.rb_rules.specs.Slots.{count_of}
-use Rattle.rb_rules.specs.WorldStep.{Site, Way, World, begun_for, book_with, comes_so, is_complete, needs_no_event, record_since, row_for, settle, settle_next}
+use Rattle.rb_rules.specs.WorldStep.{Site, Way, World, begun_for, book_with, comes_so, is_complete, needs_no_event, record_since, row_for, same_place, settle, settle_next}
 use Rattle.rb_book.specs.declared.group.Group.{Group}
 use Rattle.rb_book.specs.declared.ledger.Ledger.{Ledger}
 use Rattle.rb_book.specs.declared.milestone.Milestone.{Milestone}
@@ -28,9 +28,10 @@ use Rattle.rb_book.specs.declared.turn.Turn.TheVariants as turn
 use Rattle.rb_book.specs.Holding.{Holds, HoldsKind, Passes, passed}
 use Rattle.rb_book.specs.Records.{milestone_of, record_of, way_of}
 use Rattle.rb_book.specs.Settling.{Settles, comes_when, is_due, is_free}
-use Rattle.rb_book.specs.Telling.{begun_in, begun_told, has_told, no_told, row_told, told_at}
+use Rattle.rb_base.specs.declared.values.See.{See}
+use Rattle.rb_book.specs.Telling.{begun_in, begun_told, has_told, latest_seeing, no_told, row_seeing, see_of, told_at}
 use Rattle.rb_book.specs.Waiting.{waiting_for}
-use Rattle.rb_book.proofs.Rows.{from-map, from-same, good-is}
+use Rattle.rb_book.proofs.Rows.{from-from, from-map, from-same, good-is}
 
 -- All of a list.
 
@@ -130,14 +131,28 @@ some_begun kind frame (Some b) = by (b.frame == frame)
     by true = refl
     by false = refl
 
+-- whatever was seen
+told-seeing : (place : Place) (saw : ℕ → See) (t : Told) → is_some (row_for place (row_seeing saw t)) ≡ has_told (Stage place) t
+told-seeing place saw t = by t.has_closed
+  where
+    there : (b : Bool) → is_some (elim b as (λ _. Option Row) [ true ↦ Some (latest_seeing saw t) | false ↦ None ])
+        ≡ is_some (elim b as (λ _. Option Row) [ true ↦ Some (latest_seeing (see_of t) t) | false ↦ None ])
+    there true = refl
+    there false = refl
+
+    by : (c : Bool) → is_some (row_for place (if c then Some (latest_seeing saw t) else None)) ≡ is_some (row_for place (if c then Some (latest_seeing (see_of t) t) else None))
+    by true = there (same_place t.place place)
+    by false = refl
+
 kind-stage : {K : Type 0} (sc : Scenario) (kind : Side) (place : Place) (g : Group K) (sites : Each Site) → count_of kind sc.sizes ≤ 16 → HoldsKind sc kind (Stage place) g sites
     → list_all (λ b. b) (of_kind kind (map_each (λ me i s. not (is_good sc me i place.frame place.slot) || is_some (row_for place s.row)) sites)) ≡ (g.waiting == 0)
 kind-stage sc kind place g sites most holds =
     let f : ℕ → Option Row → Bool = λ i r. not (is_good sc kind i place.frame place.slot) || is_some (row_for place r) in
     ap (list_all (λ b. b)) (tells_row sc kind place sites ∙ sym (from-map 0 f (λ s. s.row) (of_kind kind sites)) ∙ ap (map_from 0 f) holds.rows
-    ∙ from-map 0 f row_told (take (count_of kind sc.sizes) g.told)
+    ∙ from-from 0 f (λ i t. row_seeing (holds.saw i) t) (take (count_of kind sc.sizes) g.told)
     ∙ from-same 0 _ (λ i t. not (has g.good i) || has_told (Stage place) t) (take (count_of kind sc.sizes) g.told)
-    (λ i t. ap (λ b. not b || has_told (Stage place) t) (sym (ap (λ s. has s i) holds.good ∙ good-is sc kind place.frame place.slot i most))))
+    (λ i t. ap (λ b. not (is_good sc kind i place.frame place.slot) || b) (told-seeing place (holds.saw i) t)
+    ∙ ap (λ b. not b || has_told (Stage place) t) (sym (ap (λ s. has s i) holds.good ∙ good-is sc kind place.frame place.slot i most))))
     ∙ all-told (count_of kind sc.sizes) g.good (Stage place) g.told most holds.all ∙ ap (λ s. s == 0) (sym holds.waiting)
 
 kind-begin : {K : Type 0} (sc : Scenario) (kind : Side) (frame : ℕ) (g : Group K) (sites : Each Site) → count_of kind sc.sizes ≤ 16 → HoldsKind sc kind (Begin frame) g sites
@@ -273,8 +288,8 @@ with-turn sc l w t h = record {
   lines = h.lines;
   ended = h.ended;
   judged = h.judged;
-  bius = record { all = h.bius.all; rows = h.bius.rows; begins = h.bius.begins; within = h.bius.within; good = h.bius.good; waiting = h.bius.waiting; lasting = h.bius.lasting };
-  rmus = record { all = h.rmus.all; rows = h.rmus.rows; begins = h.rmus.begins; within = h.rmus.within; good = h.rmus.good; waiting = h.rmus.waiting; lasting = h.rmus.lasting };
+  bius = record { all = h.bius.all; saw = h.bius.saw; rows = h.bius.rows; sights = h.bius.sights; begins = h.bius.begins; within = h.bius.within; good = h.bius.good; waiting = h.bius.waiting; lasting = h.bius.lasting };
+  rmus = record { all = h.rmus.all; saw = h.rmus.saw; rows = h.rmus.rows; sights = h.rmus.sights; begins = h.rmus.begins; within = h.rmus.within; good = h.rmus.good; waiting = h.rmus.waiting; lasting = h.rmus.lasting };
 }
 
 settles-at : (sc : Scenario) (way : Way) (w next : World) (l : Ledger) (t : Turn) (r : Option Record) → settle sc way 2 w ≡ record next { turn = r } → r ≡ record_of t

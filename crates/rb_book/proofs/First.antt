@@ -7,7 +7,7 @@ use Rattle.rb_base.specs.Nodes.{Side}
 use Rattle.rb_base.specs.Nodes.Side.{Biu, Rmu}
 use Rattle.rb_base.specs.Sizes.{Sizes}
 use Rattle.rb_base.specs.declared.values.See.TheVariants.{Nothing}
-use Rattle.rb_rules.specs.Book.{Begun, Row, of_kind}
+use Rattle.rb_rules.specs.Book.{Begun, Row, map_from, of_kind}
 use Rattle.rb_rules.specs.Goodness.{Scenario, is_good}
 use Rattle.rb_rules.specs.Hearing.{Span}
 use Rattle.rb_rules.specs.Slots.{count_of}
@@ -16,7 +16,7 @@ use Rattle.rb_book.specs.declared.group.Group.{Group}
 use Rattle.rb_book.specs.declared.milestone.Milestone.TheVariants.{Begin}
 use Rattle.rb_book.specs.declared.told.Told.{Told}
 use Rattle.rb_book.specs.Holding.{HoldsKind, TurnsKind, good_for}
-use Rattle.rb_book.specs.Telling.{begun_told, fresh_told, row_told, told_at}
+use Rattle.rb_book.specs.Telling.{begun_told, fresh_told, row_seeing, see_of, told_at}
 use Rattle.rb_book.specs.Waiting.{waiting_for}
 
 -- what a site shows that stays while the node waits for its next tick
@@ -41,6 +41,11 @@ fresh-shown sc me i = enters-same sc me i (span_from sc.sizes sc.plan me (fresh_
 all-alike : {X Y : Type 0} (h : X → Y) (make : ℕ → X) (v : Y) (a n : ℕ) → ((i : ℕ) → h (make i) ≡ v) → map h (map make (range_with_len a n)) ≡ replicate n v
 all-alike h make v a zero same = refl
 all-alike h make v a (suc n) same = ap (λ y. y ∷ map h (map make (range_with_len (a + 1) n))) (same a) ∙ ap (λ l. v ∷ l) (all-alike h make v (a + 1) n same)
+
+from-alike : {Y : Type 0} (f : ℕ → Told → Y) (v : Y) (k n m : ℕ) (t : Told) → n ≤ m → ((i : ℕ) → f i t ≡ v) → map_from k f (take n (replicate m t)) ≡ replicate n v
+from-alike f v k zero m t h same = refl
+from-alike f v k (suc n) zero t h same = absurd (omega arith)
+from-alike f v k (suc n) (suc m) t h same = ap (λ y. y ∷ map_from (k + 1) f (take n (replicate m t))) (same k) ∙ ap (λ l. v ∷ l) (from-alike f v (k + 1) n m t (omega arith) same)
 
 told-alike : {Y : Type 0} (f : Told → Y) (n m : ℕ) (t : Told) → n ≤ m → map f (take n (replicate m t)) ≡ replicate n (f t)
 told-alike f zero m t h = refl
@@ -69,9 +74,12 @@ first-kind sc kind g h sizes same most told turns good =
     let n : ℕ = count_of kind sc.sizes in
     record {
       all = ap length now ∙ length-replicate 16 fresh_told;
+      saw = λ i j. see_of (told_at h.told i) j;
       rows = ap (map (λ s. s.row)) (first-kind-list sc kind)
           ∙ all-alike (λ s. s.row) (λ i. proceed sc kind i (fresh_site sc.sizes kind)) None 0 n (λ i. ap (λ (x : Shown). x.0) (fresh-shown sc kind i))
-          ∙ sym (ap (λ l. map row_told (take n l)) now ∙ told-alike row_told n 16 fresh_told most);
+          ∙ sym (ap (λ l. map_from 0 (λ i t. row_seeing (see_of (told_at h.told i)) t) (take n l)) now
+          ∙ from-alike (λ i t. row_seeing (see_of (told_at h.told i)) t) None 0 n 16 fresh_told most (λ i. refl));
+      sights = λ i j e. refl;
       begins = ap (map (λ s. s.begun)) (first-kind-list sc kind)
           ∙ all-alike (λ s. s.begun) (λ i. proceed sc kind i (fresh_site sc.sizes kind)) None 0 n (λ i. ap (λ (x : Shown). x.1) (fresh-shown sc kind i))
           ∙ sym (ap (λ l. map (begun_told kind) (take n l)) now ∙ told-alike (begun_told kind) n 16 fresh_told most);

@@ -1,8 +1,8 @@
 -- A node tells something more: its site in the world, and what is kept.
 use Rattle.std.proofs.Common.{◌≡◌, ◌≢◌, ℕ, zero, suc, ◌+◌, ◌<◌, ◌≤◌, ◌==◌, ◌&&◌, not, nat_lt, Bool, true, false, List, [], ◌∷◌, length, map, take, get_or, set, Some, refl, sym, ◌∙◌, ap, subst, arith, if◌then◌else◌, get_or-set_same, get_or-set_other}
-use Rattle.std.specs.Prelude.{option_map}
+use Rattle.std.specs.Prelude.{Option, option_map, slice_index}
 use Rattle.std.proofs.lemmas.Bool.Decides.{nat_tests}
-use Rattle.std.proofs.lemmas.List.{get_or-take, length-set, map-set}
+use Rattle.std.proofs.lemmas.List.{get_or-take, length-set, length-take, map-set}
 use Rattle.std.proofs.Math.Seq.{map-set_same, take-set-lt}
 use Rattle.rb_base.specs.Nodes.{Side, has, other, set_of}
 use Rattle.rb_base.specs.Nodes.Side.{Biu, Rmu}
@@ -14,15 +14,22 @@ use Rattle.rb_judge.specs.Stages.{Knows}
 use Rattle.rb_book.specs.declared.ledger.Ledger.{Ledger}
 use Rattle.rb_book.specs.Holding.{Holds, without_lasting}
 use Rattle.rb_rules.specs.Book.{Begun, Book, Each, Row, map_from, of_kind}
-use Rattle.rb_rules.specs.Goodness.{Scenario}
+use Rattle.rb_rules.specs.Goodness.{Scenario, is_good}
 use Rattle.rb_rules.specs.Slots.{count_of, same_side}
 use Rattle.rb_rules.specs.WorldStep.{Site, World, at_node}
 use Rattle.rb_book.specs.declared.group.Group.{Group}
 use Rattle.rb_book.specs.declared.milestone.Milestone.{Milestone}
 use Rattle.rb_book.specs.declared.told.Told.{Told}
 use Rattle.rb_book.specs.Grouping.{IsNoted}
-use Rattle.rb_book.specs.Holding.{HoldsKind}
-use Rattle.rb_book.specs.Telling.{begun_in, begun_told, has_told, no_told, row_told, told_at}
+use Rattle.rb_book.specs.Holding.{AllLast, HoldsKind}
+use Rattle.rb_base.specs.Sizes.{sync_slot_of}
+use Rattle.rb_base.specs.declared.values.Place.{Place}
+use Rattle.rb_base.specs.declared.values.See.{See}
+use Rattle.rb_book.specs.Telling.{begun_in, begun_told, has_told, no_told, row_seeing, see_of, told_at, told_closed}
+use Rattle.rb_rules.specs.declared.closing.Closed.{Closed}
+use Rattle.rb_rules.specs.declared.record.SlotLine.{SlotLine}
+use Rattle.rb_rules.specs.Hearing.{judged_see}
+use Rattle.rb_book.proofs.Rows.{good-is}
 use Rattle.rb_book.specs.Waiting.{waiting_for}
 
 -- Lists of sites.
@@ -95,7 +102,9 @@ pub other-kind : {K : Type 0} (sc : Scenario) (kind me : Side) (m : Milestone) (
     → HoldsKind sc kind m g sites → HoldsKind sc kind m g (at_node me i change sites)
 other-kind sc kind me m g i change sites e holds = record {
   all = holds.all;
+  saw = holds.saw;
   rows = ap (map (λ s. s.row)) (apart kind me i change sites e) ∙ holds.rows;
+  sights = holds.sights;
   begins = ap (map (λ s. s.begun)) (apart kind me i change sites e) ∙ holds.begins;
   within = holds.within;
   good = holds.good;
@@ -114,6 +123,32 @@ told-then told node i t h = by (i == node) refl
 
 told-list : {Y : Type 0} (f : Told → Y) (n i : ℕ) (told : List Told) (t : Told) → i < n → map f (take n (set told i t)) ≡ set (map f (take n told)) i (f t)
 told-list f n i told t h = ap (map f) (take-set-lt n told i t h) ∙ map-set f (take n told) i t
+
+-- what is made of each by its number
+from-set : {Y : Type 0} (f : ℕ → Told → Y) (k i j : ℕ) (told : List Told) (t : Told) → i ≡ k + j → map_from k f (set told j t) ≡ set (map_from k f told) j (f i t)
+from-set f k i zero [] t same = refl
+from-set f k i (suc j) [] t same = refl
+from-set f k i zero (x ∷ xs) t same = let e : k ≡ i = omega arith in ap (λ n. f n t ∷ map_from (k + 1) f xs) e
+from-set f k i (suc j) (x ∷ xs) t same = ap (λ l. f k x ∷ l) (from-set f (k + 1) i j xs t (omega arith))
+
+-- two ways that differ at one number alone
+from-other : {Y : Type 0} (f g : ℕ → Told → Y) (k i j : ℕ) (v : Y) (told : List Told) → i ≡ k + j → ((n : ℕ) (x : Told) → (n == i) ≡ false → f n x ≡ g n x)
+    → set (map_from k f told) j v ≡ set (map_from k g told) j v
+from-other f g k i j v [] same alike = refl
+from-other f g k i zero v (x ∷ xs) same alike = ap (λ l. v ∷ l) (past (k + 1) xs (omega arith))
+  where
+    past : (m : ℕ) (xs : List Told) → i < m → map_from m f xs ≡ map_from m g xs
+    past m [] h = refl
+    past m (x ∷ xs) h = ap (λ y. y ∷ map_from (m + 1) f xs) (alike m x (eq_other m i (omega arith))) ∙ ap (λ l. g m x ∷ l) (past (m + 1) xs (omega arith))
+from-other f g k i (suc j) v (x ∷ xs) same alike =
+    ap (λ y. y ∷ set (map_from (k + 1) f xs) j v) (alike k x (eq_other k i (omega arith))) ∙ ap (λ l. g k x ∷ l) (from-other f g (k + 1) i j v xs (omega arith) alike)
+
+-- one that shows the same as before
+from-same_set : {Y : Type 0} (f : ℕ → Told → Y) (k i j : ℕ) (told : List Told) (t : Told) → i ≡ k + j → j < length told → f i t ≡ f i (told_at told j)
+    → set (map_from k f told) j (f i t) ≡ map_from k f told
+from-same_set f k i j [] t same h e = absurd (omega arith)
+from-same_set f k i zero (x ∷ xs) t same h e = let n : i ≡ k = omega arith in ap (λ y. y ∷ map_from (k + 1) f xs) (e ∙ ap (λ n. f n x) n)
+from-same_set f k i (suc j) (x ∷ xs) t same h e = ap (λ l. f k x ∷ l) (from-same_set f (k + 1) i j xs t (omega arith) (omega arith) e)
 
 told-same : {Y : Type 0} (f : Told → Y) (n i : ℕ) (told : List Told) (t : Told) → i < n → f t ≡ f (told_at told i) → map f (take n (set told i t)) ≡ map f (take n told)
 told-same f n i told t h same =
@@ -137,17 +172,22 @@ still-waits count good waiting node m told t within there is = same_set_of _ _ (
         let now : told_at (set told node t) i ≡ told_at told i = told-then told node i t there ∙ ap (λ b. if b then t else told_at told i) e in
         has-is waiting i (waits told) is h ∙ sym (ap (λ x. nat_lt i count && (has good i && not (has_told m x))) now)
 
-noted : {K : Type 0} (sc : Scenario) (kind : Side) (m : Milestone) (g h : Group K) (node : ℕ) (t : Told) (sites after : Each Site) → IsNoted g h node m t
+noted : {K : Type 0} (sc : Scenario) (kind : Side) (m : Milestone) (g h : Group K) (node : ℕ) (t : Told) (sites after : Each Site) (saw : ℕ → ℕ → See) → IsNoted g h node m t
     → node < count_of kind sc.sizes → count_of kind sc.sizes ≤ 16 → HoldsKind sc kind m g sites
-    → map (λ s. s.row) (of_kind kind after) ≡ map row_told (take (count_of kind sc.sizes) (set g.told node t))
+    → map (λ s. s.row) (of_kind kind after) ≡ map_from 0 (λ i t. row_seeing (saw i) t) (take (count_of kind sc.sizes) (set g.told node t))
+    → ((i j : ℕ) → is_good sc (other kind) j (if i == node then t else told_at g.told i).place.frame (sync_slot_of sc.sizes) ≡ false
+    → saw i j ≡ see_of (if i == node then t else told_at g.told i) j)
     → map (λ s. s.begun) (of_kind kind after) ≡ map (begun_told kind) (take (count_of kind sc.sizes) (set g.told node t))
     → ((j : ℕ) → count_of (other kind) sc.sizes ≤ j → get_or t.sees j Nothing ≡ Nothing) → HoldsKind sc kind m h after
-noted sc kind m g h node t sites after is inside most holds rows begins nobody =
+noted sc kind m g h node t sites after saw is inside most holds rows sights begins nobody =
     let all = holds.all in
     let there : node < length g.told = omega arith in
     record {
       all = ap length is.told ∙ length-set g.told node t ∙ all;
-      rows = rows ∙ ap (λ l. map row_told (take (count_of kind sc.sizes) l)) (sym is.told);
+      saw = saw;
+      rows = rows ∙ ap (λ l. map_from 0 (λ i t. row_seeing (saw i) t) (take (count_of kind sc.sizes) l)) (sym is.told);
+      sights = λ i j. subst (λ (x : Told). is_good sc (other kind) j x.place.frame (sync_slot_of sc.sizes) ≡ false → saw i j ≡ see_of x j)
+          (sym (ap (λ l. told_at l i) is.told ∙ told-then g.told node i t there)) (sights i j);
       begins = begins ∙ ap (λ l. map (begun_told kind) (take (count_of kind sc.sizes) l)) (sym is.told);
       within = λ i j past. ap (λ l. get_or (told_at l i).sees j Nothing) is.told ∙ ap (λ (x : Told). get_or x.sees j Nothing) (told-then g.told node i t there) ∙ unseen i j past (i == node);
       good = is.good ∙ holds.good;
@@ -161,28 +201,88 @@ noted sc kind m g h node t sites after is inside most holds rows begins nobody =
     unseen i j past false = holds.within i j past
 
 -- a node closes a stage
-pub row-noted : {K : Type 0} (sc : Scenario) (kind : Side) (m : Milestone) (g h : Group K) (node : ℕ) (t : Told) (row : Row) (change : Site → Site) (sites : Each Site)
+pub row-noted : {K : Type 0} (sc : Scenario) (kind : Side) (m : Milestone) (g h : Group K) (node : ℕ) (t : Told) (row : Row) (saw : ℕ → See) (change : Site → Site) (sites : Each Site)
     → IsNoted g h node m t → node < count_of kind sc.sizes → count_of kind sc.sizes ≤ 16 → HoldsKind sc kind m g sites
-    → ((s : Site) → (change s).row ≡ Some row) → ((s : Site) → (change s).begun ≡ s.begun) → row_told t ≡ Some row → t.begun ≡ (told_at g.told node).begun
+    → ((s : Site) → (change s).row ≡ Some row) → ((s : Site) → (change s).begun ≡ s.begun) → row_seeing saw t ≡ Some row
+    → ((j : ℕ) → is_good sc (other kind) j t.place.frame (sync_slot_of sc.sizes) ≡ false → saw j ≡ see_of t j) → t.begun ≡ (told_at g.told node).begun
     → ((j : ℕ) → count_of (other kind) sc.sizes ≤ j → get_or t.sees j Nothing ≡ Nothing) → HoldsKind sc kind m h (at_node kind node change sites)
-row-noted sc kind m g h node t row change sites is inside most holds rows begins told begun nobody =
-    noted sc kind m g h node t sites (at_node kind node change sites) is inside most holds
+row-noted sc kind m g h node t row saw change sites is inside most holds rows begins told sights begun nobody =
+    let n : ℕ = count_of kind sc.sizes in
+    let now : ℕ → Told → Option Row = λ i t. row_seeing (if i == node then saw else holds.saw i) t in
+    let start : node ≡ 0 + node = omega arith in
+    noted sc kind m g h node t sites (at_node kind node change sites) (λ i. if i == node then saw else holds.saw i) is inside most holds
     (shows-changed (λ s. s.row) kind node change (Some row) sites rows ∙ ap (λ l. set l node (Some row)) holds.rows
-    ∙ ap (set (map row_told (take (count_of kind sc.sizes) g.told)) node) (sym told) ∙ sym (told-list row_told (count_of kind sc.sizes) node g.told t inside))
+    ∙ sym (from-other now (λ i t. row_seeing (holds.saw i) t) 0 node node (Some row) (take n g.told) start (λ i x e. ap (λ b. row_seeing (if b then saw else holds.saw i) x) e))
+    ∙ ap (set (map_from 0 now (take n g.told)) node) (sym (ap (λ b. row_seeing (if b then saw else holds.saw node) t) (eq_self node) ∙ told))
+    ∙ sym (ap (map_from 0 now) (take-set-lt n g.told node t inside) ∙ from-set now 0 node node (take n g.told) t start))
+    (λ i j. one i j (i == node))
     (shows-same (λ s. s.begun) kind kind node change sites begins ∙ holds.begins
     ∙ sym (told-same (begun_told kind) (count_of kind sc.sizes) node g.told t inside (ap (option_map (begun_in kind)) begun))) nobody
+  where
+    one : (i j : ℕ) (b : Bool) → is_good sc (other kind) j (if b then t else told_at g.told i).place.frame (sync_slot_of sc.sizes) ≡ false
+        → (if b then saw else holds.saw i) j ≡ see_of (if b then t else told_at g.told i) j
+    one i j true = sights j
+    one i j false = holds.sights i j
 
 -- a node begins a frame
 pub begun-noted : {K : Type 0} (sc : Scenario) (kind : Side) (m : Milestone) (g h : Group K) (node : ℕ) (t : Told) (b : Begun) (change : Site → Site) (sites : Each Site)
     → IsNoted g h node m t → node < count_of kind sc.sizes → count_of kind sc.sizes ≤ 16 → HoldsKind sc kind m g sites
-    → ((s : Site) → (change s).row ≡ s.row) → ((s : Site) → (change s).begun ≡ Some b) → row_told t ≡ row_told (told_at g.told node) → begun_told kind t ≡ Some b
+    → ((s : Site) → (change s).row ≡ s.row) → ((s : Site) → (change s).begun ≡ Some b)
+    → ((saw : ℕ → See) → row_seeing saw t ≡ row_seeing saw (told_at g.told node)) → t.place ≡ (told_at g.told node).place
+    → ((j : ℕ) → see_of t j ≡ see_of (told_at g.told node) j) → begun_told kind t ≡ Some b
     → ((j : ℕ) → get_or t.sees j Nothing ≡ get_or (told_at g.told node).sees j Nothing) → HoldsKind sc kind m h (at_node kind node change sites)
-begun-noted sc kind m g h node t b change sites is inside most holds rows begins row told sees =
-    noted sc kind m g h node t sites (at_node kind node change sites) is inside most holds
-    (shows-same (λ s. s.row) kind kind node change sites rows ∙ holds.rows ∙ sym (told-same row_told (count_of kind sc.sizes) node g.told t inside row))
+begun-noted sc kind m g h node t b change sites is inside most holds rows begins row place see told sees =
+    let n : ℕ = count_of kind sc.sizes in
+    let now : ℕ → Told → Option Row = λ i t. row_seeing (holds.saw i) t in
+    let start : node ≡ 0 + node = omega arith in
+    let all = holds.all in
+    let long : node < length (take n g.told) = omega (arith, length-take n g.told) in
+    noted sc kind m g h node t sites (at_node kind node change sites) holds.saw is inside most holds
+    (shows-same (λ s. s.row) kind kind node change sites rows ∙ holds.rows
+    ∙ sym (ap (map_from 0 now) (take-set-lt n g.told node t inside) ∙ from-set now 0 node node (take n g.told) t start
+    ∙ from-same_set now 0 node node (take n g.told) t start long
+    (row (holds.saw node) ∙ ap (row_seeing (holds.saw node)) (sym (get_or-take n g.told node no_told inside)))))
+    (λ i j. one i j (i == node) refl)
     (shows-changed (λ s. s.begun) kind node change (Some b) sites begins ∙ ap (λ l. set l node (Some b)) holds.begins
     ∙ ap (set (map (begun_told kind) (take (count_of kind sc.sizes) g.told)) node) (sym told) ∙ sym (told-list (begun_told kind) (count_of kind sc.sizes) node g.told t inside))
     (λ j past. sees j ∙ holds.within node j past)
+  where
+    one : (i j : ℕ) (b : Bool) → (i == node) ≡ b → is_good sc (other kind) j (if b then t else told_at g.told i).place.frame (sync_slot_of sc.sizes) ≡ false
+        → holds.saw i j ≡ see_of (if b then t else told_at g.told i) j
+    one i j true e bad =
+        let same : i ≡ node = grind (arith, nat_tests) in
+        ap (λ n. holds.saw n j) same ∙ holds.sights node j (ap (λ (p : Place). is_good sc (other kind) j p.frame (sync_slot_of sc.sizes)) (sym place) ∙ bad) ∙ sym (see j)
+    one i j false e bad = holds.sights i j bad
+
+-- what is kept at a close of sources that are not good to the end of its frame
+pub sees-kept : {K : Type 0} (counts : Bool) (sc : Scenario) (source : Side) (m : Milestone) (o : Group K) (sites : Each Site) (c : Closed) (times : List ℕ) (biu rmu : ℕ) (line : Option SlotLine) (t : Told)
+    → count_of source sc.sizes ≤ 16 → HoldsKind sc source m o sites → (counts ≡ false → AllLast m c.place.frame (count_of source sc.sizes) o.lasting)
+    → ((j : ℕ) → count_of source sc.sizes ≤ j → get_or c.sees j Nothing ≡ Nothing) → ((j : ℕ) → count_of source sc.sizes ≤ j → get_or t.sees j Nothing ≡ Nothing)
+    → (j : ℕ) → is_good sc source j c.place.frame (sync_slot_of sc.sizes) ≡ false
+    → judged_see (slice_index times j) (get_or c.sees j Nothing) ≡ see_of (told_closed counts c times biu rmu line t) j
+sees-kept true sc source m o sites c times biu rmu line t most holds last nobody none j bad = refl
+sees-kept false sc source m o sites c times biu rmu line t most holds last nobody none j bad = by (nat_lt j (count_of source sc.sizes)) refl
+  where
+    all : AllLast m c.place.frame (count_of source sc.sizes) o.lasting
+    all = last refl
+
+    by : (b : Bool) → nat_lt j (count_of source sc.sizes) ≡ b
+        → judged_see (slice_index times j) (get_or c.sees j Nothing) ≡ judged_see (slice_index t.times j) (get_or t.sees j Nothing)
+    by true e =
+        let good : is_good sc source j c.place.frame (sync_slot_of sc.sizes) ≡ true =
+        ap (λ f. is_good sc source j f (sync_slot_of sc.sizes)) (sym all.of_frame)
+        ∙ sym (ap (λ s. has s j) (holds.lasting all.place all.upcoming) ∙ good-is sc source all.place.frame (sync_slot_of sc.sizes) j most) ∙ all.lasts j e in
+        absurd (cc)
+    by false e =
+        let past : count_of source sc.sizes ≤ j = grind (arith, nat_tests) in
+        ap (judged_see (slice_index times j)) (nobody j past) ∙ sym (ap (judged_see (slice_index t.times j)) (none j past))
+
+-- what a node has told of sources that are not there, after a close
+pub none-seen : (counts : Bool) (c : Closed) (times : List ℕ) (biu rmu : ℕ) (line : Option SlotLine) (t : Told) (n : ℕ)
+    → ((j : ℕ) → n ≤ j → get_or c.sees j Nothing ≡ Nothing) → ((j : ℕ) → n ≤ j → get_or t.sees j Nothing ≡ Nothing)
+    → (j : ℕ) → n ≤ j → get_or (told_closed counts c times biu rmu line t).sees j Nothing ≡ Nothing
+none-seen true c times biu rmu line t n nobody none j past = nobody j past
+none-seen false c times biu rmu line t n nobody none j past = none j past
 
 -- The world.
 
@@ -225,7 +325,9 @@ same-shown sc l w v is book rows begins = record {
   judged = λ e place next. subst (λ (b : Book). Knows l.judge (map (without_lasting sc place.frame) b.stages)) (sym book) (is.judged (sym (ap (λ (b : Book). b.ended) book) ∙ e) place next);
   bius = record {
     all = is.bius.all;
+    saw = is.bius.saw;
     rows = rows Biu ∙ is.bius.rows;
+    sights = is.bius.sights;
     begins = begins Biu ∙ is.bius.begins;
     within = is.bius.within;
     good = is.bius.good;
@@ -234,7 +336,9 @@ same-shown sc l w v is book rows begins = record {
   };
   rmus = record {
     all = is.rmus.all;
+    saw = is.rmus.saw;
     rows = rows Rmu ∙ is.rmus.rows;
+    sights = is.rmus.sights;
     begins = begins Rmu ∙ is.rmus.begins;
     within = is.rmus.within;
     good = is.rmus.good;

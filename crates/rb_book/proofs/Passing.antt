@@ -4,7 +4,7 @@ use Rattle.std.specs.List.{filter_map}
 use Rattle.std.proofs.lemmas.Bool.Decides.{nat_tests}
 use Rattle.std.proofs.lemmas.List.{append-nil, map-append}
 use Rattle.std.proofs.lemmas.List.Elements.{filter_map-append}
-use Rattle.rb_base.specs.Nodes.{Side, has}
+use Rattle.rb_base.specs.Nodes.{Side, has, other}
 use Rattle.rb_base.specs.Nodes.Side.{Biu, Rmu}
 use Rattle.rb_base.specs.Sizes.{Sizes, IsShape, sync_slot_of}
 use Rattle.rb_base.specs.declared.values.Place.{Place}
@@ -13,7 +13,7 @@ use Rattle.rb_rules.specs.declared.record.SlotLine.{SlotLine}
 use Rattle.rb_rules.specs.Book.{Begun, Book, Each, Record, after_stage, after_verdict, frame_records, in_order, judged_of, line_in, map_from, slot_records, with_frame, with_stage}
 use Rattle.rb_rules.specs.Book.Milestone.{Begin, Stage, End}
 use Rattle.rb_rules.specs.ExactStage.{present}
-use Rattle.rb_rules.specs.Goodness.{Scenario, good_at}
+use Rattle.rb_rules.specs.Goodness.{Scenario, good_at, is_good}
 use Rattle.rb_rules.specs.Judging.{JudgedStage, verdict_of}
 use Rattle.rb_rules.specs.Slots.{count_of}
 use Rattle.rb_rules.specs.WorldStep.{Site, World, begun_for, book_with, told_by_good}
@@ -28,7 +28,7 @@ use Rattle.rb_book.specs.Records.{milestone_of, record_of}
 use Rattle.rb_book.specs.Settling.{after_begin}
 use Rattle.rb_book.specs.Waiting.{begun_at, found_of, line_of, node_line_of, port_line_of, waiting_for}
 use Rattle.rb_base.specs.declared.values.See.TheVariants.{Nothing}
-use Rattle.rb_book.specs.Telling.{begun_told, row_told, told_at}
+use Rattle.rb_book.specs.Telling.{begun_told, row_seeing, see_of, told_at}
 use Rattle.rb_book.proofs.Judged.{rows_of}
 use Rattle.rb_book.proofs.Rows.{begins-kept, no-ports, node-lines, port-lines, rows-kept, slot-lines}
 
@@ -120,7 +120,9 @@ pub turns-holds : {K : Type 0} (sc : Scenario) (kind : Side) (before now : Kept)
     → ((place : Place) → now ≡ kept.Stage place → h.lasting ≡ good_at sc kind place.frame (sync_slot_of sc.sizes)) → HoldsKind sc kind now h sites
 turns-holds sc kind before now g h sizes sites same holds turns good lasting = record {
   all = ap length turns.told ∙ holds.all;
-  rows = holds.rows ∙ ap (λ l. map row_told (take (count_of kind sc.sizes) l)) (sym turns.told);
+  saw = holds.saw;
+  rows = holds.rows ∙ ap (λ l. map_from 0 (λ i t. row_seeing (holds.saw i) t) (take (count_of kind sc.sizes) l)) (sym turns.told);
+  sights = λ i j. subst (λ l. is_good sc (other kind) j (told_at l i).place.frame (sync_slot_of sc.sizes) ≡ false → holds.saw i j ≡ see_of (told_at l i) j) (sym turns.told) (holds.sights i j);
   begins = holds.begins ∙ ap (λ l. map (begun_told kind) (take (count_of kind sc.sizes) l)) (sym turns.told);
   within = λ i j past. ap (λ l. get_or (told_at l i).sees j Nothing) turns.told ∙ holds.within i j past;
   good = good;
@@ -135,7 +137,7 @@ pub lines-after : {K : Type 0} (sc : Scenario) (place : Place) (g : Group K) (si
     → (if place.stage == 2 then filter_map line_in (rows_of sc place sites).bius else before) ≡ now
 lines-after sc place g sites before now n same most holds is =
     let told = ap (filter_map line_in) (rows-kept sc Biu (kept.Stage place) place g sites most holds holds.good)
-    ∙ slot-lines place sc.sizes.bius g ∙ ap (λ k. found_of (λ i t. line_of place (has g.good i) t) k g.told) (sym same) in
+    ∙ slot-lines holds.saw place sc.sizes.bius g ∙ ap (λ k. found_of (λ i t. line_of place (has g.good i) t) k g.told) (sym same) in
     ap (λ l. if place.stage == 2 then l else before) told ∙ sym is
 
 -- Frames.

@@ -1,5 +1,5 @@
 -- What the good nodes of a world told, and what is found among what is kept.
-use Rattle.std.proofs.Common.{◌≡◌, ℕ, ◌+◌, ◌≤◌, ◌==◌, ◌&&◌, nat_lt, Bool, true, false, List, [], ◌∷◌, map, take, get_or, Option, Some, None, refl, sym, ◌∙◌, ap, arith}
+use Rattle.std.proofs.Common.{◌≡◌, ℕ, ◌+◌, ◌≤◌, ◌==◌, ◌&&◌, nat_lt, if◌then◌else◌, Bool, true, false, List, [], ◌∷◌, map, take, get_or, Option, Some, None, refl, sym, ◌∙◌, ap, arith}
 use Rattle.std.specs.Prelude.{option_map, option_and_then}
 use Rattle.std.specs.List.{cons_option, filter_map}
 use Rattle.std.proofs.lemmas.Bool.Decides.{nat_tests}
@@ -7,20 +7,21 @@ use Rattle.rb_base.specs.Nodes.{Side, has, set_of}
 use Rattle.rb_base.specs.Nodes.Side.{Biu, Rmu}
 use Rattle.rb_base.proofs.Sets.{has-set_of, has_above, set_of-lt, lt_false}
 use Rattle.rb_base.specs.declared.values.Place.{Place}
+use Rattle.rb_base.specs.declared.values.See.{See}
 use Rattle.rb_rules.specs.declared.record.NodeLine.{NodeLine}
 use Rattle.rb_rules.specs.declared.record.PortLine.{PortLine}
 use Rattle.rb_rules.specs.Book.{Begun, Each, Row, line_in, map_from, of_kind}
 use Rattle.rb_rules.specs.ExactStage.{present}
 use Rattle.rb_rules.specs.Goodness.{Scenario, good_at, is_before, is_good, onsets_of}
 use Rattle.rb_rules.specs.Slots.{count_of}
-use Rattle.rb_rules.specs.WorldStep.{Site, begun_for, row_for, told_by_good}
+use Rattle.rb_rules.specs.WorldStep.{Site, begun_for, row_for, same_place, told_by_good}
 use Rattle.rb_book.specs.declared.group.Group.{Group}
 use Rattle.rb_book.specs.declared.milestone.Milestone.{Milestone}
 use Rattle.rb_book.specs.declared.told.Begin.{Begin as LatestBegin}
 use Rattle.rb_book.specs.declared.told.Told.{Told}
 use Rattle.rb_book.specs.Holding.{HoldsKind}
-use Rattle.rb_book.specs.Telling.{begun_in, begun_told, row_told}
-use Rattle.rb_book.specs.Waiting.{begun_at, found_of, line_of, node_line_of, port_line_of, row_at, row_if}
+use Rattle.rb_book.specs.Telling.{begun_in, begun_told, latest_seeing, row_seeing, row_told, see_of}
+use Rattle.rb_book.specs.Waiting.{begun_at, found_of, line_of, node_line_of, port_line_of, row_saw}
 
 -- Lists.
 
@@ -31,6 +32,10 @@ from-map k f h (x ∷ xs) = ap (λ l. f k (h x) ∷ l) (from-map (k + 1) f h xs)
 pub from-same : {X Y : Type 0} (k : ℕ) (f g : ℕ → X → Y) (xs : List X) → ((i : ℕ) (x : X) → f i x ≡ g i x) → map_from k f xs ≡ map_from k g xs
 from-same k f g [] same = refl
 from-same k f g (x ∷ xs) same = ap (λ y. y ∷ map_from (k + 1) f xs) (same k x) ∙ ap (λ l. g k x ∷ l) (from-same (k + 1) f g xs same)
+
+pub from-from : {X Y Z : Type 0} (k : ℕ) (f : ℕ → Y → Z) (h : ℕ → X → Y) (xs : List X) → map_from k f (map_from k h xs) ≡ map_from k (λ i x. f i (h i x)) xs
+from-from k f h [] = refl
+from-from k f h (x ∷ xs) = ap (λ l. f k (h k x) ∷ l) (from-from (k + 1) f h xs)
 
 -- what is made of what is there is there of what is made
 
@@ -78,14 +83,14 @@ told_kind sc Biu frame slot tells sites = refl
 told_kind sc Rmu frame slot tells sites = refl
 
 pub rows-kept : {K : Type 0} (sc : Scenario) (kind : Side) (m : Milestone) (place : Place) (g : Group K) (sites : Each Site) → count_of kind sc.sizes ≤ 16
-    → HoldsKind sc kind m g sites → g.good ≡ good_at sc kind place.frame place.slot
-    → of_kind kind (told_by_good sc place.frame place.slot (λ s. row_for place s.row) sites) ≡ map_from 0 (row_at g.good place) (take (count_of kind sc.sizes) g.told)
+    → (holds : HoldsKind sc kind m g sites) → g.good ≡ good_at sc kind place.frame place.slot
+    → of_kind kind (told_by_good sc place.frame place.slot (λ s. row_for place s.row) sites) ≡ map_from 0 (row_saw holds.saw g.good place) (take (count_of kind sc.sizes) g.told)
 rows-kept sc kind m place g sites most holds good =
     let f : ℕ → Option Row → Option Row = λ i r. elim (is_good sc kind i place.frame place.slot) [ true ↦ row_for place r | false ↦ None ] in
     told_kind sc kind place.frame place.slot (λ s. row_for place s.row) sites
-    ∙ sym (from-map 0 f (λ s. s.row) (of_kind kind sites)) ∙ ap (map_from 0 f) holds.rows ∙ from-map 0 f row_told (take (count_of kind sc.sizes) g.told)
+    ∙ sym (from-map 0 f (λ s. s.row) (of_kind kind sites)) ∙ ap (map_from 0 f) holds.rows ∙ from-from 0 f (λ i t. row_seeing (holds.saw i) t) (take (count_of kind sc.sizes) g.told)
     ∙ from-same 0 _ _ (take (count_of kind sc.sizes) g.told)
-    (λ i t. ap (λ b. row_if place b t) (sym (ap (λ s. has s i) good ∙ good-is sc kind place.frame place.slot i most)))
+    (λ i t. ap (λ b. let o : Option Row = elim b [ true ↦ row_for place (row_seeing (holds.saw i) t) | false ↦ None ] in o) (sym (ap (λ s. has s i) good ∙ good-is sc kind place.frame place.slot i most)))
 
 pub begins-kept : {K : Type 0} (sc : Scenario) (kind : Side) (m : Milestone) (frame : ℕ) (g : Group K) (sites : Each Site) → count_of kind sc.sizes ≤ 16
     → HoldsKind sc kind m g sites → g.good ≡ good_at sc kind frame 0
@@ -152,13 +157,35 @@ no-ports frame n g =
     present-then 0 (λ x. x.port) (begun_at Rmu g.good frame) (take n g.told)
     ∙ ap present (from-same 0 _ _ (take n g.told) (λ i t. no_port frame (has g.good i) t.begun)) ∙ present-none 0 (take n g.told)
 
-one_delivery : (place : Place) (b : Bool) (t : Told) → line_in (row_if place b t) ≡ line_of place b t
-one_delivery place true t = refl
-one_delivery place false t = refl
+-- what a row has but for what was seen, whatever was seen
+pub seeing-same : {Y : Type 0} (h : Row → Y) (place : Place) (s u : ℕ → See) (t : Told) → h (latest_seeing s t) ≡ h (latest_seeing u t)
+    → option_map h (row_for place (row_seeing s t)) ≡ option_map h (row_for place (row_seeing u t))
+seeing-same {Y = Y} h place s u t same = by t.has_closed
+  where
+    there : (b : Bool) → option_map h (elim b as (λ _. Option Row) [ true ↦ Some (latest_seeing s t) | false ↦ None ])
+        ≡ option_map h (elim b as (λ _. Option Row) [ true ↦ Some (latest_seeing u t) | false ↦ None ])
+    there true = ap Some same
+    there false = refl
 
-pub slot-lines : {K : Type 0} (place : Place) (n : ℕ) (g : Group K)
-    → filter_map line_in (map_from 0 (row_at g.good place) (take n g.told)) ≡ found_of (λ i t. line_of place (has g.good i) t) n g.told
+    by : (c : Bool) → option_map h (row_for place (if c then Some (latest_seeing s t) else None)) ≡ option_map h (row_for place (if c then Some (latest_seeing u t) else None))
+    by true = there (same_place t.place place)
+    by false = refl
+
+join : {X Y : Type 0} (g : X → Option Y) (o : Option X) → option_and_then g o ≡ option_and_then (λ v. v) (option_map g o)
+join g None = refl
+join g (Some x) = refl
+
+one_delivery : (place : Place) (b : Bool) (saw : ℕ → See) (t : Told)
+    → line_in (elim b as (λ _. Option Row) [ true ↦ row_for place (row_seeing saw t) | false ↦ None ]) ≡ line_of place b t
+one_delivery place true saw t =
+    join (λ (r : Row). r.line) (row_for place (row_seeing saw t))
+    ∙ ap (option_and_then (λ v. v)) (seeing-same (λ (r : Row). r.line) place saw (see_of t) t refl)
+    ∙ sym (join (λ (r : Row). r.line) (row_for place (row_told t)))
+one_delivery place false saw t = refl
+
+pub slot-lines : {K : Type 0} (saw : ℕ → ℕ → See) (place : Place) (n : ℕ) (g : Group K)
+    → filter_map line_in (map_from 0 (row_saw saw g.good place) (take n g.told)) ≡ found_of (λ i t. line_of place (has g.good i) t) n g.told
 unfolding found_of
-slot-lines place n g =
-    present-of 0 line_in (row_at g.good place) (take n g.told)
-    ∙ ap present (from-same 0 _ _ (take n g.told) (λ i t. one_delivery place (has g.good i) t))
+slot-lines saw place n g =
+    present-of 0 line_in (row_saw saw g.good place) (take n g.told)
+    ∙ ap present (from-same 0 _ _ (take n g.told) (λ i t. one_delivery place (has g.good i) (saw i) t))

@@ -18,8 +18,8 @@ use Rattle.rb_judge.specs.Sights.{some_node}
 use Rattle.rb_judge.proofs.SomeNode.{some_none, some_same}
 use Rattle.rb_book.specs.declared.milestone.Milestone.TheVariants.{Stage}
 use Rattle.rb_book.specs.declared.told.Told.{Told}
-use Rattle.rb_book.specs.Telling.{has_told, latest_row, no_told, row_told, see_of, told_at}
-use Rattle.rb_book.specs.Waiting.{row_at, row_if, some_good, waiting_for, was_taken, was_unlike}
+use Rattle.rb_book.specs.Telling.{has_told, latest_seeing, no_told, row_seeing, see_of, told_at}
+use Rattle.rb_book.specs.Waiting.{row_saw, some_good, waiting_for, was_taken, was_unlike}
 
 -- Good receivers.
 
@@ -81,16 +81,28 @@ row-item k f (x ∷ xs) (suc i) h =
     let e : k + 1 + i ≡ k + suc i = omega arith in
     row-item (k + 1) f xs i (omega arith) ∙ ap (λ n. f n (told_at xs i)) e
 
-told-row : (place : Place) (t : Told) → has_told (Stage place) t ≡ true → row_for place (row_told t) ≡ Some (latest_row t)
-told-row place t e = by t.has_closed e
+told-row : (place : Place) (saw : ℕ → See) (t : Told) → has_told (Stage place) t ≡ true → row_for place (row_seeing saw t) ≡ Some (latest_seeing saw t)
+told-row place saw t e = by t.has_closed e
   where
-    same : (b : Bool) → is_some (elim b as (λ _. Option Row) [ true ↦ Some (latest_row t) | false ↦ None ]) ≡ true
-        → (elim b as (λ _. Option Row) [ true ↦ Some (latest_row t) | false ↦ None ]) ≡ Some (latest_row t)
+    same : (b : Bool) → is_some (elim b as (λ _. Option Row) [ true ↦ Some (latest_seeing (see_of t) t) | false ↦ None ]) ≡ true
+        → (elim b as (λ _. Option Row) [ true ↦ Some (latest_seeing saw t) | false ↦ None ]) ≡ Some (latest_seeing saw t)
     same true e = refl
     same false e = absurd (cc)
 
-    by : (b : Bool) → is_some (row_for place (if b then Some (latest_row t) else None)) ≡ true
-        → row_for place (if b then Some (latest_row t) else None) ≡ Some (latest_row t)
+    by : (b : Bool) → is_some (row_for place (if b then Some (latest_seeing (see_of t) t) else None)) ≡ true
+        → row_for place (if b then Some (latest_seeing saw t) else None) ≡ Some (latest_seeing saw t)
+    by false e = absurd (cc)
+    by true e = same (same_place t.place place) e
+
+-- it told of that place
+pub told-there : (place : Place) (t : Told) → has_told (Stage place) t ≡ true → same_place t.place place ≡ true
+told-there place t e = by t.has_closed e
+  where
+    same : (b : Bool) → is_some (elim b as (λ _. Option Row) [ true ↦ Some (latest_seeing (see_of t) t) | false ↦ None ]) ≡ true → b ≡ true
+    same true e = refl
+    same false e = absurd (cc)
+
+    by : (b : Bool) → is_some (row_for place (if b then Some (latest_seeing (see_of t) t) else None)) ≡ true → same_place t.place place ≡ true
     by false e = absurd (cc)
     by true e = same (same_place t.place place) e
 
@@ -100,20 +112,20 @@ in-list place (t ∷ told) zero e = omega arith
 in-list place (t ∷ told) (suc i) e = let h : i < length told = in-list place told i e in omega arith
 
 -- what it saw, in the definitions and in what is kept
-pub saw : (good count : ℕ) (place : Place) (told : List Told) (i j : ℕ) → j < 16 → nat_lt i count ≡ true → has good i ≡ true → has_told (Stage place) (told_at told i) ≡ true
-    → see_in (get_or (map_from 0 (row_at good place) (take count told)) i None) j ≡ see_of (told_at told i) j
-saw good count place told i j hj within e told_it =
+pub saw : (seen : ℕ → ℕ → See) (good count : ℕ) (place : Place) (told : List Told) (i j : ℕ) → j < 16 → nat_lt i count ≡ true → has good i ≡ true → has_told (Stage place) (told_at told i) ≡ true
+    → see_in (get_or (map_from 0 (row_saw seen good place) (take count told)) i None) j ≡ seen i j
+saw seen good count place told i j hj within e told_it =
     let there : i < length told = in-list place told i told_it in
     let below : i < count = grind (arith, nat_tests) in
     let inside : i < length (take count told) = omega (arith, length-take count told) in
     let start : 0 + i ≡ i = omega arith in
     ap (λ r. see_in r j)
-    (row-item 0 (row_at good place) (take count told) i inside
-    ∙ ap (λ n. row_at good place n (told_at (take count told) i)) start
-    ∙ ap (row_at good place i) (get_or-take count told i no_told below)
-    ∙ ap (λ b. row_if place b (told_at told i)) e
-    ∙ told-row place (told_at told i) told_it)
-    ∙ get-node (see_of (told_at told i)) j hj
+    (row-item 0 (row_saw seen good place) (take count told) i inside
+    ∙ ap (λ n. row_saw seen good place n (told_at (take count told) i)) start
+    ∙ ap (row_saw seen good place i) (get_or-take count told i no_told below)
+    ∙ ap (λ b. let o : Option Row = elim b [ true ↦ row_for place (row_seeing (seen i) (told_at told i)) | false ↦ None ] in o) e
+    ∙ told-row place (seen i) (told_at told i) told_it)
+    ∙ get-node (seen i) j hj
 
 -- where nobody is awaited, a good one has told
 pub has-told : (count good : ℕ) (place : Place) (told : List Told) (i : ℕ) → waiting_for count good (Stage place) told ≡ 0 → i < 16 → nat_lt i count ≡ true → has good i ≡ true
@@ -133,20 +145,21 @@ has-told count good place told i none h within e =
 -- A source, whether it is good to the end of the frame, and what its receivers saw.
 
 -- what holds of the good receivers of a source, of which this is kept
-pub record HaveSeen (place : Place) (sources count good : ℕ) (told : List Told) (j : ℕ) : Type 0 where
+pub record HaveSeen (seen : ℕ → ℕ → See) (lasts : Bool) (place : Place) (sources count good : ℕ) (told : List Told) (j : ℕ) : Type 0 where
   pub there : (i : ℕ) → i < 16 → has good i ≡ true → nat_lt i count ≡ true
   pub told_it : (i : ℕ) → i < 16 → has good i ≡ true → has_told (Stage place) (told_at told i) ≡ true
   pub nobody : (i : ℕ) → sources ≤ j → get_or (told_at told i).sees j Nothing ≡ Nothing
+  pub sights : (i : ℕ) → i < 16 → has good i ≡ true → lasts ≡ false → seen i j ≡ see_of (told_at told i) j
 
 abbrev pub judged_sight : Bool → List (Option Row) → ℕ → ℕ → See
 judged_sight lasts rows j i = elim lasts [ true ↦ Nothing | false ↦ see_in (get_or rows i None) j ]
 
-unfoldable pub both_kept : (place : Place) (sources count good : ℕ) (told : List Told) (lasts : Bool) (eps j : ℕ) → Type 0
-both_kept place sources count good told lasts eps j =
-    (some_node (λ i. has good i && is_something (judged_sight lasts (map_from 0 (row_at good place) (take count told)) j i))
+unfoldable pub both_kept : (seen : ℕ → ℕ → See) (place : Place) (sources count good : ℕ) (told : List Told) (lasts : Bool) (eps j : ℕ) → Type 0
+both_kept seen place sources count good told lasts eps j =
+    (some_node (λ i. has good i && is_something (judged_sight lasts (map_from 0 (row_saw seen good place) (take count told)) j i))
     ≡ (nat_lt j sources && (not lasts && was_taken count good told j)))
     × (some_node (λ a. has good a && some_node (λ b. has good b && not (are_alike eps
-    (judged_sight lasts (map_from 0 (row_at good place) (take count told)) j a) (judged_sight lasts (map_from 0 (row_at good place) (take count told)) j b))))
+    (judged_sight lasts (map_from 0 (row_saw seen good place) (take count told)) j a) (judged_sight lasts (map_from 0 (row_saw seen good place) (take count told)) j b))))
     ≡ (nat_lt j sources && (not lasts && was_unlike eps count good told j)))
 
 and-out : (a b : Bool) → a ≡ false → false ≡ (a && b)
@@ -159,21 +172,21 @@ and-none false = refl
 and-all : (a b : Bool) → a ≡ true → b ≡ (a && (true && b))
 and-all a b e = rw e refl
 
-pub kept : (place : Place) (sources count good : ℕ) (told : List Told) (lasts : Bool) (eps j : ℕ) → j < 16 → HaveSeen place sources count good told j
-    → both_kept place sources count good told lasts eps j
+pub kept : (saw_it : ℕ → ℕ → See) (place : Place) (sources count good : ℕ) (told : List Told) (lasts : Bool) (eps j : ℕ) → j < 16
+    → HaveSeen saw_it lasts place sources count good told j → both_kept saw_it place sources count good told lasts eps j
 unfolding both_kept
-kept place sources count good told true eps j h seen =
+kept saw_it place sources count good told true eps j h seen =
     (saw-nothing good (λ i. Nothing) (λ i hi e. refl) ∙ and-none (nat_lt j sources), saw-nothing-unlike eps good (λ i. Nothing) (λ i hi e. refl) ∙ and-none (nat_lt j sources))
-kept place sources count good told false eps j h seen = by (nat_lt j sources) refl
+kept saw_it place sources count good told false eps j h seen = by (nat_lt j sources) refl
   where
     rows : List (Option Row)
-    rows = map_from 0 (row_at good place) (take count told)
+    rows = map_from 0 (row_saw saw_it good place) (take count told)
 
     sight : ℕ → See
     sight i = see_in (get_or rows i None) j
 
     same : (i : ℕ) → i < 16 → has good i ≡ true → sight i ≡ see_of (told_at told i) j
-    same i hi e = saw good count place told i j h (seen.there i hi e) e (seen.told_it i hi e)
+    same i hi e = saw saw_it good count place told i j h (seen.there i hi e) e (seen.told_it i hi e) ∙ seen.sights i hi e refl
 
     none : (i : ℕ) → sources ≤ j → i < 16 → has good i ≡ true → sight i ≡ Nothing
     none i past hi e = same i hi e ∙ ap (judged_see (slice_index (told_at told i).times j)) (seen.nobody i past)

@@ -1,14 +1,15 @@
 -- What is kept of a run, and the world that it stands for.
 use Rattle.std.specs.Prelude.{ℕ, ◌≡◌, ◌-◌, ◌^◌, ◌<◌, ◌≤◌, ◌==◌, ◌&&◌, nat_lt, false, true, Option, Some, None, List, [], ◌∷◌, get_or, length, map, take, if◌then◌else◌}
-use Rattle.rb_base.specs.Nodes.{Side, other}
+use Rattle.rb_base.specs.Nodes.{Side, has, other}
 use Rattle.rb_base.specs.Nodes.Side.{Biu, Rmu}
 use Rattle.rb_base.specs.Sizes.{Sizes, IsShape, sync_slot_of}
 use Rattle.rb_base.specs.declared.values.Place.{Place}
+use Rattle.rb_base.specs.declared.values.See.{See}
 use Rattle.rb_base.specs.declared.values.See.TheVariants.{Nothing}
 use Rattle.rb_rules.specs.declared.record.NodeLine.{NodeLine}
 use Rattle.rb_rules.specs.declared.record.PortLine.{PortLine}
 use Rattle.rb_rules.specs.declared.record.SlotLine.{SlotLine}
-use Rattle.rb_rules.specs.Book.{Each, Record, of_kind}
+use Rattle.rb_rules.specs.Book.{Each, Record, map_from, of_kind}
 use Rattle.rb_rules.specs.Goodness.{Scenario, good_at, is_good}
 use Rattle.rb_rules.specs.Judging.{JudgedStage}
 use Rattle.rb_rules.specs.Slots.{count_of}
@@ -21,7 +22,7 @@ use Rattle.rb_book.specs.declared.milestone.Milestone.{Milestone}
 use Rattle.rb_book.specs.declared.milestone.Milestone.TheVariants.{Begin, Stage, End}
 use Rattle.rb_book.specs.declared.turn.Turn.{Turn}
 use Rattle.rb_book.specs.Records.{milestone_of, record_of}
-use Rattle.rb_book.specs.Telling.{begun_told, row_told, told_at}
+use Rattle.rb_book.specs.Telling.{begun_told, row_seeing, see_of, told_at}
 use Rattle.rb_book.specs.Waiting.{waiting_for}
 
 -- Judging.
@@ -50,11 +51,22 @@ IsComing sc (Begin frame) = frame ≤ sc.frames
 IsComing sc (Stage place) = IsStageOf sc place
 IsComing sc End = Unit {0}
 
+-- all of so many nodes are good to the end of a frame, these being the nodes that are, where the upcoming milestone is a stage of it
+pub record AllLast (m : Milestone) (frame count lasting : ℕ) : Type 0 where
+  pub place : Place
+  pub upcoming : m ≡ Stage place
+  pub of_frame : place.frame ≡ frame
+  pub lasts : (j : ℕ) → nat_lt j count ≡ true → has lasting j ≡ true
+
 -- What the nodes of a kind told.
 
 pub record HoldsKind {K : Type 0} (sc : Scenario) (kind : Side) (m : Milestone) (g : Group K) (sites : Each Site) : Type 0 where
   pub all : length g.told ≡ 16
-  pub rows : map (λ s. s.row) (of_kind kind sites) ≡ map row_told (take (count_of kind sc.sizes) g.told)
+  -- what each node saw of each source in its latest stage
+  pub saw : ℕ → ℕ → See
+  pub rows : map (λ s. s.row) (of_kind kind sites) ≡ map_from 0 (λ i t. row_seeing (saw i) t) (take (count_of kind sc.sizes) g.told)
+  -- of sources that are not good to the end of its frame this is kept
+  pub sights : (i j : ℕ) → is_good sc (other kind) j (told_at g.told i).place.frame (sync_slot_of sc.sizes) ≡ false → saw i j ≡ see_of (told_at g.told i) j
   pub begins : map (λ s. s.begun) (of_kind kind sites) ≡ map (begun_told kind) (take (count_of kind sc.sizes) g.told)
   -- nobody sees nodes that are not there
   pub within : (i j : ℕ) → count_of (other kind) sc.sizes ≤ j → get_or (told_at g.told i).sees j Nothing ≡ Nothing

@@ -20,12 +20,16 @@ use Rattle.rb_book.specs.declared.told.Told.{Told}
 abbrev pub see_of : Told → ℕ → See
 see_of t j = judged_see (slice_index t.times j) (get_or t.sees j Nothing)
 
--- its latest row
-abbrev pub latest_row : Told → Row
-latest_row t = record { place = t.place; sees = each_node (see_of t); biu = t.biu; rmu = t.rmu; line = t.line }
+-- its latest row, where it saw this of each source
+abbrev pub latest_seeing : (ℕ → See) → Told → Row
+latest_seeing saw t = record { place = t.place; sees = each_node saw; biu = t.biu; rmu = t.rmu; line = t.line }
 
+abbrev pub row_seeing : (ℕ → See) → Told → Option Row
+row_seeing saw t = if t.has_closed then Some (latest_seeing saw t) else None
+
+-- its latest row, by what is kept
 abbrev pub row_told : Told → Option Row
-row_told t = if t.has_closed then Some (latest_row t) else None
+row_told t = row_seeing (see_of t) t
 
 -- RMUs have no port
 abbrev pub port_told : Side → LatestBegin → Option PortLine
@@ -70,10 +74,18 @@ fresh_told = record {
   begun = None;
 }
 
--- a node that told this has closed a stage
-abbrev pub told_closed : Closed → List ℕ → ℕ → ℕ → Option SlotLine → Told → Told
-told_closed c times biu rmu line t =
-    record t { has_closed = true; place = c.place; sees = c.sees; times = times; biu = biu; rmu = rmu; line = line }
+-- a node that told this has closed a stage. What it saw is kept where that counts
+abbrev pub told_closed : Bool → Closed → List ℕ → ℕ → ℕ → Option SlotLine → Told → Told
+told_closed counts c times biu rmu line t =
+    record t {
+      has_closed = true;
+      place = c.place;
+      sees = if counts then c.sees else t.sees;
+      times = if counts then times else t.times;
+      biu = biu;
+      rmu = rmu;
+      line = line;
+    }
 
 -- and has begun a frame
 abbrev pub told_begun_frame : LatestBegin → Told → Told

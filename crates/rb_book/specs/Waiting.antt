@@ -3,6 +3,7 @@ use Rattle.std.specs.Prelude.{ℕ, ◌&&◌, nat_lt, not, Bool, true, false, Opt
 use Rattle.rb_base.specs.Nodes.{Side, has, set_of}
 use Rattle.rb_base.specs.Nodes.Side.{Biu}
 use Rattle.rb_base.specs.declared.values.Place.{Place}
+use Rattle.rb_base.specs.declared.values.See.{See}
 use Rattle.rb_rules.specs.declared.record.NodeLine.{NodeLine}
 use Rattle.rb_rules.specs.declared.record.PortLine.{PortLine}
 use Rattle.rb_rules.specs.declared.record.SlotLine.{SlotLine}
@@ -13,7 +14,7 @@ use Rattle.rb_rules.specs.WorldStep.{begun_for, row_for}
 use Rattle.rb_judge.specs.Sights.{some_node}
 use Rattle.rb_book.specs.declared.milestone.Milestone.{Milestone}
 use Rattle.rb_book.specs.declared.told.Told.{Told}
-use Rattle.rb_book.specs.Telling.{begun_told, has_told, row_told, see_of, told_at}
+use Rattle.rb_book.specs.Telling.{begun_told, has_told, row_seeing, row_told, see_of, told_at}
 
 -- the good ones, of so many, that have not told of a milestone
 unfoldable pub waiting_for : ℕ → ℕ → Milestone → List Told → ℕ
@@ -29,6 +30,10 @@ row_if place good t = elim good [ true ↦ row_for place (row_told t) | false �
 
 abbrev pub row_at : ℕ → Place → ℕ → Told → Option Row
 row_at good place i t = row_if place (has good i) t
+
+-- the same, where each node saw this
+abbrev pub row_saw : (ℕ → ℕ → See) → ℕ → Place → ℕ → Told → Option Row
+row_saw saw good place i t = elim (has good i) [ true ↦ row_for place (row_seeing (saw i) t) | false ↦ None ]
 
 -- what it told of the begin of a frame, likewise
 abbrev pub begun_at : Side → ℕ → ℕ → ℕ → Told → Option Begun

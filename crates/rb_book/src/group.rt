@@ -83,21 +83,22 @@ impl<K: Copy> Group<K> {
         self.waiting = with_or_without(self.waiting, node, is_awaited);
     }
 
-    /// A node closes a stage.
+    /// A node closes a stage. What it saw is kept where that counts.
     pub(crate) fn close(
         &mut self,
         node: u8,
         upcoming: Milestone,
         closed: &Closed,
         times: &[u64; 16],
+        counts: bool,
         biu: NodeSet<Biu>,
         rmu: NodeSet<Rmu>,
         line: Option<SlotLine>,
     )
         requires { node < 16 }
-        ensures { IsNoted self.old self.new node upcoming (told_closed closed.now times.now biu rmu line (told_at self.old.told node)) }
+        ensures { IsNoted self.old self.new node upcoming (told_closed counts closed.now times.now biu rmu line (told_at self.old.told node)) }
     {
-        self.told[usize::from(node)].close(closed, times, biu, rmu, line);
+        self.told[usize::from(node)].close(closed, times, counts, biu, rmu, line);
         self.note(node, upcoming);
     }
 

@@ -1,5 +1,5 @@
 //! The book of a run, as it is kept.
-ghost use Rattle.std.specs.Prelude.{◌≡◌, true, ◌+◌, ◌-◌, ◌^◌, ◌<◌, ◌≤◌, ◌==◌, ◌++◌, ℕ, false, is_none, get_or, Some, None, if◌then◌else◌};
+ghost use Rattle.std.specs.Prelude.{◌≡◌, nat_lt, true, ◌+◌, ◌-◌, ◌^◌, ◌<◌, ◌≤◌, ◌==◌, ◌++◌, ℕ, false, is_none, get_or, Some, None, if◌then◌else◌};
 ghost use Rattle.rb_base.specs.Nodes.{has, other};
 ghost use Rattle.rb_base.specs.declared.values.See.TheVariants.{Nothing};
 ghost use Rattle.rb_rules.specs.Slots.{count_of};
@@ -10,7 +10,7 @@ ghost use Rattle.rb_rules.specs.Goodness.{Scenario};
 ghost use Rattle.rb_rules.specs.WorldStep.{World, first_world};
 ghost use Rattle.rb_onset.specs.Faults.{faults_of};
 ghost use Rattle.rb_book.specs.Changing.{changed_at, count_for, line_from, number_in, row_shown, side_in, with_begun, with_row};
-ghost use Rattle.rb_book.specs.Holding.{Holds, Passes, StaysUntil, TurnsTo, frame_record, good_for, slot_record};
+ghost use Rattle.rb_book.specs.Holding.{AllLast, Holds, Passes, StaysUntil, TurnsTo, frame_record, good_for, slot_record};
 ghost use Rattle.rb_book.specs.Settling.{GoesPast, JudgesStage, Settles, after_begin, comes_when, is_due, is_free, rows_found};
 ghost use Rattle.rb_book.specs.declared.turn.Turn.{Turn};
 ghost use Rattle.rb_book.specs.declared.milestone.Milestone.TheVariants as coming;
@@ -167,6 +167,30 @@ fn is_quiet(turn: &Turn) -> bool
     ensures { result ≡ is_none (record_of turn.now) }
 {
     matches!(turn, Turn::Quiet)
+}
+
+// Whether all of so many nodes are good to the end of the frame, these being the nodes that are.
+fn all_last<K: Copy>(count: u8, lasting: NodeSet<K>) -> bool
+    requires { count ≤ 16 }
+    ensures { result ≡ true → (j : ℕ) → nat_lt j count ≡ true → has lasting j ≡ true }
+{
+    NodeSet::first(count).difference(lasting).is_empty()
+}
+
+// Whether what is seen of so many nodes in a frame counts. It doesn't where all of them are known to be good to its end.
+fn counts<K: Copy>(upcoming: Milestone, frame: u32, count: u8, lasting: NodeSet<K>) -> bool
+    requires { count ≤ 16 }
+    ensures { result ≡ false → AllLast upcoming frame count lasting }
+{
+    match upcoming {
+        Milestone::Stage(place) => {
+            if place.frame != frame {
+                return true;
+            }
+            !all_last(count, lasting)
+        }
+        _ => true,
+    }
 }
 
 // What a node delivers, as a line.
@@ -352,8 +376,8 @@ impl Ledger {
             && !self.ended
     }
 
-    /// A node closes a window. What it saw of a source with a stamp is noted with the reference time of that source. Of the tail
-    /// nothing is noted.
+    /// A node closes a window. What it saw of a source with a stamp is noted with the reference time of that source, and nothing of
+    /// sources that all are good to the end of the frame. Of the tail nothing is noted.
     pub(crate) fn close(
         &mut self,
         node: NodeName,
@@ -375,14 +399,18 @@ impl Ledger {
             NodeName::Biu(i) => {
                 let _bius = self.shape.biu();
                 let line = slot_line_of(i, closed.delivered);
+                let frame = closed.place.frame;
+                let counts = counts(self.upcoming, frame, self.shape.rmu(), self.rmus.lasting);
                 self.bius
-                    .close(i, self.upcoming, closed, times, biu, rmu, line);
+                    .close(i, self.upcoming, closed, times, counts, biu, rmu, line);
             }
             NodeName::Rmu(i) => {
                 let _rmus = self.shape.rmu();
                 let line = slot_line_of(i, closed.delivered);
+                let frame = closed.place.frame;
+                let counts = counts(self.upcoming, frame, self.shape.biu(), self.bius.lasting);
                 self.rmus
-                    .close(i, self.upcoming, closed, times, biu, rmu, line);
+                    .close(i, self.upcoming, closed, times, counts, biu, rmu, line);
             }
         }
     }

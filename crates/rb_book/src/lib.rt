@@ -5,8 +5,6 @@ pub mod book;
 mod group;
 mod ledger;
 pub mod milestone;
-#[cfg(test)]
-mod tests;
 mod told;
 pub mod turn;
 mod walks;

@@ -1,5 +1,5 @@
 //! What a node has told last.
-ghost use Rattle.std.specs.Prelude.{◌≡◌, ◌<◌};
+ghost use Rattle.std.specs.Prelude.{◌≡◌, ◌<◌, if◌then◌else◌};
 ghost use Rattle.rb_rules.specs.Judging.{are_alike, is_something};
 ghost use Rattle.rb_rules.specs.Majority.{same_heard};
 ghost use Rattle.rb_rules.specs.WorldStep.{same_place};
@@ -24,7 +24,8 @@ pub struct Told {
     /// Whether it has closed a stage. If so, the next are of the last one.
     pub has_closed: bool,
     pub place: Place,
-    /// What it saw of each source. Where that is a stamp, the reference time is beside it.
+    /// What it saw of each source. Where that is a stamp, the reference time is beside it. Where all sources were good to the end
+    /// of the frame it is of an earlier stage.
     pub sees: [See; 16],
     pub times: [u64; 16],
     /// The trusted nodes of both kinds, as masks.
@@ -38,6 +39,24 @@ fn same_place(a: Place, b: Place) -> bool
     ensures { result ≡ same_place a b }
 {
     a == b
+}
+
+// What was seen is kept, if it counts.
+fn keep_sees(counts: bool, seen: &[See; 16], sees: &mut [See; 16])
+    ensures { sees.new ≡ (if counts then seen.now else sees.old) }
+{
+    if counts {
+        *sees = *seen;
+    }
+}
+
+// The same with the reference times.
+fn keep_times(counts: bool, seen: &[u64; 16], times: &mut [u64; 16])
+    ensures { times.new ≡ (if counts then seen.now else times.old) }
+{
+    if counts {
+        *times = *seen;
+    }
 }
 
 impl Told {
@@ -60,21 +79,23 @@ impl Told {
         }
     }
 
-    /// It closes a stage, having seen this of each source, some at these reference times, and delivers the line.
+    /// It closes a stage, having seen this of each source, some at these reference times, and delivers the line. What was seen is
+    /// kept where it counts.
     pub(crate) fn close(
         &mut self,
         closed: &Closed,
         times: &[u64; 16],
+        counts: bool,
         biu: NodeSet<Biu>,
         rmu: NodeSet<Rmu>,
         line: Option<SlotLine>,
     )
-        ensures { self.new ≡ told_closed closed.now times.now biu rmu line self.old }
+        ensures { self.new ≡ told_closed counts closed.now times.now biu rmu line self.old }
     {
         self.has_closed = true;
         self.place = closed.place;
-        self.sees = closed.sees;
-        self.times = *times;
+        keep_sees(counts, &closed.sees, &mut self.sees);
+        keep_times(counts, times, &mut self.times);
         self.biu = biu.bits();
         self.rmu = rmu.bits();
         self.line = line;

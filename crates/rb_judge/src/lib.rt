@@ -18,8 +18,6 @@ mod classes;
 mod seen;
 mod sources;
 mod stage_sets;
-#[cfg(test)]
-mod tests;
 
 /// What was seen in the stages of a frame so far, as much of it as the classes of nodes depend on. Its size does not depend
 /// on how much was seen.

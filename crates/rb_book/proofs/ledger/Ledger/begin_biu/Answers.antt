@@ -13,6 +13,6 @@ returns-clause-noted c = λ sc w h.
     let begun = begun_in Biu (record { frame = c.args.frame; line = c.args.line; port = c.args.port }) in
     let holds = begun-noted sc Biu c.args.self.now.upcoming c.args.self.now.bius c.begin.new.self c.args.i
     (told_begun_frame (record { frame = c.args.frame; line = c.args.line; port = c.args.port }) (told_at c.args.self.now.bius.told c.args.i)) begun (with_begun begun) w.sites
-    c.begin.ensures inside shape.most_bius h.bius (λ s. refl) (λ s. refl) refl refl (λ j. refl) in
+    c.begin.ensures inside shape.most_bius h.bius (λ s. refl) (λ s. refl) (λ s. refl) refl (λ j. refl) refl (λ j. refl) in
     let others = other-kind sc Rmu Biu c.args.self.now.upcoming c.args.self.now.rmus c.args.i (with_begun begun) w.sites refl h.rmus in
     with-bius sc c.args.self.now w c.begin.new.self _ h holds others

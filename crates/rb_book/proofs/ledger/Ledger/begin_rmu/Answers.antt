@@ -13,6 +13,6 @@ returns-clause-noted c = λ sc w h.
     let begun = begun_in Rmu (record { frame = c.args.frame; line = c.args.line; port = c.default-port.result }) in
     let holds = begun-noted sc Rmu c.args.self.now.upcoming c.args.self.now.rmus c.begin.new.self c.args.i
     (told_begun_frame (record { frame = c.args.frame; line = c.args.line; port = c.default-port.result }) (told_at c.args.self.now.rmus.told c.args.i)) begun (with_begun begun) w.sites
-    c.begin.ensures inside shape.most_rmus h.rmus (λ s. refl) (λ s. refl) refl refl (λ j. refl) in
+    c.begin.ensures inside shape.most_rmus h.rmus (λ s. refl) (λ s. refl) (λ s. refl) refl (λ j. refl) refl (λ j. refl) in
     let others = other-kind sc Biu Rmu c.args.self.now.upcoming c.args.self.now.bius c.args.i (with_begun begun) w.sites refl h.bius in
     with-rmus sc c.args.self.now w c.begin.new.self _ h others holds

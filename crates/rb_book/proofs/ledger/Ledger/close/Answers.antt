@@ -1,17 +1,19 @@
-use Rattle.std.proofs.Common.{◌≡◌, ℕ, ◌<◌, ◌≤◌, ◌==◌, true, false, get_or, refl, sym, ap, subst}
+use Rattle.std.proofs.Common.{◌≡◌, ℕ, ◌<◌, ◌≤◌, ◌==◌, true, false, get_or, refl, sym, ◌∙◌, ap, subst}
 use Rattle.rb_base.specs.Nodes.{other}
 use Rattle.rb_base.specs.Nodes.Side.{Biu, Rmu}
 use Rattle.rb_base.specs.Sizes.{Sizes}
 use Rattle.rb_base.specs.declared.values.See.TheVariants.{Nothing}
 use Rattle.rb_base.proofs.Sets.{eq_other}
-use Rattle.std.specs.Prelude.{Some}
+use Rattle.std.specs.Prelude.{Some, slice_index}
+use Rattle.rb_base.specs.declared.values.See.{See}
+use Rattle.rb_rules.specs.Hearing.{judged_see}
 use Rattle.rb_rules.specs.Book.{Row}
 use Rattle.rb_rules.specs.Slots.{count_of}
 use Rattle.rb_rules.specs.WorldStep.{Site}
 use Rattle.rb_book.specs.Changing.{changed_at, count_for, number_in, row_shown, side_in, with_row}
-use Rattle.rb_book.specs.Holding.{Holds}
-use Rattle.rb_book.specs.Telling.{row_told, told_at, told_closed}
-use Rattle.rb_book.proofs.Noting.{other-kind, row-noted, same-shown, shows-same, with-bius, with-rmus}
+use Rattle.rb_book.specs.Holding.{AllLast, Holds}
+use Rattle.rb_book.specs.Telling.{row_seeing, told_at, told_closed}
+use Rattle.rb_book.proofs.Noting.{none-seen, other-kind, row-noted, same-shown, sees-kept, shows-same, with-bius, with-rmus}
 use Rattle.rb_book.proofs.ledger.Ledger.close.Goals as goal
 
 -- of the tail nothing is told
@@ -43,11 +45,17 @@ returns-in-Biu-clause-noted c = λ sc w h.
     let nobody : (j : ℕ) → sc.sizes.rmus ≤ j → get_or closed.sees j Nothing ≡ Nothing =
     subst (λ (s : Sizes). (j : ℕ) → s.rmus ≤ j → get_or closed.sees j Nothing ≡ Nothing) h.fits.sizes
     (subst (λ n. (j : ℕ) → count_of (other (side_in n)) c.args.self.now.shape ≤ j → get_or closed.sees j Nothing ≡ Nothing) c.in-Biu.is c.requires.sources) in
+    let none : (j : ℕ) → sc.sizes.rmus ≤ j → get_or told.sees j Nothing ≡ Nothing = λ j. h.bius.within i j in
+    let saw : ℕ → See = λ j. judged_see (slice_index c.args.times.now j) (get_or closed.sees j Nothing) in
+    let last : c.counts-counts.result ≡ false → AllLast c.args.self.now.upcoming closed.place.frame sc.sizes.rmus c.args.self.now.rmus.lasting =
+    λ e. subst (λ n. AllLast c.args.self.now.upcoming closed.place.frame n c.args.self.now.rmus.lasting) (c.rmu.ensures.value ∙ ap (λ (s : Sizes). s.rmus) h.fits.sizes) (c.counts-counts.ensures e) in
     let holds = row-noted sc Biu c.args.self.now.upcoming c.args.self.now.bius c.close.new.self i
-    (told_closed closed c.args.times.now c.args.biu c.args.rmu c.slot_line_of-line.result told) row (with_row closed.place.stage row) w.sites
+    (told_closed c.counts-counts.result closed c.args.times.now c.args.biu c.args.rmu c.slot_line_of-line.result told) row saw (with_row closed.place.stage row) w.sites
     c.close.ensures inside shape.most_bius h.bius
     (λ s. ap (λ (x : Site). x.row) (stage-told closed.place.stage row s stage)) (λ s. ap (λ (x : Site). x.begun) (stage-told closed.place.stage row s stage))
-    (ap (λ l. row_told (told_closed closed c.args.times.now c.args.biu c.args.rmu l told)) c.slot_line_of-line.ensures) refl nobody in
+    (ap (λ l. row_seeing saw (told_closed c.counts-counts.result closed c.args.times.now c.args.biu c.args.rmu l told)) c.slot_line_of-line.ensures)
+    (sees-kept c.counts-counts.result sc Rmu c.args.self.now.upcoming c.args.self.now.rmus w.sites closed c.args.times.now c.args.biu c.args.rmu c.slot_line_of-line.result told shape.most_rmus h.rmus last nobody none)
+    refl (none-seen c.counts-counts.result closed c.args.times.now c.args.biu c.args.rmu c.slot_line_of-line.result told sc.sizes.rmus nobody none) in
     let others = other-kind sc Rmu Biu c.args.self.now.upcoming c.args.self.now.rmus i (with_row closed.place.stage row) w.sites refl h.rmus in
     subst (λ n. Holds sc (record c.args.self.now { bius = c.close.new.self })
     (changed_at n (with_row closed.place.stage (row_shown (number_in n) closed c.args.times.now c.args.biu c.args.rmu)) w)) (sym c.in-Biu.is)
@@ -66,11 +74,17 @@ returns-in-Rmu-clause-noted c = λ sc w h.
     let nobody : (j : ℕ) → sc.sizes.bius ≤ j → get_or closed.sees j Nothing ≡ Nothing =
     subst (λ (s : Sizes). (j : ℕ) → s.bius ≤ j → get_or closed.sees j Nothing ≡ Nothing) h.fits.sizes
     (subst (λ n. (j : ℕ) → count_of (other (side_in n)) c.args.self.now.shape ≤ j → get_or closed.sees j Nothing ≡ Nothing) c.in-Rmu.is c.requires.sources) in
+    let none : (j : ℕ) → sc.sizes.bius ≤ j → get_or told.sees j Nothing ≡ Nothing = λ j. h.rmus.within i j in
+    let saw : ℕ → See = λ j. judged_see (slice_index c.args.times.now j) (get_or closed.sees j Nothing) in
+    let last : c.counts-counts-in-Rmu.result ≡ false → AllLast c.args.self.now.upcoming closed.place.frame sc.sizes.bius c.args.self.now.bius.lasting =
+    λ e. subst (λ n. AllLast c.args.self.now.upcoming closed.place.frame n c.args.self.now.bius.lasting) (c.biu.ensures.value ∙ ap (λ (s : Sizes). s.bius) h.fits.sizes) (c.counts-counts-in-Rmu.ensures e) in
     let holds = row-noted sc Rmu c.args.self.now.upcoming c.args.self.now.rmus c.close-in-Rmu.new.self i
-    (told_closed closed c.args.times.now c.args.biu c.args.rmu c.slot_line_of-line-in-Rmu.result told) row (with_row closed.place.stage row) w.sites
+    (told_closed c.counts-counts-in-Rmu.result closed c.args.times.now c.args.biu c.args.rmu c.slot_line_of-line-in-Rmu.result told) row saw (with_row closed.place.stage row) w.sites
     c.close-in-Rmu.ensures inside shape.most_rmus h.rmus
     (λ s. ap (λ (x : Site). x.row) (stage-told closed.place.stage row s stage)) (λ s. ap (λ (x : Site). x.begun) (stage-told closed.place.stage row s stage))
-    (ap (λ l. row_told (told_closed closed c.args.times.now c.args.biu c.args.rmu l told)) c.slot_line_of-line-in-Rmu.ensures) refl nobody in
+    (ap (λ l. row_seeing saw (told_closed c.counts-counts-in-Rmu.result closed c.args.times.now c.args.biu c.args.rmu l told)) c.slot_line_of-line-in-Rmu.ensures)
+    (sees-kept c.counts-counts-in-Rmu.result sc Biu c.args.self.now.upcoming c.args.self.now.bius w.sites closed c.args.times.now c.args.biu c.args.rmu c.slot_line_of-line-in-Rmu.result told shape.most_bius h.bius last nobody none)
+    refl (none-seen c.counts-counts-in-Rmu.result closed c.args.times.now c.args.biu c.args.rmu c.slot_line_of-line-in-Rmu.result told sc.sizes.bius nobody none) in
     let others = other-kind sc Biu Rmu c.args.self.now.upcoming c.args.self.now.bius i (with_row closed.place.stage row) w.sites refl h.bius in
     subst (λ n. Holds sc (record c.args.self.now { rmus = c.close-in-Rmu.new.self })
     (changed_at n (with_row closed.place.stage (row_shown (number_in n) closed c.args.times.now c.args.biu c.args.rmu)) w)) (sym c.in-Rmu.is)

@@ -43,11 +43,11 @@ returns-clause-passes c = λ sc w h ended next.
       ended = sym (turns.ended ∙ ended);
       judged = λ e p is. subst (λ k. Knows k []) (sym turns.judge) (shows_knows _ [] c.frame.ensures.begun);
       bius = subst (λ m. HoldsKind sc Biu m c.turn_to.new.self.bius w.sites) (sym turns.upcoming) (turns-holds sc Biu (kept.Begin frame) c.after_begin.result (record c.args.self.now.bius { lasting = c.good_biu-self.result }) _ c.args.self.now.shape w.sites h.fits.sizes
-          (record { all = bius.all; rows = bius.rows; begins = bius.begins; within = bius.within; good = bius.good; waiting = bius.waiting; lasting = λ p e. absurd (cc) })
+          (record { all = bius.all; saw = bius.saw; rows = bius.rows; sights = bius.sights; begins = bius.begins; within = bius.within; good = bius.good; waiting = bius.waiting; lasting = λ p e. absurd (cc) })
           turns.bius (turns.good_bius sc h.fits.onsets)
           (λ p is. turns.bius.lasting ∙ c.good_biu-self.ensures sc h.fits.onsets ∙ ap (good_at sc Biu frame) sync ∙ ap (λ f. good_at sc Biu f (sync_slot_of sc.sizes)) (sym (coming.1 p (turns.upcoming ∙ is)))));
       rmus = subst (λ m. HoldsKind sc Rmu m c.turn_to.new.self.rmus w.sites) (sym turns.upcoming) (turns-holds sc Rmu (kept.Begin frame) c.after_begin.result (record c.args.self.now.rmus { lasting = c.good_rmu-self.result }) _ c.args.self.now.shape w.sites h.fits.sizes
-          (record { all = rmus.all; rows = rmus.rows; begins = rmus.begins; within = rmus.within; good = rmus.good; waiting = rmus.waiting; lasting = λ p e. absurd (cc) })
+          (record { all = rmus.all; saw = rmus.saw; rows = rmus.rows; sights = rmus.sights; begins = rmus.begins; within = rmus.within; good = rmus.good; waiting = rmus.waiting; lasting = λ p e. absurd (cc) })
           turns.rmus (turns.good_rmus sc h.fits.onsets)
           (λ p is. turns.rmus.lasting ∙ c.good_rmu-self.ensures sc h.fits.onsets ∙ ap (good_at sc Rmu frame) sync ∙ ap (λ f. good_at sc Rmu f (sync_slot_of sc.sizes)) (sym (coming.1 p (turns.upcoming ∙ is)))));
     }) refl (c.frame_turn-given.ensures ∙ frame-record sc frame c.args.self.now.bius c.args.self.now.rmus w.sites c.args.self.now.shape h.fits.sizes h.fits.is_shape bius rmus)
