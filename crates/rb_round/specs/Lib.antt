@@ -1,2 +1,1 @@
 pub mod Closes
-pub mod Blanks

@@ -13,7 +13,6 @@ ghost use Rattle.rb_rules.specs.ExactStage.{at_source, present, see_value, with_
 ghost use Rattle.rb_rules.specs.Majority.{majority_of};
 ghost use Rattle.rb_rules.specs.Standing.{is_eligible, is_unlike};
 
-pub use over::close_stage_over;
 use rb_base::{Heard, NodeId, NodeSet, See};
 use rb_eligible::{Inbox, Standing, Taking, is_quiet, single_of, take_single, take_with_evidence};
 pub use rb_rules::Closing;
@@ -21,7 +20,6 @@ use rb_rules::Expect;
 use rb_vote::majority_taken;
 pub use sheet::{Sheet, close_on_sheet};
 
-pub mod over;
 pub mod sheet;
 
 // The vote over what was taken. Where more than half of it is known to be alike, it is that value.
@@ -114,7 +112,7 @@ fn close_single<K: Copy>(
 
 // The close of a stage in which something came or somebody is expected.
 #[inline(never)]
-pub(crate) fn close_busy<K: Copy>(
+fn close_busy<K: Copy>(
     inbox: &Inbox<K>,
     standing: &mut Standing<K>,
     expect: &Expect,
@@ -224,45 +222,4 @@ pub fn relay(closing: &Closing, sender: u8) -> Heard
     ensures { result ≡ unwrap_or (at_source closing.now.taken sender) Heard.Fault }
 {
     closing.taken[usize::from(sender)].unwrap_or(Heard::Fault)
-}
-
-#[cfg(test)]
-mod tests {
-    use super::*;
-    use Heard::{Fault, Word};
-    use rb_base::Rmu;
-    use rb_rules::Version;
-    use std::test::Fail;
-
-    // Stage 2 of slot 4 in frame 0: RMUs 0 to 3 of five are expected. RMU 0 relays 10, the next two relay Fault, RMU 3 is
-    // silent, and RMU 4 isn't expected and relays 10.
-    #[test]
-    fn a_stage(rt: HostRuntime) -> Result<(), Fail> {
-        let expect = Expect {
-            frame: 0,
-            slot: 4,
-            stage: 2,
-            sync: false,
-            version: Version::One,
-        };
-        let word: &[u8] = &[1, 0, 0, 0, 4, 2, 0, 0, 0, 10, 13];
-        let fault: &[u8] = &[2, 0, 0, 0, 4, 2, 0, 0, 0, 0, 4];
-        let mut inbox = Inbox::<Rmu>::new();
-        for (from, bytes) in [(0, word), (1, fault), (2, fault), (4, word)] {
-            if let Some(id) = NodeId::new(from) {
-                inbox.take(id, 70, bytes);
-            }
-        }
-        let mut standing = Standing::new(5);
-        let closing = close_stage(&inbox, &mut standing, &expect, NodeSet::first(4));
-        let taken = [Some(Word(10)), Some(Fault), Some(Fault), None, None];
-        assert_eq!(rt; &closing.taken[..5], taken.as_slice());
-        assert_eq!(rt; closing.voted, Fault);
-        assert_eq!(rt; standing.direct.bits(), 0b11000);
-        accuse_unlike(&closing, Word(10), &mut standing);
-        assert_eq!(rt; standing.mismatch.bits(), 0b00110);
-        assert_eq!(rt; relay(&closing, 0), Word(10));
-        assert_eq!(rt; relay(&closing, 3), Fault);
-        Ok(())
-    }
 }
