@@ -200,7 +200,7 @@ busy-one me v w k here (Said3 h) =
 -- The soonest of them.
 
 -- the window's last tick is not passed over
-not-over : (had last before after k : ℕ) → IsSooner had (Some last) before after → k ≤ after → had ≤ last → k ≤ last
+pub not-over : (had last before after k : ℕ) → IsSooner had (Some last) before after → k ≤ after → had ≤ last → k ≤ last
 not-over had last before after k s le from =
     elim (cases_lt last k) [
       | inl lt ↦ absurd (true-false (sym (eq-self last) ∙ s.not_before last from (omega arith)))

@@ -7,3 +7,5 @@ pub mod Steps
 pub mod Between
 pub mod Turning
 pub mod Acting
+pub mod Numbering
+pub mod Going

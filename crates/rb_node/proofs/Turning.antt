@@ -127,6 +127,15 @@ want-later me v w k h is none =
     ∙ ap (λ m. want_for v.sizes (slot_wanted v.sizes (option_or m (option_or (stage_at me v w.slot 2 0 k) (stage_at me v w.slot 3 0 k))))) (unsaid me v w.slot 1 k none)
     ∙ ap (want_for v.sizes) (wanted-later me v w.slot k (stage_at me v w.slot 2 0 k) (stage_at me v w.slot 3 0 k) refl refl)
 
+-- so nothing is wanted where no message of the first stage is due, whether the node turns or not
+pub want-silent : (me : Side) (v : Seated) (w : Window) (k : ℕ) → IsShape v.sizes → IsPlan v.plan → w ≡ window_of_tick me v k
+    → is_tick (tick_said me v w.slot 1) k ≡ false → want_at me v k ≡ want.Nothing
+want-silent me v w k shape plan is none = by (is_tick (new_epoch_of v.plan me v.state) k) refl
+  where
+    by : (b : Bool) → is_tick (new_epoch_of v.plan me v.state) k ≡ b → want_at me v k ≡ want.Nothing
+    by true e = want-turned me v k shape plan e
+    by false e = want-later me v w k e is none
+
 -- a message of the first stage takes one, where words are said in the slot
 first-stage : (sizes : Sizes) (m : Message) (slot : ℕ) → HasPlace m slot 1 → slot_wanted sizes (Some m) ≡ slot_of_words sizes slot
 first-stage sizes m slot p =

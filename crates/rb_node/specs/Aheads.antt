@@ -2,6 +2,7 @@
 use Rattle.std.specs.Prelude.{ℕ, ◌≡◌, ◌≤◌, ◌<◌, ◌^◌, ◌+◌, ◌⊎◌, nat_lt, if◌then◌else◌, Bool, true, false, is_some, Option, None}
 use Rattle.rb_base.specs.Nodes.{Side}
 use Rattle.rb_base.specs.Sizes.{sync_slot_of}
+use Rattle.rb_rules.specs.declared.plan.Plan.{Plan}
 use Rattle.rb_rules.specs.declared.plan.Window.{Window}
 use Rattle.rb_rules.specs.Core.{is_busy, is_tick, said_at, slot_wanted, state_at, window_here}
 use Rattle.rb_rules.specs.NodeSteps.{message_said}
@@ -29,12 +30,32 @@ pub record IsChosen (had : ℕ) (candidate : Option ℕ) (stage : ℕ) (before a
   pub not_before : (k : ℕ) → had ≤ k → k < after.tick → is_tick candidate k ≡ false
   pub either : ((is_tick candidate after.tick ≡ true) × (after.stage ≡ stage)) ⊎ ((is_tick candidate after.tick ≡ false) × (after ≡ before))
 
+-- the window after one below the sync slot: the next stage, or the next slot's first, as long as the plan's first windows are
+abbrev pub following : Plan → Window → Window
+following plan w = elim (nat_lt w.stage 3) [
+  | true ↦ record { slot = w.slot; stage = w.stage + 1; first = w.last + 1; last = w.last + plan.l }
+  | false ↦ record { slot = w.slot + 1; stage = 1; first = w.last + 1; last = w.last + plan.l }
+]
+
+-- a window of the frame has ended with the tick before this one
+pub record IsEnded (v : Seated) (w : Window) (next : ℕ) : Type 0 where
+  pub of_frame : IsOfFrame v.sizes v.plan w
+  pub after : next ≡ v.state.epoch + w.last + 1
+
 -- the tick at which the node sends a message of the stage, if it sends one
 abbrev pub tick_said : Side → Seated → ℕ → ℕ → Option ℕ
 tick_said me v slot stage = elim (is_some (message_said v.sizes me v.index v.state slot stage 0)) [
   | true ↦ send_tick_of v.sizes v.plan v.state slot stage
   | false ↦ None
 ]
+
+-- the sooner tick, with the message said then, after a choice among the three stages of a slot, the last of them first
+pub record IsSaidNext (me : Side) (v : Seated) (slot had : ℕ) (before after : Busy) : Type 0 where
+  pub third : Busy
+  pub second : Busy
+  pub from_third : IsChosen had (tick_said me v slot 3) 3 before third
+  pub from_second : IsChosen had (tick_said me v slot 2) 2 third second
+  pub from_first : IsChosen had (tick_said me v slot 1) 1 second after
 
 -- at tick k the node says its message of this stage of the slot, the first that is due then; of stage 0, none
 pub data SaysIn (me : Side) (v : Seated) (slot k stage : ℕ) : Type 0 where

@@ -1,16 +1,17 @@
 //! When something happens at a node next.
-ghost use Rattle.std.specs.Prelude.{◌≡◌, ◌+◌, ◌<◌, ◌≤◌, ◌^◌, ℕ, Some, is_some};
+ghost use Rattle.std.specs.Prelude.{◌≡◌, ◌+◌, ◌<◌, ◌≤◌, ◌^◌, ℕ, Some, false, is_some, true};
 ghost use Rattle.rb_base.specs.Nodes.{side_of};
 ghost use Rattle.rb_base.specs.Sizes.{IsShape, sync_slot_of};
 ghost use Rattle.rb_rules.specs.Core.{is_tick};
 ghost use Rattle.rb_rules.specs.Hearing.{tail_at};
-ghost use Rattle.rb_rules.specs.Plan.{IsPlan, tail_start_of};
-ghost use Rattle.rb_node.specs.Aheads.{IsChosen, IsNextBusy, IsSooner, IsWindowOf, LooksAhead, SaysIn, tick_said, want_ahead, want_at, window_of_tick};
+ghost use Rattle.rb_rules.specs.Plan.{IsFeasible, IsPlan, tail_start_of};
+ghost use Rattle.rb_rules.specs.SyncStage.{send_tick_of};
+ghost use Rattle.rb_node.specs.Aheads.{IsChosen, IsEnded, IsNextBusy, IsSaidNext, IsSooner, IsWindowOf, LooksAhead, SaysIn, following, tick_said, want_ahead, want_at, window_of_tick};
 ghost use Rattle.rb_node.specs.Wants.{slot_of_words, want_for};
 
 use crate::act::Want;
 use rb_base::{Kind, Shape};
-use rb_plan::{Feasible, Window};
+use rb_plan::{Feasible, Plan, Window};
 use rb_slot::Engine;
 
 // How many ticks a node can have.
@@ -20,13 +21,6 @@ pub(crate) const MOST_TICKS: u64 = 2_147_483_648;
 #[derive(Clone, Copy)]
 pub struct Busy {
     pub(crate) tick: u64,
-    pub(crate) stage: u8,
-}
-
-/// The window of a tick, and the stage of the message that the node says then; 0 where it says none.
-#[derive(Clone, Copy)]
-pub struct Here {
-    pub(crate) window: Window,
     pub(crate) stage: u8,
 }
 
@@ -45,6 +39,7 @@ pub struct Ahead {
 pub(crate) fn bounds<K: Kind>(engine: &Engine<K>)
     ensures shape { IsShape engine.now.sizes }
     ensures plan { IsPlan engine.now.plan }
+    ensures feasible { IsFeasible engine.now.sizes engine.now.plan }
 {
     let _plan = engine.plan().plan();
     let _biu = engine.plan().shape().biu();
@@ -92,6 +87,52 @@ pub(crate) fn window_of<K: Kind>(engine: &Engine<K>, tick: u64) -> Window
     }
 }
 
+// The window after one below the sync slot.
+#[inline(always)]
+fn following(plan: &Plan, window: &Window) -> Window
+    requires plan { IsPlan plan.now }
+    requires slot { window.now.slot < 112 }
+    requires stage { window.now.stage ≤ 3 }
+    requires last { window.now.last ≤ 400000 }
+    ensures { result ≡ following plan.now window.now }
+{
+    let (first, last) = (window.last + 1, window.last + u64::from(plan.l));
+    if window.stage < 3 {
+        Window {
+            slot: window.slot,
+            stage: window.stage + 1,
+            first,
+            last,
+        }
+    } else {
+        Window {
+            slot: window.slot + 1,
+            stage: 1,
+            first,
+            last,
+        }
+    }
+}
+
+// The window of the tick before becomes that of the next tick, where it was closed; else it goes on.
+#[inline(always)]
+pub(crate) fn go_on<K: Kind>(engine: &Engine<K>, window: &mut Window, closed: bool, next: u64)
+    requires epoch { engine.now.state.epoch ≤ next }
+    requires next { next ≤ 2 ^ 31 }
+    requires goes_on { closed ≡ false → IsWindowOf (side_of K.CODE) engine.now next window.old }
+    requires ended { closed ≡ true → IsEnded engine.now window.old next }
+    ensures { IsWindowOf (side_of K.CODE) engine.now next window.new }
+{
+    bounds(engine);
+    if closed {
+        if window.slot < engine.plan().shape().sync_slot() {
+            *window = following(engine.plan().plan(), window);
+        } else {
+            *window = window_of(engine, next);
+        }
+    }
+}
+
 // Of two ticks the sooner, where the second is there and isn't over.
 fn sooner(before: u64, had: u64, candidate: Option<u64>) -> u64
     requires { had ≤ before }
@@ -103,19 +144,22 @@ fn sooner(before: u64, had: u64, candidate: Option<u64>) -> u64
     }
 }
 
-// The same with the tick at which the node sends a message of the stage, which comes before later stages at the same tick.
+// The same with the tick at which a message of the stage is sent, if the node has one to send. It comes before those of later
+// stages at the same tick.
 #[inline(always)]
-fn sooner_send<K: Kind>(before: Busy, had: u64, engine: &Engine<K>, slot: u16, stage: u8) -> Busy
+fn sooner_due<K: Kind>(
+    before: Busy,
+    had: u64,
+    engine: &Engine<K>,
+    slot: u16,
+    stage: u8,
+    tick: u64,
+) -> Busy
     requires had { had ≤ before.tick }
     requires index { engine.now.index < 16 }
-    requires slot { slot ≤ sync_slot_of engine.now.sizes }
-    requires first { 1 ≤ stage }
-    requires last { stage ≤ 3 }
+    requires tick { send_tick_of engine.now.sizes engine.now.plan engine.now.state slot stage ≡ Some tick }
     ensures { IsChosen had (tick_said (side_of K.CODE) engine.now slot stage) stage before result }
 {
-    let Some(tick) = engine.send_tick(slot, stage) else {
-        return before;
-    };
     if tick < had {
         return before;
     }
@@ -128,7 +172,72 @@ fn sooner_send<K: Kind>(before: Busy, had: u64, engine: &Engine<K>, slot: u16, s
     Busy { tick, stage }
 }
 
+// The same in any slot.
+#[inline(always)]
+fn sooner_send<K: Kind>(before: Busy, had: u64, engine: &Engine<K>, slot: u16, stage: u8) -> Busy
+    requires had { had ≤ before.tick }
+    requires index { engine.now.index < 16 }
+    requires slot { slot ≤ sync_slot_of engine.now.sizes }
+    requires first { 1 ≤ stage }
+    requires last { stage ≤ 3 }
+    ensures { IsChosen had (tick_said (side_of K.CODE) engine.now slot stage) stage before result }
+{
+    match engine.send_tick(slot, stage) {
+        Some(tick) => sooner_due(before, had, engine, slot, stage, tick),
+        None => before,
+    }
+}
+
+// The same in a window below the sync slot, where only the message of the window's own stage can be due.
+#[inline(always)]
+fn sooner_word<K: Kind>(before: Busy, had: u64, engine: &Engine<K>, window: &Window) -> Busy
+    requires had { had ≤ before.tick }
+    requires index { engine.now.index < 16 }
+    requires epoch { engine.now.state.epoch ≤ had }
+    requires most { had ≤ 2 ^ 31 }
+    requires window { IsWindowOf (side_of K.CODE) engine.now had window.now }
+    requires ends { before.tick ≤ engine.now.state.epoch + window.now.last }
+    requires slot { window.now.slot < sync_slot_of engine.now.sizes }
+    ensures { IsSaidNext (side_of K.CODE) engine.now window.now.slot had before result }
+{
+    bounds(engine);
+    let tick = engine.epoch() + window.first + u64::from(engine.plan().plan().h);
+    sooner_due(before, had, engine, window.slot, window.stage, tick)
+}
+
+// The same in the sync slot, where what is due hangs on what the node took.
+fn sooner_call<K: Kind>(before: Busy, had: u64, engine: &Engine<K>, slot: u16) -> Busy
+    requires had { had ≤ before.tick }
+    requires index { engine.now.index < 16 }
+    requires slot { slot ≤ sync_slot_of engine.now.sizes }
+    ensures { IsSaidNext (side_of K.CODE) engine.now slot had before result }
+{
+    let third = sooner_send(before, had, engine, slot, 3);
+    let second = sooner_send(third, had, engine, slot, 2);
+    sooner_send(second, had, engine, slot, 1)
+}
+
+// The same in any window, which ends no sooner than the tick before.
+#[inline(always)]
+fn sooner_said<K: Kind>(before: Busy, had: u64, engine: &Engine<K>, window: &Window) -> Busy
+    requires had { had ≤ before.tick }
+    requires index { engine.now.index < 16 }
+    requires epoch { engine.now.state.epoch ≤ had }
+    requires most { had ≤ 2 ^ 31 }
+    requires window { IsWindowOf (side_of K.CODE) engine.now had window.now }
+    requires ends { had ≤ engine.now.state.epoch + window.now.last → before.tick ≤ engine.now.state.epoch + window.now.last }
+    ensures { IsSaidNext (side_of K.CODE) engine.now window.now.slot had before result }
+{
+    bounds(engine);
+    if window.slot < engine.plan().shape().sync_slot() {
+        sooner_word(before, had, engine, window)
+    } else {
+        sooner_call(before, had, engine, window.slot)
+    }
+}
+
 // The next tick that isn't quiet, `window` being that of tick `had`; 2^31 where there is none.
+#[inline(always)]
 fn busy_tick<K: Kind>(engine: &Engine<K>, window: &Window, had: u64) -> Busy
     requires index { engine.now.index < 16 }
     requires epoch { engine.now.state.epoch ≤ had }
@@ -141,9 +250,7 @@ fn busy_tick<K: Kind>(engine: &Engine<K>, window: &Window, had: u64) -> Busy
     let begun = sooner(MOST_TICKS, had, Some(engine.epoch()));
     let closed = sooner(begun, had, Some(engine.epoch() + window.last));
     let tick = sooner(closed, had, engine.new_epoch());
-    let third = sooner_send(Busy { tick, stage: 0 }, had, engine, window.slot, 3);
-    let second = sooner_send(third, had, engine, window.slot, 2);
-    sooner_send(second, had, engine, window.slot, 1)
+    sooner_said(Busy { tick, stage: 0 }, had, engine, window)
 }
 
 // Whether this is the tick.
@@ -177,11 +284,12 @@ fn want_at<K: Kind>(engine: &Engine<K>, window: &Window, busy: Busy) -> Want
     ensures { result ≡ want_at (side_of K.CODE) engine.now busy.tick }
 {
     bounds(engine);
-    if is_tick(engine.new_epoch(), busy.tick) {
-        return Want::Nothing;
-    }
     if busy.stage == 1 {
-        want_in(engine.plan().shape(), window.slot)
+        if is_tick(engine.new_epoch(), busy.tick) {
+            Want::Nothing
+        } else {
+            want_in(engine.plan().shape(), window.slot)
+        }
     } else {
         Want::Nothing
     }
@@ -200,16 +308,27 @@ fn want_ahead<K: Kind>(engine: &Engine<K>, window: &Window, busy: Busy) -> Want
     }
 }
 
-// What is ahead of a node that has had so many ticks.
+// What is ahead of a node that has had so many ticks, the window being that of its next.
 #[inline(always)]
-pub(crate) fn look_ahead<K: Kind>(engine: &Engine<K>, had: u64) -> Ahead
+pub(crate) fn look_ahead<K: Kind>(engine: &Engine<K>, ahead: &mut Ahead, had: u64)
     requires index { engine.now.index < 16 }
     requires epoch { engine.now.state.epoch ≤ had }
     requires had { had ≤ 2 ^ 31 }
-    ensures { LooksAhead (side_of K.CODE) engine.now had result }
+    requires window { IsWindowOf (side_of K.CODE) engine.now had ahead.old.window }
+    ensures { LooksAhead (side_of K.CODE) engine.now had ahead.new }
 {
-    let window = window_of(engine, had);
-    let busy = busy_tick(engine, &window, had);
-    let want = want_ahead(engine, &window, busy);
-    Ahead { busy, window, want }
+    let busy = busy_tick(engine, &ahead.window, had);
+    ahead.want = want_ahead(engine, &ahead.window, busy);
+    ahead.busy = busy;
+}
+
+// What is ahead of a node in this window, as far as it has not been looked for.
+pub(crate) fn not_looked(window: Window) -> Ahead
+    ensures { result.window ≡ window }
+{
+    Ahead {
+        busy: Busy { tick: 0, stage: 0 },
+        window,
+        want: Want::Nothing,
+    }
 }

@@ -9,5 +9,3 @@ pub mod act;
 pub mod ahead;
 pub mod node;
 mod parts;
-#[cfg(test)]
-mod tests;

@@ -13,7 +13,7 @@ ghost use Rattle.rb_node.specs.Events.{EventsComeInParts};
 ghost use Rattle.rb_node.specs.Wants.{want_of, want_then};
 
 use crate::act::{Act, Span, Step, Want};
-use crate::ahead::{Ahead, MOST_TICKS, bounds, is_tick, look_ahead};
+use crate::ahead::{Ahead, MOST_TICKS, bounds, go_on, is_tick, look_ahead, not_looked, window_of};
 use crate::parts::{
     bytes_of, close_at, delivered_in, epoch_at, first_window, if_closed, nothing, others, say_at,
     span_at, turn_at,
@@ -63,7 +63,8 @@ impl<K: Kind> Node<K> {
     {
         let engine = Engine::new(plan, index);
         bounds(&engine);
-        let ahead = look_ahead(&engine, 0);
+        let mut ahead = not_looked(window_of(&engine, 0));
+        look_ahead(&engine, &mut ahead, 0);
         Node {
             engine,
             had: 0,
@@ -186,6 +187,7 @@ impl<K: Kind> Node<K> {
     /// nothing. At the tick of its next epoch the node first turns to the next frame; then it says its message, if this is the
     /// tick of one; then it closes the window, if this is its last tick, on what came since the last close. What it saw is
     /// then `shown`. A node that has had 2^31 ticks gives nothing and does not change.
+    #[inline(always)]
     pub fn step(&mut self, word: u32) -> Step
         ensures core { (c : Core) → IsCore self.old c → IsCore self.new (tick_of (side_of K.CODE) self.old c word).core }
         ensures act { (c : Core) → IsCore self.old c → IsAct self.new.shown result (tick_of (side_of K.CODE) self.old c word) }
@@ -202,22 +204,25 @@ impl<K: Kind> Node<K> {
         if now < self.ahead.busy.tick {
             return nothing();
         }
-        let here = turn_at(
+        turn_at(&mut self.engine, &mut self.ahead, now);
+        let epoch = epoch_at(&self.engine, now);
+        let message = say_at(
             &mut self.engine,
-            &self.ahead.window,
+            self.ahead.window.slot,
             self.ahead.busy.stage,
             now,
+            word,
         );
-        let epoch = epoch_at(&self.engine, now);
-        let message = say_at(&mut self.engine, &here, now, word);
         let closed = close_at(
             &mut self.engine,
             &mut self.inbox,
             &mut self.shown,
-            &here.window,
+            &self.ahead.window,
             now,
         );
-        self.ahead = look_ahead(&self.engine, self.had);
+        bounds(&self.engine);
+        go_on(&self.engine, &mut self.ahead.window, closed, self.had);
+        look_ahead(&self.engine, &mut self.ahead, self.had);
         Step {
             epoch,
             message,

@@ -15,7 +15,7 @@ ghost use Rattle.rb_node.specs.Aheads.{IsWindowOf, SaysIn};
 ghost use Rattle.rb_node.specs.Saids.{said_in, span_if};
 
 use crate::act::{Span, Step};
-use crate::ahead::{Here, bounds, is_tick, window_of};
+use crate::ahead::{Ahead, bounds, is_tick, window_of};
 use arrayvec::ArrayVec;
 use rb_base::{Delivery, Kind, NodeSet, Place, Shape};
 use rb_eligible::Inbox;
@@ -24,32 +24,25 @@ use rb_plan::{Feasible, Window};
 use rb_rules::{Closed, Epoch, Message, Version};
 use rb_slot::{Engine, Shown};
 
-// The node turns, if this is the tick of its next epoch. It gives the tick's window and the stage of what is said in it, which
-// were these in the state before.
-pub(crate) fn turn_at<K: Kind>(engine: &mut Engine<K>, window: &Window, stage: u8, now: u64) -> Here
+// The node turns, if this is the tick of its next epoch. Then the tick's window is the first of a frame, and nothing is said in it.
+#[inline(always)]
+pub(crate) fn turn_at<K: Kind>(engine: &mut Engine<K>, ahead: &mut Ahead, now: u64)
     requires now { now < 2 ^ 31 }
     requires frame { engine.old.state.frame < 2 ^ 31 }
     requires epoch { engine.old.state.epoch ≤ now }
-    requires window { IsWindowOf (side_of K.CODE) engine.old now window.now }
-    requires stage { SaysIn (side_of K.CODE) engine.old window.now.slot now stage }
+    requires window { IsWindowOf (side_of K.CODE) engine.old now ahead.old.window }
+    requires stage { SaysIn (side_of K.CODE) engine.old ahead.old.window.slot now ahead.old.busy.stage }
     ensures state { engine.new ≡ record engine.old {
       state = state_at engine.old.sizes engine.old.plan (side_of K.CODE) engine.old.state now;
     } }
-    ensures window { IsWindowOf (side_of K.CODE) engine.new now result.window }
-    ensures stage { SaysIn (side_of K.CODE) engine.new result.window.slot now result.stage }
+    ensures window { IsWindowOf (side_of K.CODE) engine.new now ahead.new.window }
+    ensures stage { SaysIn (side_of K.CODE) engine.new ahead.new.window.slot now ahead.new.busy.stage }
 {
     if is_tick(engine.new_epoch(), now) {
         engine.turn();
         bounds(engine);
-        Here {
-            window: window_of(engine, now),
-            stage: 0,
-        }
-    } else {
-        Here {
-            window: *window,
-            stage,
-        }
+        ahead.window = window_of(engine, now);
+        ahead.busy.stage = 0;
     }
 }
 
@@ -73,26 +66,28 @@ pub(crate) fn epoch_at<K: Kind>(engine: &Engine<K>, now: u64) -> Option<Epoch>
     })
 }
 
-// The node says its message of the slot, if this is the tick of one.
+// The node says its message of a stage of the slot, if this is the tick of one; else the stage is 0.
+#[inline(always)]
 pub(crate) fn say_at<K: Kind>(
     engine: &mut Engine<K>,
-    here: &Here,
+    slot: u16,
+    stage: u8,
     now: u64,
     word: u32,
 ) -> Option<Message>
     requires index { engine.old.index < 16 }
-    requires slot { here.now.window.slot ≤ sync_slot_of engine.old.sizes }
-    requires stage { SaysIn (side_of K.CODE) engine.old here.now.window.slot now here.now.stage }
-    ensures message { result ≡ said_in (side_of K.CODE) engine.old here.now.window.slot now word }
+    requires slot { slot ≤ sync_slot_of engine.old.sizes }
+    requires stage { SaysIn (side_of K.CODE) engine.old slot now stage }
+    ensures message { result ≡ said_in (side_of K.CODE) engine.old slot now word }
     ensures keeps { engine.new ≡ record engine.old {
       state = state_kept engine.old.sizes (side_of K.CODE) engine.old.index engine.old.state word result;
     } }
     ensures sendable { IfSome result IsSendable }
 {
-    if here.stage == 0 {
+    if stage == 0 {
         None
     } else {
-        engine.outgoing(here.window.slot, here.stage, word)
+        engine.outgoing(slot, stage, word)
     }
 }
 
@@ -114,6 +109,7 @@ pub(crate) fn close_at<K: Kind>(
     ensures shown { (received : List Received) → HoldsArrivals inbox.old received
         → shown.new ≡ (if result then (outcome_on (side_of K.CODE) engine.old window.now received).closed else shown.old) }
     ensures stays { result ≡ false → shown.new ≡ shown.old }
+    ensures keeps { result ≡ false → engine.new ≡ engine.old }
     ensures inbox { (received : List Received) → HoldsArrivals inbox.old received
         → HoldsArrivals inbox.new (if result then [] else received) }
     ensures stamps { StampsUpTo (2 ^ 32) inbox.new }

@@ -27,7 +27,7 @@ use Rattle.rb_node.specs.Cores.{IsCore, IsSameNode, Running, bare_core, next_of,
 use Rattle.rb_node.specs.declared.act.Step.{Step}
 use Rattle.rb_node.proofs.Between.{arrive-spent, arrive-takes}
 use Rattle.rb_node.proofs.Cores.{tick-now, tick-spent}
-use Rattle.rb_site.specs.Sites.{ComeTogether, HoldsTimes, Kept, Stands, goes_on, number_of}
+use Rattle.rb_site.specs.Sites.{ComeTogether, HoldsTimes, KeptSite, Stands, goes_on, number_of}
 use Rattle.rb_site.specs.Tells.{IsTicked, begun_after, row_after, row_at}
 use Rattle.rb_site.proofs.Closing.{Leaves, ShowsTime, tick-leaves}
 use Rattle.rb_site.proofs.Coming.{sees-same, times-more, together-more}
@@ -47,7 +47,7 @@ arrive-together sizes me d got c there together below =
           absurd (omega (arith, same, below, ge))
     ]
 
-pub arrived : (sc : Scenario) (me : Side) (k : Kept) (node : Running) (c : Coming) (place stamp i : ℕ) (s : Site)
+pub arrived : (sc : Scenario) (me : Side) (k : KeptSite) (node : Running) (c : Coming) (place stamp i : ℕ) (s : Site)
     → Stands sc me k s → length k.times ≡ 16 → IsSameNode k.node node → c.from < count_of (other me) sc.sizes → stamp ≡ stamp_of (clock_of sc me i) c.time
     → IsCore node (arrive sc.sizes me (pass_to stamp s.core) c.from c.bytes)
     → Stands sc me (record { node = node; runs = k.runs; times = slice_set k.times c.from c.time }) (after_arrival sc me i place c s)
@@ -66,7 +66,7 @@ arrived sc me k node c place stamp i s is all same there stamp_is core =
 
 -- Ticks.
 
-closed-stands : (sc : Scenario) (ports : List PortState) (me : Side) (i : ℕ) (k : Kept) (node : Running) (x : Act) (s : Site) (d : Core)
+closed-stands : (sc : Scenario) (ports : List PortState) (me : Side) (i : ℕ) (k : KeptSite) (node : Running) (x : Act) (s : Site) (d : Core)
     → Stands sc me k s → IsSameNode k.node node → IsCore node x.core → Leaves d x → s.core.had ≤ d.had → d.inbox ≡ s.core.inbox
     → Stands sc me (record { node = node; runs = k.runs; times = k.times }) (with_close me i x.core.state x.closed (record s { core = x.core }))
 closed-stands sc ports me i k node x s d is same core leaves passed inbox = by x.closed refl
@@ -90,7 +90,7 @@ closed-stands sc ports me i k node x s d is same core leaves passed inbox = by x
       times = λ j h c sole. absurd (cc);
     }
 
-epoch-stands : (sc : Scenario) (ports : List PortState) (me : Side) (i : ℕ) (k : Kept) (o : Option Epoch) (s : Site) → Stands sc me k s
+epoch-stands : (sc : Scenario) (ports : List PortState) (me : Side) (i : ℕ) (k : KeptSite) (o : Option Epoch) (s : Site) → Stands sc me k s
     → Stands sc me k (with_epoch sc ports me i o s)
 epoch-stands sc ports me i k None s is = is
 epoch-stands sc ports me i k (Some e) s is =
@@ -147,7 +147,7 @@ row-picked : (b : Bool) (before : Option Row) (told kept : Row) → told ≡ kep
 row-picked true before told kept e = refl
 row-picked false before told kept e = ap (λ (r : Row). Some r) e
 
-close-row : (me : Side) (i : ℕ) (st : NodeState) (s : Site) (k : Kept) (closed : Bool) (o : Option Closed) → number_of k ≡ i → st ≡ k.node.seat.state
+close-row : (me : Side) (i : ℕ) (st : NodeState) (s : Site) (k : KeptSite) (closed : Bool) (o : Option Closed) → number_of k ≡ i → st ≡ k.node.seat.state
     → (if closed then Some k.node.shown else None) ≡ o
     → ((shown : Closed) → o ≡ Some shown → row_of me i st (coming_from s.got) shown ≡ row_at me i st k.times shown)
     → (with_close me i st o s).row ≡ row_after me k closed s.row
@@ -177,14 +177,14 @@ epoch-begun : (sc : Scenario) (ports : List PortState) (me : Side) (i : ℕ) (o 
 epoch-begun sc ports me i None s = refl
 epoch-begun sc ports me i (Some e) s = refl
 
-pub ticks : (sc : Scenario) (ports : List PortState) (me : Side) (k : Kept) (passed node : Running) (step : Step) (t word : ℕ) (s : Site)
+pub ticks : (sc : Scenario) (ports : List PortState) (me : Side) (k : KeptSite) (passed node : Running) (step : Step) (t word : ℕ) (s : Site)
     → Stands sc me k s → IsSameNode k.node passed → IsSameNode passed node
     → word ≡ word_of sc ports (number_of k) (wants_in sc me (number_of k) (pass_to t s.core))
     → IsCore node (tick_of me passed (pass_to t s.core) word).core → IsAct node.shown step (tick_of me passed (pass_to t s.core) word)
     → IsTicked sc ports me k (record { node = node; runs = k.runs; times = k.times }) step t s
 ticks sc ports me k passed node step t word s is same then_same word_is core act =
     let i : ℕ = number_of k in
-    let after : Kept = record { node = node; runs = k.runs; times = k.times } in
+    let after : KeptSite = record { node = node; runs = k.runs; times = k.times } in
     let x : Act = pass_and_tick sc ports me i t s.core in
     let e : tick_of me passed (pass_to t s.core) word ≡ x =
     is-ticked sc ports me passed t word i s.core (same.sizes ∙ is.sizes) (same.plan ∙ is.plan) same.index word_is in
@@ -257,32 +257,32 @@ begins-in-time me n shown step c word act = by step.epoch act.epoch
 
 -- The node goes on, or stops.
 
-pub awaits : (sc : Scenario) (me : Side) (i : ℕ) (more : List Coming) (k : Kept) (s : Site) → Stands sc me k s → Stands sc me k (await sc me i more s)
+pub awaits : (sc : Scenario) (me : Side) (i : ℕ) (more : List Coming) (k : KeptSite) (s : Site) → Stands sc me k s → Stands sc me k (await sc me i more s)
 awaits sc me i more k s is = record { sizes = is.sizes; plan = is.plan; core = is.core; runs = is.runs; together = is.together; times = is.times }
 
-pub stops : (sc : Scenario) (me : Side) (k : Kept) (s : Site) → Stands sc me k s → Stands sc me (record k { runs = false }) (stop s)
+pub stops : (sc : Scenario) (me : Side) (k : KeptSite) (s : Site) → Stands sc me k s → Stands sc me (record k { runs = false }) (stop s)
 stops sc me k s is = record { sizes = is.sizes; plan = is.plan; core = is.core; runs = refl; together = is.together; times = is.times }
 
-enters : (sc : Scenario) (me : Side) (i : ℕ) (k : Kept) (s : Site) (o : Option Span) → Stands sc me k s → goes_on sc me i o ≡ true
+enters : (sc : Scenario) (me : Side) (i : ℕ) (k : KeptSite) (s : Site) (o : Option Span) → Stands sc me k s → goes_on sc me i o ≡ true
     → Stands sc me k (enter sc me i o s)
 enters sc me i k s None is good = awaits sc me i [] k s is
 enters sc me i k s (Some span) is good =
     subst (λ b. Stands sc me k (elim b as (λ _. Site) [ true ↦ await sc me i (says_in sc me i span) s | false ↦ stop s ])) (sym good)
     (awaits sc me i (says_in sc me i span) k s is)
 
-leaves-off : (sc : Scenario) (me : Side) (i : ℕ) (k : Kept) (s : Site) (o : Option Span) → Stands sc me k s → goes_on sc me i o ≡ false
+leaves-off : (sc : Scenario) (me : Side) (i : ℕ) (k : KeptSite) (s : Site) (o : Option Span) → Stands sc me k s → goes_on sc me i o ≡ false
     → Stands sc me (record k { runs = false }) (enter sc me i o s)
 leaves-off sc me i k s None is bad = absurd (cc)
 leaves-off sc me i k s (Some span) is bad =
     subst (λ b. Stands sc me (record k { runs = false }) (elim b as (λ _. Site) [ true ↦ await sc me i (says_in sc me i span) s | false ↦ stop s ])) (sym bad)
     (stops sc me k s is)
 
-pub proceeds : (sc : Scenario) (me : Side) (i : ℕ) (k : Kept) (s : Site) → Stands sc me k s
+pub proceeds : (sc : Scenario) (me : Side) (i : ℕ) (k : KeptSite) (s : Site) → Stands sc me k s
     → goes_on sc me i (span_from sc.sizes sc.plan me s.core.state s.core.had) ≡ true → Stands sc me k (proceed sc me i s)
 unfolding proceed
 proceeds sc me i k s is good = enters sc me i k s (span_from sc.sizes sc.plan me s.core.state s.core.had) is good
 
-pub proceeds-not : (sc : Scenario) (me : Side) (i : ℕ) (k : Kept) (s : Site) → Stands sc me k s
+pub proceeds-not : (sc : Scenario) (me : Side) (i : ℕ) (k : KeptSite) (s : Site) → Stands sc me k s
     → goes_on sc me i (span_from sc.sizes sc.plan me s.core.state s.core.had) ≡ false → Stands sc me (record k { runs = false }) (proceed sc me i s)
 unfolding proceed
 proceeds-not sc me i k s is bad = leaves-off sc me i k s (span_from sc.sizes sc.plan me s.core.state s.core.had) is bad
@@ -307,7 +307,7 @@ passing-most me n = by (next_of me n (bare_core n)) refl
     by (Some k) e = let below : k < 2 ^ 31 = (next-is n.seat.sizes n.seat.plan me n.seat.index (bare_core n) k (early k e) e).below in omega arith
 
 -- up to the next busy tick of a site that is stood for
-pub passing-next : (sc : Scenario) (me : Side) (k : Kept) (s : Site) → Stands sc me k s
+pub passing-next : (sc : Scenario) (me : Side) (k : KeptSite) (s : Site) → Stands sc me k s
     → passing_end me k.node ≡ unwrap_or (next_tick sc.sizes sc.plan me (number_of k) s.core) (2 ^ 31)
 passing-next sc me k s is =
     let v : Seated = k.node.seat in

@@ -10,13 +10,13 @@ use Rattle.rb_rules.specs.WorldStep.{Site, coming_from, with_close, with_epoch}
 use Rattle.rb_node.specs.Cores.{IsCore, Running}
 
 -- what is kept of a site: the node, whether it runs, and for each source the time of what came of it last
-pub record Kept : Type 0 where
+pub record KeptSite : Type 0 where
   pub node : Running
   pub runs : Bool
   pub times : List ℕ
 
 -- the node's number among those of its kind
-abbrev pub number_of : Kept → ℕ
+abbrev pub number_of : KeptSite → ℕ
 number_of k = k.node.seat.index
 
 -- what came into the inbox and what was got came of the same sources, one after another
@@ -28,7 +28,7 @@ abbrev pub HoldsTimes : List ℕ → List Coming → Type 0
 HoldsTimes times got = (j : ℕ) → j < 16 → (c : Coming) → coming_from got j ≡ c ∷ [] → slice_index times j ≡ c.time
 
 -- what is kept stands for a site of a node of kind me, but for what is pending there and what it has told
-pub record Stands (sc : Scenario) (me : Side) (k : Kept) (s : Site) : Type 0 where
+pub record Stands (sc : Scenario) (me : Side) (k : KeptSite) (s : Site) : Type 0 where
   pub sizes : k.node.seat.sizes ≡ sc.sizes
   pub plan : k.node.seat.plan ≡ sc.plan
   pub core : IsCore k.node s.core

@@ -15,7 +15,7 @@ use Rattle.rb_rules.specs.WorldStep.{Site, pass_and_tick}
 use Rattle.rb_node.specs.Acts.{IsAct}
 use Rattle.rb_node.specs.Cores.{IsCore}
 use Rattle.rb_node.specs.declared.act.Step.{Step}
-use Rattle.rb_site.specs.Sites.{Kept, Stands, after_tick, number_of}
+use Rattle.rb_site.specs.Sites.{KeptSite, Stands, after_tick, number_of}
 
 -- what was seen of each source, with the time kept in place of a stamp
 abbrev pub sees_at : List ℕ → Closed → List See
@@ -32,7 +32,7 @@ row_at me i st times c = record {
 }
 
 -- what it has told of the last stage once a tick has closed a window, or has not. Of the tail, stage 4, it tells nothing
-abbrev pub row_after : Side → Kept → Bool → Option Row → Option Row
+abbrev pub row_after : Side → KeptSite → Bool → Option Row → Option Row
 row_after me k closed before =
     if closed && not (k.node.shown.place.stage == 4)
     then Some (row_at me (number_of k) k.node.seat.state k.times k.node.shown)
@@ -45,7 +45,7 @@ begun_after sc ports me i (Some e) before = Some (begun_of sc ports me i e)
 
 -- tick k, before which the quiet ticks pass, is that of the site: what is kept afterwards stands for the site after it, the step is
 -- what the tick gave, and what the site then has told is told by what is kept
-pub record IsTicked (sc : Scenario) (ports : List PortState) (me : Side) (before after : Kept) (step : Step) (k : ℕ) (s : Site) : Type 0 where
+pub record IsTicked (sc : Scenario) (ports : List PortState) (me : Side) (before after : KeptSite) (step : Step) (k : ℕ) (s : Site) : Type 0 where
   pub stands : Stands sc me after (after_tick sc ports me (number_of before) (pass_and_tick sc ports me (number_of before) k s.core) s)
   pub core : IsCore after.node (pass_and_tick sc ports me (number_of before) k s.core).core
   pub act : IsAct after.node.shown step (pass_and_tick sc ports me (number_of before) k s.core)

@@ -12,7 +12,7 @@ ghost use Rattle.rb_rules.specs.WorldStep.{Site as WorldSite, after_arrival, fre
 ghost use Rattle.rb_node.specs.Acts.{IsSendable, span_in};
 ghost use Rattle.rb_node.specs.Cores.{IsCore, IsSameNode, passing_end};
 ghost use Rattle.rb_node.specs.Wants.{want_for};
-ghost use Rattle.rb_site.specs.Sites.{Kept, Stands, goes_on, number_of};
+ghost use Rattle.rb_site.specs.Sites.{KeptSite, Stands, goes_on, number_of};
 ghost use Rattle.rb_site.specs.Tells.{IsTicked};
 
 use rb_base::{Kind, NodeName};
@@ -21,6 +21,9 @@ use rb_node::{Epoch, Node, Span, Step, Want};
 use rb_plan::Feasible;
 use rb_rules::NodeLine;
 use std::marker::Model;
+
+// No node has as many ticks.
+const LAST_TICK: u64 = 1 << 31;
 
 /// One node of a world, for both kinds by one code: its core, whether it runs, and for each source the reference time of what
 /// came of it last. Where one message came of a source since the last close, that is the time of it.
@@ -33,9 +36,9 @@ pub struct Site<K: Kind> {
 
 impl<K: Kind> Model for Site<K> {
     ghost use Rattle.std.specs.Prelude.{◌≡◌, length};
-    ghost use Rattle.rb_site.specs.Sites.{Kept};
+    ghost use Rattle.rb_site.specs.Sites.{KeptSite};
 
-    ghost Value = { Kept };
+    ghost Value = { KeptSite };
 
     ghost view = { λ s. record { node = s.node; runs = s.runs; times = s.times } };
 
@@ -199,7 +202,8 @@ impl<K: Kind> Site<K> {
             (after_arrival sc (side_of K.CODE) (number_of self.old) place (record { time = time; from = from; bytes = bytes.now }) s) }
         ensures same { IsSameNode self.old.node self.new.node }
     {
-        let stamp = clock.first_at(time);
+        let near = self.node.next_tick().unwrap_or(LAST_TICK);
+        let stamp = clock.first_near(time, near);
         pass_to(&mut self.node, stamp);
         self.node.arrive(from, bytes);
         keep_time(&mut self.times, from, time);
@@ -224,6 +228,6 @@ impl<K: Kind> Site<K> {
 /// Ticks may pass at a node up to the next busy tick of each site that it stands for, and where that has none up to the last of
 /// all. So what is due no later than that tick may come to the node.
 pub fn ticks_pass_to_the_next()
-    ensures { (sc : Scenario) (me : Side) (k : Kept) (s : WorldSite) → Stands sc me k s
+    ensures { (sc : Scenario) (me : Side) (k : KeptSite) (s : WorldSite) → Stands sc me k s
         → passing_end me k.node ≡ unwrap_or (next_tick sc.sizes sc.plan me (number_of k) s.core) (2 ^ 31) }
 {}

@@ -4,7 +4,7 @@ use Rattle.rb_base.specs.Sizes.{Sizes}
 use Rattle.rb_rules.specs.Core.{is_tick}
 use Rattle.rb_rules.specs.SyncStage.{new_epoch_of}
 use Rattle.rb_node.specs.Wants.{slot_of_words, want_for}
-use Rattle.rb_node.proofs.Turning.{first-is-due, first-is-not, want-first, want-later, want-turned}
+use Rattle.rb_node.proofs.Turning.{first-is-due, first-is-not, want-first, want-silent, want-turned}
 use Rattle.rb_node.proofs.ahead.want_at.Goals as goal
 
 pub returns-then-is_tick : goal.returns-then-is_tick
@@ -14,8 +14,8 @@ returns-then-is_tick g c =
     let now : is_tick (new_epoch_of v.plan me v.state) c.args.busy.tick ≡ true = rw c.new_epoch.ensures at (sym c.is_tick.ensures ∙ c.if-is_tick.true) in
     sym (want-turned me v c.args.busy.tick c.bounds.ensures.shape c.bounds.ensures.plan now)
 
-pub returns-then-busy-eq1 : goal.returns-then-busy-eq1
-returns-then-busy-eq1 g c =
+pub returns-else-is_tick : goal.returns-else-is_tick
+returns-else-is_tick g c =
     let v = c.args.engine.now in
     let me = side_of g.K.Kind.CODE in
     let other : is_tick (new_epoch_of v.plan me v.state) c.args.busy.tick ≡ false = rw c.new_epoch.ensures at (sym c.is_tick.ensures ∙ c.if-is_tick.false) in
@@ -27,5 +27,5 @@ pub returns-else-busy-eq1 : goal.returns-else-busy-eq1
 returns-else-busy-eq1 g c =
     let v = c.args.engine.now in
     let me = side_of g.K.Kind.CODE in
-    let other : is_tick (new_epoch_of v.plan me v.state) c.args.busy.tick ≡ false = rw c.new_epoch.ensures at (sym c.is_tick.ensures ∙ c.if-is_tick.false) in
-    sym (want-later me v c.args.window.now c.args.busy.tick other c.requires.window (first-is-not me v _ _ _ c.requires.stage c.if-busy-eq1.false))
+    sym (want-silent me v c.args.window.now c.args.busy.tick c.bounds.ensures.shape c.bounds.ensures.plan c.requires.window
+    (first-is-not me v _ _ _ c.requires.stage c.if-busy-eq1.false))

@@ -1,26 +1,12 @@
-use Rattle.std.proofs.Common.{◌≡◌, ◌-◌, ◌≤◌, Some, inl, unwrap_or, sym, ◌∙◌, ap, arith}
+use Rattle.std.proofs.Common.{◌≡◌, ◌-◌, Some, sym, ◌∙◌}
 use Rattle.rb_base.specs.Nodes.{side_of}
-use Rattle.rb_rules.specs.Hearing.{tail_at}
 use Rattle.rb_rules.specs.Windows.{window_at}
-use Rattle.rb_slot.proofs.Fitting.{IsPlaced, placed}
-use Rattle.rb_slot.proofs.Votes.{few_slots}
-use Rattle.rb_node.proofs.Windows.{ends-soon}
+use Rattle.rb_node.proofs.Going.{found-here}
 use Rattle.rb_node.proofs.ahead.window_of.Goals as goal
 
 pub returns-in-Some : goal.returns-in-Some
 returns-in-Some g c =
     let v = c.args.engine.now in
-    let w = c.in-Some.window in
-    let found : window_at v.sizes v.plan (c.args.tick - v.state.epoch) ≡ Some w =
+    let found : window_at v.sizes v.plan (c.args.tick - v.state.epoch) ≡ Some c.in-Some.window =
     rw (c.plan.ensures, c.epoch.ensures) at (sym c.window.ensures.value ∙ c.in-Some.is) in
-    let here : IsPlaced v.sizes w = placed v.sizes v.plan w c.bounds.ensures.shape c.bounds.ensures.plan (inl (c.args.tick - v.state.epoch, found)) in
-    let last : w.last ≤ 400000 =
-    ends-soon v.sizes v.plan (c.args.tick - v.state.epoch) w (few_slots v.sizes c.bounds.ensures.shape) c.bounds.ensures.plan found in
-    let epoch : v.state.epoch ≤ c.args.tick = c.requires.epoch in
-    record {
-      is = sym (ap (λ o. unwrap_or o (tail_at v.sizes v.plan (side_of g.K.Kind.CODE) v.state)) found);
-      of_frame = inl (c.args.tick - v.state.epoch, found);
-      slot = here.slot;
-      first = here.first;
-      fits = omega arith;
-    }
+    found-here (side_of g.K.Kind.CODE) v c.args.tick c.in-Some.window c.bounds.ensures.shape c.bounds.ensures.plan c.requires.epoch c.requires.tick found

@@ -10,8 +10,8 @@ use Rattle.rb_node.proofs.Steps.{Turned, turns}
 use Rattle.rb_node.proofs.Turning.{silent-says, turns-is}
 use Rattle.rb_node.proofs.parts.turn_at.Goals as goal
 
-pub window_of-requires-clause-epoch : goal.window_of-requires-clause-epoch
-window_of-requires-clause-epoch g c =
+pub window_of-ahead-requires-clause-epoch : goal.window_of-ahead-requires-clause-epoch
+window_of-ahead-requires-clause-epoch g c =
     let v = c.args.engine.now in
     let me = side_of g.K.Kind.CODE in
     let now : is_tick (new_epoch_of v.plan me v.state) c.args.now ≡ true = rw c.new_epoch.ensures at (sym c.is_tick.ensures ∙ c.if-is_tick.true) in
@@ -40,4 +40,4 @@ returns-then-is_tick-clause-stage g c =
     let now : is_tick (new_epoch_of v.plan me v.state) c.args.now ≡ true = rw c.new_epoch.ensures at (sym c.is_tick.ensures ∙ c.if-is_tick.true) in
     let epoch : c.turn.new.self.state.epoch ≡ c.args.now =
     ap (λ (x : Seated). x.state.epoch) c.turn.ensures ∙ ap (λ (st : NodeState). st.epoch) (sym (turns-is v me c.args.now now)) ∙ turned-epoch v me c.args.now now in
-    silent-says me c.turn.new.self _ c.args.now c.bounds.ensures.shape c.bounds.ensures.plan epoch (ap (λ (w : Window). w.slot) c.window_of.ensures.is)
+    silent-says me c.turn.new.self _ c.args.now c.bounds.ensures.shape c.bounds.ensures.plan epoch (ap (λ (w : Window). w.slot) c.window_of-ahead.ensures.is)

@@ -18,5 +18,5 @@ invariant_of-result g c =
       frame = subst (λ (v : Seated). v.state.frame ≤ 0) (sym c.new-engine.ensures) (omega arith);
       epoch = subst (λ (v : Seated). v.state.epoch ≤ 0) (sym c.new-engine.ensures) (omega arith);
       stamps = c.new.ensures.stamps (2 ^ 32);
-      ahead = c.look_ahead-ahead.ensures;
+      ahead = c.look_ahead.ensures;
     }

@@ -2,6 +2,7 @@ use Rattle.std.proofs.Common.{◌≡◌, ◌+◌, ◌<◌, ◌≤◌, sym, subst
 use Rattle.rb_base.specs.Nodes.{side_of}
 use Rattle.rb_node.specs.Aheads.{SaysIn}
 use Rattle.rb_node.specs.Cores.{Running}
+use Rattle.rb_node.proofs.Going.{ending, going}
 use Rattle.rb_node.proofs.Steps.{Kept, Parts, gives, keeps, quiet-gives, spent-gives}
 use Rattle.rb_node.proofs.node.Node.step.Goals as goal
 
@@ -29,25 +30,60 @@ returns-then-now-self-clause-act g c =
     (quiet-gives (side_of g.K.Kind.CODE) n c.nothing-then-now-self.result c.args.word d c.nothing-then-now-self.ensures is
     (c.self.invariant.ahead.next.quiet n.had (omega arith) c.if-now-self.true) c.if-now-ge-MOST_TICKS.false).act)
 
-pub turn_at-here-requires-clause-stage : goal.turn_at-here-requires-clause-stage
-turn_at-here-requires-clause-stage g c =
+pub turn_at-requires-clause-stage : goal.turn_at-requires-clause-stage
+turn_at-requires-clause-stage g c =
     let later : c.self.inside.had ≤ c.self.inside.ahead.busy.tick = c.self.invariant.ahead.next.later in
     let at : c.self.inside.ahead.busy.tick ≡ c.self.inside.had = omega arith in
     subst (λ k. SaysIn (side_of g.K.Kind.CODE) c.self.inside.engine c.self.inside.ahead.window.slot k c.self.inside.ahead.busy.stage) at c.self.invariant.ahead.stage
 
-pub look_ahead-self-inside-requires-clause-epoch : goal.look_ahead-self-inside-requires-clause-epoch
-look_ahead-self-inside-requires-clause-epoch g c =
-    let kept : Kept c.self.inside.engine c.close_at-closed.new.engine c.self.inside.had =
-    keeps (side_of g.K.Kind.CODE) _ c.turn_at-here.new.engine c.say_at-message.new.engine _ _ c.args.word c.say_at-message.result c.self.invariant.epoch
-    c.turn_at-here.ensures.state c.say_at-message.ensures.keeps c.close_at-closed.ensures.same in
-    let epoch : c.close_at-closed.new.engine.state.epoch ≤ c.self.inside.had = kept.epoch in
+pub go_on-requires-clause-epoch : goal.go_on-requires-clause-epoch
+go_on-requires-clause-epoch g c =
+    let k : Kept c.self.inside.engine c.close_at-closed.new.engine c.self.inside.had =
+    keeps (side_of g.K.Kind.CODE) _ c.turn_at.new.engine c.say_at-message.new.engine _ _ c.args.word c.say_at-message.result c.self.invariant.epoch
+    c.turn_at.ensures.state c.say_at-message.ensures.keeps c.close_at-closed.ensures.same in
+    let epoch : c.close_at-closed.new.engine.state.epoch ≤ c.self.inside.had = k.epoch in
+    omega arith
+
+pub go_on-requires-clause-goes_on : goal.go_on-requires-clause-goes_on
+go_on-requires-clause-goes_on g c =
+    let k : Kept c.self.inside.engine c.close_at-closed.new.engine c.self.inside.had =
+    keeps (side_of g.K.Kind.CODE) _ c.turn_at.new.engine c.say_at-message.new.engine _ _ c.args.word c.say_at-message.result c.self.invariant.epoch
+    c.turn_at.ensures.state c.say_at-message.ensures.keeps c.close_at-closed.ensures.same in
+    going (side_of g.K.Kind.CODE) c.turn_at.new.engine c.say_at-message.new.engine c.close_at-closed.new.engine c.self.inside.had c.args.word
+    c.turn_at.new.ahead.window c.say_at-message.result c.close_at-closed.result
+    (record {
+      here = c.turn_at.ensures.window;
+      kept = c.say_at-message.ensures.keeps;
+      closes = c.close_at-closed.ensures.closes;
+      same = c.close_at-closed.ensures.same;
+      stays = c.close_at-closed.ensures.keeps;
+    }) c.bounds.ensures.plan k.epoch
+
+pub go_on-requires-clause-ended : goal.go_on-requires-clause-ended
+go_on-requires-clause-ended g c =
+    ending (side_of g.K.Kind.CODE) c.turn_at.new.engine c.say_at-message.new.engine c.close_at-closed.new.engine c.self.inside.had c.args.word
+    c.turn_at.new.ahead.window c.say_at-message.result c.close_at-closed.result
+    (record {
+      here = c.turn_at.ensures.window;
+      kept = c.say_at-message.ensures.keeps;
+      closes = c.close_at-closed.ensures.closes;
+      same = c.close_at-closed.ensures.same;
+      stays = c.close_at-closed.ensures.keeps;
+    })
+
+pub look_ahead-requires-clause-epoch : goal.look_ahead-requires-clause-epoch
+look_ahead-requires-clause-epoch g c =
+    let k : Kept c.self.inside.engine c.close_at-closed.new.engine c.self.inside.had =
+    keeps (side_of g.K.Kind.CODE) _ c.turn_at.new.engine c.say_at-message.new.engine _ _ c.args.word c.say_at-message.result c.self.invariant.epoch
+    c.turn_at.ensures.state c.say_at-message.ensures.keeps c.close_at-closed.ensures.same in
+    let epoch : c.close_at-closed.new.engine.state.epoch ≤ c.self.inside.had = k.epoch in
     omega arith
 
 pub invariant_of-self-2 : goal.invariant_of-self-2
 invariant_of-self-2 g c =
     let kept : Kept c.self.inside.engine c.close_at-closed.new.engine c.self.inside.had =
-    keeps (side_of g.K.Kind.CODE) _ c.turn_at-here.new.engine c.say_at-message.new.engine _ _ c.args.word c.say_at-message.result c.self.invariant.epoch
-    c.turn_at-here.ensures.state c.say_at-message.ensures.keeps c.close_at-closed.ensures.same in
+    keeps (side_of g.K.Kind.CODE) _ c.turn_at.new.engine c.say_at-message.new.engine _ _ c.args.word c.say_at-message.result c.self.invariant.epoch
+    c.turn_at.ensures.state c.say_at-message.ensures.keeps c.close_at-closed.ensures.same in
     let epoch : c.close_at-closed.new.engine.state.epoch ≤ c.self.inside.had = kept.epoch in
     let more : c.close_at-closed.new.engine.state.frame ≤ c.self.inside.engine.state.frame + 1 = kept.frame in
     let frame : c.self.inside.engine.state.frame ≤ c.self.inside.had = c.self.invariant.frame in
@@ -57,17 +93,17 @@ invariant_of-self-2 g c =
       frame = omega arith;
       epoch = omega arith;
       stamps = c.close_at-closed.ensures.stamps;
-      ahead = c.look_ahead-self-inside.ensures;
+      ahead = c.look_ahead.ensures;
     }
 
-parts : (g : _) (c : goal.After-self-2-1 g)
-    → Parts (side_of g.K.Kind.CODE) c.self.inside.engine c.turn_at-here.new.engine c.say_at-message.new.engine c.close_at-closed.new.engine
-    c.self.inside.had c.args.word c.turn_at-here.result.window c.epoch_at-epoch.result c.say_at-message.result c.close_at-closed.result
+parts : (g : _) (c : goal.After-look_ahead g)
+    → Parts (side_of g.K.Kind.CODE) c.self.inside.engine c.turn_at.new.engine c.say_at-message.new.engine c.close_at-closed.new.engine
+    c.self.inside.had c.args.word c.turn_at.new.ahead.window c.epoch_at-epoch.result c.say_at-message.result c.close_at-closed.result
     c.self.inside.shown c.close_at-closed.new.shown c.self.inside.inbox c.close_at-closed.new.inbox
 parts g c = record {
-  turned = c.turn_at-here.ensures.state;
+  turned = c.turn_at.ensures.state;
   begun = c.epoch_at-epoch.ensures;
-  window = c.turn_at-here.ensures.window.is;
+  window = c.turn_at.ensures.window.is;
   said = c.say_at-message.ensures.message;
   kept = c.say_at-message.ensures.keeps;
   closes = c.close_at-closed.ensures.closes;

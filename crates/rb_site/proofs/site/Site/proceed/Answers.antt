@@ -1,7 +1,7 @@
 use Rattle.std.proofs.Common.{sym, ◌∙◌, subst}
 use Rattle.rb_base.specs.Nodes.{Side, side_of}
 use Rattle.rb_rules.specs.WorldStep.{proceed}
-use Rattle.rb_site.specs.Sites.{Kept, Stands, number_of}
+use Rattle.rb_site.specs.Sites.{KeptSite, Stands, number_of}
 use Rattle.rb_site.proofs.Standing.{proceeds, proceeds-not}
 use Rattle.rb_site.proofs.site.Site.proceed.Goals as goal
 
@@ -9,7 +9,7 @@ pub returns-then-not-is_good-clause-stands : goal.returns-then-not-is_good-claus
 returns-then-not-is_good-clause-stands g c =
     let me : Side = side_of g.K.Kind.CODE in
     λ sc s is e.
-    subst (λ (k : Kept). Stands sc me k (proceed sc me (number_of c.args.self.now) s)) (sym c.stop.ensures.rest)
+    subst (λ (k : KeptSite). Stands sc me k (proceed sc me (number_of c.args.self.now) s)) (sym c.stop.ensures.rest)
     (proceeds-not sc me (number_of c.args.self.now) c.args.self.now s is (e ∙ c.if-not-is_good.true))
 
 pub returns-else-not-is_good-clause-stands : goal.returns-else-not-is_good-clause-stands

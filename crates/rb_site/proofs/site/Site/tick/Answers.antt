@@ -2,14 +2,14 @@ use Rattle.std.proofs.Common.{ap}
 use Rattle.rb_base.specs.Nodes.{Side, side_of}
 use Rattle.rb_rules.specs.Core.{pass_to}
 use Rattle.rb_node.specs.Cores.{IsSameNode, Running}
-use Rattle.rb_site.specs.Sites.{Kept}
+use Rattle.rb_site.specs.Sites.{KeptSite}
 use Rattle.rb_site.proofs.Standing.{begins-in-time, ticks}
 use Rattle.rb_site.proofs.site.Site.tick.Goals as goal
 
 pub returns-clause-ticked : goal.returns-clause-ticked
 returns-clause-ticked g c =
     let me : Side = side_of g.K.Kind.CODE in
-    let k : Kept = record { node = c.self.inside.node; runs = c.self.inside.runs; times = c.self.inside.times } in
+    let k : KeptSite = record { node = c.self.inside.node; runs = c.self.inside.runs; times = c.self.inside.times } in
     let passed : IsSameNode k.node c.pass_to.new.node = record {
       sizes = ap (λ (n : Running). n.seat.sizes) c.pass_to.ensures.rest;
       plan = ap (λ (n : Running). n.seat.plan) c.pass_to.ensures.rest;
