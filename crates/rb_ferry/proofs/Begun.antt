@@ -6,7 +6,7 @@ use Rattle.rb_rules.specs.Goodness.{Scenario}
 use Rattle.rb_rules.specs.WorldStep.{first_world}
 use Rattle.rb_book.specs.declared.turn.Turn.TheVariants as shown
 use Rattle.rb_run.proofs.Opened.{just-opened}
-use Rattle.rb_world.specs.Worlds.{Kept, Stands}
+use Rattle.rb_world.specs.Worlds.{KeptWorld, Stands}
 use Rattle.rb_group.specs.declared.voters.Which.TheVariants.{Most}
 use Rattle.rb_replicas.specs.declared.asked.Scope.{Scope}
 use Rattle.rb_replicas.specs.declared.ports.Ports.{Ports}
@@ -15,7 +15,7 @@ use Rattle.rb_freight.specs.Holding.{HoldValues}
 use Rattle.rb_passage.specs.declared.passing.Terms.{Terms}
 use Rattle.rb_ferry.specs.Sides.{HasOpened}
 
-pub has-opened : (sc : Scenario) (members slot : ℕ) (world : Kept) (ports : Ports) (values : List (Option Heard)) (scope : Scope) (terms : Terms) → Stands world (first_world sc) → world.bus ≡ sc
+pub has-opened : (sc : Scenario) (members slot : ℕ) (world : KeptWorld) (ports : Ports) (values : List (Option Heard)) (scope : Scope) (terms : Terms) → Stands world (first_world sc) → world.bus ≡ sc
     → IsScopeOf sc scope → terms ≡ record { asked = record { which = Most; members = members }; slot = scope.shape.bius + slot; frames = scope.frames }
     → ((frames : ℕ) → HoldsFrame frames terms.asked [] ports) → HoldValues (λ i. None) values
     → HasOpened sc members slot (record { world = world; passage = record { ports = ports; values = values }; terms = terms; scope = scope; turn = shown.Quiet })

@@ -16,7 +16,7 @@ use Rattle.rb_group.specs.Portions.{deliveries_in, port_deliveries, told_of}
 use Rattle.rb_run.specs.Turns.{records_in}
 use Rattle.rb_run.proofs.Texts.{records-more}
 use Rattle.rb_world.specs.Nexts.{is_last}
-use Rattle.rb_world.specs.Worlds.{Kept, Stands}
+use Rattle.rb_world.specs.Worlds.{KeptWorld, Stands}
 use Rattle.rb_replicas.specs.declared.ports.Ports.{Ports}
 use Rattle.rb_replicas.specs.Holding.{HoldsFrame}
 use Rattle.rb_replicas.specs.Replies.{frame_of, frame_or, reached}
@@ -140,7 +140,7 @@ breaks-there bank frames f (Breach place cause) last its below none = by (place.
 
 -- The side.
 
-pub exchanged : (b : Bridge) (bank : Bank) (frame : ℕ) (both is_plain is_plain' : Bool) (told since told' since' : Option (List Turn)) (s o : Side) (world : Kept) (passage : Passage)
+pub exchanged : (b : Bridge) (bank : Bank) (frame : ℕ) (both is_plain is_plain' : Bool) (told since told' since' : Option (List Turn)) (s o : Side) (world : KeptWorld) (passage : Passage)
     → IsBridge b → frame < b.left.frames → (both ≡ true → is_plain ≡ true) → (both ≡ true → is_plain' ≡ true)
     → (both ≡ true → break_by bank frame (record_of s.turn) ≡ None) → (both ≡ true → break_by (across bank) frame (record_of o.turn) ≡ None)
     → AfterFrame b bank frame both is_plain told since s → AfterFrame b (across bank) frame both is_plain' told' since' o
@@ -256,7 +256,7 @@ exchanged b bank frame both is_plain is_plain' told since told' since' s o world
             breaks-there bank (bus_on b bank).frames (frame + 1) some.0 d.last d.its (frames-on b bank (frame + 1) bridge.frames lt) (ap (break_by bank (frame + 1)) (sym some.1) ∙ none)
 
 -- the words of these pairs are those of the bridge's
-pub hands-these : (bank : Bank) (sc : Scenario) (bridges pairs : List Pair) (values : List (Option Heard)) (before after : Kept) → bridges ≡ pairs
+pub hands-these : (bank : Bank) (sc : Scenario) (bridges pairs : List Pair) (values : List (Option Heard)) (before after : KeptWorld) → bridges ≡ pairs
     → ((told : ℕ → Option Heard) (w : World) → HoldValues told values → Stands before w → Stands after (with_words sc bank told pairs w))
     → (told : ℕ → Option Heard) (w : World) → HoldValues told values → Stands before w → Stands after (with_words sc bank told bridges w)
 hands-these bank sc bridges pairs values before after same hands =

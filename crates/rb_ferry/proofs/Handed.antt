@@ -18,7 +18,7 @@ use Rattle.rb_book.specs.declared.turn.Turn.{Turn}
 use Rattle.rb_group.specs.Portions.{port_deliveries}
 use Rattle.rb_run.specs.Turns.{records_in}
 use Rattle.rb_world.specs.Nexts.{is_last}
-use Rattle.rb_world.specs.Worlds.{Kept}
+use Rattle.rb_world.specs.Worlds.{KeptWorld}
 use Rattle.rb_replicas.specs.Replies.{frame_of, reached}
 use Rattle.rb_crossing.specs.declared.bank.Bank.{Bank}
 use Rattle.rb_crossing.specs.declared.bank.Bank.TheVariants.{Left, Right}
@@ -130,7 +130,7 @@ is-later bank frames frame (Breach place cause) over none late below =
     less : (a b : ℕ) → a ≤ b → (b == a) ≡ false → a < b
     less a b le ne = grind (arith, nat_tests)
 
-pub begins-next : (b : Bridge) (bank : Bank) (frame : ℕ) (handed : List HandIn) (told since : Option (List Turn)) (k : Kept) (turns : List Turn) (t : Turn) (r : Record)
+pub begins-next : (b : Bridge) (bank : Bank) (frame : ℕ) (handed : List HandIn) (told since : Option (List Turn)) (k : KeptWorld) (turns : List Turn) (t : Turn) (r : Record)
     → IsBridge b → frame < b.left.frames → record_of t ≡ Some r → IsUnderWay (bus_on b bank) handed true told since k (turns ++ t ∷ []) (is_last (record_of t))
     → AreNotLast turns → is_over (bus_on b bank).frames frame (record_of t) ≡ true → reached (bus_on b bank).frames (records_in turns) ≡ frame
     → break_by bank frame (record_of t) ≡ None → BeginsOrEnds (bus_on b bank) (frame + 1) r

@@ -10,7 +10,7 @@ use Rattle.rb_book.specs.declared.turn.Turn.{Turn}
 use Rattle.rb_world.specs.declared.ties.Ties.TheVariants.{First}
 use Rattle.rb_world.specs.Driving.{GoesAlike, Tells}
 use Rattle.rb_world.specs.Nexts.{GoesToNext, is_last}
-use Rattle.rb_world.specs.Worlds.{Kept, Stands}
+use Rattle.rb_world.specs.Worlds.{KeptWorld, Stands}
 use Rattle.rb_crossing.specs.declared.bank.Bank.{Bank}
 use Rattle.rb_crossing.specs.declared.bank.Bank.TheVariants.{Left, Right}
 use Rattle.rb_crossing.specs.Bridges.{Bridge, bus_on, members_on, slot_on}
@@ -69,7 +69,7 @@ none-finished sc handed is_plain told since s turns is = record {
   many = refl;
 }
 
-pub one-finished : (sc : Scenario) (handed : List HandIn) (is_plain now : Bool) (told mid since : Option (List Turn)) (s : Side) (after : Kept) (turns : List Turn) (t : Turn) (passed : ℕ)
+pub one-finished : (sc : Scenario) (handed : List HandIn) (is_plain now : Bool) (told mid since : Option (List Turn)) (s : Side) (after : KeptWorld) (turns : List Turn) (t : Turn) (passed : ℕ)
     → IsFinishing sc handed is_plain told mid s turns passed → is_last (record_of s.turn) ≡ false → now ≡ is_plain
     → (now ≡ true → (w : World) → Stands s.world w → GoesToNext First s.world after t w) → ((w : World) → Stands s.world w → GoesAlike s.world after t w)
     → after.bus ≡ s.world.bus → Tells mid since t → IsFinishing sc handed is_plain told since (record s { world = after; turn = t }) turns (passed + 1)

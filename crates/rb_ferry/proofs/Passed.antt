@@ -7,7 +7,7 @@ use Rattle.rb_book.specs.Records.{record_of}
 use Rattle.rb_book.specs.declared.turn.Turn.{Turn}
 use Rattle.rb_run.specs.Turns.{records_in}
 use Rattle.rb_world.specs.Nexts.{is_last}
-use Rattle.rb_world.specs.Worlds.{Kept}
+use Rattle.rb_world.specs.Worlds.{KeptWorld}
 use Rattle.rb_replicas.specs.Replies.{frame_of}
 use Rattle.rb_crossing.specs.declared.bank.Bank.{Bank}
 use Rattle.rb_crossing.specs.Bridges.{Bridge, bus_on}
@@ -37,7 +37,7 @@ over-last frames frame (Some r) e = ap (λ l. nat_lt frame (frame_of frames r) |
     any false = refl
 
 -- the breach of a frame of the bridge is the one that the turn beyond it tells
-told-breach : (b : Bridge) (bank : Bank) (frame : ℕ) (handed : List HandIn) (is_plain : Bool) (told since : Option (List Turn)) (k : Kept) (turns : List Turn) (t : Turn)
+told-breach : (b : Bridge) (bank : Bank) (frame : ℕ) (handed : List HandIn) (is_plain : Bool) (told since : Option (List Turn)) (k : KeptWorld) (turns : List Turn) (t : Turn)
     → frame ≤ b.left.frames → is_plain ≡ true → handed ≡ hands_on bank (hands_up_to b frame)
     → IsUnderWay (bus_on b bank) handed is_plain told since k (turns ++ t ∷ []) (is_last (record_of t)) → AreNotLast turns
     → is_over (bus_on b bank).frames frame (record_of t) ≡ true → break_in bank frame (records_on b (hands_of b) bank) ≡ break_by bank frame (record_of t)
@@ -103,7 +103,7 @@ is-up b bank frame both is_plain told since s before = record {
   given = subst (λ sc. IsUnderWay sc before.handed is_plain told since s.world before.turns (is_last (record_of s.turn))) (sym before.side.bus_is) before.ready.given;
 }
 
-pub goes-through : (b : Bridge) (bank : Bank) (frame : ℕ) (both is_plain : Bool) (told mid since : Option (List Turn)) (s : Side) (world : Kept) (passage : Passage) (t : Turn) → frame < b.left.frames
+pub goes-through : (b : Bridge) (bank : Bank) (frame : ℕ) (both is_plain : Bool) (told mid since : Option (List Turn)) (s : Side) (world : KeptWorld) (passage : Passage) (t : Turn) → frame < b.left.frames
     → (both ≡ true → is_plain ≡ true) → BeforeFrame b bank frame both is_plain told mid s → is_last (record_of s.turn) ≡ false → world.bus ≡ s.world.bus
     → ((handed : List HandIn) (told : Option (List Turn)) (turns : List Turn) → IsUnderWay s.world.bus handed is_plain told mid s.world turns false
     → HoldsPassage s.terms s.passage.ports.frame (records_in turns) s.passage

@@ -13,7 +13,7 @@ use Rattle.rb_group.specs.Portions.{port_deliveries}
 use Rattle.rb_group.specs.declared.voters.Which.TheVariants.{Most}
 use Rattle.rb_run.specs.Turns.{records_in}
 use Rattle.rb_world.specs.Nexts.{is_last}
-use Rattle.rb_world.specs.Worlds.{Kept}
+use Rattle.rb_world.specs.Worlds.{KeptWorld}
 use Rattle.rb_replicas.specs.declared.asked.Asked.{Asked}
 use Rattle.rb_replicas.specs.Holding.{HoldPortions}
 use Rattle.rb_crossing.specs.declared.bank.Bank.{Bank}
@@ -36,12 +36,12 @@ use Rattle.rb_ferry.proofs.Whole.{after-crossed, before-crossed, breach-crossed}
 
 -- Turns.
 
-pub given-of : (sc : Scenario) (handed : List HandIn) (is_plain : Bool) (told since : Option (List Turn)) (k : Kept) (turns : List Turn) (over : Bool)
+pub given-of : (sc : Scenario) (handed : List HandIn) (is_plain : Bool) (told since : Option (List Turn)) (k : KeptWorld) (turns : List Turn) (over : Bool)
     → (is : IsUnderWay sc handed is_plain told since k turns over) → AreGivenOf sc handed is_plain told since turns is.world.book.given
 given-of sc handed is_plain told since k turns over is =
     record { first = first-given sc handed is_plain told since k turns over is; alike = is.alike; plain = is.plain; tells = is.tells }
 
-pub all-given-of : (sc : Scenario) (handed : List HandIn) (is_plain : Bool) (told since : Option (List Turn)) (k : Kept) (turns : List Turn)
+pub all-given-of : (sc : Scenario) (handed : List HandIn) (is_plain : Bool) (told since : Option (List Turn)) (k : KeptWorld) (turns : List Turn)
     → IsUnderWay sc handed is_plain told since k turns true → AreGivenOf sc handed is_plain told since turns (records_of sc handed)
 all-given-of sc handed is_plain told since k turns is =
     subst (λ rs. AreGivenOf sc handed is_plain told since turns rs) (whole-given sc handed is_plain told since k turns is) (given-of sc handed is_plain told since k turns true is)

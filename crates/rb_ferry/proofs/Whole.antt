@@ -21,7 +21,7 @@ use Rattle.rb_run.specs.Turns.{records_in}
 use Rattle.rb_run.proofs.Plain.{records-back}
 use Rattle.rb_run.proofs.Texts.{records-more}
 use Rattle.rb_world.specs.Nexts.{is_last}
-use Rattle.rb_world.specs.Worlds.{IsReached, Kept}
+use Rattle.rb_world.specs.Worlds.{IsReached, KeptWorld}
 use Rattle.rb_world.proofs.Turns.{reached-more}
 use Rattle.rb_replicas.specs.Replies.{frame_of, reached}
 use Rattle.rb_replicas.proofs.Held.{reached_more}
@@ -59,17 +59,17 @@ upto-more frames frame records r far its =
 
 -- What a plain drive has given.
 
-given-in : (sc : Scenario) (handed : List HandIn) (is_plain : Bool) (told since : Option (List Turn)) (k : Kept) (turns : List Turn) (over : Bool)
+given-in : (sc : Scenario) (handed : List HandIn) (is_plain : Bool) (told since : Option (List Turn)) (k : KeptWorld) (turns : List Turn) (over : Bool)
     → (is : IsUnderWay sc handed is_plain told since k turns over) → is_plain ≡ true → is.world.book.given ≡ records_in turns
 given-in sc handed is_plain told since k turns over is sure = sym (records-back is.world.book.given) ∙ ap records_in (sym (is.plain sure))
 
-given-more : (sc : Scenario) (handed : List HandIn) (is_plain : Bool) (told since : Option (List Turn)) (k : Kept) (turns : List Turn) (t : Turn) (r : Record) (over : Bool)
+given-more : (sc : Scenario) (handed : List HandIn) (is_plain : Bool) (told since : Option (List Turn)) (k : KeptWorld) (turns : List Turn) (t : Turn) (r : Record) (over : Bool)
     → (is : IsUnderWay sc handed is_plain told since k (turns ++ t ∷ []) over) → is_plain ≡ true → record_of t ≡ Some r → is.world.book.given ≡ records_in turns ++ r ∷ []
 given-more sc handed is_plain told since k turns t r over is sure is-r =
     given-in sc handed is_plain told since k (turns ++ t ∷ []) over is sure ∙ records-more turns t ∙ ap (λ o. records_in turns ++ option_to_list o) is-r
 
 -- where the run has ended, they are all records
-pub whole-by : (sc : Scenario) (handed : List HandIn) (is_plain : Bool) (told since : Option (List Turn)) (k : Kept) (turns : List Turn) (over : Bool) → over ≡ true
+pub whole-by : (sc : Scenario) (handed : List HandIn) (is_plain : Bool) (told since : Option (List Turn)) (k : KeptWorld) (turns : List Turn) (over : Bool) → over ≡ true
     → (is : IsUnderWay sc handed is_plain told since k turns over) → is.world.book.given ≡ records_of sc handed
 whole-by sc handed is_plain told since k turns true e is = whole-given sc handed is_plain told since k turns is
 whole-by sc handed is_plain told since k turns false e is = cc
@@ -106,7 +106,7 @@ pub record AreWhole (b : Bridge) (bank : Bank) (handed : List HandIn) (given : L
   pub first : IsPrefix given (records_on b (hands_of b) bank)
   pub all : records_of (bus_on b bank) handed ≡ records_on b (hands_of b) bank
 
-pub breach-crossed : (b : Bridge) (bank : Bank) (frame : ℕ) (handed : List HandIn) (is_plain : Bool) (told since : Option (List Turn)) (k : Kept) (turns : List Turn) (t : Turn) (break : Break)
+pub breach-crossed : (b : Bridge) (bank : Bank) (frame : ℕ) (handed : List HandIn) (is_plain : Bool) (told since : Option (List Turn)) (k : KeptWorld) (turns : List Turn) (t : Turn) (break : Break)
     → frame ≤ b.left.frames → is_plain ≡ true → handed ≡ hands_on bank (hands_up_to b frame) → (is : IsUnderWay (bus_on b bank) handed is_plain told since k (turns ++ t ∷ []) (is_last (record_of t)))
     → AreNotLast turns → break_by bank frame (record_of t) ≡ Some break → AreWhole b bank handed is.world.book.given
 breach-crossed b bank frame handed is_plain told since k turns t break within sure handed_is is going breaks = by (record_of t) refl
@@ -198,7 +198,7 @@ reached-words sc bank told (p ∷ ps) w is =
     reached-words sc bank told ps (hand sc w (biu_on bank p) word) (reached-more sc w (Hand (biu_on bank p) word) is)
 
 -- what was given by the begin of a frame was given whatever is then handed over, as what the bridge carries is
-next-first : (b : Bridge) (bank : Bank) (frame : ℕ) (handed : List HandIn) (is_plain : Bool) (told since : Option (List Turn)) (k : Kept) (turns : List Turn) (over : Bool) (r : Record)
+next-first : (b : Bridge) (bank : Bank) (frame : ℕ) (handed : List HandIn) (is_plain : Bool) (told since : Option (List Turn)) (k : KeptWorld) (turns : List Turn) (over : Bool) (r : Record)
     → (is : IsUnderWay (bus_on b bank) handed is_plain told since k turns over) → handed ≡ hands_on bank (hands_up_to b frame) → BeginsOrEnds (bus_on b bank) (frame + 1) r
     → frame_in is.world.turn ≡ frame_in (Some r) → IsPrefix is.world.book.given (records_on b (hands_up_to b (frame + 1)) bank)
 next-first b bank frame handed is_plain told since k turns over r is handed_is begins turned =

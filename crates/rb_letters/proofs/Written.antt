@@ -19,10 +19,10 @@ use Rattle.rb_run.specs.Turns.{records_in}
 use Rattle.rb_run.proofs.Texts.{newest-more}
 use Rattle.rb_run.proofs.UnderWay.{IsUnderWay, are-all, are-given, begins, finished, goes-on}
 use Rattle.rb_world.specs.Nexts.{is_last}
-use Rattle.rb_world.specs.Worlds.{Kept}
+use Rattle.rb_world.specs.Worlds.{KeptWorld}
 
 -- so many turns were given and written, the newest block being that of frame `newest`, and the run goes on
-pub record IsWritten (sc : Scenario) (is_plain : Bool) (told since : Option (List Turn)) (k : Kept) (held after : Option (List ℕ)) (newest passed : ℕ) (all : Open) : Type 0 where
+pub record IsWritten (sc : Scenario) (is_plain : Bool) (told since : Option (List Turn)) (k : KeptWorld) (held after : Option (List ℕ)) (newest passed : ℕ) (all : Open) : Type 0 where
   pub turns : List Turn
   pub given : IsUnderWay sc is_plain told since k turns false
   pub many : length turns ≡ passed
@@ -31,28 +31,28 @@ pub record IsWritten (sc : Scenario) (is_plain : Bool) (told since : Option (Lis
   pub heard : Hears all (deliveries_in (records_in turns))
 
 -- at first
-pub none-written : (k : Kept) (is_plain : Bool) (told : Option (List Turn)) (held : Option (List ℕ)) → HasGivenNothing k → IsWritten k.bus is_plain told told k held held 0 0 (replicate 16 (replicate 16 None))
+pub none-written : (k : KeptWorld) (is_plain : Bool) (told : Option (List Turn)) (held : Option (List ℕ)) → HasGivenNothing k → IsWritten k.bus is_plain told told k held held 0 0 (replicate 16 (replicate 16 None))
 none-written k is_plain told held begun = record { turns = []; given = begins k is_plain told begun; many = refl; text = appends_none held; block = refl; heard = none-heard }
 
 -- one turn more, which has been given and is not yet written
-abbrev pub Next : (sc : Scenario) (is_plain : Bool) (told mid since : Option (List Turn)) (k after : Kept) (held mid_held : Option (List ℕ)) (newest passed : ℕ) (all : Open) (t : Turn)
+abbrev pub Next : (sc : Scenario) (is_plain : Bool) (told mid since : Option (List Turn)) (k after : KeptWorld) (held mid_held : Option (List ℕ)) (newest passed : ℕ) (all : Open) (t : Turn)
     → IsWritten sc is_plain told mid k held mid_held newest passed all → Type 0
 Next sc is_plain told mid since k after held mid_held newest passed all t is = IsUnderWay sc is_plain told since after (is.turns ++ t ∷ []) (is_last (record_of t))
 
-text-next : (sc : Scenario) (is_plain : Bool) (told mid : Option (List Turn)) (k : Kept) (held mid_held : Option (List ℕ)) (newest passed : ℕ) (all : Open) (t : Turn)
+text-next : (sc : Scenario) (is_plain : Bool) (told mid : Option (List Turn)) (k : KeptWorld) (held mid_held : Option (List ℕ)) (newest passed : ℕ) (all : Open) (t : Turn)
     → (is : IsWritten sc is_plain told mid k held mid_held newest passed all) → letters_text (is.turns ++ t ∷ []) ≡ letters_text is.turns ++ turn_text newest all (record_of t)
 text-next sc is_plain told mid k held mid_held newest passed all t is =
     text-more is.turns t all is.heard ∙ ap (λ n. letters_text is.turns ++ turn_text n all (record_of t)) (sym is.block)
 
 -- it is written
-written-next : (sc : Scenario) (is_plain : Bool) (told mid : Option (List Turn)) (k : Kept) (held mid_held after_held : Option (List ℕ)) (newest passed : ℕ) (all : Open) (t : Turn)
+written-next : (sc : Scenario) (is_plain : Bool) (told mid : Option (List Turn)) (k : KeptWorld) (held mid_held after_held : Option (List ℕ)) (newest passed : ℕ) (all : Open) (t : Turn)
     → (is : IsWritten sc is_plain told mid k held mid_held newest passed all) → Appends mid_held after_held (turn_text newest all (record_of t))
     → Appends held after_held (letters_text (is.turns ++ t ∷ []))
 written-next sc is_plain told mid k held mid_held after_held newest passed all t is now =
     subst (λ text. Appends held after_held text) (sym (text-next sc is_plain told mid k held mid_held newest passed all t is)) (appends_join held mid_held after_held _ _ is.text now)
 
 -- and the run goes on
-pub one-written : (sc : Scenario) (is_plain : Bool) (told mid since : Option (List Turn)) (k after : Kept) (held mid_held after_held : Option (List ℕ)) (newest next passed : ℕ) (all then_open : Open) (t : Turn)
+pub one-written : (sc : Scenario) (is_plain : Bool) (told mid since : Option (List Turn)) (k after : KeptWorld) (held mid_held after_held : Option (List ℕ)) (newest next passed : ℕ) (all then_open : Open) (t : Turn)
     → (is : IsWritten sc is_plain told mid k held mid_held newest passed all) → Next sc is_plain told mid since k after held mid_held newest passed all t is
     → Appends mid_held after_held (turn_text newest all (record_of t)) → next ≡ newest_with newest (record_of t) → then_open ≡ open_with all (record_of t) → end_at (record_of t) ≡ None
     → IsWritten sc is_plain told since after held after_held next (passed + 1) then_open
@@ -66,7 +66,7 @@ one-written sc is_plain told mid since k after held mid_held after_held newest n
 }
 
 -- or ends
-pub all-written : (sc : Scenario) (is_plain : Bool) (told mid since : Option (List Turn)) (k after : Kept) (held mid_held after_held : Option (List ℕ)) (newest passed : ℕ) (all : Open) (t : Turn) (e : Ending)
+pub all-written : (sc : Scenario) (is_plain : Bool) (told mid since : Option (List Turn)) (k after : KeptWorld) (held mid_held after_held : Option (List ℕ)) (newest passed : ℕ) (all : Open) (t : Turn) (e : Ending)
     → (is : IsWritten sc is_plain told mid k held mid_held newest passed all) → Next sc is_plain told mid since k after held mid_held newest passed all t is
     → Appends mid_held after_held (turn_text newest all (record_of t)) → end_at (record_of t) ≡ Some e → WritesLetters sc is_plain told since held after_held
 all-written sc is_plain told mid since k after held mid_held after_held newest passed all t e is given now ends = record {
@@ -78,7 +78,7 @@ all-written sc is_plain told mid since k after held mid_held after_held newest p
 }
 
 -- or only a first part of it is written
-pub part-written : (sc : Scenario) (is_plain : Bool) (told mid since : Option (List Turn)) (k after : Kept) (held mid_held after_held : Option (List ℕ)) (newest passed : ℕ) (all : Open) (t : Turn)
+pub part-written : (sc : Scenario) (is_plain : Bool) (told mid since : Option (List Turn)) (k after : KeptWorld) (held mid_held after_held : Option (List ℕ)) (newest passed : ℕ) (all : Open) (t : Turn)
     → (is : IsWritten sc is_plain told mid k held mid_held newest passed all) → Next sc is_plain told mid since k after held mid_held newest passed all t is
     → AppendsPart mid_held after_held (turn_text newest all (record_of t)) → WritesSome sc is_plain told since held after_held
 part-written sc is_plain told mid since k after held mid_held after_held newest passed all t is given now = record {

@@ -3,8 +3,6 @@
 
 mod ending;
 mod letters;
-#[cfg(test)]
-mod tests;
 mod writing;
 
 pub use letters::write_letters;

@@ -20,7 +20,7 @@ use Rattle.rb_run.specs.Turns.{records_in}
 use Rattle.rb_run.proofs.Plain.{records-back}
 use Rattle.rb_run.proofs.Texts.{records-more}
 use Rattle.rb_world.specs.Nexts.{is_last}
-use Rattle.rb_world.specs.Worlds.{Kept}
+use Rattle.rb_world.specs.Worlds.{KeptWorld}
 use Rattle.rb_replicas.specs.Replies.{frame_of, reached}
 use Rattle.rb_crossing.specs.declared.bank.Bank.{Bank}
 use Rattle.rb_crossing.specs.declared.bank.Bank.TheVariants.{Left}
@@ -84,19 +84,19 @@ pub record TellsFrame (sc : Scenario) (handed : List HandIn) (frame : ℕ) (bank
   pub breach : break_in bank frame (records_of sc handed) ≡ break_told bank frame r
 
 -- the records that the turns of a plain drive are
-pub records-are-given : (sc : Scenario) (handed : List HandIn) (told since : Option (List Turn)) (k : Kept) (turns : List Turn) (t : Turn) (r : Record) (over : Bool)
+pub records-are-given : (sc : Scenario) (handed : List HandIn) (told since : Option (List Turn)) (k : KeptWorld) (turns : List Turn) (t : Turn) (r : Record) (over : Bool)
     → record_of t ≡ Some r → (is : IsUnderWay sc handed true told since k (turns ++ t ∷ []) over) → is.world.book.given ≡ records_in turns ++ r ∷ []
 records-are-given sc handed told since k turns t r over is-r is =
     sym (records-back is.world.book.given) ∙ ap records_in (sym (is.plain refl)) ∙ records-more turns t ∙ ap (λ o. records_in turns ++ option_to_list o) is-r
 
 -- they are the first of the run
-pub records-are-first : (sc : Scenario) (handed : List HandIn) (told since : Option (List Turn)) (k : Kept) (turns : List Turn) (t : Turn) (r : Record) (over : Bool)
+pub records-are-first : (sc : Scenario) (handed : List HandIn) (told since : Option (List Turn)) (k : KeptWorld) (turns : List Turn) (t : Turn) (r : Record) (over : Bool)
     → record_of t ≡ Some r → IsUnderWay sc handed true told since k (turns ++ t ∷ []) over → (rest : List Record) × (records_of sc handed ≡ records_in turns ++ r ∷ rest)
 records-are-first sc handed told since k turns t r over is-r is =
     let first = first-given sc handed true told since k (turns ++ t ∷ []) over is in
     (first.0, first.1 ∙ ap (λ l. l ++ first.0) (records-are-given sc handed told since k turns t r over is-r is) ∙ append_assoc (records_in turns) (r ∷ []) first.0)
 
-pub passed-tells : (sc : Scenario) (handed : List HandIn) (told since : Option (List Turn)) (k : Kept) (turns : List Turn) (frames frame : ℕ) (t : Turn) (r : Record)
+pub passed-tells : (sc : Scenario) (handed : List HandIn) (told since : Option (List Turn)) (k : KeptWorld) (turns : List Turn) (frames frame : ℕ) (t : Turn) (r : Record)
     → record_of t ≡ Some r → IsUnderWay sc handed true told since k (turns ++ t ∷ []) (is_last (record_of t)) → AreNotLast turns
     → is_over frames frame (record_of t) ≡ true → frames ≡ sc.frames → (bank : Bank) → TellsFrame sc handed frame bank (records_in turns) r
 passed-tells sc handed told since k turns frames frame t r is-r given going over same bank =

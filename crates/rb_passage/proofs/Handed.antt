@@ -6,7 +6,7 @@ use Rattle.rb_base.specs.declared.values.Heard.{Heard}
 use Rattle.rb_rules.specs.Goodness.{Scenario, is_good}
 use Rattle.rb_rules.specs.Ports.{HandIn, with_state}
 use Rattle.rb_rules.specs.WorldStep.{World, frame_in, hand}
-use Rattle.rb_world.specs.Worlds.{Kept, Stands}
+use Rattle.rb_world.specs.Worlds.{KeptWorld, Stands}
 use Rattle.rb_crossing.specs.declared.bank.Bank.{Bank}
 use Rattle.rb_crossing.specs.declared.bank.Pair.{Pair}
 use Rattle.rb_crossing.specs.Bridges.{across, biu_on}
@@ -24,7 +24,7 @@ pub words-more : (sc : Scenario) (bank : Bank) (told : ℕ → Option Heard) (k 
 words-more sc bank told k pairs d w below =
     sym (words-append sc bank told (take k pairs) (get_or pairs k d ∷ []) w) ∙ ap (λ ps. with_words sc bank told ps w) (sym (take_more pairs k d below))
 
-pub next-handed : (sc now : Scenario) (bank : Bank) (told : ℕ → Option Heard) (k : ℕ) (pairs : List Pair) (d : Pair) (w : World) (after : Kept) → now ≡ sc → k < length pairs
+pub next-handed : (sc now : Scenario) (bank : Bank) (told : ℕ → Option Heard) (k : ℕ) (pairs : List Pair) (d : Pair) (w : World) (after : KeptWorld) → now ≡ sc → k < length pairs
     → Stands after (with_words now bank told (get_or pairs k d ∷ []) (with_words sc bank told (take k pairs) w)) → Stands after (with_words sc bank told (take (k + 1) pairs) w)
 next-handed sc now bank told k pairs d w after same below stands =
     subst (Stands after) (ap (λ s. with_words s bank told (get_or pairs k d ∷ []) (with_words sc bank told (take k pairs) w)) same ∙ words-more sc bank told k pairs d w below) stands

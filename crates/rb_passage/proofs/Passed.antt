@@ -12,7 +12,7 @@ use Rattle.rb_book.specs.declared.turn.Turn.{Turn}
 use Rattle.rb_run.specs.Turns.{records_in}
 use Rattle.rb_run.proofs.Texts.{records-more}
 use Rattle.rb_world.specs.Nexts.{is_last}
-use Rattle.rb_world.specs.Worlds.{Kept}
+use Rattle.rb_world.specs.Worlds.{KeptWorld}
 use Rattle.rb_replicas.specs.declared.ports.Ports.{Ports}
 use Rattle.rb_replicas.specs.Holding.{HoldsFrame}
 use Rattle.rb_replicas.specs.Replies.{frame_of, reached}
@@ -71,13 +71,13 @@ kept-more terms frame turns t before ports values within hold advance note =
 -- The run.
 
 -- so many turns more were given, none of them of a later frame, and what is kept is what they tell
-pub record IsPassing (sc : Scenario) (handed : List HandIn) (is_plain : Bool) (told since : Option (List Turn)) (k : Kept) (before : List Turn) (terms : Terms) (frame : ℕ) (p : Passage) (passed : ℕ) : Type 0 where
+pub record IsPassing (sc : Scenario) (handed : List HandIn) (is_plain : Bool) (told since : Option (List Turn)) (k : KeptWorld) (before : List Turn) (terms : Terms) (frame : ℕ) (p : Passage) (passed : ℕ) : Type 0 where
   pub more : List Turn
   pub given : IsUnderWay sc handed is_plain told since k (before ++ more) false
   pub holds : HoldsPassage terms frame (records_in (before ++ more)) p
   pub many : length more ≡ passed
 
-pub none-passed : (sc : Scenario) (handed : List HandIn) (is_plain : Bool) (told since : Option (List Turn)) (k : Kept) (before : List Turn) (terms : Terms) (frame : ℕ) (p : Passage)
+pub none-passed : (sc : Scenario) (handed : List HandIn) (is_plain : Bool) (told since : Option (List Turn)) (k : KeptWorld) (before : List Turn) (terms : Terms) (frame : ℕ) (p : Passage)
     → IsUnderWay sc handed is_plain told since k before false → HoldsPassage terms frame (records_in before) p → IsPassing sc handed is_plain told since k before terms frame p 0
 none-passed sc handed is_plain told since k before terms frame p given holds = record {
   more = [];
@@ -87,7 +87,7 @@ none-passed sc handed is_plain told since k before terms frame p given holds = r
 }
 
 -- one turn more of the frame
-pub one-passed : (sc : Scenario) (handed : List HandIn) (is_plain : Bool) (told mid since : Option (List Turn)) (k after : Kept) (before : List Turn) (terms : Terms) (frame : ℕ) (p q : Passage) (passed : ℕ) (t : Turn)
+pub one-passed : (sc : Scenario) (handed : List HandIn) (is_plain : Bool) (told mid since : Option (List Turn)) (k after : KeptWorld) (before : List Turn) (terms : Terms) (frame : ℕ) (p q : Passage) (passed : ℕ) (t : Turn)
     → (is : IsPassing sc handed is_plain told mid k before terms frame p passed)
     → IsUnderWay sc handed is_plain told since after ((before ++ is.more) ++ t ∷ []) (is_last (record_of t)) → is_over terms.frames frame (record_of t) ≡ false
     → HoldsPassage terms frame (records_in ((before ++ is.more) ++ t ∷ [])) q → IsPassing sc handed is_plain told since after before terms frame q (passed + 1)
@@ -100,14 +100,14 @@ one-passed sc handed is_plain told mid since k after before terms frame p q pass
 }
 
 -- or the frame is over
-pub all-passed : (sc : Scenario) (handed : List HandIn) (is_plain : Bool) (told mid since : Option (List Turn)) (k after : Kept) (before : List Turn) (terms : Terms) (frame : ℕ) (p : Passage) (passed : ℕ) (t : Turn)
+pub all-passed : (sc : Scenario) (handed : List HandIn) (is_plain : Bool) (told mid since : Option (List Turn)) (k after : KeptWorld) (before : List Turn) (terms : Terms) (frame : ℕ) (p : Passage) (passed : ℕ) (t : Turn)
     → (is : IsPassing sc handed is_plain told mid k before terms frame p passed)
     → IsUnderWay sc handed is_plain told since after ((before ++ is.more) ++ t ∷ []) (is_last (record_of t)) → is_over terms.frames frame (record_of t) ≡ true
     → PassesFrame sc handed is_plain told since after before terms frame p t
 all-passed sc handed is_plain told mid since k after before terms frame p passed t is given over = record { more = is.more; given = given; going = is.given.goes_on refl; holds = is.holds; over = over }
 
 -- so many turns are few
-pub few-passed : (sc : Scenario) (handed : List HandIn) (is_plain : Bool) (told since : Option (List Turn)) (k : Kept) (before : List Turn) (terms : Terms) (frame : ℕ) (p : Passage) (passed : ℕ)
+pub few-passed : (sc : Scenario) (handed : List HandIn) (is_plain : Bool) (told since : Option (List Turn)) (k : KeptWorld) (before : List Turn) (terms : Terms) (frame : ℕ) (p : Passage) (passed : ℕ)
     → IsPassing sc handed is_plain told since k before terms frame p passed → passed < 2 ^ 31
 few-passed sc handed is_plain told since k before terms frame p passed is =
     let few : length (before ++ is.more) < 2 ^ 31 = few-turns sc handed is_plain told since k (before ++ is.more) false is.given in

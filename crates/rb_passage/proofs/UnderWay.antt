@@ -22,7 +22,7 @@ use Rattle.rb_world.specs.Nexts.{GoesToNext, is_last}
 use Rattle.rb_world.specs.Numbering.{GoesInRounds, IsNextRecord}
 use Rattle.rb_world.specs.declared.last.Last.{Last}
 use Rattle.rb_world.specs.declared.last.Last.TheVariants as last
-use Rattle.rb_world.specs.Worlds.{Kept, Stands, last_of}
+use Rattle.rb_world.specs.Worlds.{KeptWorld, Stands, last_of}
 use Rattle.rb_world.proofs.LastTurn.{reached-ended, reached-gave}
 use Rattle.rb_world.proofs.Numbered.{alike-in-rounds, alike-last, next-in-rounds}
 use Rattle.rb_passage.specs.Running.{AreNotLast, IsUnderWay, latest}
@@ -94,7 +94,7 @@ last-some None e = absurd (cc)
 last-some (Some r) e = (r, refl)
 
 -- where nothing was given, the run has not ended
-not-over : (k : Kept) → (begun : HasGivenNothing k) → begun.world.book.ended ≡ false
+not-over : (k : KeptWorld) → (begun : HasGivenNothing k) → begun.world.book.ended ≡ false
 not-over k begun = by begun.world.book.ended refl
   where
     by : (b : Bool) → begun.world.book.ended ≡ b → begun.world.book.ended ≡ false
@@ -104,7 +104,7 @@ not-over k begun = by begun.world.book.ended refl
         let gave = reached-gave k.bus begun.world begun.stands.reached some.0 some.1 in
         absurd (no-record some.0 gave.0 (sym begun.given ∙ gave.1))
 
-pub begins : (k : Kept) (is_plain : Bool) (told : Option (List Turn)) → HasGivenNothing k → IsUnderWay k.bus [] is_plain told told k [] false
+pub begins : (k : KeptWorld) (is_plain : Bool) (told : Option (List Turn)) → HasGivenNothing k → IsUnderWay k.bus [] is_plain told told k [] false
 begins k is_plain told begun = record {
   world = begun.world;
   stands = begun.stands;
@@ -141,7 +141,7 @@ frame-kept (Some Record.Ended) = refl
 frame-kept (Some (Record.Breach place cause)) = refl
 
 -- what is kept stands for worlds of one last frame
-one-frame : (k : Kept) (w x : World) → Stands k w → Stands k x → frame_in w.turn ≡ frame_in x.turn
+one-frame : (k : KeptWorld) (w x : World) → Stands k w → Stands k x → frame_in w.turn ≡ frame_in x.turn
 one-frame k w x a b = frame-kept w.turn ∙ ap last_frame (sym a.last ∙ b.last) ∙ sym (frame-kept x.turn)
 
 bare-frame : (t : Turn) → frame_in (record_of (bare t)) ≡ frame_in (record_of t)
@@ -171,7 +171,7 @@ not-last-more [] t all one = (one, tt)
 not-last-more (u ∷ us) t all one = (all.0, not-last-more us t all.1 one)
 
 -- what the next call gives
-pub goes : (sc : Scenario) (handed : List HandIn) (is_plain now : Bool) (told mid since : Option (List Turn)) (k after : Kept) (turns : List Turn) (t : Turn) → IsUnderWay sc handed is_plain told mid k turns false
+pub goes : (sc : Scenario) (handed : List HandIn) (is_plain now : Bool) (told mid since : Option (List Turn)) (k after : KeptWorld) (turns : List Turn) (t : Turn) → IsUnderWay sc handed is_plain told mid k turns false
     → now ≡ is_plain → (now ≡ true → (w : World) → Stands k w → GoesToNext First k after t w) → ((w : World) → Stands k w → GoesAlike k after t w)
     → after.bus ≡ k.bus → Tells mid since t → IsUnderWay sc handed is_plain told since after (turns ++ t ∷ []) (is_last (record_of t))
 goes sc handed is_plain now told mid since k after turns t is stays plain alike bus tells =
@@ -208,7 +208,7 @@ goes sc handed is_plain now told mid since k after turns t is stays plain alike 
 
 -- What is known of it.
 
-pub first-given : (sc : Scenario) (handed : List HandIn) (is_plain : Bool) (told since : Option (List Turn)) (k : Kept) (turns : List Turn) (over : Bool) → (is : IsUnderWay sc handed is_plain told since k turns over)
+pub first-given : (sc : Scenario) (handed : List HandIn) (is_plain : Bool) (told since : Option (List Turn)) (k : KeptWorld) (turns : List Turn) (over : Bool) → (is : IsUnderWay sc handed is_plain told since k turns over)
     → IsPrefix is.world.book.given (records_of sc handed)
 first-given sc handed is_plain told since k turns over is =
     let rounds = events-hold k.bus is.stands.lawful in
@@ -218,13 +218,13 @@ first-given sc handed is_plain told since k turns over is =
     let none : IsPrefix is.world.book.given (records_of k.bus handed) = subst (λ (hands : List HandIn). IsPrefix is.world.book.given (records_of k.bus hands)) is.hands first in
     subst (λ (s : Scenario). IsPrefix is.world.book.given (records_of s handed)) is.bus none
 
-many-given : (sc : Scenario) (handed : List HandIn) (is_plain : Bool) (told since : Option (List Turn)) (k : Kept) (turns : List Turn) (over : Bool) → (is : IsUnderWay sc handed is_plain told since k turns over)
+many-given : (sc : Scenario) (handed : List HandIn) (is_plain : Bool) (told since : Option (List Turn)) (k : KeptWorld) (turns : List Turn) (over : Bool) → (is : IsUnderWay sc handed is_plain told since k turns over)
     → length turns ≡ length is.world.book.given
 many-given sc handed is_plain told since k turns over is =
     sym (length-map turns bare) ∙ ap length is.alike ∙ length-map is.world.book.given (λ r. bare (turn_of r))
 
 -- so many turns are few
-pub few-turns : (sc : Scenario) (handed : List HandIn) (is_plain : Bool) (told since : Option (List Turn)) (k : Kept) (turns : List Turn) (over : Bool) → IsUnderWay sc handed is_plain told since k turns over
+pub few-turns : (sc : Scenario) (handed : List HandIn) (is_plain : Bool) (told since : Option (List Turn)) (k : KeptWorld) (turns : List Turn) (over : Bool) → IsUnderWay sc handed is_plain told since k turns over
     → length turns < 2 ^ 31
 few-turns sc handed is_plain told since k turns over is =
     let many = many-given sc handed is_plain told since k turns over is in
@@ -233,7 +233,7 @@ few-turns sc handed is_plain told since k turns over is =
     let few = few-records sc handed (subst IsLawful is.bus is.stands.lawful) in
     omega (arith, many, all, few)
 
-pub whole-given : (sc : Scenario) (handed : List HandIn) (is_plain : Bool) (told since : Option (List Turn)) (k : Kept) (turns : List Turn) → (is : IsUnderWay sc handed is_plain told since k turns true)
+pub whole-given : (sc : Scenario) (handed : List HandIn) (is_plain : Bool) (told since : Option (List Turn)) (k : KeptWorld) (turns : List Turn) → (is : IsUnderWay sc handed is_plain told since k turns true)
     → is.world.book.given ≡ records_of sc handed
 whole-given sc handed is_plain told since k turns is =
     let reached = is.stands.reached in
@@ -242,13 +242,13 @@ whole-given sc handed is_plain told since k turns is =
     whole ∙ ap (records_of k.bus) is.hands ∙ ap (λ (s : Scenario). records_of s handed) is.bus
 
 -- where the last of them ends the run, it has ended
-pub finished : (sc : Scenario) (handed : List HandIn) (is_plain : Bool) (told since : Option (List Turn)) (k : Kept) (turns : List Turn) (t : Turn) (e : Ending)
+pub finished : (sc : Scenario) (handed : List HandIn) (is_plain : Bool) (told since : Option (List Turn)) (k : KeptWorld) (turns : List Turn) (t : Turn) (e : Ending)
     → IsUnderWay sc handed is_plain told since k turns (is_last (record_of t)) → end_at (record_of t) ≡ Some e → IsUnderWay sc handed is_plain told since k turns true
 finished sc handed is_plain told since k turns t e is ends = subst (λ over. IsUnderWay sc handed is_plain told since k turns over) (ends-last (record_of t) e ends) is
 
 -- What was handed over.
 
-pub handed-over : (sc : Scenario) (handed more : List HandIn) (is_plain : Bool) (told since : Option (List Turn)) (k after : Kept) (turns : List Turn) (over : Bool) (next : World)
+pub handed-over : (sc : Scenario) (handed more : List HandIn) (is_plain : Bool) (told since : Option (List Turn)) (k after : KeptWorld) (turns : List Turn) (over : Bool) (next : World)
     → (is : IsUnderWay sc handed is_plain told since k turns over) → after.bus ≡ k.bus → Stands after next → IsHanded is.world next more
     → IsUnderWay sc (handed ++ more) is_plain told since after turns over
 handed-over sc handed more is_plain told since k after turns over next is bus stands h = record {

@@ -7,7 +7,7 @@ use Rattle.rb_book.specs.Records.{record_of}
 use Rattle.rb_book.specs.declared.turn.Turn.{Turn}
 use Rattle.rb_run.specs.Turns.{records_in}
 use Rattle.rb_world.specs.Nexts.{is_last}
-use Rattle.rb_world.specs.Worlds.{Kept}
+use Rattle.rb_world.specs.Worlds.{KeptWorld}
 use Rattle.rb_replicas.specs.Holding.{HoldsFrame}
 use Rattle.rb_replicas.specs.Replies.{frame_of}
 use Rattle.rb_crossing.specs.Crossings.{value_told}
@@ -28,7 +28,7 @@ is_over frames frame None = false
 is_over frames frame (Some r) = nat_lt frame (frame_of frames r) || is_last (Some r)
 
 -- some turns of a run have been given, it goes on, and what is kept of a frame is what they tell
-pub record IsOnItsWay (is_plain : Bool) (since : Option (List Turn)) (k : Kept) (terms : Terms) (p : Passage) : Type 0 where
+pub record IsOnItsWay (is_plain : Bool) (since : Option (List Turn)) (k : KeptWorld) (terms : Terms) (p : Passage) : Type 0 where
   pub handed : List HandIn
   pub told : Option (List Turn)
   pub turns : List Turn
@@ -37,7 +37,7 @@ pub record IsOnItsWay (is_plain : Bool) (since : Option (List Turn)) (k : Kept) 
 
 -- Further turns were given, the last of them being this one, with which the frame is over. What is kept of the frame is what those
 -- before it tell
-pub record PassesFrame (sc : Scenario) (handed : List HandIn) (is_plain : Bool) (told since : Option (List Turn)) (k : Kept) (before : List Turn) (terms : Terms) (frame : ℕ)
+pub record PassesFrame (sc : Scenario) (handed : List HandIn) (is_plain : Bool) (told since : Option (List Turn)) (k : KeptWorld) (before : List Turn) (terms : Terms) (frame : ℕ)
     (p : Passage) (last : Turn) : Type 0 where
   pub more : List Turn
   pub given : IsUnderWay sc handed is_plain told since k ((before ++ more) ++ last ∷ []) (is_last (record_of last))

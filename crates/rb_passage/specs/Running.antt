@@ -10,7 +10,7 @@ use Rattle.rb_book.specs.declared.turn.Turn.{Turn}
 use Rattle.rb_run.specs.Turns.{TellsAll, turn_of}
 use Rattle.rb_world.specs.Driving.{bare}
 use Rattle.rb_world.specs.Nexts.{is_last}
-use Rattle.rb_world.specs.Worlds.{Kept, Stands}
+use Rattle.rb_world.specs.Worlds.{KeptWorld, Stands}
 
 -- the record that the last turn is
 abbrev pub latest : List Turn → Option Record
@@ -23,7 +23,7 @@ AreNotLast (t ∷ ts) = (is_last (record_of t) ≡ false) × AreNotLast ts
 
 -- A drive, plain or not, has given these turns, one for each record so far, in order: that record, but for ticks, times, masks, states,
 -- losses and values. This was handed in, and the run has ended or not
-pub record IsUnderWay (sc : Scenario) (handed : List HandIn) (is_plain : Bool) (told since : Option (List Turn)) (k : Kept) (turns : List Turn) (over : Bool) : Type 0 where
+pub record IsUnderWay (sc : Scenario) (handed : List HandIn) (is_plain : Bool) (told since : Option (List Turn)) (k : KeptWorld) (turns : List Turn) (over : Bool) : Type 0 where
   pub world : World
   pub stands : Stands k world
   pub bus : k.bus ≡ sc

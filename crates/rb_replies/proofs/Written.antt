@@ -14,7 +14,7 @@ use Rattle.rb_run.specs.Turns.{records_in}
 use Rattle.rb_run.proofs.Texts.{records-more}
 use Rattle.rb_run.proofs.UnderWay.{IsUnderWay, are-all, are-given, begins, finished, goes-on}
 use Rattle.rb_world.specs.Nexts.{is_last}
-use Rattle.rb_world.specs.Worlds.{Kept}
+use Rattle.rb_world.specs.Worlds.{KeptWorld}
 use Rattle.rb_replicas.specs.declared.asked.Asked.{Asked}
 use Rattle.rb_replicas.specs.declared.ports.Ports.{Ports}
 use Rattle.rb_replicas.specs.Holding.{HoldsFrame, IsScopeOf}
@@ -28,7 +28,7 @@ text_more : (sc : Scenario) (asked : Asked) (turns : List Turn) (t : Turn) → t
 text_more sc asked turns t = ap (text_after sc asked []) (records-more turns t) ∙ text_with sc asked [] (records_in turns) (record_of t)
 
 -- so many turns were given and what they say was written, the ports being kept, and the run goes on
-pub record IsWritten (sc : Scenario) (asked : Asked) (is_plain : Bool) (told since : Option (List Turn)) (k : Kept) (held after : Option (List ℕ)) (ports : Ports) (passed : ℕ) : Type 0 where
+pub record IsWritten (sc : Scenario) (asked : Asked) (is_plain : Bool) (told since : Option (List Turn)) (k : KeptWorld) (held after : Option (List ℕ)) (ports : Ports) (passed : ℕ) : Type 0 where
   pub turns : List Turn
   pub given : IsUnderWay sc is_plain told since k turns false
   pub many : length turns ≡ passed
@@ -36,7 +36,7 @@ pub record IsWritten (sc : Scenario) (asked : Asked) (is_plain : Bool) (told sin
   pub frame : HoldsFrame sc.frames asked (records_in turns) ports
 
 -- at first
-pub none_written : (k : Kept) (asked : Asked) (is_plain : Bool) (told : Option (List Turn)) (held : Option (List ℕ)) (ports : Ports) → HasGivenNothing k
+pub none_written : (k : KeptWorld) (asked : Asked) (is_plain : Bool) (told : Option (List Turn)) (held : Option (List ℕ)) (ports : Ports) → HasGivenNothing k
     → HoldsFrame k.bus.frames asked [] ports → IsWritten k.bus asked is_plain told told k held held ports 0
 none_written k asked is_plain told held ports begun frame =
     record { turns = []; given = begins k is_plain told begun; many = refl; text = appends_none held; frame = frame }
@@ -50,7 +50,7 @@ frame_next sc scope asked records o ports next is hold step =
     (step records (subst (λ n. HoldsFrame n asked records ports) (sym is.frames_are) hold))
 
 -- one turn more, which has been given and is not yet written
-abbrev pub Next : (sc : Scenario) (asked : Asked) (is_plain : Bool) (told mid since : Option (List Turn)) (k after : Kept) (held mid_held : Option (List ℕ)) (ports : Ports) (passed : ℕ) (t : Turn)
+abbrev pub Next : (sc : Scenario) (asked : Asked) (is_plain : Bool) (told mid since : Option (List Turn)) (k after : KeptWorld) (held mid_held : Option (List ℕ)) (ports : Ports) (passed : ℕ) (t : Turn)
     → IsWritten sc asked is_plain told mid k held mid_held ports passed → Type 0
 Next sc asked is_plain told mid since k after held mid_held ports passed t is = IsUnderWay sc is_plain told since after (is.turns ++ t ∷ []) (is_last (record_of t))
 
@@ -61,7 +61,7 @@ written_next sc asked turns t held mid_held after_held before now =
     subst (λ text. Appends held after_held text) (sym (text_more sc asked turns t)) (appends_join held mid_held after_held _ _ before now)
 
 -- and the run goes on
-pub one_written : (sc : Scenario) (asked : Asked) (is_plain : Bool) (told mid since : Option (List Turn)) (k after : Kept) (held mid_held after_held : Option (List ℕ)) (ports : Ports) (passed : ℕ) (t : Turn) (next : Ports)
+pub one_written : (sc : Scenario) (asked : Asked) (is_plain : Bool) (told mid since : Option (List Turn)) (k after : KeptWorld) (held mid_held after_held : Option (List ℕ)) (ports : Ports) (passed : ℕ) (t : Turn) (next : Ports)
     → (is : IsWritten sc asked is_plain told mid k held mid_held ports passed) → Next sc asked is_plain told mid since k after held mid_held ports passed t is
     → Appends mid_held after_held (turn_text sc asked (records_in is.turns) (record_of t)) → HoldsFrame sc.frames asked (records_in is.turns ++ option_to_list (record_of t)) next
     → end_at (record_of t) ≡ None → IsWritten sc asked is_plain told since after held after_held next (passed + 1)
@@ -74,7 +74,7 @@ one_written sc asked is_plain told mid since k after held mid_held after_held po
 }
 
 -- or ends
-pub all_written : (sc : Scenario) (asked : Asked) (is_plain : Bool) (told mid since : Option (List Turn)) (k after : Kept) (held mid_held after_held : Option (List ℕ)) (ports : Ports) (passed : ℕ) (t : Turn) (e : Ending)
+pub all_written : (sc : Scenario) (asked : Asked) (is_plain : Bool) (told mid since : Option (List Turn)) (k after : KeptWorld) (held mid_held after_held : Option (List ℕ)) (ports : Ports) (passed : ℕ) (t : Turn) (e : Ending)
     → (is : IsWritten sc asked is_plain told mid k held mid_held ports passed) → Next sc asked is_plain told mid since k after held mid_held ports passed t is
     → Appends mid_held after_held (turn_text sc asked (records_in is.turns) (record_of t)) → end_at (record_of t) ≡ Some e → WritesAll sc asked is_plain told since held after_held
 all_written sc asked is_plain told mid since k after held mid_held after_held ports passed t e is given now ends = record {
@@ -85,7 +85,7 @@ all_written sc asked is_plain told mid since k after held mid_held after_held po
 }
 
 -- or only a first part of it is written
-pub part_written : (sc : Scenario) (asked : Asked) (is_plain : Bool) (told mid since : Option (List Turn)) (k after : Kept) (held mid_held after_held : Option (List ℕ)) (ports : Ports) (passed : ℕ) (t : Turn)
+pub part_written : (sc : Scenario) (asked : Asked) (is_plain : Bool) (told mid since : Option (List Turn)) (k after : KeptWorld) (held mid_held after_held : Option (List ℕ)) (ports : Ports) (passed : ℕ) (t : Turn)
     → (is : IsWritten sc asked is_plain told mid k held mid_held ports passed) → Next sc asked is_plain told mid since k after held mid_held ports passed t is
     → AppendsPart mid_held after_held (turn_text sc asked (records_in is.turns) (record_of t)) → WritesPart sc asked is_plain told since held after_held
 part_written sc asked is_plain told mid since k after held mid_held after_held ports passed t is given now = record {

@@ -4,8 +4,6 @@
 mod ending;
 mod run;
 mod scope;
-#[cfg(test)]
-mod tests;
 
 pub use run::write_groups;
 pub use scope::scope_of;

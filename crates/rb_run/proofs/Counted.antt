@@ -10,24 +10,24 @@ use Rattle.rb_run.specs.Tallies.{counted, totals_of}
 use Rattle.rb_run.proofs.Numbers.{totals-more}
 use Rattle.rb_run.proofs.UnderWay.{IsUnderWay, are-all, are-given, begins, finished, goes-on}
 use Rattle.rb_world.specs.Nexts.{is_last}
-use Rattle.rb_world.specs.Worlds.{Kept}
+use Rattle.rb_world.specs.Worlds.{KeptWorld}
 
 -- so many turns were given, these are their numbers, and the run goes on
-pub record IsCounted (sc : Scenario) (is_plain : Bool) (told since : Option (List Turn)) (k : Kept) (totals : Totals) (passed : ℕ) : Type 0 where
+pub record IsCounted (sc : Scenario) (is_plain : Bool) (told since : Option (List Turn)) (k : KeptWorld) (totals : Totals) (passed : ℕ) : Type 0 where
   pub turns : List Turn
   pub given : IsUnderWay sc is_plain told since k turns false
   pub many : length turns ≡ passed
   pub are : totals ≡ totals_of turns
 
 -- at first
-pub none-counted : (k : Kept) (is_plain : Bool) (told : Option (List Turn)) (totals : Totals) → totals ≡ totals_of [] → HasGivenNothing k → IsCounted k.bus is_plain told told k totals 0
+pub none-counted : (k : KeptWorld) (is_plain : Bool) (told : Option (List Turn)) (totals : Totals) → totals ≡ totals_of [] → HasGivenNothing k → IsCounted k.bus is_plain told told k totals 0
 none-counted k is_plain told totals none begun = record { turns = []; given = begins k is_plain told begun; many = refl; are = none }
 
 counted-next : (turns : List Turn) (before after : Totals) (t : Turn) → before ≡ totals_of turns → after ≡ counted before (record_of t) → after ≡ totals_of (turns ++ t ∷ [])
 counted-next turns before after t are now = now ∙ ap (λ x. counted x (record_of t)) are ∙ sym (totals-more turns t)
 
 -- one turn more is counted, and the run goes on
-pub one-counted : (sc : Scenario) (is_plain : Bool) (told mid since : Option (List Turn)) (k after : Kept) (before totals : Totals) (passed : ℕ) (t : Turn)
+pub one-counted : (sc : Scenario) (is_plain : Bool) (told mid since : Option (List Turn)) (k after : KeptWorld) (before totals : Totals) (passed : ℕ) (t : Turn)
     → (is : IsCounted sc is_plain told mid k before passed) → IsUnderWay sc is_plain told since after (is.turns ++ t ∷ []) (is_last (record_of t))
     → totals ≡ counted before (record_of t) → end_at (record_of t) ≡ None → IsCounted sc is_plain told since after totals (passed + 1)
 one-counted sc is_plain told mid since k after before totals passed t is given now going = record {
@@ -38,7 +38,7 @@ one-counted sc is_plain told mid since k after before totals passed t is given n
 }
 
 -- or ends
-pub all-counted : (sc : Scenario) (is_plain : Bool) (told mid since : Option (List Turn)) (k after : Kept) (before totals : Totals) (passed : ℕ) (t : Turn) (e : Ending)
+pub all-counted : (sc : Scenario) (is_plain : Bool) (told mid since : Option (List Turn)) (k after : KeptWorld) (before totals : Totals) (passed : ℕ) (t : Turn) (e : Ending)
     → (is : IsCounted sc is_plain told mid k before passed) → IsUnderWay sc is_plain told since after (is.turns ++ t ∷ []) (is_last (record_of t))
     → totals ≡ counted before (record_of t) → end_at (record_of t) ≡ Some e → TalliesAll sc is_plain told since totals
 all-counted sc is_plain told mid since k after before totals passed t e is given now ends = record {

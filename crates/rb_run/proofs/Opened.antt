@@ -3,9 +3,9 @@ use Rattle.std.proofs.Common.{refl}
 use Rattle.rb_rules.specs.Goodness.{Scenario}
 use Rattle.rb_rules.specs.WorldStep.{first_world}
 use Rattle.rb_run.specs.Runs.{HasGivenNothing}
-use Rattle.rb_world.specs.Worlds.{Kept, Stands}
+use Rattle.rb_world.specs.Worlds.{KeptWorld, Stands}
 
 -- nothing has been given of it
-pub just-opened : (k : Kept) (sc : Scenario) → Stands k (first_world sc) → HasGivenNothing k
+pub just-opened : (k : KeptWorld) (sc : Scenario) → Stands k (first_world sc) → HasGivenNothing k
 unfolding first_world
 just-opened k sc is = record { world = first_world sc; stands = is; given = refl; hands = refl }

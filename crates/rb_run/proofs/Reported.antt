@@ -13,10 +13,10 @@ use Rattle.rb_run.specs.Turns.{records_in, text_of}
 use Rattle.rb_run.proofs.Texts.{newest-more, text-more}
 use Rattle.rb_run.proofs.UnderWay.{IsUnderWay, are-all, are-given, begins, finished, goes-on}
 use Rattle.rb_world.specs.Nexts.{is_last}
-use Rattle.rb_world.specs.Worlds.{Kept}
+use Rattle.rb_world.specs.Worlds.{KeptWorld}
 
 -- so many turns were given and written, the newest block being that of frame `newest`, and the run goes on
-pub record IsWritten (sc : Scenario) (is_plain : Bool) (told since : Option (List Turn)) (k : Kept) (held after : Option (List ℕ)) (newest passed : ℕ) : Type 0 where
+pub record IsWritten (sc : Scenario) (is_plain : Bool) (told since : Option (List Turn)) (k : KeptWorld) (held after : Option (List ℕ)) (newest passed : ℕ) : Type 0 where
   pub turns : List Turn
   pub given : IsUnderWay sc is_plain told since k turns false
   pub many : length turns ≡ passed
@@ -24,28 +24,28 @@ pub record IsWritten (sc : Scenario) (is_plain : Bool) (told since : Option (Lis
   pub block : newest ≡ newest_after 0 (records_in turns)
 
 -- at first
-pub none-written : (k : Kept) (is_plain : Bool) (told : Option (List Turn)) (held : Option (List ℕ)) → HasGivenNothing k → IsWritten k.bus is_plain told told k held held 0 0
+pub none-written : (k : KeptWorld) (is_plain : Bool) (told : Option (List Turn)) (held : Option (List ℕ)) → HasGivenNothing k → IsWritten k.bus is_plain told told k held held 0 0
 none-written k is_plain told held begun = record { turns = []; given = begins k is_plain told begun; many = refl; text = appends_none held; block = refl }
 
 -- one turn more, which has been given and is not yet written
-abbrev pub Next : (sc : Scenario) (is_plain : Bool) (told mid since : Option (List Turn)) (k after : Kept) (held mid_held : Option (List ℕ)) (newest passed : ℕ) (t : Turn)
+abbrev pub Next : (sc : Scenario) (is_plain : Bool) (told mid since : Option (List Turn)) (k after : KeptWorld) (held mid_held : Option (List ℕ)) (newest passed : ℕ) (t : Turn)
     → IsWritten sc is_plain told mid k held mid_held newest passed → Type 0
 Next sc is_plain told mid since k after held mid_held newest passed t is = IsUnderWay sc is_plain told since after (is.turns ++ t ∷ []) (is_last (record_of t))
 
-text-next : (sc : Scenario) (is_plain : Bool) (told mid : Option (List Turn)) (k : Kept) (held mid_held : Option (List ℕ)) (newest passed : ℕ) (t : Turn)
+text-next : (sc : Scenario) (is_plain : Bool) (told mid : Option (List Turn)) (k : KeptWorld) (held mid_held : Option (List ℕ)) (newest passed : ℕ) (t : Turn)
     → (is : IsWritten sc is_plain told mid k held mid_held newest passed) → text_of (is.turns ++ t ∷ []) ≡ text_of is.turns ++ turn_text newest (record_of t)
 text-next sc is_plain told mid k held mid_held newest passed t is =
     text-more is.turns t ∙ ap (λ n. text_of is.turns ++ turn_text n (record_of t)) (sym is.block)
 
 -- it is written
-written-next : (sc : Scenario) (is_plain : Bool) (told mid : Option (List Turn)) (k : Kept) (held mid_held after_held : Option (List ℕ)) (newest passed : ℕ) (t : Turn)
+written-next : (sc : Scenario) (is_plain : Bool) (told mid : Option (List Turn)) (k : KeptWorld) (held mid_held after_held : Option (List ℕ)) (newest passed : ℕ) (t : Turn)
     → (is : IsWritten sc is_plain told mid k held mid_held newest passed) → Appends mid_held after_held (turn_text newest (record_of t))
     → Appends held after_held (text_of (is.turns ++ t ∷ []))
 written-next sc is_plain told mid k held mid_held after_held newest passed t is now =
     subst (λ text. Appends held after_held text) (sym (text-next sc is_plain told mid k held mid_held newest passed t is)) (appends_join held mid_held after_held _ _ is.text now)
 
 -- and the run goes on
-pub one-written : (sc : Scenario) (is_plain : Bool) (told mid since : Option (List Turn)) (k after : Kept) (held mid_held after_held : Option (List ℕ)) (newest next passed : ℕ) (t : Turn)
+pub one-written : (sc : Scenario) (is_plain : Bool) (told mid since : Option (List Turn)) (k after : KeptWorld) (held mid_held after_held : Option (List ℕ)) (newest next passed : ℕ) (t : Turn)
     → (is : IsWritten sc is_plain told mid k held mid_held newest passed) → Next sc is_plain told mid since k after held mid_held newest passed t is
     → Appends mid_held after_held (turn_text newest (record_of t)) → next ≡ newest_with newest (record_of t) → end_at (record_of t) ≡ None
     → IsWritten sc is_plain told since after held after_held next (passed + 1)
@@ -58,7 +58,7 @@ one-written sc is_plain told mid since k after held mid_held after_held newest n
 }
 
 -- or ends
-pub all-written : (sc : Scenario) (is_plain : Bool) (told mid since : Option (List Turn)) (k after : Kept) (held mid_held after_held : Option (List ℕ)) (newest passed : ℕ) (t : Turn) (e : Ending)
+pub all-written : (sc : Scenario) (is_plain : Bool) (told mid since : Option (List Turn)) (k after : KeptWorld) (held mid_held after_held : Option (List ℕ)) (newest passed : ℕ) (t : Turn) (e : Ending)
     → (is : IsWritten sc is_plain told mid k held mid_held newest passed) → Next sc is_plain told mid since k after held mid_held newest passed t is
     → Appends mid_held after_held (turn_text newest (record_of t)) → end_at (record_of t) ≡ Some e → WritesAll sc is_plain told since held after_held
 all-written sc is_plain told mid since k after held mid_held after_held newest passed t e is given now ends = record {
@@ -70,7 +70,7 @@ all-written sc is_plain told mid since k after held mid_held after_held newest p
 }
 
 -- or only a first part of it is written
-pub part-written : (sc : Scenario) (is_plain : Bool) (told mid since : Option (List Turn)) (k after : Kept) (held mid_held after_held : Option (List ℕ)) (newest passed : ℕ) (t : Turn)
+pub part-written : (sc : Scenario) (is_plain : Bool) (told mid since : Option (List Turn)) (k after : KeptWorld) (held mid_held after_held : Option (List ℕ)) (newest passed : ℕ) (t : Turn)
     → (is : IsWritten sc is_plain told mid k held mid_held newest passed) → Next sc is_plain told mid since k after held mid_held newest passed t is
     → AppendsPart mid_held after_held (turn_text newest (record_of t)) → WritesPart sc is_plain told since held after_held
 part-written sc is_plain told mid since k after held mid_held after_held newest passed t is given now = record {

@@ -20,12 +20,12 @@ use Rattle.rb_world.specs.declared.ties.Ties.TheVariants.{First}
 use Rattle.rb_world.specs.Driving.{GoesAlike, Tells, bare}
 use Rattle.rb_world.specs.Nexts.{GoesToNext, is_last}
 use Rattle.rb_world.specs.Numbering.{GoesInRounds, IsNextRecord}
-use Rattle.rb_world.specs.Worlds.{Kept, Stands}
+use Rattle.rb_world.specs.Worlds.{KeptWorld, Stands}
 use Rattle.rb_world.proofs.LastTurn.{reached-ended, reached-gave}
 use Rattle.rb_world.proofs.Numbered.{alike-in-rounds, alike-last, next-in-rounds}
 
 -- these turns were given, and the run has ended or not
-pub record IsUnderWay (sc : Scenario) (is_plain : Bool) (told since : Option (List Turn)) (k : Kept) (turns : List Turn) (over : Bool) : Type 0 where
+pub record IsUnderWay (sc : Scenario) (is_plain : Bool) (told since : Option (List Turn)) (k : KeptWorld) (turns : List Turn) (over : Bool) : Type 0 where
   pub world : World
   pub stands : Stands k world
   pub bus : k.bus ≡ sc
@@ -101,7 +101,7 @@ last-some None e = absurd (cc)
 last-some (Some r) e = (r, refl)
 
 -- where nothing was given, the run has not ended
-not-over : (k : Kept) → (begun : HasGivenNothing k) → begun.world.book.ended ≡ false
+not-over : (k : KeptWorld) → (begun : HasGivenNothing k) → begun.world.book.ended ≡ false
 not-over k begun = by begun.world.book.ended refl
   where
     by : (b : Bool) → begun.world.book.ended ≡ b → begun.world.book.ended ≡ false
@@ -111,7 +111,7 @@ not-over k begun = by begun.world.book.ended refl
         let gave = reached-gave k.bus begun.world begun.stands.reached some.0 some.1 in
         absurd (no-record some.0 gave.0 (sym begun.given ∙ gave.1))
 
-pub begins : (k : Kept) (is_plain : Bool) (told : Option (List Turn)) → HasGivenNothing k → IsUnderWay k.bus is_plain told told k [] false
+pub begins : (k : KeptWorld) (is_plain : Bool) (told : Option (List Turn)) → HasGivenNothing k → IsUnderWay k.bus is_plain told told k [] false
 begins k is_plain told begun = record {
   world = begun.world;
   stands = begun.stands;
@@ -129,7 +129,7 @@ same-record : (xs : List Record) (n : ℕ) (a b : Record) → slice_get xs n ≡
 same-record xs n a b x y = let both : Some a ≡ Some b = sym x ∙ y in cc
 
 -- what the next call gives
-pub goes : (sc : Scenario) (is_plain now : Bool) (told mid since : Option (List Turn)) (k after : Kept) (turns : List Turn) (t : Turn) → IsUnderWay sc is_plain told mid k turns false
+pub goes : (sc : Scenario) (is_plain now : Bool) (told mid since : Option (List Turn)) (k after : KeptWorld) (turns : List Turn) (t : Turn) → IsUnderWay sc is_plain told mid k turns false
     → now ≡ is_plain → (now ≡ true → (w : World) → Stands k w → GoesToNext First k after t w) → ((w : World) → Stands k w → GoesAlike k after t w)
     → after.bus ≡ k.bus → Tells mid since t → IsUnderWay sc is_plain told since after (turns ++ t ∷ []) (is_last (record_of t))
 goes sc is_plain now told mid since k after turns t is stays plain alike bus tells =
@@ -162,7 +162,7 @@ goes sc is_plain now told mid since k after turns t is stays plain alike bus tel
 
 -- What is known of it.
 
-first-given : (sc : Scenario) (is_plain : Bool) (told since : Option (List Turn)) (k : Kept) (turns : List Turn) (over : Bool) → (is : IsUnderWay sc is_plain told since k turns over)
+first-given : (sc : Scenario) (is_plain : Bool) (told since : Option (List Turn)) (k : KeptWorld) (turns : List Turn) (over : Bool) → (is : IsUnderWay sc is_plain told since k turns over)
     → IsPrefix is.world.book.given (records_of sc [])
 first-given sc is_plain told since k turns over is =
     let rounds = events-hold k.bus is.stands.lawful in
@@ -172,7 +172,7 @@ first-given sc is_plain told since k turns over is =
     let none : IsPrefix is.world.book.given (records_of k.bus []) = subst (λ (hands : List HandIn). IsPrefix is.world.book.given (records_of k.bus hands)) is.hands first in
     subst (λ (s : Scenario). IsPrefix is.world.book.given (records_of s [])) is.bus none
 
-pub are-given : (sc : Scenario) (is_plain : Bool) (told since : Option (List Turn)) (k : Kept) (turns : List Turn) (over : Bool) → IsUnderWay sc is_plain told since k turns over
+pub are-given : (sc : Scenario) (is_plain : Bool) (told since : Option (List Turn)) (k : KeptWorld) (turns : List Turn) (over : Bool) → IsUnderWay sc is_plain told since k turns over
     → AreGiven sc is_plain told since turns
 are-given sc is_plain told since k turns over is = record {
   records = is.world.book.given;
@@ -182,13 +182,13 @@ are-given sc is_plain told since k turns over is = record {
   told = is.tells;
 }
 
-many-given : (sc : Scenario) (is_plain : Bool) (told since : Option (List Turn)) (k : Kept) (turns : List Turn) (over : Bool) → (is : IsUnderWay sc is_plain told since k turns over)
+many-given : (sc : Scenario) (is_plain : Bool) (told since : Option (List Turn)) (k : KeptWorld) (turns : List Turn) (over : Bool) → (is : IsUnderWay sc is_plain told since k turns over)
     → length turns ≡ length is.world.book.given
 many-given sc is_plain told since k turns over is =
     sym (length-map turns bare) ∙ ap length is.alike ∙ length-map is.world.book.given (λ r. bare (turn_of r))
 
 -- so many turns are few
-pub few-turns : (sc : Scenario) (is_plain : Bool) (told since : Option (List Turn)) (k : Kept) (turns : List Turn) (over : Bool) → IsUnderWay sc is_plain told since k turns over
+pub few-turns : (sc : Scenario) (is_plain : Bool) (told since : Option (List Turn)) (k : KeptWorld) (turns : List Turn) (over : Bool) → IsUnderWay sc is_plain told since k turns over
     → length turns < 2 ^ 31
 few-turns sc is_plain told since k turns over is =
     let many = many-given sc is_plain told since k turns over is in
@@ -197,7 +197,7 @@ few-turns sc is_plain told since k turns over is =
     let few = few-records sc [] (subst IsLawful is.bus is.stands.lawful) in
     omega (arith, many, all, few)
 
-whole-given : (sc : Scenario) (is_plain : Bool) (told since : Option (List Turn)) (k : Kept) (turns : List Turn) → (is : IsUnderWay sc is_plain told since k turns true)
+whole-given : (sc : Scenario) (is_plain : Bool) (told since : Option (List Turn)) (k : KeptWorld) (turns : List Turn) → (is : IsUnderWay sc is_plain told since k turns true)
     → is.world.book.given ≡ records_of sc []
 whole-given sc is_plain told since k turns is =
     let reached = is.stands.reached in
@@ -206,7 +206,7 @@ whole-given sc is_plain told since k turns is =
     whole ∙ ap (records_of k.bus) is.hands ∙ ap (λ (s : Scenario). records_of s []) is.bus
 
 -- at the end all were given
-pub are-all : (sc : Scenario) (is_plain : Bool) (told since : Option (List Turn)) (k : Kept) (turns : List Turn) → IsUnderWay sc is_plain told since k turns true → AreAll sc turns
+pub are-all : (sc : Scenario) (is_plain : Bool) (told since : Option (List Turn)) (k : KeptWorld) (turns : List Turn) → IsUnderWay sc is_plain told since k turns true → AreAll sc turns
 are-all sc is_plain told since k turns is =
     many-given sc is_plain told since k turns true is ∙ ap length (whole-given sc is_plain told since k turns is)
 
@@ -221,12 +221,12 @@ last-map f [] (Some x) p y none some e = (x, (refl, let both : Some (f x) ≡ So
 last-map f (x ∷ xs) o p y none some e = last-map f xs (Some x) (Some (f x)) y (λ e. absurd (cc)) (λ z e. let same : x ≡ z = cc in ap (λ v. Some (f v)) same) e
 
 -- where the last of them ends the run, it has ended
-pub finished : (sc : Scenario) (is_plain : Bool) (told since : Option (List Turn)) (k : Kept) (turns : List Turn) (t : Turn) (e : Ending)
+pub finished : (sc : Scenario) (is_plain : Bool) (told since : Option (List Turn)) (k : KeptWorld) (turns : List Turn) (t : Turn) (e : Ending)
     → IsUnderWay sc is_plain told since k turns (is_last (record_of t)) → end_at (record_of t) ≡ Some e → IsUnderWay sc is_plain told since k turns true
 finished sc is_plain told since k turns t e is ends = subst (λ over. IsUnderWay sc is_plain told since k turns over) (ends-last (record_of t) e ends) is
 
 -- and it ends as that turn says
-pub ends-so : (sc : Scenario) (is_plain : Bool) (told since : Option (List Turn)) (k : Kept) (turns : List Turn) (t : Turn) (e : Ending)
+pub ends-so : (sc : Scenario) (is_plain : Bool) (told since : Option (List Turn)) (k : KeptWorld) (turns : List Turn) (t : Turn) (e : Ending)
     → IsUnderWay sc is_plain told since k (turns ++ t ∷ []) (is_last (record_of t)) → end_at (record_of t) ≡ Some e → EndsWith sc e
 ends-so sc is_plain told since k turns t e going ends =
     let is : IsUnderWay sc is_plain told since k (turns ++ t ∷ []) true = finished sc is_plain told since k (turns ++ t ∷ []) t e going ends in

@@ -4,8 +4,6 @@
 mod counting;
 pub mod ending;
 mod report;
-#[cfg(test)]
-mod tests;
 pub mod totals;
 
 pub use counting::tally;

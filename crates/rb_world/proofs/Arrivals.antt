@@ -34,7 +34,7 @@ use Rattle.rb_order.proofs.PendingLists.{StandsAt}
 use Rattle.rb_order.proofs.Receiving.{every-stands}
 use Rattle.rb_order.proofs.SameHeard.{Every}
 use Rattle.rb_order.proofs.WorldNodes.{worlds-known}
-use Rattle.rb_site.specs.Sites.{Kept as KeptSite, Stands as StandsFor, number_of as number_of_kept}
+use Rattle.rb_site.specs.Sites.{KeptSite, Stands as StandsFor, number_of as number_of_kept}
 use Rattle.rb_traffic.specs.Arriving.{number_of}
 use Rattle.rb_world.specs.declared.scene.Scene.{Scene}
 use Rattle.rb_world.specs.Steps.{MayHappen, moved}

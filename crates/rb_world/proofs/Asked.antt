@@ -17,9 +17,9 @@ use Rattle.rb_rules.specs.WorldStep.Pending.{Tick, Arrival}
 use Rattle.rb_agenda.specs.Agenda.{IsDue}
 use Rattle.rb_agenda.specs.Holding.{due_with}
 use Rattle.rb_agenda.proofs.Which.{has-item}
-use Rattle.rb_site.specs.Sites.{Kept as KeptSite}
+use Rattle.rb_site.specs.Sites.{KeptSite}
 use Rattle.rb_traffic.specs.Arriving.{number_of}
-use Rattle.rb_world.specs.Worlds.{Kept, Stands, due_in}
+use Rattle.rb_world.specs.Worlds.{KeptWorld, Stands, due_in}
 use Rattle.rb_world.proofs.Idle.{due-busy}
 use Rattle.rb_world.proofs.Told.{got-is}
 use Rattle.rb_world.proofs.Turns.{due-is-now}
@@ -29,23 +29,23 @@ event-node sc ports me i c (Tick k) = refl
 event-node sc ports me i c (Arrival place a) = refl
 
 -- the node of the event that is due at a place
-pub node-at : (k : Kept) (w : World) (i place : ℕ) (name : NodeName) → Stands k w → i < due_in k → IsDue k.bus w k.scene.agenda i name place
+pub node-at : (k : KeptWorld) (w : World) (i place : ℕ) (name : NodeName) → Stands k w → i < due_in k → IsDue k.bus w k.scene.agenda i name place
     → option_map (λ (e : Event). e.node) (event_at k.bus w i) ≡ Some name
 unfolding event_at
 node-at k w i place name is below due =
-    let d : Due = due_with due.side due.number _ due.site due.event in
+    let d : Due = due_with due.side due.number due.site due.event in
     let found : slice_get (due_of k.bus w) i ≡ Some d = ap (λ (l : List Due). slice_get l i) (due-is-now k.bus w (due-busy k w i is below)) ∙ due.due in
     ap (λ o. option_map (λ (e : Event). e.node) (option_and_then (λ (d : Due). option_map (λ (s : Site). event_of k.bus w.ports d.side d.node s.core d.pending) (slice_get (of_kind d.side w.sites) d.node)) o)) found
     ∙ ap (λ o. option_map (λ (e : Event). e.node) (option_map (λ (s : Site). event_of k.bus w.ports due.side due.number s.core d.pending) o)) due.there
     ∙ ap (λ n. Some n) (event-node k.bus w.ports due.side due.number due.site.core d.pending ∙ sym due.named)
 
 -- the frame in which a node is
-pub frame-at : (k : Kept) (w : World) (me : Side) (i : ℕ) (site : KeptSite) (s : Site) → Stands k w → slice_get (of_kind me k.nodes) i ≡ Some site
+pub frame-at : (k : KeptWorld) (w : World) (me : Side) (i : ℕ) (site : KeptSite) (s : Site) → Stands k w → slice_get (of_kind me k.nodes) i ≡ Some site
     → slice_get (of_kind me w.sites) i ≡ Some s → site.node.seat.state.frame ≡ s.core.state.frame
 frame-at k w me i site s is kept there = sym (ap (λ st. st.frame) ((is.nodes me).each i site s kept there).site.core.state)
 
 -- a node of the bus is kept
-pub node-within : (k : Kept) (w : World) (name : NodeName) (me : Side) (i : ℕ) → Stands k w → IsNodeOf k.bus.sizes name → name ≡ name_of me i → i < length (of_kind me k.nodes)
+pub node-within : (k : KeptWorld) (w : World) (name : NodeName) (me : Side) (i : ℕ) → Stands k w → IsNodeOf k.bus.sizes name → name ≡ name_of me i → i < length (of_kind me k.nodes)
 node-within k w name me i is node named =
     let within : i < count_of me k.bus.sizes = by me (subst (IsNodeOf k.bus.sizes) named node) in
     let many : length (of_kind me k.nodes) ≡ count_of me k.bus.sizes = (is.nodes me).many in
@@ -55,7 +55,7 @@ node-within k w name me i is node named =
     by Biu h = h
     by Rmu h = h
 
-pub frame-named : (k : Kept) (w : World) (name : NodeName) (me : Side) (i frame : ℕ) (site : KeptSite) (s : Site) → Stands k w → IsNodeOf k.bus.sizes name → name ≡ name_of me i
+pub frame-named : (k : KeptWorld) (w : World) (name : NodeName) (me : Side) (i frame : ℕ) (site : KeptSite) (s : Site) → Stands k w → IsNodeOf k.bus.sizes name → name ≡ name_of me i
     → site ≡ get_or (of_kind me k.nodes) i site → frame ≡ site.node.seat.state.frame → slice_get (of_kind (kind_of name) w.sites) (number_of name) ≡ Some s → frame ≡ s.core.state.frame
 frame-named k w name me i frame site s is node named got frame_is there =
     let found = has-item (of_kind me k.nodes) i (node-within k w name me i is node named) in

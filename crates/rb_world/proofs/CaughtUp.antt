@@ -20,7 +20,7 @@ use Rattle.rb_agenda.specs.Holding.{HoldsSites}
 use Rattle.rb_agenda.proofs.Which.{has-item}
 use Rattle.rb_book.proofs.Noting.{same-shown}
 use Rattle.rb_order.proofs.WorldStands.{back-from, get-at, is_node, node-itself, not-other}
-use Rattle.rb_site.specs.Sites.{Kept as KeptSite, number_of}
+use Rattle.rb_site.specs.Sites.{KeptSite, number_of}
 use Rattle.rb_sweep.specs.AheadOf.{ahead_of, each_swept, until_tick}
 use Rattle.rb_sweep.proofs.Calls.{nobody-is-ahead}
 use Rattle.rb_sweep.specs.Sweeping.{swept}

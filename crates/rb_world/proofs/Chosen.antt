@@ -5,13 +5,13 @@ use Rattle.rb_base.specs.declared.node.NodeName.{NodeName}
 use Rattle.rb_rules.specs.Book.{Each}
 use Rattle.rb_rules.specs.WorldStep.{Due, Pending as Waits, World}
 use Rattle.rb_rules.specs.WorldStep.Pending.{Tick, Arrival}
-use Rattle.rb_queue.specs.declared.pending.Pending.{Pending}
-use Rattle.rb_queue.specs.Waiting.{Held, lane_of, ready_of, without_found, without_ready}
+use Rattle.rb_queue.specs.Waiting.{Held, Ready, lane_of, ready_of, without_found, without_ready}
+use Rattle.rb_queue.specs.Waiting.Ready.{Comes, Ticks}
 use Rattle.rb_agenda.specs.Agenda.{Takes, TakesDue, first_time}
 use Rattle.rb_agenda.specs.Holding.{without_waiting}
 use Rattle.rb_world.specs.Buses.{HaveRooms}
 use Rattle.rb_world.specs.Steps.{MayHappen}
-use Rattle.rb_world.specs.Worlds.{Kept, Stands, due_in}
+use Rattle.rb_world.specs.Worlds.{KeptWorld, Stands, due_in}
 use Rattle.rb_world.proofs.Around.{Pends, pends-more}
 use Rattle.rb_world.proofs.Idle.{due-busy}
 use Rattle.rb_world.proofs.Lanes.{rooms-with}
@@ -24,12 +24,13 @@ waits-pends (Arrival place c) = record { row = λ s. refl; begun = λ s. refl; r
 room-left : (place : ℕ) (lane : Held) → (without_ready place lane).room ≡ lane.room
 room-left place lane = by (slice_get (ready_of lane) place)
   where
-    by : (o : Option (ℕ × Pending)) → (without_found o lane).room ≡ lane.room
+    by : (o : Option Ready) → (without_found o lane).room ≡ lane.room
     by None = refl
-    by (Some c) = refl
+    by (Some (Comes n c)) = refl
+    by (Some Ticks) = refl
 
 -- it is due in the world, and what surrounds the nodes stands for the world without it
-pub may-happen : (k : Kept) (w : World) (i : ℕ) (name : NodeName) (event : Event) (lanes : Each Held) → Stands k w → i < due_in k → Takes k.scene.agenda i name event lanes
+pub may-happen : (k : KeptWorld) (w : World) (i : ℕ) (name : NodeName) (event : Event) (lanes : Each Held) → Stands k w → i < due_in k → Takes k.scene.agenda i name event lanes
     → TakesDue k.bus w i (first_time k.scene.agenda) name event lanes
     → (d : Due) × MayHappen k.bus k.nodes (record k.scene { agenda = lanes }) (first_time k.scene.agenda) name event w i d
 may-happen k w i name event lanes is below takes due =

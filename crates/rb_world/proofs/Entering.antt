@@ -1,6 +1,5 @@
 -- A node enters a window, or not.
-use Rattle.std.proofs.Common.{◌≡◌, ℕ, ◌+◌, ◌≤◌, true, false, Some, None, List, [], ◌++◌, length, map, slice_get, refl, sym, ap, ◌∙◌, subst, arith, length-append}
-use Rattle.std.proofs.lemmas.List.{length-map}
+use Rattle.std.proofs.Common.{◌≡◌, ℕ, ◌+◌, ◌≤◌, true, false, Some, None, List, [], ◌++◌, length, slice_get, refl, sym, ap, ◌∙◌, subst, arith, length-append}
 use Rattle.std.specs.Prelude.{option_map, unwrap_or}
 use Rattle.rb_base.specs.Nodes.{Side, other}
 use Rattle.rb_base.specs.Nodes.Side.{Biu, Rmu}
@@ -16,8 +15,8 @@ use Rattle.rb_queue.specs.Waiting.{HasLane, Held, lane_of, spare_of, with_lane}
 use Rattle.rb_agenda.proofs.Keeping.{lane-with}
 use Rattle.rb_agenda.specs.Holding.{HoldsSites}
 use Rattle.rb_order.proofs.WorldStands.{get-at, is_node, node-itself}
-use Rattle.rb_site.specs.Sites.{Kept as KeptSite}
-use Rattle.rb_traffic.specs.Arriving.{arriving, number_of}
+use Rattle.rb_site.specs.Sites.{KeptSite}
+use Rattle.rb_traffic.specs.Arriving.{number_of}
 use Rattle.rb_traffic.specs.Saying.{hears, with_arrivals}
 use Rattle.rb_world.specs.declared.scene.Scene.{Scene}
 use Rattle.rb_world.specs.Buses.{HaveRooms}
@@ -43,11 +42,11 @@ hears-pends : (sc : Scenario) (name : NodeName) (span : Span) → Pends (hears s
 hears-pends sc name span = record { row = λ s. refl; begun = λ s. refl; runs = λ s. refl }
 
 pub says-around : (sc : Scenario) (scene : Scene) (lanes : Each Held) (w : World) (name : NodeName) (span : Span) (more : List Coming) → HasLane scene.agenda name
-    → lanes ≡ with_lane name (with_arrivals name more (lane_of scene.agenda name)) scene.agenda → HoldsSites sc.sizes lanes (at_node (kind_of name) (number_of name) (hears sc name span) w.sites)
+    → lanes ≡ with_lane name (with_arrivals more (lane_of scene.agenda name)) scene.agenda → HoldsSites sc.sizes lanes (at_node (kind_of name) (number_of name) (hears sc name span) w.sites)
     → Surrounds sc scene w → Surrounds sc (record scene { agenda = lanes }) (moved (kind_of name) (number_of name) (hears sc name span) w)
 says-around sc scene lanes w name span more there after holds is =
     pends-more sc scene lanes w (kind_of name) (number_of name) (hears sc name span) (hears-pends sc name span) is holds
-    (subst (HaveRooms sc) (sym after) (rooms-with sc scene.agenda name (with_arrivals name more (lane_of scene.agenda name)) is.rooms there refl))
+    (subst (HaveRooms sc) (sym after) (rooms-with sc scene.agenda name (with_arrivals more (lane_of scene.agenda name)) is.rooms there refl))
 
 -- the site of a node that has changed
 pub changed-there : (me : Side) (i : ℕ) (change : Site → Site) (w : World) (s : Site) → slice_get (of_kind me w.sites) i ≡ Some s
@@ -108,16 +107,15 @@ await-named sc Rmu i w = refl
 
 -- there is room for the next tick then
 pub spare-said : (sc : Scenario) (lanes after : Each Held) (name : NodeName) (span : Span) → HasLane lanes name
-    → after ≡ with_lane name (with_arrivals name (says_in sc (kind_of name) (number_of name) span) (lane_of lanes name)) lanes
+    → after ≡ with_lane name (with_arrivals (says_in sc (kind_of name) (number_of name) span) (lane_of lanes name)) lanes
     → length sc.says + 1 ≤ spare_of (lane_of lanes name) → 1 ≤ spare_of (lane_of after name)
 spare-said sc lanes after name span there is spare =
     let more : List Coming = says_in sc (kind_of name) (number_of name) span in
     let lane : Held = lane_of lanes name in
-    let now : lane_of after name ≡ with_arrivals name more lane = ap (λ ls. lane_of ls name) is ∙ lane-with lanes name (with_arrivals name more lane) there in
-    let many : length (lane.events ++ map (arriving name) more) ≡ length lane.events + length (map (arriving name) more) = length-append lane.events (map (arriving name) more) in
-    let each : length (map (arriving name) more) ≡ length more = length-map more (arriving name) in
+    let now : lane_of after name ≡ with_arrivals more lane = ap (λ ls. lane_of ls name) is ∙ lane-with lanes name (with_arrivals more lane) there in
+    let many : length (lane.arrivals ++ more) ≡ length lane.arrivals + length more = length-append lane.arrivals more in
     let few : length more ≤ length sc.says = says-few sc (kind_of name) (number_of name) span in
-    let left : 1 ≤ spare_of (with_arrivals name more lane) = omega (arith, many, each, few, spare) in
+    let left : 1 ≤ spare_of (with_arrivals more lane) = omega (arith, many, few, spare) in
     subst (λ l. 1 ≤ spare_of l) (sym now) left
 
 -- The node has gone on.

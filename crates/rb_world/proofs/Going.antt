@@ -7,7 +7,6 @@ use Rattle.std.proofs.lemmas.List.{append-nil}
 use Rattle.rb_base.specs.Nodes.{Side, has, other, set_of}
 use Rattle.rb_base.specs.Nodes.Side.{Biu, Rmu}
 use Rattle.rb_base.specs.Sizes.{IsShape}
-use Rattle.rb_base.specs.declared.event.Event.{Event}
 use Rattle.rb_base.specs.declared.node.NodeName.{NodeName}
 use Rattle.rb_base.specs.declared.node.NodeName.TheVariants as node
 use Rattle.rb_base.proofs.Sets.{has-set_of, has_above, set_of-lt}
@@ -20,14 +19,13 @@ use Rattle.rb_rules.specs.Lawful.{kind_of}
 use Rattle.rb_rules.specs.Links.{name_of}
 use Rattle.rb_rules.specs.Slots.{count_of}
 use Rattle.rb_rules.specs.WorldStep.{Site, Timed, World, at_node, await, says_in, stop}
-use Rattle.rb_queue.specs.Waiting.{HasLane, Held, empty_lane, lane_of, with_event, with_lane, without_events}
-use Rattle.rb_queue.specs.declared.pending.Pending.{Pending}
-use Rattle.rb_agenda.specs.Holding.{HoldsSite, HoldsSites, coming_with, tick_with}
+use Rattle.rb_queue.specs.Waiting.{HasLane, Held, empty_lane, lane_of, with_lane, with_tick, without_events}
+use Rattle.rb_agenda.specs.Holding.{HoldsSite, HoldsSites}
 use Rattle.rb_agenda.proofs.Changes.{holds-at, holds-nothing, holds-tick}
 use Rattle.rb_book.specs.Holding.{Holds}
 use Rattle.rb_port.specs.Keeping.{KeptPort}
 use Rattle.rb_node.specs.Cores.{next_of}
-use Rattle.rb_site.specs.Sites.{Kept as KeptSite}
+use Rattle.rb_site.specs.Sites.{KeptSite}
 use Rattle.rb_order.proofs.WorldStands.{is_node, node-is, not-other}
 use Rattle.rb_traffic.specs.Arriving.{AreRunning, number_of}
 use Rattle.rb_world.specs.declared.scene.Scene.{Scene}
@@ -183,20 +181,19 @@ lane-around sc before after w me i new change there lanes pends step is = record
 await-pends : (sc : Scenario) (me : Side) (i : ℕ) (more : List Coming) → Pends (await sc me i more)
 await-pends sc me i more = record { row = λ s. refl; begun = λ s. refl; runs = λ s. refl }
 
-pub await-some : (sc : Scenario) (before after : Scene) (w : World) (me : Side) (i k : ℕ) (p : Pending) → HasLane before.agenda (name_of me i)
-    → Lanes me i (with_event p (lane_of before.agenda (name_of me i))) before after → coming_with p.time p.event.kind ≡ None
-    → tick_with p.time p.event.kind ≡ Some (time_of (clock_of sc me i) k)
+pub await-some : (sc : Scenario) (before after : Scene) (w : World) (me : Side) (i k : ℕ) (time : ℕ) → HasLane before.agenda (name_of me i)
+    → Lanes me i (with_tick time (lane_of before.agenda (name_of me i))) before after → time ≡ time_of (clock_of sc me i) k
     → ((s : Site) → slice_get (of_kind me w.sites) i ≡ Some s → next_tick sc.sizes sc.plan me i s.core ≡ Some k)
     → ((s : Site) → slice_get (of_kind me w.sites) i ≡ Some s → s.ahead ≡ None)
     → Surrounds sc before w → Surrounds sc after (moved me i (await sc me i []) w)
-await-some sc before after w me i k p there lanes none is_tick next ahead is =
+await-some sc before after w me i k time there lanes time_is next ahead is =
     let lane : Held = lane_of before.agenda (name_of me i) in
     let a : Timed = record { tick = k; time = time_of (clock_of sc me i) k } in
-    lane-around sc before after w me i (with_event p lane) (await sc me i []) there lanes (await-pends sc me i [])
+    lane-around sc before after w me i (with_tick time lane) (await sc me i []) there lanes (await-pends sc me i [])
     (λ s at holds.
-    holds-site sc.sizes me (with_event p lane) (record s { ahead = Some a }) (await sc me i [] s) (append-nil s.coming)
+    holds-site sc.sizes me (with_tick time lane) (record s { ahead = Some a }) (await sc me i [] s) (append-nil s.coming)
     (ap (option_map (λ k. record { tick = k; time = time_of (clock_of sc me i) k })) (next s at))
-    (holds-tick sc.sizes me lane s p a holds (ahead s at) none is_tick)) is
+    (subst (λ t. HoldsSite sc.sizes me (with_tick t lane) (record s { ahead = Some a })) (sym time_is) (holds-tick sc.sizes me lane s a holds))) is
 
 set-own : (ls : List Held) (i : ℕ) → slice_set ls i (unwrap_or (slice_get ls i) (empty_lane 0)) ≡ ls
 set-own [] i = refl
@@ -235,28 +232,25 @@ name-is (node.Biu i) = refl
 name-is (node.Rmu i) = refl
 
 -- the tick is pushed
-pub await-push : (sc : Scenario) (before : Scene) (lanes : Each Held) (w : World) (name : NodeName) (me : Side) (k time : ℕ) (event : Event) (c : Core) (site : KeptSite)
-    → kind_of name ≡ me → HasLane before.agenda name → lanes ≡ with_lane name (with_event (record { time = time; event = event }) (lane_of before.agenda name)) before.agenda
-    → coming_with time event.kind ≡ None → tick_with time event.kind ≡ Some time → time ≡ time_of (clock_of sc (kind_of name) (number_of name)) k
+pub await-push : (sc : Scenario) (before : Scene) (lanes : Each Held) (w : World) (name : NodeName) (me : Side) (k time : ℕ) (c : Core) (site : KeptSite)
+    → kind_of name ≡ me → HasLane before.agenda name → lanes ≡ with_lane name (with_tick time (lane_of before.agenda name)) before.agenda
+    → time ≡ time_of (clock_of sc (kind_of name) (number_of name)) k
     → IsCoreAt sc me name site c w → Some k ≡ next_of me site.node c → Surrounds sc before w
     → Surrounds sc (record before { agenda = lanes }) (moved (kind_of name) (number_of name) (await sc me (number_of name) []) w)
-await-push sc before lanes w name me k time event c site kind there after none is_tick time_is at next is =
+await-push sc before lanes w name me k time c site kind there after time_is at next is =
     subst (λ k. Surrounds sc (record before { agenda = lanes }) (moved (kind_of name) (number_of name) (await sc k (number_of name) []) w)) kind
-    (await-some sc before (record before { agenda = lanes }) w (kind_of name) (number_of name) k p (subst (HasLane before.agenda) (sym (name-is name)) there)
+    (await-some sc before (record before { agenda = lanes }) w (kind_of name) (number_of name) k time (subst (HasLane before.agenda) (sym (name-is name)) there)
     (record {
-      lanes = subst (λ n. lanes ≡ with_lane n (with_event p (lane_of before.agenda n)) before.agenda) (sym (name-is name)) after;
+      lanes = subst (λ n. lanes ≡ with_lane n (with_tick time (lane_of before.agenda n)) before.agenda) (sym (name-is name)) after;
       room = refl;
       book = refl;
       ports = refl;
       biu = refl;
       rmu = refl;
-    }) none (is_tick ∙ ap (λ t. Some t) time_is)
+    }) time_is
     (λ s e. subst (λ d. next_tick sc.sizes sc.plan (kind_of name) (number_of name) d ≡ Some k) (sym (at.there s (subst (λ k. slice_get (of_kind k w.sites) (number_of name) ≡ Some s) kind e))) here)
     (λ s e. at.none_ahead s (subst (λ k. slice_get (of_kind k w.sites) (number_of name) ≡ Some s) kind e)) is)
   where
-    p : Pending
-    p = record { time = time; event = event }
-
     here : next_tick sc.sizes sc.plan (kind_of name) (number_of name) c ≡ Some k
     here =
         subst (λ m. next_tick sc.sizes sc.plan m (number_of name) c ≡ Some k) (sym kind)

@@ -18,12 +18,12 @@ use Rattle.rb_book.specs.declared.ledger.Ledger.{Ledger}
 use Rattle.rb_book.specs.declared.turn.Turn.{Turn}
 use Rattle.rb_order.proofs.OneTake.{settle-ports}
 use Rattle.rb_order.proofs.WorldNodes.{settle-sites}
-use Rattle.rb_site.specs.Sites.{Kept as KeptSite}
+use Rattle.rb_site.specs.Sites.{KeptSite}
 use Rattle.rb_sweep.specs.AheadOf.{GoesOnAhead, IsFirstTick}
 use Rattle.rb_sweep.proofs.Calls.{go-on-passes, nobody-is-ahead}
 use Rattle.rb_traffic.specs.Arriving.{AreRunning}
 use Rattle.rb_world.specs.declared.scene.Scene.{Scene}
-use Rattle.rb_world.specs.Worlds.{AreNodes, HoldsPorts, Kept, Stands, Surrounds, running_of}
+use Rattle.rb_world.specs.Worlds.{AreNodes, HoldsPorts, KeptWorld, Stands, Surrounds, running_of}
 use Rattle.rb_world.proofs.GoingOn.{going-settles}
 use Rattle.rb_world.proofs.Turns.{reached-more}
 use Rattle.rb_world.specs.Trailing.{BehindTick, GoesToTick, HappensFirst, Trails, alone}
@@ -54,7 +54,7 @@ around-settled sc way v scene book turn is settles =
 
 -- At first.
 
-pub trails-first : (k : Kept) (w : World) → Stands k w → Trails k.bus k.nodes k.scene (λ side j. 0) w w
+pub trails-first : (k : KeptWorld) (w : World) → Stands k w → Trails k.bus k.nodes k.scene (λ side j. 0) w w
 trails-first k w is = record {
   lawful = is.lawful;
   reached = is.reached;

@@ -18,7 +18,7 @@ use Rattle.rb_book.specs.declared.ledger.Ledger.{Ledger}
 use Rattle.rb_world.specs.Buses.{HaveRooms}
 use Rattle.rb_world.specs.declared.last.Last.TheVariants as last
 use Rattle.rb_world.specs.declared.scene.Scene.{Scene}
-use Rattle.rb_world.specs.Worlds.{AreNodes, HoldsPorts, IsReached, Kept, Stands, Surrounds, last_of, running_of}
+use Rattle.rb_world.specs.Worlds.{AreNodes, HoldsPorts, IsReached, KeptWorld, Stands, Surrounds, last_of, running_of}
 use Rattle.rb_world.proofs.Turns.{reached-more}
 
 -- Ports.
@@ -90,17 +90,17 @@ unfolding hand
 hand-is sc w biu state o e = ap (λ (o : Option ℕ). elim o as (λ _. World) [ None ↦ w | Some frame ↦ handed_if w biu state frame (is_good sc Biu biu frame 0) ]) e
 
 -- elsewhere than at the begin of a frame nothing changes
-pub hand-elsewhere : (k : Kept) (w : World) (biu state : ℕ) → Stands k w → ((frame : ℕ) → k.last ≡ last.Frame frame → ⊥) → Stands k (hand k.bus w biu state)
+pub hand-elsewhere : (k : KeptWorld) (w : World) (biu state : ℕ) → Stands k w → ((frame : ℕ) → k.last ≡ last.Frame frame → ⊥) → Stands k (hand k.bus w biu state)
 hand-elsewhere k w biu state is other =
     subst (Stands k) (sym (hand-is k.bus w biu state None (no-frame w.turn (λ f e. other f (is.last ∙ e))))) is
 
 -- nor at a BIU that is not good there
-pub hand-at-other : (k : Kept) (w : World) (biu state frame : ℕ) → Stands k w → k.last ≡ last.Frame frame → is_good k.bus Biu biu frame 0 ≡ false
+pub hand-at-other : (k : KeptWorld) (w : World) (biu state frame : ℕ) → Stands k w → k.last ≡ last.Frame frame → is_good k.bus Biu biu frame 0 ≡ false
     → Stands k (hand k.bus w biu state)
 hand-at-other k w biu state frame is at bad =
     subst (Stands k) (sym (hand-is k.bus w biu state (Some frame) (frame-kept w.turn frame (sym is.last ∙ at)) ∙ ap (handed_if w biu state frame) bad)) is
 
-handed-stands : (k : Kept) (scene : Scene) (w x : World) → Stands k w → IsReached k.bus x → x.sites ≡ w.sites → x.book ≡ w.book → x.turn ≡ w.turn
+handed-stands : (k : KeptWorld) (scene : Scene) (w x : World) → Stands k w → IsReached k.bus x → x.sites ≡ w.sites → x.book ≡ w.book → x.turn ≡ w.turn
     → Surrounds k.bus scene x → Stands (record k { scene = scene }) x
 handed-stands k scene w x is reached sites book turn around = record {
   lawful = is.lawful;
@@ -110,7 +110,7 @@ handed-stands k scene w x is reached sites book turn around = record {
   last = is.last ∙ ap last_of (sym turn);
 }
 
-pub hand-at-good : (k : Kept) (scene : Scene) (w : World) (biu state frame : ℕ) → Stands k w → k.last ≡ last.Frame frame → is_good k.bus Biu biu frame 0 ≡ true
+pub hand-at-good : (k : KeptWorld) (scene : Scene) (w : World) (biu state frame : ℕ) → Stands k w → k.last ≡ last.Frame frame → is_good k.bus Biu biu frame 0 ≡ true
     → Surrounds k.bus scene (with_hand w biu state frame) → Stands (record k { scene = scene }) (hand k.bus w biu state)
 hand-at-good k scene w biu state frame is at good around =
     let same : hand k.bus w biu state ≡ with_hand w biu state frame =

@@ -5,11 +5,11 @@ use Rattle.rb_rules.specs.WorldStep.{Due, World, due_of, needs_no_event}
 use Rattle.rb_agenda.specs.Agenda.{due_now, how_many}
 use Rattle.rb_book.specs.Settling.{is_free}
 use Rattle.rb_book.proofs.Due.{free-is}
-use Rattle.rb_world.specs.Worlds.{Kept, Stands, due_in}
+use Rattle.rb_world.specs.Worlds.{KeptWorld, Stands, due_in}
 use Rattle.rb_world.proofs.Turns.{due-is-now}
 
 -- the world says so where what is kept does
-idle-is : (k : Kept) (w : World) → Stands k w → (w.book.ended || needs_no_event k.bus w.book.upcoming) ≡ (k.scene.book.ended || is_free k.scene.book)
+idle-is : (k : KeptWorld) (w : World) → Stands k w → (w.book.ended || needs_no_event k.bus w.book.upcoming) ≡ (k.scene.book.ended || is_free k.scene.book)
 idle-is k w is =
     ap (λ b. b || needs_no_event k.bus w.book.upcoming) is.scene.book.ended ∙ ap (λ b. k.scene.book.ended || b) (free-is k.bus k.scene.book w is.scene.book)
 
@@ -17,31 +17,34 @@ or-true : (b : Bool) → (b || true) ≡ true
 or-true true = refl
 or-true false = refl
 
-pub ended-idle : (k : Kept) (w : World) → Stands k w → w.book.ended ≡ true → (w.book.ended || needs_no_event k.bus w.book.upcoming) ≡ true
+pub ended-idle : (k : KeptWorld) (w : World) → Stands k w → w.book.ended ≡ true → (w.book.ended || needs_no_event k.bus w.book.upcoming) ≡ true
 ended-idle k w is e = ap (λ b. b || needs_no_event k.bus w.book.upcoming) e
 
-pub free-idle : (k : Kept) (w : World) → Stands k w → needs_no_event k.bus w.book.upcoming ≡ true → (w.book.ended || needs_no_event k.bus w.book.upcoming) ≡ true
+pub free-idle : (k : KeptWorld) (w : World) → Stands k w → needs_no_event k.bus w.book.upcoming ≡ true → (w.book.ended || needs_no_event k.bus w.book.upcoming) ≡ true
 free-idle k w is e = ap (λ b. w.book.ended || b) e ∙ or-true w.book.ended
 
-pub busy : (k : Kept) (w : World) → w.book.ended ≡ false → needs_no_event k.bus w.book.upcoming ≡ false → (w.book.ended || needs_no_event k.bus w.book.upcoming) ≡ false
+pub busy : (k : KeptWorld) (w : World) → w.book.ended ≡ false → needs_no_event k.bus w.book.upcoming ≡ false → (w.book.ended || needs_no_event k.bus w.book.upcoming) ≡ false
 busy k w e f = ap (λ b. b || needs_no_event k.bus w.book.upcoming) e ∙ f
 
 -- then nothing is due
-pub none-due : (k : Kept) (w : World) → Stands k w → (w.book.ended || needs_no_event k.bus w.book.upcoming) ≡ true → due_in k ≡ 0
+pub none-due : (k : KeptWorld) (w : World) → Stands k w → (w.book.ended || needs_no_event k.bus w.book.upcoming) ≡ true → due_in k ≡ 0
 none-due k w is e = ap (λ b. elim b as (λ _. ℕ) [ true ↦ 0 | false ↦ how_many k.scene.agenda ]) (sym (idle-is k w is) ∙ e)
 
-pub none-due-then : (k : Kept) (w : World) → Stands k w → (w.book.ended || needs_no_event k.bus w.book.upcoming) ≡ true → length (due_of k.bus w) ≡ 0
+pub none-due-then : (k : KeptWorld) (w : World) → Stands k w → (w.book.ended || needs_no_event k.bus w.book.upcoming) ≡ true → length (due_of k.bus w) ≡ 0
 unfolding due_of
 none-due-then k w is e = ap (λ b. length (elim b as (λ _. List Due) [ true ↦ [] | false ↦ due_now k.bus w ])) e
 
 -- else all that is pending at the least time
-pub length-due : (k : Kept) (w : World) (n : ℕ) → (w.book.ended || needs_no_event k.bus w.book.upcoming) ≡ false → n ≡ length (due_now k.bus w) → n ≡ length (due_of k.bus w)
+pub length-due : (k : KeptWorld) (w : World) (n : ℕ) → (w.book.ended || needs_no_event k.bus w.book.upcoming) ≡ false → n ≡ length (due_now k.bus w) → n ≡ length (due_of k.bus w)
 length-due k w n e all = all ∙ sym (ap length (due-is-now k.bus w e))
+
+pub all-due : (k : KeptWorld) (w : World) (n : ℕ) → Stands k w → (w.book.ended || needs_no_event k.bus w.book.upcoming) ≡ false → n ≡ how_many k.scene.agenda → n ≡ due_in k
+all-due k w n is e all = all ∙ sym (ap (λ b. elim b as (λ _. ℕ) [ true ↦ 0 | false ↦ how_many k.scene.agenda ]) (sym (idle-is k w is) ∙ e))
 
 pub none-some : {n : ℕ} → n ≡ 0 → IsTrue false ↔ 0 < n
 none-some none = (λ yes. absurd (cc), λ some. absurd (omega (arith, none, some)))
 
-pub some-due : (k : Kept) (w : World) (b : Bool) → (w.book.ended || needs_no_event k.bus w.book.upcoming) ≡ false → IsTrue b ↔ 0 < length (due_now k.bus w)
+pub some-due : (k : KeptWorld) (w : World) (b : Bool) → (w.book.ended || needs_no_event k.bus w.book.upcoming) ≡ false → IsTrue b ↔ 0 < length (due_now k.bus w)
     → IsTrue b ↔ 0 < length (due_of k.bus w)
 some-due k w b e is = subst (λ l. IsTrue b ↔ 0 < length l) (sym (due-is-now k.bus w e)) is
 
@@ -53,7 +56,7 @@ no-more {n} {b} none some =
     ]
 
 -- where something is due by what is kept, the world is not idle
-pub due-busy : (k : Kept) (w : World) (i : ℕ) → Stands k w → i < due_in k → (w.book.ended || needs_no_event k.bus w.book.upcoming) ≡ false
+pub due-busy : (k : KeptWorld) (w : World) (i : ℕ) → Stands k w → i < due_in k → (w.book.ended || needs_no_event k.bus w.book.upcoming) ≡ false
 due-busy k w i is lt = by (w.book.ended || needs_no_event k.bus w.book.upcoming) refl
   where
     by : (b : Bool) → (w.book.ended || needs_no_event k.bus w.book.upcoming) ≡ b → b ≡ false

@@ -1,14 +1,11 @@
 -- Room in the lanes.
 use Rattle.std.proofs.Common.{◌≡◌, ℕ, zero, suc, ◌+◌, ◌<◌, ◌≤◌, Bool, true, false, Some, None, All, List, [], ◌∷◌, length, map, slice_get, refl, ap, subst, arith, length-append}
 use Rattle.std.specs.Prelude.{option_map, option_to_list, unwrap_or}
-use Rattle.std.specs.List.{cons_option}
 use Rattle.std.proofs.lemmas.List.{length-map}
 use Rattle.std.proofs.lemmas.List.Elements.{All-cons, All-head, All-nil, All-set, All-tail}
 use Rattle.rb_base.specs.Nodes.{Side}
 use Rattle.rb_base.specs.Nodes.Side.{Biu, Rmu}
 use Rattle.rb_base.specs.Sizes.{Sizes}
-use Rattle.rb_base.specs.declared.event.EventKind.{EventKind}
-use Rattle.rb_base.specs.declared.event.EventKind.TheVariants as kind
 use Rattle.rb_base.specs.declared.node.NodeName.{NodeName}
 use Rattle.rb_base.specs.declared.node.NodeName.TheVariants as node
 use Rattle.rb_rules.specs.Book.{Each, map_from, of_kind}
@@ -19,10 +16,9 @@ use Rattle.rb_rules.specs.Links.{name_of}
 use Rattle.rb_rules.specs.Slots.{count_of}
 use Rattle.rb_rules.specs.WorldStep.{Site, World, times_of}
 use Rattle.rb_order.specs.PendingEvents.{most_pending}
-use Rattle.rb_queue.specs.Waiting.{HasLane, Held, empty_lane, lane_of, spare_of, with_event, with_lane}
-use Rattle.rb_queue.specs.declared.pending.Pending.{Pending}
-use Rattle.rb_agenda.specs.Holding.{HoldsAll, HoldsSite, HoldsSites, arrivals_in, coming_with, tick_with, ticks_in}
-use Rattle.rb_traffic.specs.Arriving.{arriving, lane_with, lanes_with, number_of}
+use Rattle.rb_queue.specs.Waiting.{HasLane, Held, empty_lane, lane_of, spare_of, with_arrival, with_lane}
+use Rattle.rb_agenda.specs.Holding.{HoldsAll, HoldsSite, HoldsSites}
+use Rattle.rb_traffic.specs.Arriving.{lane_with, lanes_with, number_of}
 use Rattle.rb_world.specs.declared.scene.Scene.{Scene}
 use Rattle.rb_world.specs.Buses.{HasRoom, HaveRooms}
 use Rattle.rb_world.specs.Worlds.{Surrounds}
@@ -81,7 +77,7 @@ rooms-list sc me side coming p k (l ∷ ls) all =
     All-cons (HasRoom sc me) (lane_with side coming p k l) (map_from (k + 1) (lane_with side coming p) ls) (by (p k))
     (rooms-list sc me side coming p (k + 1) ls (All-tail (HasRoom sc me) l ls all))
   where
-    by : (b : Bool) → HasRoom sc me (elim b as (λ _. Held) [ true ↦ with_event (arriving (name_of side k) (coming k)) l | false ↦ l ])
+    by : (b : Bool) → HasRoom sc me (elim b as (λ _. Held) [ true ↦ with_arrival (coming k) l | false ↦ l ])
     by true = All-head (HasRoom sc me) l ls all
     by false = All-head (HasRoom sc me) l ls all
 
@@ -91,23 +87,15 @@ rooms-spread sc lanes Rmu coming p rooms = record { bius = rooms.bius; rmus = ro
 
 -- How much is pending.
 
-events-are : (events : List Pending) → length events ≡ length (arrivals_in events) + length (ticks_in events)
-events-are [] = refl
-events-are (p ∷ events) = by p.event.kind (events-are events)
-  where
-    by : (k : EventKind) → length events ≡ length (arrivals_in events) + length (ticks_in events)
-        → suc (length events) ≡ length (cons_option (coming_with p.time k) (arrivals_in events)) + length (cons_option (tick_with p.time k) (ticks_in events))
-    by (kind.Arrive from bytes) rest = omega (arith, rest)
-    by (kind.Tick word wanted) rest = omega (arith, rest)
-
-pub events-count : (sizes : Sizes) (me : Side) (lane : Held) (s : Site) → HoldsSite sizes me lane s → length lane.events ≡ length (times_of s)
+pub events-count : (sizes : Sizes) (me : Side) (lane : Held) (s : Site) → HoldsSite sizes me lane s
+    → length lane.arrivals + length (option_to_list lane.tick) ≡ length (times_of s)
 events-count sizes me lane s h =
     let ticks : List ℕ = option_to_list (option_map (λ a. a.time) s.ahead) in
     let long : length (times_of s) ≡ length ticks + length (map (λ c. c.time) s.coming) = length-append ticks (map (λ c. c.time) s.coming) in
     let many : length (map (λ c. c.time) s.coming) ≡ length s.coming = length-map s.coming (λ c. c.time) in
-    let arrived : length (arrivals_in lane.events) ≡ length s.coming = ap length h.coming in
-    let ahead : length (ticks_in lane.events) ≡ length ticks = ap length h.ahead in
-    omega (arith, events-are lane.events)
+    let arrived : length lane.arrivals ≡ length s.coming = ap length h.coming in
+    let ahead : length (option_to_list lane.tick) ≡ length ticks = ap (λ o. length (option_to_list o)) h.ahead in
+    omega (arith, long, many, arrived, ahead)
 
 none-some : {X : Type 0} (x : X) → None ≡ Some x → ⊥
 none-some x e = cc

@@ -10,7 +10,7 @@ use Rattle.rb_world.specs.declared.ties.Seeding.{Seeding}
 use Rattle.rb_world.specs.declared.ties.Ties.{Ties}
 use Rattle.rb_world.specs.Nexts.{GoesToNext, IsNext, RunsOn, Standing, TakesStep, TakesSteps, after_steps, begun_with, drawn, place_among, step, step_among}
 use Rattle.rb_world.specs.Turning.{Gives}
-use Rattle.rb_world.specs.Worlds.{Kept, Stands}
+use Rattle.rb_world.specs.Worlds.{KeptWorld, Stands}
 use Rattle.rb_world.proofs.Steps.{few-steps}
 
 -- One step.
@@ -26,7 +26,7 @@ among-busy sc ties (suc k) s state i some drawn_is is =
     ap (λ d. record { world = take sc s.world (place_among ties d (suc k)); draws = d }) (sym drawn_is)
     ∙ ap (λ j. record { world = take sc s.world j; draws = state }) (sym is)
 
-pub idle-step : (ties : Ties) (state due : ℕ) (k after : Kept) (turn : Turn) (w : World) → due ≡ length (due_of k.bus w) → due ≡ 0 → Gives after turn (go_on k.bus w)
+pub idle-step : (ties : Ties) (state due : ℕ) (k after : KeptWorld) (turn : Turn) (w : World) → due ≡ length (due_of k.bus w) → due ≡ 0 → Gives after turn (go_on k.bus w)
     → TakesStep ties state state k after turn w
 unfolding step
 idle-step ties state due k after turn w is none gives =
@@ -34,7 +34,7 @@ idle-step ties state due k after turn w is none gives =
     let same = among-idle k.bus ties (length (due_of k.bus w)) s (sym is ∙ none) in
     record { gives = subst (λ (z : Standing). Gives after turn z.world) (sym same) gives; draws = sym (ap (λ (z : Standing). z.draws) same) }
 
-pub busy-step : (ties : Ties) (state next due i : ℕ) (k after : Kept) (turn : Turn) (w : World) → due ≡ length (due_of k.bus w) → (due ≡ 0 → ⊥) → next ≡ drawn ties state
+pub busy-step : (ties : Ties) (state next due i : ℕ) (k after : KeptWorld) (turn : Turn) (w : World) → due ≡ length (due_of k.bus w) → (due ≡ 0 → ⊥) → next ≡ drawn ties state
     → i ≡ place_among ties next due → Gives after turn (take k.bus w i) → TakesStep ties state next k after turn w
 unfolding step
 busy-step ties state next due i k after turn w is some drawn_is at gives =
@@ -44,11 +44,11 @@ busy-step ties state next due i k after turn w is some drawn_is at gives =
 
 -- All steps.
 
-pub no-steps : (ties : Ties) (state : ℕ) (k : Kept) (w : World) → Stands k w → TakesSteps 0 ties state state k k w
+pub no-steps : (ties : Ties) (state : ℕ) (k : KeptWorld) (w : World) → Stands k w → TakesSteps 0 ties state state k k w
 unfolding after_steps
 no-steps ties state k w is = record { stands = is; draws = refl; quiet = λ m some le. absurd (omega (arith, some, le)) }
 
-step-on : (n : ℕ) (ties : Ties) (s0 s1 : ℕ) (before mid : Kept) (w : World) → TakesSteps n ties s0 s1 before mid w → mid.bus ≡ before.bus
+step-on : (n : ℕ) (ties : Ties) (s0 s1 : ℕ) (before mid : KeptWorld) (w : World) → TakesSteps n ties s0 s1 before mid w → mid.bus ≡ before.bus
     → step mid.bus ties (record { world = (after_steps before.bus ties n (record { world = w; draws = s0 })).world; draws = s1 })
     ≡ after_steps before.bus ties (suc n) (record { world = w; draws = s0 })
 unfolding after_steps
@@ -56,7 +56,7 @@ step-on n ties s0 s1 before mid w is bus =
     let x : Standing = after_steps before.bus ties n (record { world = w; draws = s0 }) in
     ap (λ b. step b ties (record { world = x.world; draws = s1 })) bus ∙ ap (λ d. step before.bus ties (record { world = x.world; draws = d })) is.draws
 
-pub more-steps : (n : ℕ) (ties : Ties) (s0 s1 s2 : ℕ) (before mid after : Kept) (turn : Turn) (w : World) → TakesSteps n ties s0 s1 before mid w → mid.bus ≡ before.bus
+pub more-steps : (n : ℕ) (ties : Ties) (s0 s1 s2 : ℕ) (before mid after : KeptWorld) (turn : Turn) (w : World) → TakesSteps n ties s0 s1 before mid w → mid.bus ≡ before.bus
     → TakesStep ties s1 s2 mid after turn (after_steps before.bus ties n (record { world = w; draws = s0 })).world → turn ≡ shown.Quiet
     → TakesSteps (n + 1) ties s0 s2 before after w
 more-steps n ties s0 s1 s2 before mid after turn w is bus taken quiet =
@@ -74,7 +74,7 @@ more-steps n ties s0 s1 s2 before mid after turn w is bus taken quiet =
       ];
     })
 
-pub last-step : (n : ℕ) (ties : Ties) (s0 s1 s2 : ℕ) (before mid after : Kept) (turn : Turn) (w : World) → TakesSteps n ties s0 s1 before mid w → mid.bus ≡ before.bus
+pub last-step : (n : ℕ) (ties : Ties) (s0 s1 s2 : ℕ) (before mid after : KeptWorld) (turn : Turn) (w : World) → TakesSteps n ties s0 s1 before mid w → mid.bus ≡ before.bus
     → TakesStep ties s1 s2 mid after turn (after_steps before.bus ties n (record { world = w; draws = s0 })).world → is_some (record_of turn) ≡ true
     → RunsOn ties s0 s2 before after turn w
 last-step n ties s0 s1 s2 before mid after turn w is bus taken some =
@@ -101,15 +101,15 @@ some-record shown.Ended no_record = refl
 some-record (shown.Breach place cause) no_record = refl
 
 -- so many steps always give a record
-pub not-so-many : (n : ℕ) (ties : Ties) (s0 s1 : ℕ) (before mid : Kept) (w : World) → Stands before w → TakesSteps n ties s0 s1 before mid w → n < 2 ^ 63
+pub not-so-many : (n : ℕ) (ties : Ties) (s0 s1 : ℕ) (before mid : KeptWorld) (w : World) → Stands before w → TakesSteps n ties s0 s1 before mid w → n < 2 ^ 63
 not-so-many n ties s0 s1 before mid w stands is = few-steps before.bus ties n (record { world = w; draws = s0 }) stands.lawful stands.reached is.quiet
 
 -- The draws.
 
-pub with-seeding : (k : Kept) (w : World) (s : Seeding) → Stands k w → Stands (record k { seeding = s }) w
+pub with-seeding : (k : KeptWorld) (w : World) (s : Seeding) → Stands k w → Stands (record k { seeding = s }) w
 with-seeding k w s is = record { lawful = is.lawful; reached = is.reached; nodes = is.nodes; scene = is.scene; last = is.last }
 
-pub goes-on : (ties : Ties) (b after : Seeding) (before mid : Kept) (turn : Turn) (w : World) → b ≡ begun_with ties before.seeding → after.seed ≡ b.seed
+pub goes-on : (ties : Ties) (b after : Seeding) (before mid : KeptWorld) (turn : Turn) (w : World) → b ≡ begun_with ties before.seeding → after.seed ≡ b.seed
     → RunsOn ties b.draws.state after.draws.state before mid turn w
     → GoesToNext ties before (record mid { seeding = after }) turn w
 goes-on ties b after before mid turn w is seed runs = record {

@@ -23,7 +23,7 @@ use Rattle.rb_world.specs.Driving.{GoesAlike, bare}
 use Rattle.rb_world.specs.Nexts.{GoesToNext, IsNext, Standing, after_steps, drawn, is_last, place_among, step, step_among}
 use Rattle.rb_world.specs.Numbering.{GivesInRounds, GoesInRounds, IsNextRecord, TakesInRounds}
 use Rattle.rb_world.specs.Turning.{Gives}
-use Rattle.rb_world.specs.Worlds.{IsReached, Kept, Stands}
+use Rattle.rb_world.specs.Worlds.{IsReached, KeptWorld, Stands}
 use Rattle.rb_world.proofs.GoingOn.{ended-stays, going-settles}
 use Rattle.rb_world.proofs.LastTurn.{reached-ended, reached-gave}
 use Rattle.rb_world.proofs.Steps.{place-below}
@@ -88,7 +88,7 @@ take-in-rounds sc w i d lawful reached found =
     (subst (λ (x : World). (i : ℕ) (d : Due) → slice_get (due_of sc x) i ≡ Some d → IsNextTurn sc x (take sc x i)) (sym reached.is) (turns-hold sc lawful reached.choices).0 i d found)
 
 -- so of what stands afterwards
-pub taken-in-rounds : (sc : Scenario) (after : Kept) (turn : Turn) (w : World) (i : ℕ) (d : Due) → IsLawful sc → IsReached sc w → slice_get (due_of sc w) i ≡ Some d
+pub taken-in-rounds : (sc : Scenario) (after : KeptWorld) (turn : Turn) (w : World) (i : ℕ) (d : Due) → IsLawful sc → IsReached sc w → slice_get (due_of sc w) i ≡ Some d
     → Gives after turn (take sc w i) → TakesInRounds sc w (take sc w i) (record_of turn)
 taken-in-rounds sc after turn w i d lawful reached found gives =
     subst (TakesInRounds sc w (take sc w i)) gives.turn_is (take-in-rounds sc w i d lawful reached found)
@@ -217,7 +217,7 @@ is-next-in-rounds sc ties before after r lawful reached next turn = by before.wo
 
 -- For callers.
 
-pub next-in-rounds : (ties : Ties) (before after : Kept) (turn : Turn) (w : World) → Stands before w → GoesToNext ties before after turn w → GoesInRounds before after turn w
+pub next-in-rounds : (ties : Ties) (before after : KeptWorld) (turn : Turn) (w : World) → Stands before w → GoesToNext ties before after turn w → GoesInRounds before after turn w
 next-in-rounds ties before after turn w is goes =
     let some = some-of goes.next.turn goes.is.gives in
     record {
@@ -229,7 +229,7 @@ next-in-rounds ties before after turn w is goes =
     }
 
 -- the turn that is not changed
-pub alike-in-rounds : (before after : Kept) (given : Turn) (w : World) → Stands before w → (alike : GoesAlike before after given w) → GoesInRounds before after alike.turn w
+pub alike-in-rounds : (before after : KeptWorld) (given : Turn) (w : World) → Stands before w → (alike : GoesAlike before after given w) → GoesInRounds before after alike.turn w
 alike-in-rounds before after given w is alike = next-in-rounds First before after alike.turn w is alike.goes
 
 bare-last : (t : Turn) → is_last (record_of (bare t)) ≡ is_last (record_of t)

@@ -18,14 +18,14 @@ use Rattle.rb_book.specs.Records.{record_of}
 use Rattle.rb_book.specs.Settling.{Settles}
 use Rattle.rb_book.specs.declared.ledger.Ledger.{Ledger}
 use Rattle.rb_book.specs.declared.turn.Turn.{Turn}
-use Rattle.rb_site.specs.Sites.{Kept as KeptSite}
+use Rattle.rb_site.specs.Sites.{KeptSite}
 use Rattle.rb_sweep.specs.AheadOf.{until_tick}
 use Rattle.rb_traffic.specs.Arriving.{number_of as number_in}
 use Rattle.rb_world.specs.declared.scene.Scene.{Scene}
 use Rattle.rb_world.specs.declared.last.Last.{Last}
 use Rattle.rb_world.specs.declared.ties.Ties.TheVariants.{First}
 use Rattle.rb_world.specs.Nexts.{RunsOn, Standing, after_steps, is_last}
-use Rattle.rb_world.specs.Worlds.{AreNodes, IsReached, Kept, Stands, last_of}
+use Rattle.rb_world.specs.Worlds.{AreNodes, IsReached, KeptWorld, Stands, last_of}
 use Rattle.rb_world.specs.Trailing.{Along, BehindTick, Comes, ComesToRecord, GoesToTick, HasCaughtUp, MayRun, HappensFirst, MayTakeFirst, MayTickFirst, TakesFirst, TakesFirstAt, alone, until_from}
 use Rattle.rb_world.proofs.Along.{along-begins, comes-by-tick, comes-next, going}
 use Rattle.rb_world.proofs.Behind.{first-ahead, node-of, some-first}
@@ -179,10 +179,10 @@ few-along sc kept scene until n w d lawful reached on =
     let many = on.many in
     omega (arith, few, many)
 
-pub may-run : (k : Kept) (w : World) → Stands k w → w.book.ended ≡ false → MayRun k.bus k.nodes k.scene w
+pub may-run : (k : KeptWorld) (w : World) → Stands k w → w.book.ended ≡ false → MayRun k.bus k.nodes k.scene w
 may-run k w is going = record { trails = trails-first k w is; going = going }
 
-pub run-to : (k : Kept) (w : World) (nodes : Each KeptSite) (scene : Scene) (turn : Turn) (last : Last) (d : ℕ) → Stands k w → ComesToRecord k.bus nodes scene turn w d
+pub run-to : (k : KeptWorld) (w : World) (nodes : Each KeptSite) (scene : Scene) (turn : Turn) (last : Last) (d : ℕ) → Stands k w → ComesToRecord k.bus nodes scene turn w d
     → last ≡ last_of (record_of turn) → RunsOn First d d k (record { bus = k.bus; nodes = nodes; scene = scene; seeding = k.seeding; last = last }) turn w
 run-to k w nodes scene turn last d is comes kept = record {
   next = comes.next;
@@ -197,7 +197,7 @@ some-last : (o : Option Record) → is_last o ≡ true → is_some o ≡ true
 some-last None e = cc
 some-last (Some r) e = refl
 
-pub run-ended : (k : Kept) (w : World) (turn : Turn) (d : ℕ) → Stands k w → w.book.ended ≡ true → w.turn ≡ record_of turn → RunsOn First d d k k turn w
+pub run-ended : (k : KeptWorld) (w : World) (turn : Turn) (d : ℕ) → Stands k w → w.book.ended ≡ true → w.turn ≡ record_of turn → RunsOn First d d k k turn w
 unfolding after_steps
 run-ended k w turn d is ended same = record {
   next = w;

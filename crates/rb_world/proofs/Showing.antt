@@ -16,21 +16,21 @@ use Rattle.rb_rules.specs.Links.{name_of}
 use Rattle.rb_rules.specs.Ports.{PortState}
 use Rattle.rb_rules.specs.WorldStep.{Due, Pending, Site, Timed, World, at_node, due_of, event_at, event_of}
 use Rattle.rb_rules.specs.WorldStep.Pending.{Tick, Arrival}
-use Rattle.rb_queue.specs.declared.pending.Pending.{Pending as Held}
-use Rattle.rb_queue.specs.Waiting.{HasLane, Held as Lane, lane_of, ready_event, ready_of, with_lane, without_ready}
+use Rattle.rb_queue.specs.Waiting.{HasLane, Held as Lane, Ready, event_with, kind_with, lane_of, ready_event, ready_of, with_lane, without_ready}
+use Rattle.rb_queue.specs.Waiting.Ready.{Comes, Ticks}
 use Rattle.rb_agenda.specs.Agenda.{IsAtTime, IsDue, StandsAt, Takes, TakesDue, first_time, key_of}
 use Rattle.rb_agenda.specs.Holding.{HoldsSite, HoldsSites, Shows, coming_with, due_with, waits_with, without_waiting}
 use Rattle.rb_agenda.proofs.Changes.{holds-at}
-use Rattle.rb_agenda.proofs.Places.{holds-without, ready-time}
+use Rattle.rb_agenda.proofs.Places.{IsAtHead, IsOf, holds-without, ready-at}
 use Rattle.rb_agenda.proofs.Which.{has-item}
 use Rattle.rb_node.specs.Cores.{passing_end}
 use Rattle.rb_order.proofs.DueEvents.{IsDue as IsPending}
 use Rattle.rb_port.specs.Keeping.{KeptPort}
-use Rattle.rb_site.specs.Sites.{Kept as KeptSite, number_of}
+use Rattle.rb_site.specs.Sites.{KeptSite, number_of}
 use Rattle.rb_site.proofs.Standing.{passing-most}
 use Rattle.rb_world.specs.Showing.{IsInTime, MayShow, MayShowArrival, MayShowTick}
 use Rattle.rb_world.specs.Steps.{MayHappen}
-use Rattle.rb_world.specs.Worlds.{Kept, Stands, due_in}
+use Rattle.rb_world.specs.Worlds.{KeptWorld, Stands, due_in}
 use Rattle.rb_world.proofs.Arrivals.{arrival-ready, in-time}
 use Rattle.rb_world.proofs.Chosen.{may-happen}
 use Rattle.rb_world.proofs.Ready.{due-reached, next-due, node-there, tick-of}
@@ -81,30 +81,32 @@ arrival-shows sc me i waits site kept time name event states s from bytes may is
 
 -- An event that would be taken.
 
-shows-own : (events : List Held) (ahead : Option Timed) (place time : ℕ) (k : EventKind) → Shows (waits_with events ahead place time k) k
-shows-own events ahead place time (kind.Arrive from bytes) = (refl, refl)
-shows-own events ahead place time (kind.Tick word wanted) = tt
+shows-own : (ahead : Option Timed) (r : Ready) → Shows (waits_with ahead r) (kind_with r)
+shows-own ahead (Comes place c) = (refl, refl)
+shows-own ahead Ticks = tt
 
-at-time : (events : List Held) (ahead : Option Timed) (place time t : ℕ) (k : EventKind) → time ≡ t → IsAtTime t (waits_with events ahead place time k)
-at-time events ahead place time t (kind.Arrive from bytes) e = e
-at-time events ahead place time t (kind.Tick word wanted) e = tt
+at-time : (lane : Lane) (ahead : Option Timed) (t : ℕ) (r : Ready) → IsOf t lane r → IsAtTime t (waits_with ahead r)
+at-time lane ahead t (Comes place c) is = is.0
+at-time lane ahead t Ticks is = tt
 
 some-same : {X : Type 0} (a b : X) → Some a ≡ Some b → a ≡ b
 some-same a b e = ap (λ o. unwrap_or o a) e
 
-ready-first : (lanes : Each Lane) (l : Lane) (place : ℕ) (c : ℕ × Held) → slice_get (ready_of l) place ≡ Some c → (key_of l == first_time lanes) ≡ true → c.1.time ≡ first_time lanes
-ready-first lanes l place c e first =
-    let key : key_of l ≡ c.1.time = ap (λ o. unwrap_or o 18446744073709551615) (ready-time l place c e) in
-    (let time : key_of l ≡ first_time lanes = grind (arith, nat_tests, first) in sym key ∙ time)
+ready-first : (lanes : Each Lane) (l : Lane) (place : ℕ) (r : Ready) → slice_get (ready_of l) place ≡ Some r → (key_of l == first_time lanes) ≡ true → IsOf (first_time lanes) l r
+ready-first lanes l place r e first =
+    let at : IsAtHead l r = ready-at l place r e in
+    let key : key_of l ≡ at.time = ap (λ o. unwrap_or o 18446744073709551615) at.head in
+    let time : key_of l ≡ first_time lanes = grind (arith, nat_tests, first) in
+    subst (λ t. IsOf t l r) (sym key ∙ time) at.is
 
 -- what would be taken is due, and this would be left
 takes-due : (sc : Scenario) (w : World) (lanes : Each Lane) (i : ℕ) (event : Event) (name : NodeName) (place : ℕ) → HoldsSites sc.sizes lanes w.sites
-    → StandsAt lanes (first_time lanes) i name place → IsDue sc w lanes i name place → ready_event place (lane_of lanes name) ≡ Some event
+    → StandsAt lanes (first_time lanes) i name place → IsDue sc w lanes i name place → ready_event name place (lane_of lanes name) ≡ Some event
     → TakesDue sc w i (first_time lanes) name event (with_lane name (without_ready place (lane_of lanes name)) lanes)
 takes-due sc w lanes i event name place holds at d shown =
     let l : Lane = lane_of lanes name in
-    let waits : Pending = waits_with l.events d.site.ahead d.event.0 d.event.1.time d.event.1.event.kind in
-    let its : d.event.1.event ≡ event = some-same d.event.1.event event (sym (ap (option_map (λ c. c.1.event)) d.ready) ∙ shown) in
+    let waits : Pending = waits_with d.site.ahead d.event in
+    let its : event_with name d.event ≡ event = some-same (event_with name d.event) event (sym (ap (option_map (event_with name)) d.ready) ∙ shown) in
     let lane : lane_of lanes (name_of d.side d.number) ≡ l = ap (lane_of lanes) (sym d.named) in
     let change : Site → Site = without_waiting waits in
     let step : (s : Site) → slice_get (of_kind d.side w.sites) d.number ≡ Some s → HoldsSite sc.sizes d.side (lane_of lanes (name_of d.side d.number)) s
@@ -115,20 +117,20 @@ takes-due sc w lanes i event name place holds at d shown =
     (holds-without sc.sizes d.side l d.site place d.event
     (subst (HoldsSite sc.sizes d.side l) (sym same) (subst (λ x. HoldsSite sc.sizes d.side x s) lane h)) d.ready) in
     record {
-      due = due_with d.side d.number l.events d.site d.event;
+      due = due_with d.side d.number d.site d.event;
       site = d.site;
       named = d.named;
-      time_is = at-time l.events d.site.ahead d.event.0 d.event.1.time (first_time lanes) d.event.1.event.kind (ready-first lanes l place d.event d.ready at.first);
+      time_is = at-time l d.site.ahead (first_time lanes) d.event (ready-first lanes l place d.event d.ready at.first);
       found = d.due;
       there = d.there;
-      shows = subst (λ e. Shows waits e.kind) its (shows-own l.events d.site.ahead d.event.0 d.event.1.time d.event.1.event.kind);
+      shows = subst (λ e. Shows waits e.kind) its (shows-own d.site.ahead d.event);
       left = subst (λ x. HoldsSites sc.sizes x (at_node d.side d.number change w.sites)) (sym (ap (λ n. with_lane n (without_ready place l) lanes) d.named))
           (holds-at sc.sizes lanes w.sites d.side d.number (without_ready place l) change holds (subst (HasLane lanes) d.named at.lane) step);
     }
 
 -- All that is needed to show it.
 
-pub record ShowReady (k : Kept) (w : World) (i : ℕ) (me : Side) (j time : ℕ) (name : NodeName) (event : Event) : Type 0 where
+pub record ShowReady (k : KeptWorld) (w : World) (i : ℕ) (me : Side) (j time : ℕ) (name : NodeName) (event : Event) : Type 0 where
   pub waits : Pending
   pub s : Site
   pub site : KeptSite
@@ -145,7 +147,7 @@ event-is sc w i d me j p s found is there =
     ap (option_and_then (λ (d : Due). option_map (λ (s : Site). event_of sc w.ports d.side d.node s.core d.pending) (slice_get (of_kind d.side w.sites) d.node))) (found ∙ ap (λ (x : Due). Some x) is)
     ∙ ap (option_map (λ (s : Site). event_of sc w.ports me j s.core p)) there
 
-show-happening : (k : Kept) (w : World) (i : ℕ) (d : Due) (me : Side) (j time : ℕ) (name : NodeName) (event : Event) (lanes : Each Lane) → Stands k w
+show-happening : (k : KeptWorld) (w : World) (i : ℕ) (d : Due) (me : Side) (j time : ℕ) (name : NodeName) (event : Event) (lanes : Each Lane) → Stands k w
     → MayHappen k.bus k.nodes (record k.scene { agenda = lanes }) time name event w i d → name ≡ name_of me j → (e : EventKind) → event.kind ≡ e → ShowReady k w i me j time name event
 show-happening k w i d me j time name event lanes is may named (kind.Tick word wanted) shown =
     let t = tick-of k.bus k.nodes (record k.scene { agenda = lanes }) time name event w i d me j word wanted may shown named in
@@ -192,8 +194,8 @@ show-happening k w i d me j time name event lanes is may named (kind.Arrive from
       is = event-is k.bus w i d me j (Arrival r.place x) r.s may.found r.is r.there;
     }
 
-pub show-ready : (k : Kept) (w : World) (i place : ℕ) (me : Side) (j : ℕ) (name : NodeName) (event : Event) → Stands k w → i < due_in k
-    → StandsAt k.scene.agenda (first_time k.scene.agenda) i name place → IsDue k.bus w k.scene.agenda i name place → ready_event place (lane_of k.scene.agenda name) ≡ Some event
+pub show-ready : (k : KeptWorld) (w : World) (i place : ℕ) (me : Side) (j : ℕ) (name : NodeName) (event : Event) → Stands k w → i < due_in k
+    → StandsAt k.scene.agenda (first_time k.scene.agenda) i name place → IsDue k.bus w k.scene.agenda i name place → ready_event name place (lane_of k.scene.agenda name) ≡ Some event
     → name ≡ name_of me j → ShowReady k w i me j (first_time k.scene.agenda) name event
 show-ready k w i place me j name event is below at due shown named =
     let lanes : Each Lane = with_lane name (without_ready place (lane_of k.scene.agenda name)) k.scene.agenda in
@@ -203,7 +205,7 @@ show-ready k w i place me j name event is below at due shown named =
 
 -- With what is at hand: this site, these ports, this time, the node by its name.
 
-pub may-show : (k : Kept) (w : World) (i : ℕ) (me : Side) (j time : ℕ) (name : NodeName) (event : Event) (site : KeptSite) (ports : List KeptPort)
+pub may-show : (k : KeptWorld) (w : World) (i : ℕ) (me : Side) (j time : ℕ) (name : NodeName) (event : Event) (site : KeptSite) (ports : List KeptPort)
     → (r : ShowReady k w i me j (first_time k.scene.agenda) name event) → r.site ≡ site → ports ≡ k.scene.ports.items → time ≡ first_time k.scene.agenda → name ≡ name_of me j
     → MayShow k.bus me (number_of site) r.waits site ports time (name_of me j) event w.ports r.s
 may-show k w i me j time name event site ports r site_is ports_are time_is named =
@@ -213,7 +215,7 @@ may-show k w i me j time name event site ports r site_is ports_are time_is named
     (subst (λ t. MayShow k.bus me j r.waits r.site ports t name event w.ports r.s) (sym time_is)
     (subst (λ ps. MayShow k.bus me j r.waits r.site ps (first_time k.scene.agenda) name event w.ports r.s) (sym ports_are) r.may))))
 
-pub event-shown : (k : Kept) (w : World) (i : ℕ) (me : Side) (j : ℕ) (name : NodeName) (event shown : Event) (site : KeptSite)
+pub event-shown : (k : KeptWorld) (w : World) (i : ℕ) (me : Side) (j : ℕ) (name : NodeName) (event shown : Event) (site : KeptSite)
     → (r : ShowReady k w i me j (first_time k.scene.agenda) name event) → r.site ≡ site → shown ≡ event_of k.bus w.ports me (number_of site) r.s.core r.waits → event_at k.bus w i ≡ Some shown
 event-shown k w i me j name event shown site r site_is e =
     r.is ∙ ap (λ (x : Event). Some x) (sym (e ∙ ap (λ n. event_of k.bus w.ports me n r.s.core r.waits) (sym (ap number_of site_is) ∙ r.number)))

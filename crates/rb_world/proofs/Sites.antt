@@ -1,6 +1,6 @@
 -- One site of a world changes, and what then stays.
 use Rattle.std.proofs.Common.{◌≡◌, ℕ, suc, ◌+◌, ◌<◌, ◌==◌, ◌&&◌, Bool, true, false, Some, None, Option, All, List, [], ◌∷◌, length, map, slice_get, refl, sym, ap, ◌∙◌, subst, arith}
-use Rattle.std.specs.Prelude.{option_map, option_to_list}
+use Rattle.std.specs.Prelude.{option_map}
 use Rattle.rb_base.specs.Nodes.{Side, other}
 use Rattle.rb_base.specs.Nodes.Side.{Biu, Rmu}
 use Rattle.rb_base.specs.Sizes.{Sizes}
@@ -10,7 +10,7 @@ use Rattle.rb_rules.specs.Slots.{count_of, same_side}
 use Rattle.rb_rules.specs.WorldStep.{Site, Timed, at_node}
 use Rattle.rb_rules.proofs.WindowNumbers.{length-each}
 use Rattle.rb_queue.specs.Waiting.{Held}
-use Rattle.rb_agenda.specs.Holding.{HoldsAll, HoldsSite, HoldsSites, ticks_in}
+use Rattle.rb_agenda.specs.Holding.{HoldsAll, HoldsSite, HoldsSites}
 use Rattle.rb_order.proofs.WorldStands.{get-at, is_node, node-is}
 use Rattle.rb_traffic.specs.Arriving.{AreRunning}
 
@@ -36,7 +36,7 @@ holds-list sizes me k f (l ∷ ls) [] same h = absurd h
 holds-list sizes me k f (l ∷ ls) (x ∷ xs) same h = (same k x l h.0, holds-list sizes me (k + 1) f ls xs same h.1)
 
 abbrev HeldTick : Held → Option Timed → Type 0
-HeldTick l a = ticks_in l.events ≡ option_to_list (option_map (λ t. t.time) a)
+HeldTick l a = l.tick ≡ option_map (λ t. t.time) a
 
 abbrev AreSenders : Sizes → Side → List Coming → Type 0
 AreSenders sizes me coming = All (λ c. c.from < count_of (other me) sizes) coming

@@ -7,18 +7,18 @@ use Rattle.rb_base.specs.Nodes.{Side, other}
 use Rattle.rb_base.specs.Sizes.{Sizes}
 use Rattle.rb_base.specs.declared.event.Event.{Event}
 use Rattle.rb_base.specs.declared.event.EventKind.{EventKind}
-use Rattle.rb_base.specs.declared.event.EventKind.TheVariants as kind
 use Rattle.rb_rules.specs.Hearing.{Coming}
 use Rattle.rb_rules.specs.Slots.{count_of}
 use Rattle.rb_rules.specs.WorldStep.{Due, Pending as Waits, Site, Timed, least, ready_at, tick_at, times_of}
 use Rattle.rb_rules.specs.WorldStep.Pending.{Tick, Arrival}
-use Rattle.rb_queue.specs.declared.pending.Pending.{Pending}
-use Rattle.rb_queue.specs.Waiting.{Held, head_of, ready_event, ready_from, ready_of, without_ready}
+use Rattle.rb_base.specs.declared.node.NodeName.{NodeName}
+use Rattle.rb_queue.specs.Waiting.{Held, Ready, event_with, head_of, kind_with, ready_event, ready_from, ready_of, without_ready}
+use Rattle.rb_queue.specs.Waiting.Ready.{Comes, Ticks}
 use Rattle.rb_agenda.specs.Agenda.{key_of}
 use Rattle.rb_agenda.specs.Holding.{HoldsSite, coming_with, due_with, waits_with, without_waiting}
 use Rattle.rb_agenda.proofs.Heads.{head-is}
 use Rattle.rb_agenda.proofs.OneNode.{ready-is}
-use Rattle.rb_agenda.proofs.Places.{holds-without, ready-time}
+use Rattle.rb_agenda.proofs.Places.{IsAtHead, IsOf, holds-without, ready-at}
 use Rattle.rb_order.proofs.DueEvents.{least-none, least-of}
 use Rattle.rb_order.proofs.NodeEvents.{all-after, tick-after}
 use Rattle.rb_order.proofs.SameHeard.{Every}
@@ -72,35 +72,27 @@ pub record TickNext (sizes : Sizes) (me : Side) (lane : Held) (s : Site) (time :
   pub left : HoldsSite sizes me (without_ready 0 lane) (record s { ahead = None })
 
 -- an event that is shown so
-due-arrival : (sizes : Sizes) (me : Side) (i : ℕ) (lane : Held) (s : Site) (t n : ℕ) (x : Coming) (c : ℕ × Pending) → c.1.time ≡ t
-    → record { side = me; node = i; pending = Arrival n x } ≡ due_with me i lane.events s c
-    → (Arrival n x ≡ waits_with lane.events s.ahead c.0 c.1.time c.1.event.kind) × (coming_with t c.1.event.kind ≡ Some x)
-due-arrival sizes me i lane s t n x c time e =
-    let same : Arrival n x ≡ waits_with lane.events s.ahead c.0 c.1.time c.1.event.kind = ap (λ (d : Due). d.pending) e in
-    (same, ap (λ t. coming_with t c.1.event.kind) (sym time) ∙ by c.1.event.kind same)
-  where
-    by : (k : EventKind) → Arrival n x ≡ waits_with lane.events s.ahead c.0 c.1.time k → coming_with c.1.time k ≡ Some x
-    by (kind.Arrive from bytes) f = ap (λ (w : Waits). elim w [ Tick m ↦ None | Arrival m y ↦ Some y ]) (sym f)
-    by (kind.Tick word wanted) f = cc
+due-arrival : (me : Side) (i : ℕ) (lane : Held) (s : Site) (t n : ℕ) (x : Coming) (r : Ready) → IsOf t lane r
+    → record { side = me; node = i; pending = Arrival n x } ≡ due_with me i s r → (Arrival n x ≡ waits_with s.ahead r) × (coming_with t (kind_with r) ≡ Some x)
+due-arrival me i lane s t n x (Comes m y) is e =
+    let same : Arrival n x ≡ Arrival m y = ap (λ (d : Due). d.pending) e in
+    let own : Some y ≡ Some x = ap (λ (w : Waits). elim w as (λ _. Option Coming) [ Tick m ↦ None | Arrival m y ↦ Some y ]) (sym same) in
+    (same, ap (λ t. coming_with t (kind_with (Comes m y))) (sym is.0) ∙ own)
+due-arrival me i lane s t n x Ticks is e =
+    absurd (let same : Arrival n x ≡ Tick (unwrap_or (option_map (λ a. a.tick) s.ahead) 0) = ap (λ (d : Due). d.pending) e in cc)
 
-due-tick : (sizes : Sizes) (me : Side) (i : ℕ) (lane : Held) (s : Site) (t k : ℕ) (c : ℕ × Pending)
-    → record { side = me; node = i; pending = Tick k } ≡ due_with me i lane.events s c
-    → (Tick k ≡ waits_with lane.events s.ahead c.0 c.1.time c.1.event.kind) × (coming_with t c.1.event.kind ≡ None)
-due-tick sizes me i lane s t k c e =
-    let same : Tick k ≡ waits_with lane.events s.ahead c.0 c.1.time c.1.event.kind = ap (λ (d : Due). d.pending) e in
-    (same, by c.1.event.kind same)
-  where
-    by : (m : EventKind) → Tick k ≡ waits_with lane.events s.ahead c.0 c.1.time m → coming_with t m ≡ None
-    by (kind.Arrive from bytes) f = cc
-    by (kind.Tick word wanted) f = refl
+due-tick : (me : Side) (i : ℕ) (s : Site) (t k : ℕ) (r : Ready) → record { side = me; node = i; pending = Tick k } ≡ due_with me i s r
+    → (Tick k ≡ waits_with s.ahead r) × (coming_with t (kind_with r) ≡ None)
+due-tick me i s t k (Comes m y) e = absurd (let same : Tick k ≡ Arrival m y = ap (λ (d : Due). d.pending) e in cc)
+due-tick me i s t k Ticks e = (ap (λ (d : Due). d.pending) e, refl)
 
 head-begins : {X : Type 0} (d : X) (xs : List X) → Begins d xs → slice_get xs 0 ≡ Some d
 head-begins d xs is = ap (λ l. slice_get l 0) is.1
 
 -- what may be taken at the site at the lane's least time is what is ready there
 ready-there : (sizes : Sizes) (me : Side) (i : ℕ) (lane : Held) (s : Site) (t : ℕ) → count_of (other me) sizes ≤ 256 → HoldsSite sizes me lane s → head_of lane ≡ Some t
-    → ready_at sizes t me i s ≡ map (due_with me i lane.events s) (ready_of lane)
-ready-there sizes me i lane s t few holds head = ready-is sizes me i t lane s few holds ∙ ap (λ o. map (due_with me i lane.events s) (ready_from o lane.events)) (sym head)
+    → ready_at sizes t me i s ≡ map (due_with me i s) (ready_of lane)
+ready-there sizes me i lane s t few holds head = ready-is sizes me i t lane s few holds ∙ ap (λ o. map (due_with me i s) (ready_from o lane)) (sym head)
 
 -- the tick is ready where no arrival is
 tick-ready : (me : Side) (i t : ℕ) (o : Option Timed) → Every (λ u. t ≤ u) (option_to_list (option_map (λ (a : Timed). a.time) o))
@@ -118,24 +110,25 @@ front-of [] vs t all = tt
 front-of (u ∷ us) vs t all = (all.0, front-of us vs t all.1)
 
 -- which it is
-pub what-next : (sizes : Sizes) (me : Side) (i : ℕ) (lane : Held) (s : Site) (t : ℕ) (event : Event) → count_of (other me) sizes ≤ 256 → HoldsSite sizes me lane s → head_of lane ≡ Some t
-    → ready_event 0 lane ≡ Some event → ArrivalNext sizes me lane s t event.kind ⊎ TickNext sizes me lane s t event.kind
-what-next sizes me i lane s t event few holds head shown = by (slice_get (ready_of lane) 0) refl
+pub what-next : (sizes : Sizes) (me : Side) (i : ℕ) (lane : Held) (s : Site) (t : ℕ) (name : NodeName) (event : Event) → count_of (other me) sizes ≤ 256 → HoldsSite sizes me lane s → head_of lane ≡ Some t
+    → ready_event name 0 lane ≡ Some event → ArrivalNext sizes me lane s t event.kind ⊎ TickNext sizes me lane s t event.kind
+what-next sizes me i lane s t name event few holds head shown = by (slice_get (ready_of lane) 0) refl
   where
     all : Every (λ u. t ≤ u) (times_of s)
     all = least-of (times_of s) t (head-is sizes me lane s holds ∙ head)
 
-    found : (c : ℕ × Pending) → slice_get (ready_of lane) 0 ≡ Some c → slice_get (ready_at sizes t me i s) 0 ≡ Some (due_with me i lane.events s c)
+    found : (c : Ready) → slice_get (ready_of lane) 0 ≡ Some c → slice_get (ready_at sizes t me i s) 0 ≡ Some (due_with me i s c)
     found c e =
-        ap (λ ds. slice_get ds 0) (ready-there sizes me i lane s t few holds head) ∙ slice_get-map (due_with me i lane.events s) (ready_of lane) 0
-        ∙ ap (option_map (due_with me i lane.events s)) e
+        ap (λ ds. slice_get ds 0) (ready-there sizes me i lane s t few holds head) ∙ slice_get-map (due_with me i s) (ready_of lane) 0
+        ∙ ap (option_map (due_with me i s)) e
 
-    arrival : (c : ℕ × Pending) → slice_get (ready_of lane) 0 ≡ Some c → c.1.event ≡ event → (p : Placed) → first_of s.coming ≡ Some p → p.coming.time ≡ t
+    arrival : (c : Ready) → slice_get (ready_of lane) 0 ≡ Some c → event_with name c ≡ event → (p : Placed) → first_of s.coming ≡ Some p → p.coming.time ≡ t
         → slice_get (ready_at sizes t me i s) 0 ≡ Some (record { side = me; node = i; pending = Arrival p.place p.coming }) → ArrivalNext sizes me lane s t event.kind
     arrival c e same p is at due =
-        let time : c.1.time ≡ t = some-same c.1.time t (sym (ready-time lane 0 c e) ∙ head) in
+        let first : IsAtHead lane c = ready-at lane 0 c e in
+        let own : IsOf t lane c = subst (λ u. IsOf u lane c) (some-same first.time t (sym first.head ∙ head)) first.is in
         let d : Due = record { side = me; node = i; pending = Arrival p.place p.coming } in
-        let both = due-arrival sizes me i lane s t p.place p.coming c time (some-same d (due_with me i lane.events s c) (sym due ∙ found c e)) in
+        let both = due-arrival me i lane s t p.place p.coming c own (some-same d (due_with me i s c) (sym due ∙ found c e)) in
         record {
           first = p;
           is = is;
@@ -144,12 +137,12 @@ what-next sizes me i lane s t event few holds head shown = by (slice_get (ready_
           left = subst (λ (w : Waits). HoldsSite sizes me (without_ready 0 lane) (without_waiting w s)) (sym both.0) (holds-without sizes me lane s 0 c holds e);
         }
 
-    tick : (c : ℕ × Pending) → slice_get (ready_of lane) 0 ≡ Some c → c.1.event ≡ event → Every (λ x. t + 1 ≤ x.time) s.coming → ready_at sizes t me i s ≡ tick_at me i t s.ahead
+    tick : (c : Ready) → slice_get (ready_of lane) 0 ≡ Some c → event_with name c ≡ event → Every (λ x. t + 1 ≤ x.time) s.coming → ready_at sizes t me i s ≡ tick_at me i t s.ahead
         → TickNext sizes me lane s t event.kind
     tick c e same later is =
-        let its = tick-ready me i t s.ahead (front-of (option_to_list (option_map (λ (a : Timed). a.time) s.ahead)) (map (λ (c : Coming). c.time) s.coming) t all) (due_with me i lane.events s c)
+        let its = tick-ready me i t s.ahead (front-of (option_to_list (option_map (λ (a : Timed). a.time) s.ahead)) (map (λ (c : Coming). c.time) s.coming) t all) (due_with me i s c)
         (ap (λ ds. slice_get ds 0) (sym is) ∙ found c e) in
-        let both = due-tick sizes me i lane s t its.0.tick c its.1.1.1 in
+        let both = due-tick me i s t its.0.tick c its.1.1.1 in
         record {
           tick = its.0;
           pends = its.1.0;
@@ -159,15 +152,15 @@ what-next sizes me i lane s t event few holds head shown = by (slice_get (ready_
           left = subst (λ (w : Waits). HoldsSite sizes me (without_ready 0 lane) (without_waiting w s)) (sym both.0) (holds-without sizes me lane s 0 c holds e);
         }
 
-    which : (c : ℕ × Pending) → slice_get (ready_of lane) 0 ≡ Some c → c.1.event ≡ event → ReadyFirst sizes t me i s → ArrivalNext sizes me lane s t event.kind ⊎ TickNext sizes me lane s t event.kind
+    which : (c : Ready) → slice_get (ready_of lane) 0 ≡ Some c → event_with name c ≡ event → ReadyFirst sizes t me i s → ArrivalNext sizes me lane s t event.kind ⊎ TickNext sizes me lane s t event.kind
     which c e same (inl one) =
         inl (arrival c e same one.0 one.1.0 one.1.1.0 (head-begins (record { side = me; node = i; pending = Arrival one.0.place one.0.coming }) (ready_at sizes t me i s) one.1.1.1))
     which c e same (inr none) = inr (tick c e same none.0 none.1)
 
-    by : (o : Option (ℕ × Pending)) → slice_get (ready_of lane) 0 ≡ o → ArrivalNext sizes me lane s t event.kind ⊎ TickNext sizes me lane s t event.kind
-    by None e = absurd (let never : ◌≡◌ {A = Option Event} None (Some event) = sym (ap (option_map (λ c. c.1.event)) e) ∙ shown in cc)
+    by : (o : Option Ready) → slice_get (ready_of lane) 0 ≡ o → ArrivalNext sizes me lane s t event.kind ⊎ TickNext sizes me lane s t event.kind
+    by None e = absurd (let never : ◌≡◌ {A = Option Event} None (Some event) = sym (ap (option_map (event_with name)) e) ∙ shown in cc)
     by (Some c) e =
-        which c e (some-same c.1.event event (sym (ap (option_map (λ c. c.1.event)) e) ∙ shown))
+        which c e (some-same (event_with name c) event (sym (ap (option_map (event_with name)) e) ∙ shown))
         (ready-first sizes t me i s (all-every (λ c. c.from < count_of (other me) sizes) s.coming holds.senders) (all-after t s.ahead s.coming all))
 
 -- Something is ready where a time is the least.
@@ -214,8 +207,8 @@ some-ready sizes me i lane s t few holds head = by (ready_of lane) refl
         begun rest e = cc
     none nothing (inr late) = tick-then me i t s.ahead s.coming (head-is sizes me lane s holds ∙ head) late.0 (sym late.1 ∙ nothing)
 
-    by : (cs : List (ℕ × Pending)) → ready_of lane ≡ cs → 0 < length cs
+    by : (cs : List Ready) → ready_of lane ≡ cs → 0 < length cs
     by (c ∷ cs) e = omega arith
     by [] e =
-        absurd (none (ready-there sizes me i lane s t few holds head ∙ ap (map (due_with me i lane.events s)) e)
+        absurd (none (ready-there sizes me i lane s t few holds head ∙ ap (map (due_with me i s)) e)
         (ready-first sizes t me i s (all-every (λ c. c.from < count_of (other me) sizes) s.coming holds.senders) (all-after t s.ahead s.coming all)))

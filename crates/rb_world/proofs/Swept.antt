@@ -23,7 +23,7 @@ use Rattle.rb_queue.specs.Waiting.{HasLane, Held}
 use Rattle.rb_agenda.specs.Holding.{HoldsSites, without_waiting}
 use Rattle.rb_node.specs.Cores.{passing_end}
 use Rattle.rb_site.proofs.Standing.{passing-next}
-use Rattle.rb_site.specs.Sites.{Kept as KeptSite, Stands as StandsFor, number_of}
+use Rattle.rb_site.specs.Sites.{KeptSite, Stands as StandsFor, number_of}
 use Rattle.rb_sweep.specs.Sweeping.{Placed, first_of, swept}
 use Rattle.rb_sweep.proofs.SentLater.{node-moves}
 use Rattle.rb_sweep.proofs.Sweeps.{all-every, sweep-stays, sweep-takes}

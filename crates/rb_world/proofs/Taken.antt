@@ -1,6 +1,6 @@
 -- What comes first at a node is taken.
 use Rattle.std.proofs.Common.{◌≡◌, ℕ, zero, suc, List, [], ◌∷◌, remove, ◌+◌, ◌<◌, ◌≤◌, ◌⊎◌, Some, None, Option, All, length, slice_get, refl, sym, ap, ◌∙◌, subst, arith, inl, inr}
-use Rattle.std.specs.Prelude.{option_map, unwrap_or}
+use Rattle.std.specs.Prelude.{unwrap_or}
 use Rattle.rb_base.specs.Nodes.{Side, other}
 use Rattle.rb_base.specs.Nodes.Side.{Biu, Rmu}
 use Rattle.rb_base.specs.Sizes.{IsShape, Sizes}
@@ -13,13 +13,12 @@ use Rattle.rb_rules.specs.Links.{name_of}
 use Rattle.rb_rules.specs.Slots.{count_of}
 use Rattle.rb_rules.specs.WorldStep.{Site, at_node}
 use Rattle.rb_rules.specs.WorldStep.Pending.{Tick, Arrival}
-use Rattle.rb_queue.specs.declared.pending.Pending.{Pending}
-use Rattle.rb_queue.specs.Waiting.{HasLane, Held, head_of, lane_of, ready_event, ready_of, with_lane, without_found, without_ready}
+use Rattle.rb_queue.specs.Waiting.{HasLane, Held, Ready, head_of, lane_of, ready_event, ready_of, with_lane, without_found, without_place, without_ready}
+use Rattle.rb_queue.specs.Waiting.Ready.{Comes, Ticks}
 use Rattle.rb_agenda.specs.Agenda.{key_of}
 use Rattle.rb_agenda.specs.Holding.{HoldsSite, HoldsSites, coming_with, without_waiting}
 use Rattle.rb_agenda.proofs.Changes.{holds-at}
 use Rattle.rb_agenda.proofs.Keeping.{has-with, lane-with}
-use Rattle.rb_agenda.proofs.Places.{ready-at}
 use Rattle.rb_sweep.specs.Sweeping.{Placed}
 use Rattle.rb_sweep.proofs.Firsts.{every-stands, first-stands}
 use Rattle.rb_sweep.proofs.Sweeps.{all-every}
@@ -63,13 +62,13 @@ pub record IsTaken (sizes : Sizes) (me : Side) (i until : ℕ) (lanes new : Each
   pub is : time ≡ key_of (lane_of lanes (name_of me i))
   pub small : time < 18446744073709551615
   pub before : time < until
-  pub shown : ready_event 0 (lane_of lanes (name_of me i)) ≡ Some event
+  pub shown : ready_event (name_of me i) 0 (lane_of lanes (name_of me i)) ≡ Some event
   pub after : new ≡ with_lane (name_of me i) (without_ready 0 (lane_of lanes (name_of me i))) lanes
 
 which : (sizes : Sizes) (me : Side) (i until : ℕ) (lanes new : Each Held) (sites : Each Site) (s : Site) (time : ℕ) (event : Event) → IsTaken sizes me i until lanes new sites s time event
     → ArrivalNext sizes me (lane_of lanes (name_of me i)) s time event.kind ⊎ TickNext sizes me (lane_of lanes (name_of me i)) s time event.kind
 which sizes me i until lanes new sites s time event h =
-    what-next sizes me i (lane_of lanes (name_of me i)) s time event (few-others sizes me h.held.shape) (lane-holds sizes lanes sites me i s h.held h.there)
+    what-next sizes me i (lane_of lanes (name_of me i)) s time (name_of me i) event (few-others sizes me h.held.shape) (lane-holds sizes lanes sites me i s h.held h.there)
     (head-some (lane_of lanes (name_of me i)) time h.is h.small) h.shown
 
 -- the lanes hold what is left
@@ -123,9 +122,10 @@ tick-taken sizes me i until lanes new sites s time event h is = elim (which size
 room-left : (place : ℕ) (lane : Held) → (without_ready place lane).room ≡ lane.room
 room-left place lane = by (slice_get (ready_of lane) place)
   where
-    by : (o : Option (ℕ × Pending)) → (without_found o lane).room ≡ lane.room
+    by : (o : Option Ready) → (without_found o lane).room ≡ lane.room
     by None = refl
-    by (Some c) = refl
+    by (Some (Comes n c)) = refl
+    by (Some Ticks) = refl
 
 pub rooms-taken : (sc : Scenario) (lanes new : Each Held) (name : NodeName) (place : ℕ) → HasLane lanes name → new ≡ with_lane name (without_ready place (lane_of lanes name)) lanes
     → HaveRooms sc lanes → HaveRooms sc new
@@ -135,27 +135,22 @@ rooms-taken sc lanes new name place h after rooms =
 pub lanes-taken : (lanes new : Each Held) (name : NodeName) (lane : Held) → new ≡ with_lane name lane lanes → (other : NodeName) → HasLane lanes other → HasLane new other
 lanes-taken lanes new name lane after other h = subst (λ ls. HasLane ls other) (sym after) (has-with lanes other name lane h)
 
-remove-fewer : (events : List Pending) (n : ℕ) (p : Pending) → slice_get events n ≡ Some p → length (remove events n) + 1 ≤ length events
-remove-fewer [] n p e = absurd (let never : ◌≡◌ {A = Option Pending} None (Some p) = e in cc)
-remove-fewer (x ∷ events) zero p e = omega arith
-remove-fewer (x ∷ events) (suc n) p e = let less = remove-fewer events n p e in omega (arith, less)
+remove-fewer : (arrivals : List Coming) (n : ℕ) (c : Coming) → slice_get arrivals n ≡ Some c → length (remove arrivals n) + 1 ≤ length arrivals
+remove-fewer [] n c e = absurd (let never : ◌≡◌ {A = Option Coming} None (Some c) = e in cc)
+remove-fewer (x ∷ arrivals) zero c e = omega arith
+remove-fewer (x ∷ arrivals) (suc n) c e = let less = remove-fewer arrivals n c e in omega (arith, less)
 
-pub fewer-taken : (lanes new : Each Held) (name : NodeName) (event : Event) → HasLane lanes name → ready_event 0 (lane_of lanes name) ≡ Some event
-    → new ≡ with_lane name (without_ready 0 (lane_of lanes name)) lanes → length (lane_of new name).events + 1 ≤ length (lane_of lanes name).events
-fewer-taken lanes new name event h shown after =
+-- an arrival is gone
+pub fewer-taken : (lanes new : Each Held) (name : NodeName) (place : ℕ) (c : Coming) → HasLane lanes name → slice_get (lane_of lanes name).arrivals place ≡ Some c
+    → new ≡ with_lane name (without_place place (lane_of lanes name)) lanes → length (lane_of new name).arrivals + 1 ≤ length (lane_of lanes name).arrivals
+fewer-taken lanes new name place c h stands after =
     let lane : Held = lane_of lanes name in
-    let now : lane_of new name ≡ without_ready 0 lane = ap (λ ls. lane_of ls name) after ∙ lane-with lanes name (without_ready 0 lane) h in
-    subst (λ (l : Held). length l.events + 1 ≤ length lane.events) (sym now) (by (slice_get (ready_of lane) 0) refl)
-  where
-    by : (o : Option (ℕ × Pending)) → slice_get (ready_of (lane_of lanes name)) 0 ≡ o → length (without_ready 0 (lane_of lanes name)).events + 1 ≤ length (lane_of lanes name).events
-    by None e = absurd (let never : ◌≡◌ {A = Option Event} None (Some event) = sym (ap (option_map (λ c. c.1.event)) e) ∙ shown in cc)
-    by (Some c) e =
-        subst (λ o. length (without_found o (lane_of lanes name)).events + 1 ≤ length (lane_of lanes name).events) (sym e)
-        (remove-fewer (lane_of lanes name).events c.0 c.1 (ready-at (lane_of lanes name) 0 c e))
+    let now : lane_of new name ≡ without_place place lane = ap (λ ls. lane_of ls name) after ∙ lane-with lanes name (without_place place lane) h in
+    subst (λ (l : Held). length l.arrivals + 1 ≤ length lane.arrivals) (sym now) (remove-fewer lane.arrivals place c stands)
 
 -- where the node goes by its name
 pub is-taken : (sizes : Sizes) (me : Side) (i until : ℕ) (lanes new : Each Held) (sites : Each Site) (s : Site) (name : NodeName) (time : ℕ) (event : Event) → IsPending sizes me i lanes sites s name
-    → HasLane lanes name → time ≡ key_of (lane_of lanes name) → until ≤ 18446744073709551615 → time < until → ready_event 0 (lane_of lanes name) ≡ Some event
+    → HasLane lanes name → time ≡ key_of (lane_of lanes name) → until ≤ 18446744073709551615 → time < until → ready_event name 0 (lane_of lanes name) ≡ Some event
     → new ≡ with_lane name (without_ready 0 (lane_of lanes name)) lanes → IsTaken sizes me i until lanes new sites s time event
 is-taken sizes me i until lanes new sites s name time event h lane key most before shown after = record {
   held = h.holds;
@@ -164,6 +159,6 @@ is-taken sizes me i until lanes new sites s name time event h lane key most befo
   is = key ∙ ap (λ n. key_of (lane_of lanes n)) h.named;
   small = omega (arith, before, most);
   before = before;
-  shown = subst (λ n. ready_event 0 (lane_of lanes n) ≡ Some event) h.named shown;
+  shown = subst (λ n. ready_event n 0 (lane_of lanes n) ≡ Some event) h.named shown;
   after = subst (λ n. new ≡ with_lane n (without_ready 0 (lane_of lanes n)) lanes) h.named after;
 }

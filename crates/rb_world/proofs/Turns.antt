@@ -18,7 +18,7 @@ use Rattle.rb_book.specs.declared.turn.Turn.{Turn}
 use Rattle.rb_order.proofs.EveryWorld.{after-more}
 use Rattle.rb_order.proofs.OneTake.{settle-ports}
 use Rattle.rb_order.proofs.WorldNodes.{settle-sites}
-use Rattle.rb_site.specs.Sites.{Kept as KeptSite}
+use Rattle.rb_site.specs.Sites.{KeptSite}
 use Rattle.rb_traffic.specs.Arriving.{AreRunning}
 use Rattle.rb_world.specs.declared.last.Last.{Last}
 use Rattle.rb_world.specs.declared.scene.Scene.{Scene}

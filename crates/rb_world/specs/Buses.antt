@@ -9,7 +9,7 @@ use Rattle.rb_rules.specs.Lawful.{IsLawful}
 use Rattle.rb_rules.specs.Links.{DelayRules}
 use Rattle.rb_onset.specs.Faults.{Faults, faults_of}
 use Rattle.rb_plan.specs.Timetable.{Timetable}
-use Rattle.rb_traffic.specs.Saying.{Kept as KeptSayings, kept_of}
+use Rattle.rb_traffic.specs.Saying.{KeptSayings, kept_of}
 use Rattle.rb_order.specs.PendingEvents.{most_pending}
 use Rattle.rb_queue.specs.Waiting.{Held}
 

@@ -9,7 +9,7 @@ use Rattle.rb_book.specs.declared.turn.Turn.{Turn}
 use Rattle.rb_book.specs.declared.turn.Turn.TheVariants as turn
 use Rattle.rb_world.specs.declared.ties.Ties.TheVariants.{First}
 use Rattle.rb_world.specs.Nexts.{GoesToNext}
-use Rattle.rb_world.specs.Worlds.{Kept}
+use Rattle.rb_world.specs.Worlds.{KeptWorld}
 
 -- Turns.
 
@@ -41,7 +41,7 @@ bare turn.Ended = turn.Ended
 bare (turn.Breach place cause) = turn.Breach place cause
 
 -- the world goes to its next record by first choices, and this turn is that record but for ticks, times, masks, states, losses and values
-pub record GoesAlike (before after : Kept) (given : Turn) (w : World) : Type 0 where
+pub record GoesAlike (before after : KeptWorld) (given : Turn) (w : World) : Type 0 where
   pub turn : Turn
   pub goes : GoesToNext First before after turn w
   pub alike : bare given ≡ bare turn

@@ -9,7 +9,7 @@ use Rattle.rb_world.specs.declared.ties.Seeding.{Seeding}
 use Rattle.rb_world.specs.declared.ties.Ties.{Ties}
 use Rattle.rb_world.specs.declared.ties.Ties.TheVariants.{First, Last, Seeded}
 use Rattle.rb_world.specs.Turning.{Gives}
-use Rattle.rb_world.specs.Worlds.{Kept, Stands}
+use Rattle.rb_world.specs.Worlds.{KeptWorld, Stands}
 
 -- Which of the events that are due is taken.
 
@@ -62,7 +62,7 @@ pub record IsNext (sc : Scenario) (ties : Ties) (before after : Standing) : Type
 -- What a call makes of a world.
 
 -- what is kept stands afterwards for the world of the next record, and that is the turn that is given. The draws go on
-pub record GoesToNext (ties : Ties) (before after : Kept) (turn : Turn) (w : World) : Type 0 where
+pub record GoesToNext (ties : Ties) (before after : KeptWorld) (turn : Turn) (w : World) : Type 0 where
   pub next : World
   pub is : IsNext before.bus ties (record { world = w; draws = (begun_with ties before.seeding).draws.state })
       (record { world = next; draws = after.seeding.draws.state })
@@ -70,18 +70,18 @@ pub record GoesToNext (ties : Ties) (before after : Kept) (turn : Turn) (w : Wor
   pub seed : after.seeding.seed ≡ (begun_with ties before.seeding).seed
 
 -- one step, the draws being in these states before and after
-pub record TakesStep (ties : Ties) (state state_after : ℕ) (before after : Kept) (turn : Turn) (w : World) : Type 0 where
+pub record TakesStep (ties : Ties) (state state_after : ℕ) (before after : KeptWorld) (turn : Turn) (w : World) : Type 0 where
   pub gives : Gives after turn (step before.bus ties (record { world = w; draws = state })).world
   pub draws : state_after ≡ (step before.bus ties (record { world = w; draws = state })).draws
 
 -- so many steps, which gave no record
-pub record TakesSteps (n : ℕ) (ties : Ties) (state state_after : ℕ) (before after : Kept) (w : World) : Type 0 where
+pub record TakesSteps (n : ℕ) (ties : Ties) (state state_after : ℕ) (before after : KeptWorld) (w : World) : Type 0 where
   pub stands : Stands after (after_steps before.bus ties n (record { world = w; draws = state })).world
   pub draws : state_after ≡ (after_steps before.bus ties n (record { world = w; draws = state })).draws
   pub quiet : (m : ℕ) → 1 ≤ m → m ≤ n → (after_steps before.bus ties m (record { world = w; draws = state })).world.turn ≡ None
 
 -- all steps to the next record
-pub record RunsOn (ties : Ties) (state state_after : ℕ) (before after : Kept) (turn : Turn) (w : World) : Type 0 where
+pub record RunsOn (ties : Ties) (state state_after : ℕ) (before after : KeptWorld) (turn : Turn) (w : World) : Type 0 where
   pub next : World
   pub is : IsNext before.bus ties (record { world = w; draws = state }) (record { world = next; draws = state_after })
   pub gives : Gives after turn next

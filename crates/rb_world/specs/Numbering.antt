@@ -7,7 +7,7 @@ use Rattle.rb_rules.specs.WorldStep.{World}
 use Rattle.rb_book.specs.Records.{record_of}
 use Rattle.rb_book.specs.declared.turn.Turn.{Turn}
 use Rattle.rb_world.specs.Nexts.{is_last}
-use Rattle.rb_world.specs.Worlds.{Kept, Stands}
+use Rattle.rb_world.specs.Worlds.{KeptWorld, Stands}
 
 -- where n records were given before, this is record number n of the rounds, and now n + 1 are given: those and this one
 pub record IsNextRecord (sc : Scenario) (before after : World) (r : Record) : Type 0 where
@@ -39,7 +39,7 @@ pub record GivesInRounds (sc : Scenario) (before after : World) (r : Record) : T
   pub hands : after.hands ≡ before.hands
 
 -- this turn is that record, and what is kept afterwards stands for the world in which it has been given
-pub record GoesInRounds (before after : Kept) (turn : Turn) (w : World) : Type 0 where
+pub record GoesInRounds (before after : KeptWorld) (turn : Turn) (w : World) : Type 0 where
   pub next : World
   pub stands : Stands after next
   pub given : Record

@@ -3,9 +3,9 @@ use Rattle.std.specs.Prelude.{◌≡◌}
 use Rattle.rb_rules.specs.WorldStep.{World}
 use Rattle.rb_book.specs.Records.{record_of}
 use Rattle.rb_book.specs.declared.turn.Turn.{Turn}
-use Rattle.rb_world.specs.Worlds.{Kept, Stands}
+use Rattle.rb_world.specs.Worlds.{KeptWorld, Stands}
 
 -- what is kept stands afterwards for this world, and its turn is given
-pub record Gives (after : Kept) (turn : Turn) (w : World) : Type 0 where
+pub record Gives (after : KeptWorld) (turn : Turn) (w : World) : Type 0 where
   pub stands : Stands after w
   pub turn_is : w.turn ≡ record_of turn

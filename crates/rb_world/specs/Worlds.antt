@@ -15,7 +15,7 @@ use Rattle.rb_agenda.specs.Holding.{HoldsSites}
 use Rattle.rb_book.specs.Holding.{Holds}
 use Rattle.rb_book.specs.Settling.{is_free}
 use Rattle.rb_port.specs.Keeping.{HoldsPort, KeptPort}
-use Rattle.rb_site.specs.Sites.{Kept as KeptSite, Stands as StandsFor, number_of}
+use Rattle.rb_site.specs.Sites.{KeptSite, Stands as StandsFor, number_of}
 use Rattle.rb_traffic.specs.Arriving.{AreRunning}
 use Rattle.rb_world.specs.declared.last.Last.{Last}
 use Rattle.rb_world.specs.declared.last.Last.TheVariants as last
@@ -24,7 +24,7 @@ use Rattle.rb_world.specs.declared.ties.Seeding.{Seeding}
 use Rattle.rb_world.specs.Buses.{HaveRooms}
 
 -- what is kept of a run: the bus, the nodes, what surrounds them, the draws among events that are due, and which turn came last
-pub record Kept : Type 0 where
+pub record KeptWorld : Type 0 where
   pub bus : Scenario
   pub nodes : Each KeptSite
   pub scene : Scene
@@ -91,7 +91,7 @@ last_of (Some Record.Ended) = last.Ended
 last_of (Some (Record.Breach place cause)) = last.Breach place cause
 
 -- what is kept stands for a world of its bus that some choices lead to
-pub record Stands (k : Kept) (w : World) : Type 0 where
+pub record Stands (k : KeptWorld) (w : World) : Type 0 where
   pub lawful : IsLawful k.bus
   pub reached : IsReached k.bus w
   pub nodes : (me : Side) → AreNodes k.bus me (of_kind me k.nodes) (of_kind me w.sites)
@@ -99,5 +99,5 @@ pub record Stands (k : Kept) (w : World) : Type 0 where
   pub last : k.last ≡ last_of w.turn
 
 -- how many events may be taken, by what is kept: none where the next record needs none, and none after the last
-abbrev pub due_in : Kept → ℕ
+abbrev pub due_in : KeptWorld → ℕ
 due_in k = elim (k.scene.book.ended || is_free k.scene.book) [ true ↦ 0 | false ↦ how_many k.scene.agenda ]

@@ -177,7 +177,7 @@ impl Bus {
         requires spare { length self.now.says ≤ spare_of (lane_of agenda.old node) }
         requires stage { 1 ≤ span.now.place.stage }
         requires first { span.now.first ≤ 2 ^ 31 }
-        ensures lanes { agenda.new ≡ with_lane node (with_arrivals node (says_in self.now (kind_of node) (number_of node) (span_in span.now)) (lane_of agenda.old node)) agenda.old }
+        ensures lanes { agenda.new ≡ with_lane node (with_arrivals (says_in self.now (kind_of node) (number_of node) (span_in span.now)) (lane_of agenda.old node)) agenda.old }
         ensures world { (sites : Each Site) → HoldsSites self.now.sizes agenda.old sites
             → HoldsSites self.now.sizes agenda.new (at_node (kind_of node) (number_of node) (hears self.now node (span_in span.now)) sites) }
     {
@@ -190,6 +190,7 @@ impl Bus {
     }
 
     /// A message of a good node is on its way to the nodes of the other kind that run.
+    #[inline(never)]
     pub fn send(&self, agenda: &mut Agenda, departure: &Departure, running: u16)
         requires node { IsNodeOf self.now.sizes departure.now.from }
         requires tick { departure.now.tick ≤ 2 ^ 31 }

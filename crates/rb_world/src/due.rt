@@ -1,5 +1,5 @@
 //! What may be taken.
-ghost use Rattle.std.specs.Prelude.{◌≡◌, ℕ, ◌<◌, ◌≤◌, Option, Some, List, is_some, length};
+ghost use Rattle.std.specs.Prelude.{◌≡◌, ℕ, ◌<◌, ◌≤◌, Option, Some, List, is_some, length, IsTrue, ◌↔◌};
 ghost use Rattle.rb_base.specs.Nodes.{side_of};
 ghost use Rattle.rb_base.specs.Sizes.{Sizes};
 ghost use Rattle.rb_rules.specs.Ports.{PortState};
@@ -131,6 +131,17 @@ impl World {
         self.scene.agenda.due()
     }
 
+    /// Whether an event may be taken: whether `due` is more than 0. The events are not counted for it.
+    pub fn is_due(&self) -> bool
+        ensures value { IsTrue result ↔ 0 < due_in self.now }
+        ensures world { (w : RunWorld) → Stands self.now w → IsTrue result ↔ 0 < length (due_of self.now.bus w) }
+    {
+        if self.scene.book.has_ended() || self.scene.book.needs_no_event() {
+            return false;
+        }
+        self.scene.agenda.is_due()
+    }
+
     /// The i-th of the events that are due, counted from 0: how many quiet ticks its node has before it, and the arrival, or the tick
     /// with the word that it takes. `wanted` says whether the node asks for a word: its request, or what its port offers now.
     pub fn event(&self, apps: &Apps, i: usize) -> Event
@@ -139,7 +150,7 @@ impl World {
     {
         let (node, place) = self.scene.agenda.locate(i);
         let time = self.scene.agenda.first_time();
-        let pending = self.scene.agenda.event_at(node, place);
+        let event = self.scene.agenda.event(node, place);
         match node {
             NodeName::Biu(k) => show(
                 &self.bus,
@@ -148,7 +159,7 @@ impl World {
                 &self.scene.ports,
                 time,
                 node,
-                pending,
+                &event,
             ),
             NodeName::Rmu(k) => show(
                 &self.bus,
@@ -157,7 +168,7 @@ impl World {
                 &self.scene.ports,
                 time,
                 node,
-                pending,
+                &event,
             ),
         }
     }

@@ -13,7 +13,7 @@ ghost use Rattle.rb_world.specs.Worlds.{Surrounds};
 
 use crate::bus::Bus;
 use crate::scene::Scene;
-use rb_base::{Event, EventKind, Kind, NodeId, NodeName, NodeSet};
+use rb_base::{Kind, NodeId, NodeName, NodeSet};
 use rb_site::Site;
 
 // The set without node i.
@@ -37,19 +37,8 @@ fn await_tick<K: Kind>(bus: &Bus, node: NodeName, site: &Site<K>, scene: &mut Sc
         → Surrounds bus.now scene.new (moved (kind_of node) (number_in node) (await bus.now (side_of K.CODE) (number_in node) []) w) }
 {
     if let Some(tick) = site.node().next_tick() {
-        let kind = EventKind::Tick {
-            word: 0,
-            wanted: false,
-        };
         let time = bus.clock(node).at(tick);
-        scene.agenda.push(
-            time,
-            Event {
-                node,
-                quiet: 0,
-                kind,
-            },
-        );
+        scene.agenda.push_tick(node, time);
     }
 }
 

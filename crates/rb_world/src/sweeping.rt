@@ -7,7 +7,7 @@ ghost use Rattle.rb_rules.specs.Links.{name_of};
 ghost use Rattle.rb_rules.specs.Slots.{count_of};
 ghost use Rattle.rb_rules.specs.WorldStep.{Site as WorldSite, World as RunWorld};
 ghost use Rattle.rb_queue.specs.Waiting.{HasLane, Held};
-ghost use Rattle.rb_site.specs.Sites.{Kept as KeptSite, number_of};
+ghost use Rattle.rb_site.specs.Sites.{KeptSite, number_of};
 ghost use Rattle.rb_sweep.specs.AheadOf.{until_tick};
 ghost use Rattle.rb_traffic.specs.Arriving.{number_of as number_in};
 ghost use Rattle.rb_world.specs.Trailing.{HasCaughtUp, HaveCaughtUp, MayCatchUp, MaySweep, Sweeps, Trails, until_from};
@@ -15,7 +15,7 @@ ghost use Rattle.rb_world.specs.Trailing.{HasCaughtUp, HaveCaughtUp, MayCatchUp,
 use crate::bus::Bus;
 use crate::scene::Scene;
 use rb_agenda::Agenda;
-use rb_base::{Biu, EventKind, Kind, NodeName, Rmu};
+use rb_base::{Biu, Kind, NodeName, Rmu};
 use rb_site::Site;
 
 /// What comes to the node before this time is taken, one arrival after another, and with it a tick of the node before then.
@@ -33,20 +33,23 @@ pub(crate) fn sweep<K: Kind>(
     ensures number { number_of site.new ≡ number_of site.old }
     ensures lanes { (other : NodeName) → HasLane agenda.old other → HasLane agenda.new other }
 {
+    let clock = bus.clock(node);
     'events: loop {
-        let time = agenda.time_at(node);
-        if time >= until {
-            return;
-        }
-        let pending = agenda.event_at(node, 0);
-        match &pending.kind {
-            EventKind::Arrive { from, bytes } => {
-                site.arrive(bus.clock(node), time, *from, bytes);
-                let _arrival = agenda.take_at(node);
-            }
-            EventKind::Tick { .. } => {
-                let _tick = agenda.take_at(node);
+        match agenda.first_before(node, until) {
+            None => {
+                let tick = agenda.tick(node).unwrap_or(u64::MAX);
+                if tick >= until {
+                    return;
+                }
+                agenda.take_tick(node);
                 return;
+            }
+            Some(place) => {
+                let arrival = agenda.arrival(node, place);
+                let time = arrival.time();
+                let from = arrival.from();
+                site.arrive(clock, time, from, arrival.bytes());
+                agenda.drop_at(node, place);
             }
         }
     }

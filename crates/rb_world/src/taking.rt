@@ -126,4 +126,15 @@ impl World {
         self.take_into(apps, i, &mut turn);
         turn
     }
+
+    /// Takes the first of the events that are due, as `take` does with 0, and gives no turn.
+    pub fn pass(&mut self, apps: &Apps)
+        requires below { 0 < due_in self.old }
+        ensures world { (w : RunWorld) → Stands self.old w → Stands self.new (take self.old.bus w 0) }
+        ensures bus { self.new.bus ≡ self.old.bus }
+        ensures seeding { self.new.seeding ≡ self.old.seeding }
+    {
+        let mut turn = Turn::Quiet;
+        self.take_into(apps, 0, &mut turn);
+    }
 }

@@ -54,6 +54,7 @@ fn line_of_port(bus: &Bus, i: u8, ports: &[Port]) -> PortLine
 }
 
 // A node begins a frame, if one begins.
+#[inline(always)]
 fn begin(bus: &Bus, node: NodeName, epoch: Option<Epoch>, scene: &mut Scene)
     requires node { IsNodeOf bus.now.sizes node }
     requires tick { IfSome epoch (λ e. e.tick ≤ 2 ^ 31) }
@@ -81,6 +82,7 @@ fn begin(bus: &Bus, node: NodeName, epoch: Option<Epoch>, scene: &mut Scene)
 }
 
 // What a BIU delivers goes to its port. RMUs deliver nothing.
+#[inline(always)]
 fn deliver(bus: &Bus, apps: &Apps, i: u8, delivered: Option<Delivery>, ports: &mut Vec<Port>)
     ensures { (states : List PortState) → HoldsPorts bus.now ports.old.items states
         → HoldsPorts bus.now ports.new.items (with_delivery bus.now i delivered states) }
@@ -131,6 +133,7 @@ fn close<K: Kind>(
 }
 
 // What a node sends at a tick is on its way.
+#[inline(always)]
 fn depart(
     bus: &Bus,
     node: NodeName,

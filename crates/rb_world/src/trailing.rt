@@ -5,7 +5,7 @@ ghost use Rattle.rb_rules.specs.Book.{Each, of_kind};
 ghost use Rattle.rb_rules.specs.Links.{name_of};
 ghost use Rattle.rb_rules.specs.WorldStep.{Timed, World as RunWorld};
 ghost use Rattle.rb_book.specs.declared.turn.Turn.{Turn};
-ghost use Rattle.rb_site.specs.Sites.{Kept as KeptSite};
+ghost use Rattle.rb_site.specs.Sites.{KeptSite};
 ghost use Rattle.rb_world.specs.Trailing.{Along, BehindTick, Comes, ComesToRecord, GoesToTick, MayRun, MayTakeFirst, MayTickFirst, TakesFirst, TakesFirstAt, until_from};
 
 use crate::bus::Bus;

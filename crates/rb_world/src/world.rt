@@ -21,9 +21,9 @@ pub struct World {
 
 impl Model for World {
     ghost use Rattle.rb_rules.specs.WorldStep.{World as RunWorld};
-    ghost use Rattle.rb_world.specs.Worlds.{Kept, Stands};
+    ghost use Rattle.rb_world.specs.Worlds.{KeptWorld, Stands};
 
-    ghost Value = { Kept };
+    ghost Value = { KeptWorld };
 
     ghost view = { λ w. record { bus = w.bus; nodes = record { bius = w.bius.items; rmus = w.rmus.items }; scene = w.scene; seeding = w.seeding; last = w.last } };
 

@@ -1,4 +1,4 @@
-use Rattle.std.proofs.Common.{refl, sym, ap, ◌∙◌, subst}
+use Rattle.std.proofs.Common.{sym, ap, ◌∙◌, subst}
 use Rattle.rb_base.specs.Nodes.{side_of}
 use Rattle.rb_rules.specs.Clock.{time_of}
 use Rattle.rb_node.specs.Cores.{IsCore, next_of}
@@ -10,8 +10,8 @@ pub returns-in-Some-clause-around : goal.returns-in-Some-clause-around
 returns-in-Some-clause-around g c =
     λ w core at is.
     let its = subst (λ n. IsCore n core) (sym c.node.ensures) at.core in
-    await-push c.args.bus.now c.args.scene.now c.push.new.self w c.args.node (side_of g.K.Kind.CODE) c.in-Some.tick c.at-time.result _ core c.args.site.now c.requires.kind
-    (has-lane c.args.bus.now c.args.scene.now w c.args.node is c.requires.node) c.push.ensures.after refl refl
+    await-push c.args.bus.now c.args.scene.now c.push_tick.new.self w c.args.node (side_of g.K.Kind.CODE) c.in-Some.tick c.at-time.result core c.args.site.now c.requires.kind
+    (has-lane c.args.bus.now c.args.scene.now w c.args.node is c.requires.node) c.push_tick.ensures.after
     (c.at-time.ensures.time ∙ ap (λ clock. time_of clock c.in-Some.tick) c.clock.ensures) at
     (sym c.in-Some.is ∙ c.next_tick.ensures.core core its ∙ ap (λ n. next_of (side_of g.K.Kind.CODE) n core) c.node.ensures) is
 

@@ -95,7 +95,7 @@ returns g c =
           after-some sc me i node site before lanes after w s span c.requires.name may.at
           (sym (c.entering.ensures sc s may.at.stands) ∙ ap (option_map span_in) d.in-Some.is) (sym d.is_good.ensures ∙ d.if-not-is_good.false)
           (says-around sc before lanes w node span more there d.say.ensures.lanes (d.say.ensures.world w.sites may.at.surrounds.lanes) may.at.surrounds)
-          (ap (of_kind (other (kind_of node))) d.say.ensures.lanes ∙ others-named node (with_arrivals node more (lane_of before.agenda node)) before.agenda)
+          (ap (of_kind (other (kind_of node))) d.say.ensures.lanes ∙ others-named node (with_arrivals more (lane_of before.agenda node)) before.agenda)
           (subst (λ m. AwaitsTick sc me node site m after) d.scene-is c.await_tick.ensures.around) (subst (λ m. OthersStay (kind_of node) m after) d.scene-is c.await_tick.ensures.others)
       | in_default d ↦
           after-none sc me i node site before after w s c.requires.name may.at

@@ -18,4 +18,4 @@ invariant-events g l = record {
 }
 
 abbrev pub decreases-events : goal.decreases-events
-decreases-events g l = length (lane_of l.agenda l.node).events
+decreases-events g l = length (lane_of l.agenda l.node).arrivals

@@ -1,38 +1,38 @@
 use Rattle.std.proofs.Common.{◌≡◌, refl, sym, ap, ◌∙◌, subst}
 use Rattle.rb_world.specs.declared.ties.Seeding.{Seeding}
 use Rattle.rb_world.specs.Nexts.{RunsOn, begun_with}
-use Rattle.rb_world.specs.Worlds.{Kept}
+use Rattle.rb_world.specs.Worlds.{KeptWorld}
 use Rattle.rb_world.proofs.NextRecord.{goes-on, with-seeding}
 use Rattle.rb_world.proofs.Numbered.{next-in-rounds}
 use Rattle.rb_world.proofs.world.World.next.Goals as goal
 
 pub invariant_of-self : goal.invariant_of-self
 invariant_of-self g c =
-    let k : Kept = record { bus = c.self-2.inside.bus; nodes = record { bius = c.self-2.inside.bius.items; rmus = c.self-2.inside.rmus.items }; scene = c.self-2.inside.scene; seeding = c.self-2.inside.seeding; last = c.self-2.inside.last } in
+    let k : KeptWorld = record { bus = c.self-2.inside.bus; nodes = record { bius = c.self-2.inside.bius.items; rmus = c.self-2.inside.rmus.items }; scene = c.self-2.inside.scene; seeding = c.self-2.inside.seeding; last = c.self-2.inside.last } in
     let after : Seeding = record { seed = c.begin-seeding.result.seed; draws = c.run_on.new.draws } in
     (c.self-2.invariant.0, with-seeding k c.self-2.invariant.0 after c.self-2.invariant.1)
 
 pub returns-clause-world : goal.returns-clause-world
 returns-clause-world g c =
-    let k : Kept = record { bus = c.self-2.inside.bus; nodes = record { bius = c.self-2.inside.bius.items; rmus = c.self-2.inside.rmus.items }; scene = c.self-2.inside.scene; seeding = c.self-2.inside.seeding; last = c.self-2.inside.last } in
+    let k : KeptWorld = record { bus = c.self-2.inside.bus; nodes = record { bius = c.self-2.inside.bius.items; rmus = c.self-2.inside.rmus.items }; scene = c.self-2.inside.scene; seeding = c.self-2.inside.seeding; last = c.self-2.inside.last } in
     let after : Seeding = record { seed = c.begin-seeding.result.seed; draws = c.run_on.new.draws } in
     let begun : c.begin-seeding.result ≡ begun_with c.args.ties c.args.self.now.seeding =
-    c.begin-seeding.ensures ∙ ap (λ (x : Kept). begun_with c.args.ties x.seeding) c.self.view_is in
+    c.begin-seeding.ensures ∙ ap (λ (x : KeptWorld). begun_with c.args.ties x.seeding) c.self.view_is in
     λ w is.
     let runs : RunsOn c.args.ties c.begin-seeding.result.draws.state c.run_on.new.draws.state c.args.self.now k c.run_on.new.turn w =
-    subst (λ (x : Kept). RunsOn c.args.ties c.begin-seeding.result.draws.state c.run_on.new.draws.state c.args.self.now x c.run_on.new.turn w) (sym c.self-2.view_is)
+    subst (λ (x : KeptWorld). RunsOn c.args.ties c.begin-seeding.result.draws.state c.run_on.new.draws.state c.args.self.now x c.run_on.new.turn w) (sym c.self-2.view_is)
     (c.run_on.ensures.world w is) in
     goes-on c.args.ties c.begin-seeding.result after c.args.self.now k c.run_on.new.turn w begun refl runs
 
 pub returns-clause-rounds : goal.returns-clause-rounds
 returns-clause-rounds g c =
-    let k : Kept = record { bus = c.self-2.inside.bus; nodes = record { bius = c.self-2.inside.bius.items; rmus = c.self-2.inside.rmus.items }; scene = c.self-2.inside.scene; seeding = c.self-2.inside.seeding; last = c.self-2.inside.last } in
+    let k : KeptWorld = record { bus = c.self-2.inside.bus; nodes = record { bius = c.self-2.inside.bius.items; rmus = c.self-2.inside.rmus.items }; scene = c.self-2.inside.scene; seeding = c.self-2.inside.seeding; last = c.self-2.inside.last } in
     let after : Seeding = record { seed = c.begin-seeding.result.seed; draws = c.run_on.new.draws } in
     let begun : c.begin-seeding.result ≡ begun_with c.args.ties c.args.self.now.seeding =
-    c.begin-seeding.ensures ∙ ap (λ (x : Kept). begun_with c.args.ties x.seeding) c.self.view_is in
+    c.begin-seeding.ensures ∙ ap (λ (x : KeptWorld). begun_with c.args.ties x.seeding) c.self.view_is in
     λ w is.
     let runs : RunsOn c.args.ties c.begin-seeding.result.draws.state c.run_on.new.draws.state c.args.self.now k c.run_on.new.turn w =
-    subst (λ (x : Kept). RunsOn c.args.ties c.begin-seeding.result.draws.state c.run_on.new.draws.state c.args.self.now x c.run_on.new.turn w) (sym c.self-2.view_is)
+    subst (λ (x : KeptWorld). RunsOn c.args.ties c.begin-seeding.result.draws.state c.run_on.new.draws.state c.args.self.now x c.run_on.new.turn w) (sym c.self-2.view_is)
     (c.run_on.ensures.world w is) in
     next-in-rounds c.args.ties c.args.self.now (record k { seeding = after }) c.run_on.new.turn w is
     (goes-on c.args.ties c.begin-seeding.result after c.args.self.now k c.run_on.new.turn w begun refl runs)

@@ -2,28 +2,28 @@ use Rattle.std.proofs.Common.{◌≡◌, ℕ, true, false, sym, ◌∙◌, subst
 use Rattle.rb_rules.specs.WorldStep.{World as RunWorld}
 use Rattle.rb_world.specs.declared.ties.Ties.TheVariants.{First}
 use Rattle.rb_world.specs.Nexts.{RunsOn}
-use Rattle.rb_world.specs.Worlds.{Kept, Stands}
+use Rattle.rb_world.specs.Worlds.{KeptWorld, Stands}
 use Rattle.rb_world.proofs.LastTurn.{reached-ends}
 use Rattle.rb_world.proofs.Running.{may-run, run-ended, run-to}
 use Rattle.rb_world.proofs.world.World.run_first.Goals as goal
 
 pub returns-then-has_ended-clause-world : goal.returns-then-has_ended-clause-world
 returns-then-has_ended-clause-world g c =
-    let k : Kept = record { bus = c.self.inside.bus; nodes = record { bius = c.self.inside.bius.items; rmus = c.self.inside.rmus.items }; scene = c.self.inside.scene; seeding = c.self.inside.seeding; last = c.self.inside.last } in
-    subst (λ (k : Kept). (w : RunWorld) (state : ℕ) → Stands k w → RunsOn First state state k k c.last_turn.result w) c.self.view_is (λ w state is.
+    let k : KeptWorld = record { bus = c.self.inside.bus; nodes = record { bius = c.self.inside.bius.items; rmus = c.self.inside.rmus.items }; scene = c.self.inside.scene; seeding = c.self.inside.seeding; last = c.self.inside.last } in
+    subst (λ (k : KeptWorld). (w : RunWorld) (state : ℕ) → Stands k w → RunsOn First state state k k c.last_turn.result w) c.self.view_is (λ w state is.
     let ended : w.book.ended ≡ true = sym (c.has_ended.ensures k.bus w is.scene.book) ∙ c.if-has_ended.true in
     run-ended k w c.last_turn.result state is ended (c.last_turn.ensures w.turn is.last (reached-ends k.bus w is.reached ended)))
 
 pub run_ticks-requires-clause-may : goal.run_ticks-requires-clause-may
 run_ticks-requires-clause-may g c =
-    let k : Kept = record { bus = c.self.inside.bus; nodes = record { bius = c.self.inside.bius.items; rmus = c.self.inside.rmus.items }; scene = c.self.inside.scene; seeding = c.self.inside.seeding; last = c.self.inside.last } in
+    let k : KeptWorld = record { bus = c.self.inside.bus; nodes = record { bius = c.self.inside.bius.items; rmus = c.self.inside.rmus.items }; scene = c.self.inside.scene; seeding = c.self.inside.seeding; last = c.self.inside.last } in
     let w : RunWorld = c.self.invariant.0 in
     let is : Stands k w = c.self.invariant.1 in
     (w, may-run k w is (sym (c.has_ended.ensures k.bus w is.scene.book) ∙ c.if-has_ended.false))
 
 pub invariant_of-self : goal.invariant_of-self
 invariant_of-self g c =
-    let k : Kept = record { bus = c.self.inside.bus; nodes = record { bius = c.self.inside.bius.items; rmus = c.self.inside.rmus.items }; scene = c.self.inside.scene; seeding = c.self.inside.seeding; last = c.self.inside.last } in
+    let k : KeptWorld = record { bus = c.self.inside.bus; nodes = record { bius = c.self.inside.bius.items; rmus = c.self.inside.rmus.items }; scene = c.self.inside.scene; seeding = c.self.inside.seeding; last = c.self.inside.last } in
     let w : RunWorld = c.self.invariant.0 in
     let is : Stands k w = c.self.invariant.1 in
     let going : w.book.ended ≡ false = sym (c.has_ended.ensures k.bus w is.scene.book) ∙ c.if-has_ended.false in
@@ -34,8 +34,8 @@ invariant_of-self g c =
 
 pub returns-clause-world : goal.returns-clause-world
 returns-clause-world g c =
-    let k : Kept = record { bus = c.self.inside.bus; nodes = record { bius = c.self.inside.bius.items; rmus = c.self.inside.rmus.items }; scene = c.self.inside.scene; seeding = c.self.inside.seeding; last = c.self.inside.last } in
-    let after : Kept = record { bus = k.bus; nodes = record { bius = c.run_ticks.new.bius.items; rmus = c.run_ticks.new.rmus.items }; scene = c.run_ticks.new.scene; seeding = k.seeding; last = c.last_of-self-inside.result } in
-    subst (λ (x : Kept). (w : RunWorld) (state : ℕ) → Stands x w → RunsOn First state state x after c.run_ticks.new.turn w) c.self.view_is (λ w state is.
+    let k : KeptWorld = record { bus = c.self.inside.bus; nodes = record { bius = c.self.inside.bius.items; rmus = c.self.inside.rmus.items }; scene = c.self.inside.scene; seeding = c.self.inside.seeding; last = c.self.inside.last } in
+    let after : KeptWorld = record { bus = k.bus; nodes = record { bius = c.run_ticks.new.bius.items; rmus = c.run_ticks.new.rmus.items }; scene = c.run_ticks.new.scene; seeding = k.seeding; last = c.last_of-self-inside.result } in
+    subst (λ (x : KeptWorld). (w : RunWorld) (state : ℕ) → Stands x w → RunsOn First state state x after c.run_ticks.new.turn w) c.self.view_is (λ w state is.
     let going : w.book.ended ≡ false = sym (c.has_ended.ensures k.bus w is.scene.book) ∙ c.if-has_ended.false in
     run-to k w after.nodes after.scene c.run_ticks.new.turn after.last state is (c.run_ticks.ensures w state (may-run k w is going)) c.last_of-self-inside.ensures)

@@ -4,7 +4,7 @@ use Rattle.rb_book.specs.Records.{record_of}
 use Rattle.rb_world.specs.Numbering.{TakesInRounds}
 use Rattle.rb_world.specs.Steps.{MayHappen}
 use Rattle.rb_world.specs.Turning.{Gives}
-use Rattle.rb_world.specs.Worlds.{Kept, Stands, due_in}
+use Rattle.rb_world.specs.Worlds.{KeptWorld, Stands, due_in}
 use Rattle.rb_world.proofs.Chosen.{may-happen}
 use Rattle.rb_world.proofs.Numbered.{taken-in-rounds}
 use Rattle.rb_world.proofs.Turns.{taken}
@@ -12,9 +12,9 @@ use Rattle.rb_world.proofs.world.World.take_into.Goals as goal
 
 pub happen-requires : goal.happen-requires
 happen-requires g c =
-    let k : Kept = record { bus = c.self.inside.bus; nodes = record { bius = c.self.inside.bius.items; rmus = c.self.inside.rmus.items }; scene = c.self.inside.scene; seeding = c.self.inside.seeding; last = c.self.inside.last } in
+    let k : KeptWorld = record { bus = c.self.inside.bus; nodes = record { bius = c.self.inside.bius.items; rmus = c.self.inside.rmus.items }; scene = c.self.inside.scene; seeding = c.self.inside.seeding; last = c.self.inside.last } in
     let i = c.args.i in
-    let below : i < due_in k = subst (λ (k : Kept). i < due_in k) (sym c.self.view_is) c.requires.below in
+    let below : i < due_in k = subst (λ (k : KeptWorld). i < due_in k) (sym c.self.view_is) c.requires.below in
     let lanes = c.take-node.new.self in
     let name = c.take-node.result.0 in
     let event = c.take-node.result.1 in
@@ -27,9 +27,9 @@ happen-requires g c =
 
 pub invariant_of-self : goal.invariant_of-self
 invariant_of-self g c =
-    let k : Kept = record { bus = c.self.inside.bus; nodes = record { bius = c.self.inside.bius.items; rmus = c.self.inside.rmus.items }; scene = c.self.inside.scene; seeding = c.self.inside.seeding; last = c.self.inside.last } in
+    let k : KeptWorld = record { bus = c.self.inside.bus; nodes = record { bius = c.self.inside.bius.items; rmus = c.self.inside.rmus.items }; scene = c.self.inside.scene; seeding = c.self.inside.seeding; last = c.self.inside.last } in
     let i = c.args.i in
-    let below : i < due_in k = subst (λ (k : Kept). i < due_in k) (sym c.self.view_is) c.requires.below in
+    let below : i < due_in k = subst (λ (k : KeptWorld). i < due_in k) (sym c.self.view_is) c.requires.below in
     let lanes = c.take-node.new.self in
     let name = c.take-node.result.0 in
     let event = c.take-node.result.1 in
@@ -47,13 +47,13 @@ invariant_of-self g c =
 pub returns-clause-world : goal.returns-clause-world
 returns-clause-world g c =
     λ w stands.
-    let k : Kept = record { bus = c.self.inside.bus; nodes = record { bius = c.self.inside.bius.items; rmus = c.self.inside.rmus.items }; scene = c.self.inside.scene; seeding = c.self.inside.seeding; last = c.self.inside.last } in
+    let k : KeptWorld = record { bus = c.self.inside.bus; nodes = record { bius = c.self.inside.bius.items; rmus = c.self.inside.rmus.items }; scene = c.self.inside.scene; seeding = c.self.inside.seeding; last = c.self.inside.last } in
     let i = c.args.i in
-    let below : i < due_in k = subst (λ (k : Kept). i < due_in k) (sym c.self.view_is) c.requires.below in
+    let below : i < due_in k = subst (λ (k : KeptWorld). i < due_in k) (sym c.self.view_is) c.requires.below in
     let lanes = c.take-node.new.self in
     let name = c.take-node.result.0 in
     let event = c.take-node.result.1 in
-    let is : Stands k w = subst (λ (k : Kept). Stands k w) (sym c.self.view_is) stands in
+    let is : Stands k w = subst (λ (k : KeptWorld). Stands k w) (sym c.self.view_is) stands in
     let both = may-happen k w i name event lanes is below c.take-node.ensures.taken (c.take-node.ensures.world k.bus w is.scene.lanes) in
     let may : MayHappen k.bus k.nodes (record k.scene { agenda = lanes }) c.first_time-time.result name event w i both.0 =
     subst (λ t. MayHappen k.bus k.nodes (record k.scene { agenda = lanes }) t name event w i both.0) (sym c.first_time-time.ensures.value) both.1 in
@@ -61,18 +61,18 @@ returns-clause-world g c =
     let settles = c.settle_into.ensures.settled k.bus (happens k.bus w both.0) happened.surrounds.book in
     let given = taken k.bus w i both.0 (record { bius = c.happen.new.bius.items; rmus = c.happen.new.rmus.items }) c.happen.new.scene k.seeding c.settle_into.new.self c.settle_into.new.turn
     c.last_of-self-inside.result is.lawful is.reached may.found happened settles c.last_of-self-inside.ensures in
-    subst (λ (kept : Kept). Gives (record { bus = k.bus; nodes = record { bius = c.happen.new.bius.items; rmus = c.happen.new.rmus.items }; scene = record c.happen.new.scene { book = c.settle_into.new.self }; seeding = k.seeding; last = c.last_of-self-inside.result }) c.settle_into.new.turn (take kept.bus w i)) c.self.view_is given
+    subst (λ (kept : KeptWorld). Gives (record { bus = k.bus; nodes = record { bius = c.happen.new.bius.items; rmus = c.happen.new.rmus.items }; scene = record c.happen.new.scene { book = c.settle_into.new.self }; seeding = k.seeding; last = c.last_of-self-inside.result }) c.settle_into.new.turn (take kept.bus w i)) c.self.view_is given
 
 pub returns-clause-rounds : goal.returns-clause-rounds
 returns-clause-rounds g c =
     λ w stands.
-    let k : Kept = record { bus = c.self.inside.bus; nodes = record { bius = c.self.inside.bius.items; rmus = c.self.inside.rmus.items }; scene = c.self.inside.scene; seeding = c.self.inside.seeding; last = c.self.inside.last } in
+    let k : KeptWorld = record { bus = c.self.inside.bus; nodes = record { bius = c.self.inside.bius.items; rmus = c.self.inside.rmus.items }; scene = c.self.inside.scene; seeding = c.self.inside.seeding; last = c.self.inside.last } in
     let i = c.args.i in
-    let below : i < due_in k = subst (λ (k : Kept). i < due_in k) (sym c.self.view_is) c.requires.below in
+    let below : i < due_in k = subst (λ (k : KeptWorld). i < due_in k) (sym c.self.view_is) c.requires.below in
     let lanes = c.take-node.new.self in
     let name = c.take-node.result.0 in
     let event = c.take-node.result.1 in
-    let is : Stands k w = subst (λ (k : Kept). Stands k w) (sym c.self.view_is) stands in
+    let is : Stands k w = subst (λ (k : KeptWorld). Stands k w) (sym c.self.view_is) stands in
     let both = may-happen k w i name event lanes is below c.take-node.ensures.taken (c.take-node.ensures.world k.bus w is.scene.lanes) in
     let may : MayHappen k.bus k.nodes (record k.scene { agenda = lanes }) c.first_time-time.result name event w i both.0 =
     subst (λ t. MayHappen k.bus k.nodes (record k.scene { agenda = lanes }) t name event w i both.0) (sym c.first_time-time.ensures.value) both.1 in
@@ -80,5 +80,5 @@ returns-clause-rounds g c =
     let settles = c.settle_into.ensures.settled k.bus (happens k.bus w both.0) happened.surrounds.book in
     let given = taken k.bus w i both.0 (record { bius = c.happen.new.bius.items; rmus = c.happen.new.rmus.items }) c.happen.new.scene k.seeding c.settle_into.new.self c.settle_into.new.turn
     c.last_of-self-inside.result is.lawful is.reached may.found happened settles c.last_of-self-inside.ensures in
-    subst (λ (kept : Kept). TakesInRounds kept.bus w (take kept.bus w i) (record_of c.settle_into.new.turn)) c.self.view_is
+    subst (λ (kept : KeptWorld). TakesInRounds kept.bus w (take kept.bus w i) (record_of c.settle_into.new.turn)) c.self.view_is
     (taken-in-rounds k.bus _ c.settle_into.new.turn w i both.0 is.lawful is.reached may.found given)

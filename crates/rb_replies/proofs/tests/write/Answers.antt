@@ -1,9 +1,0 @@
-use Rattle.rb_run.proofs.Opened.{just-opened}
-use Rattle.rb_replies.proofs.Scopes.{scope_same}
-use Rattle.rb_replies.proofs.tests.write.Goals as goal
-
-pub write_groups-requires-clause-begun : goal.write_groups-requires-clause-begun
-write_groups-requires-clause-begun g c = just-opened _ _ c.in-Ok-open.ensures.stands
-
-pub write_groups-requires-clause-scope : goal.write_groups-requires-clause-scope
-write_groups-requires-clause-scope g c = scope_same _ _ _ c.in-Ok-open.ensures.bus c.scope_of-scope.ensures

@@ -1,0 +1,46 @@
+use Rattle.std.proofs.Common.{◌<◌, length, refl, sym, ◌∙◌, subst, false, IsTrue, ◌↔◌}
+use Rattle.rb_rules.specs.WorldStep.{World as RunWorld, due_of}
+use Rattle.rb_agenda.specs.Agenda.{how_many}
+use Rattle.rb_world.specs.Worlds.{KeptWorld, Stands, due_in}
+use Rattle.rb_world.proofs.Idle.{all-due, busy, ended-idle, free-idle, none-due, none-due-then, none-some, some-due}
+use Rattle.rb_world.proofs.world.World.is_due.Goals as goal
+use Rattle.rb_world.proofs.world.World.is_due.Goals.{then-has_ended-via-then-has_ended, then-has_ended-via-else-has_ended+then-needs_no_event}
+
+pub returns-then-has_ended-clause-value : goal.returns-then-has_ended-clause-value
+returns-then-has_ended-clause-value c =
+    let k : KeptWorld = record { bus = c.self.inside.bus; nodes = record { bius = c.self.inside.bius.items; rmus = c.self.inside.rmus.items }; scene = c.self.inside.scene; seeding = c.self.inside.seeding; last = c.self.inside.last } in
+    let w : RunWorld = c.self.invariant.0 in
+    let is : Stands k w = c.self.invariant.1 in
+    subst (λ k. IsTrue false ↔ 0 < due_in k) c.self.view_is (elim c.then-has_ended.branch [
+      | then-has_ended-via-then-has_ended d ↦ none-some (none-due k w is (ended-idle k w is (sym (c.has_ended.ensures k.bus w is.scene.book) ∙ d.if-has_ended.true)))
+      | then-has_ended-via-else-has_ended+then-needs_no_event d ↦
+          none-some (none-due k w is (free-idle k w is (sym (d.needs_no_event.ensures k.bus w is.scene.book) ∙ d.if-needs_no_event.true)))
+    ])
+
+pub returns-then-has_ended-clause-world : goal.returns-then-has_ended-clause-world
+returns-then-has_ended-clause-world c =
+    let k : KeptWorld = record { bus = c.self.inside.bus; nodes = record { bius = c.self.inside.bius.items; rmus = c.self.inside.rmus.items }; scene = c.self.inside.scene; seeding = c.self.inside.seeding; last = c.self.inside.last } in
+    subst (λ k. (w : RunWorld) → Stands k w → IsTrue false ↔ 0 < length (due_of k.bus w)) c.self.view_is (λ w is. elim c.then-has_ended.branch [
+      | then-has_ended-via-then-has_ended d ↦ none-some (none-due-then k w is (ended-idle k w is (sym (c.has_ended.ensures k.bus w is.scene.book) ∙ d.if-has_ended.true)))
+      | then-has_ended-via-else-has_ended+then-needs_no_event d ↦
+          none-some (none-due-then k w is (free-idle k w is (sym (d.needs_no_event.ensures k.bus w is.scene.book) ∙ d.if-needs_no_event.true)))
+    ])
+
+pub returns-clause-world : goal.returns-clause-world
+returns-clause-world c =
+    let k : KeptWorld = record { bus = c.self.inside.bus; nodes = record { bius = c.self.inside.bius.items; rmus = c.self.inside.rmus.items }; scene = c.self.inside.scene; seeding = c.self.inside.seeding; last = c.self.inside.last } in
+    subst (λ k. (w : RunWorld) → Stands k w → IsTrue c.is_due.result ↔ 0 < length (due_of k.bus w)) c.self.view_is (λ w is.
+    some-due k w c.is_due.result
+    (busy k w (sym (c.has_ended.ensures k.bus w is.scene.book) ∙ c.if-has_ended.false) (sym (c.needs_no_event.ensures k.bus w is.scene.book) ∙ c.if-needs_no_event.false))
+    (c.is_due.ensures.world k.bus w is.scene.lanes))
+
+pub returns-clause-value : goal.returns-clause-value
+returns-clause-value c =
+    let k : KeptWorld = record { bus = c.self.inside.bus; nodes = record { bius = c.self.inside.bius.items; rmus = c.self.inside.rmus.items }; scene = c.self.inside.scene; seeding = c.self.inside.seeding; last = c.self.inside.last } in
+    let w : RunWorld = c.self.invariant.0 in
+    let is : Stands k w = c.self.invariant.1 in
+    subst (λ k. IsTrue c.is_due.result ↔ 0 < due_in k) c.self.view_is
+    (subst (λ n. IsTrue c.is_due.result ↔ 0 < n)
+    (all-due k w (how_many k.scene.agenda) is
+    (busy k w (sym (c.has_ended.ensures k.bus w is.scene.book) ∙ c.if-has_ended.false) (sym (c.needs_no_event.ensures k.bus w is.scene.book) ∙ c.if-needs_no_event.false)) refl)
+    c.is_due.ensures.value)
