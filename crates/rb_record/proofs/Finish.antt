@@ -13,7 +13,7 @@ use Rattle.rb_book.specs.declared.turn.Turn.{Turn}
 use Rattle.rb_book.specs.declared.turn.Turn.TheVariants as turn
 use Rattle.rb_history.specs.Given.{first_run}
 use Rattle.rb_world.specs.Nexts.{GoesToNext, IsNext, Standing, after_steps, is_last, step, step_among}
-use Rattle.rb_world.specs.Worlds.{Kept}
+use Rattle.rb_world.specs.Worlds.{KeptWorld}
 use Rattle.rb_world.proofs.LastTurn.{reached-ends}
 use Rattle.rb_world.specs.declared.ties.Ties.TheVariants.{First}
 use Rattle.rb_run.specs.Runs.{EndsWith, end_at}
@@ -56,7 +56,7 @@ pub record IsLastTurn (sc : Scenario) (turn : Turn) : Type 0 where
   pub is : record_of turn ≡ last_or None (records_of sc [])
   pub last : is_last (record_of turn) ≡ true
 
-pub last-turn : (before after : Kept) (turn : Turn) (n : ℕ) → IsOver before.bus n before → GoesToNext First before after turn (first_run before.bus n) → IsLastTurn before.bus turn
+pub last-turn : (before after : KeptWorld) (turn : Turn) (n : ℕ) → IsOver before.bus n before → GoesToNext First before after turn (first_run before.bus n) → IsLastTurn before.bus turn
 last-turn before after turn n over goes =
     let sc : Scenario = before.bus in
     let lawful : IsLawful sc = over.stands.lawful in

@@ -1,5 +1,5 @@
 -- What is written of a log while a run goes on.
-use Rattle.std.proofs.Common.{◌≡◌, ℕ, suc, ◌+◌, ◌≤◌, ◌&&◌, true, false, Option, Some, List, [], ◌∷◌, ◌++◌, append_assoc, length, refl, sym, ap, ◌∙◌, subst, arith}
+use Rattle.std.proofs.Common.{◌≡◌, ℕ, zero, suc, ◌+◌, ◌<◌, ◌≤◌, ◌&&◌, Bool, true, false, IsTrue, ◌↔◌, Option, Some, List, [], ◌∷◌, ◌++◌, append_assoc, length, refl, sym, ap, ◌∙◌, subst, arith}
 use Rattle.std.specs.Prelude.{if◌then◌else◌, Result, Ok, Err, IsErr, MatchResult, OnErr, OnOk}
 use Rattle.std.specs.Io.KnownBytes.{Appends}
 use Rattle.std.proofs.lemmas.List.{append-nil}
@@ -14,8 +14,8 @@ use Rattle.rb_log.specs.Header.{header_of}
 use Rattle.rb_log.specs.Writing.{Tally, ticks_given, written}
 use Rattle.rb_outside.specs.Bytes.{AppendsPart}
 use Rattle.rb_outside.proofs.Known.{appends_join, appends_none, part_join, part_widens}
-use Rattle.rb_world.specs.Worlds.{Kept, Stands}
-use Rattle.rb_record.specs.Recording.{IsRecorded, IsRecordedWhole, IsTold, WritesAll, WritesNext, WritesPart, WritesPartOf, log_text}
+use Rattle.rb_world.specs.Worlds.{KeptWorld, Stands, due_in}
+use Rattle.rb_record.specs.Recording.{HasDue, IsRecorded, IsRecordedWhole, IsTold, WritesAll, WritesNext, WritesPart, WritesPartOf, log_text}
 use Rattle.rb_record.proofs.Ends.{all-given, busy-more, whole-given}
 use Rattle.rb_record.proofs.Ticks.{next-is, ticks-append}
 
@@ -59,7 +59,7 @@ text-more sc name n log after bytes more text told others =
     ap (log_text sc name) (append_assoc (given_in sc name n) next others) ∙ text (next ++ others) ∙ ap (λ xs. bytes ++ xs) (told.text others)
     ∙ sym (append_assoc bytes more (written after.waiting others))
 
-pub recorded-more : (sc : Scenario) (name : NodeName) (n : ℕ) (k after : Kept) (log later : Tally) (held mid since : Option (List ℕ)) → IsRecorded sc name n k log held mid
+pub recorded-more : (sc : Scenario) (name : NodeName) (n : ℕ) (k after : KeptWorld) (log later : Tally) (held mid since : Option (List ℕ)) → IsRecorded sc name n k log held mid
     → WritesNext log later (given_next sc name (first_run sc n)) mid since → 1 ≤ length (due_of sc (first_run sc n)) → after.bus ≡ sc → Stands after (first_run sc (suc n))
     → IsRecorded sc name (n + 1) after later held since
 recorded-more sc name n k after log later held mid since is next some bus stands =
@@ -77,7 +77,7 @@ recorded-more sc name n k after log later held mid since is next some bus stands
       appended = appends_join held mid since is.bytes next.bytes is.appended next.text;
     })
 
-pub recorded-part : (sc : Scenario) (name : NodeName) (n : ℕ) (k : Kept) (log : Tally) (held mid since : Option (List ℕ)) → IsLawful sc → IsRecorded sc name n k log held mid
+pub recorded-part : (sc : Scenario) (name : NodeName) (n : ℕ) (k : KeptWorld) (log : Tally) (held mid since : Option (List ℕ)) → IsLawful sc → IsRecorded sc name n k log held mid
     → WritesPartOf log (given_next sc name (first_run sc n)) mid since → 1 ≤ length (due_of sc (first_run sc n)) → WritesPart sc name held since
 recorded-part sc name n k log held mid since lawful is next some =
     let all = all-given sc name (suc n) lawful (busy-more sc n is.taken some) in
@@ -92,7 +92,7 @@ recorded-part sc name n k log held mid since lawful is next some =
 
 -- The begin.
 
-pub recorded-none : (sc : Scenario) (name : NodeName) (k : Kept) (header : List ℕ) (held since : Option (List ℕ)) → k.bus ≡ sc → Stands k (first_world sc)
+pub recorded-none : (sc : Scenario) (name : NodeName) (k : KeptWorld) (header : List ℕ) (held since : Option (List ℕ)) → k.bus ≡ sc → Stands k (first_world sc)
     → header ≡ header_of (record { sizes = sc.sizes; plan = sc.plan }) name → Appends held since header → IsRecorded sc name 0 k (record { ticks = 0; waiting = 0 }) held since
 recorded-none sc name k header held since bus stands is text = record {
   bus = bus;
@@ -116,11 +116,11 @@ begin-part sc name header held since lawful is text =
 
 -- The end.
 
-end-text : (sc : Scenario) (name : NodeName) (k : Kept) (log : Tally) (held mid : Option (List ℕ)) → (is : IsRecordedWhole sc name k log held mid)
+end-text : (sc : Scenario) (name : NodeName) (k : KeptWorld) (log : Tally) (held mid : Option (List ℕ)) → (is : IsRecordedWhole sc name k log held mid)
     → log_text sc name (given_in sc name is.steps) ≡ is.recorded.bytes ++ written log.waiting []
 end-text sc name k log held mid is = ap (log_text sc name) (sym (append-nil (given_in sc name is.steps))) ∙ is.recorded.text []
 
-pub all-written : (sc : Scenario) (name : NodeName) (k : Kept) (log : Tally) (bytes : List ℕ) (held mid since : Option (List ℕ)) → IsLawful sc → IsRecordedWhole sc name k log held mid
+pub all-written : (sc : Scenario) (name : NodeName) (k : KeptWorld) (log : Tally) (bytes : List ℕ) (held mid since : Option (List ℕ)) → IsLawful sc → IsRecordedWhole sc name k log held mid
     → bytes ≡ written log.waiting [] → Appends mid since bytes → WritesAll sc name held since
 all-written sc name k log bytes held mid since lawful is last text = record {
   events = given_in sc name is.steps;
@@ -129,7 +129,7 @@ all-written sc name k log bytes held mid since lawful is last text = record {
       (appends_join held mid since is.recorded.bytes bytes is.recorded.appended text);
 }
 
-pub end-part : (sc : Scenario) (name : NodeName) (k : Kept) (log : Tally) (bytes : List ℕ) (held mid since : Option (List ℕ)) → IsLawful sc → IsRecordedWhole sc name k log held mid
+pub end-part : (sc : Scenario) (name : NodeName) (k : KeptWorld) (log : Tally) (bytes : List ℕ) (held mid since : Option (List ℕ)) → IsLawful sc → IsRecordedWhole sc name k log held mid
     → bytes ≡ written log.waiting [] → AppendsPart mid since bytes → WritesPart sc name held since
 end-part sc name k log bytes held mid since lawful is last text = record {
   events = given_in sc name is.steps;
@@ -149,7 +149,7 @@ match-both (Ok x) a b f h = f a
 match-both (Err e) a b f h = h b
 
 -- the same bus by another name
-pub recorded-for : (a b : Scenario) (name : NodeName) (n : ℕ) (k : Kept) (log : Tally) (held since : Option (List ℕ)) → a ≡ b → IsRecorded a name n k log held since
+pub recorded-for : (a b : Scenario) (name : NodeName) (n : ℕ) (k : KeptWorld) (log : Tally) (held since : Option (List ℕ)) → a ≡ b → IsRecorded a name n k log held since
     → IsRecorded b name n k log held since
 recorded-for a b name n k log held since same = subst (λ sc. IsRecorded sc name n k log held since) same
 
@@ -160,11 +160,21 @@ pub on-err : {T E : Type 0} {Q : Type 0} (r : Result T E) → Q → OnErr r Q
 on-err (Ok x) q = tt
 on-err (Err e) q = q
 
+no-more : (n : ℕ) (due : Bool) → due ≡ false → IsTrue due ↔ 0 < n → n ≡ 0
+no-more zero due none is = refl
+no-more (suc n) due none is = (let some : 0 < suc n = omega arith in let yes : due ≡ true = is.1 some in absurd (cc))
+
 -- where no event is due any more, all is recorded
-pub recorded-whole : (sc : Scenario) (name : NodeName) (n due : ℕ) (k : Kept) (log : Tally) (held since : Option (List ℕ)) → IsRecorded sc name n k log held since
-    → ((w : World) → Stands k w → due ≡ length (due_of k.bus w)) → due ≡ 0 → IsRecordedWhole sc name k log held since
-recorded-whole sc name n due k log held since is many none = record {
+pub recorded-whole : (sc : Scenario) (name : NodeName) (n : ℕ) (due : Bool) (k : KeptWorld) (log : Tally) (held since : Option (List ℕ)) → IsRecorded sc name n k log held since
+    → ((w : World) → Stands k w → IsTrue due ↔ 0 < length (due_of k.bus w)) → due ≡ false → IsRecordedWhole sc name k log held since
+recorded-whole sc name n due k log held since is some none = record {
   steps = n;
   recorded = is;
-  none = ap (λ sc2. length (due_of sc2 (first_run sc n))) (sym is.bus) ∙ sym (many (first_run sc n) is.stands) ∙ none;
+  none = ap (λ sc2. length (due_of sc2 (first_run sc n))) (sym is.bus) ∙ no-more (length (due_of k.bus (first_run sc n))) due none (some (first_run sc n) is.stands);
+}
+
+pub has-due : (k : KeptWorld) (due : Bool) → IsTrue due ↔ 0 < due_in k → ((w : World) → Stands k w → IsTrue due ↔ 0 < length (due_of k.bus w)) → due ≡ true → HasDue k
+has-due k due kept some holds = record {
+  kept = kept.0 holds;
+  world = λ w is. let more = (some w is).0 holds in omega (arith, more);
 }

@@ -10,7 +10,7 @@ use Rattle.rb_log.specs.Header.{header_of}
 use Rattle.rb_log.specs.Laws.{ticks_in}
 use Rattle.rb_log.specs.Writing.{HasBytes, Tally, ticks_given, written}
 use Rattle.rb_outside.specs.Bytes.{AppendsPart}
-use Rattle.rb_world.specs.Worlds.{Kept, Stands, due_in}
+use Rattle.rb_world.specs.Worlds.{KeptWorld, Stands, due_in}
 
 -- the log in which a node of the bus is given these events
 abbrev pub log_text : Scenario → NodeName → List Event → List ℕ
@@ -31,7 +31,7 @@ pub record WritesPart (sc : Scenario) (name : NodeName) (held since : Option (Li
 -- While the run goes on.
 
 -- some event is due, by what is kept, and so in each world for which that stands
-pub record HasDue (k : Kept) : Type 0 where
+pub record HasDue (k : KeptWorld) : Type 0 where
   pub kept : 0 < due_in k
   pub world : (w : World) → Stands k w → 1 ≤ length (due_of k.bus w)
 
@@ -59,7 +59,7 @@ pub record WritesPartOf (before : Tally) (events : List Event) (held since : Opt
   pub text : AppendsPart held since bytes
 
 -- the world has had so many events, the first of those due each time, and of the node's log all was written that is complete with them
-pub record IsRecorded (sc : Scenario) (name : NodeName) (n : ℕ) (k : Kept) (log : Tally) (held since : Option (List ℕ)) : Type 0 where
+pub record IsRecorded (sc : Scenario) (name : NodeName) (n : ℕ) (k : KeptWorld) (log : Tally) (held since : Option (List ℕ)) : Type 0 where
   pub bus : k.bus ≡ sc
   pub stands : Stands k (first_run sc n)
   pub taken : (m : ℕ) → m < n → 1 ≤ length (due_of sc (first_run sc m))
@@ -69,14 +69,14 @@ pub record IsRecorded (sc : Scenario) (name : NodeName) (n : ℕ) (k : Kept) (lo
   pub appended : Appends held since bytes
 
 -- no event is due any more
-pub record IsOver (sc : Scenario) (n : ℕ) (k : Kept) : Type 0 where
+pub record IsOver (sc : Scenario) (n : ℕ) (k : KeptWorld) : Type 0 where
   pub bus : k.bus ≡ sc
   pub stands : Stands k (first_run sc n)
   pub taken : (m : ℕ) → m < n → 1 ≤ length (due_of sc (first_run sc m))
   pub none : length (due_of sc (first_run sc n)) ≡ 0
 
 -- so it is, and the log is written but for its end
-pub record IsRecordedWhole (sc : Scenario) (name : NodeName) (k : Kept) (log : Tally) (held since : Option (List ℕ)) : Type 0 where
+pub record IsRecordedWhole (sc : Scenario) (name : NodeName) (k : KeptWorld) (log : Tally) (held since : Option (List ℕ)) : Type 0 where
   pub steps : ℕ
   pub recorded : IsRecorded sc name steps k log held since
   pub none : length (due_of sc (first_run sc steps)) ≡ 0

@@ -3,8 +3,6 @@
 
 mod laws;
 mod recording;
-#[cfg(test)]
-mod tests;
 
 pub use laws::{one_log, recorded_is_read};
 pub use rb_run::Ending;

@@ -100,7 +100,7 @@ fn record_next<K: Sink>(
     ensures bus { world.new.bus ≡ world.old.bus }
 {
     write_next(world, apps, node, log, output)?;
-    let _turn = world.take(apps, 0);
+    world.pass(apps);
     Ok(())
 }
 
@@ -122,7 +122,7 @@ fn record_all<K: Sink>(
     ensures bus { world.new.bus ≡ world.old.bus }
 {
     for taken in 0..u64::MAX {
-        if world.due() == 0 {
+        if !world.is_due() {
             return Ok(());
         }
         record_next(world, apps, node, log, output)?;

@@ -1,12 +1,15 @@
 use Rattle.std.proofs.Common.{sym, ◌∙◌, arith}
 use Rattle.rb_record.proofs.Runs.{few-steps}
-use Rattle.rb_record.proofs.Writing.{match-err, part-for, recorded-for, recorded-whole}
+use Rattle.rb_record.proofs.Writing.{has-due, match-err, part-for, recorded-for, recorded-whole}
 use Rattle.rb_record.proofs.recording.record_all.Goals as goal
 
-pub returns-then-due-eq0-clause-recorded : goal.returns-then-due-eq0-clause-recorded
-returns-then-due-eq0-clause-recorded g c = λ held start.
-    recorded-whole c.args.world.now.bus c.args.node c.loop-taken.taken c.due.result c.loop-taken.world c.loop-taken.log held (g.K.Sink.held c.loop-taken.output)
-    (c.loop-taken.invariant.recorded held start) c.due.ensures.world c.if-due-eq0.true
+pub returns-then-not-is_due-clause-recorded : goal.returns-then-not-is_due-clause-recorded
+returns-then-not-is_due-clause-recorded g c = λ held start.
+    recorded-whole c.args.world.now.bus c.args.node c.loop-taken.taken c.is_due.result c.loop-taken.world c.loop-taken.log held (g.K.Sink.held c.loop-taken.output)
+    (c.loop-taken.invariant.recorded held start) c.is_due.ensures.world c.if-not-is_due.true
+
+pub record_next-requires-clause-due : goal.record_next-requires-clause-due
+record_next-requires-clause-due g c = has-due c.loop-taken.world c.is_due.result c.is_due.ensures.value c.is_due.ensures.world c.if-not-is_due.false
 
 pub record_next-requires-clause-recorded : goal.record_next-requires-clause-recorded
 record_next-requires-clause-recorded g c =

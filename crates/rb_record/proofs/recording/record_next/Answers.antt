@@ -27,6 +27,6 @@ returns-clause-recorded g c = λ n held is.
     let w = first_run sc n in
     let some = c.requires.due.world w is.stands in
     let next = c.in_ok-write_next.ensures.next w is.stands (may-tell sc c.args.node n c.args.log.now.ticks is.stands.lawful is.ticks) in
-    let stands : Stands c.take-turn.new.self (first_run sc (suc n)) = subst (Stands c.take-turn.new.self) (sym (run-busy sc w some)) (c.take-turn.ensures.world w is.stands).stands in
-    recorded-more sc c.args.node n c.args.world.now c.take-turn.new.self c.args.log.now c.write_next.new.log held (g.K.Sink.held c.args.output.now) (g.K.Sink.held c.write_next.new.output) is next some
-    c.take-turn.ensures.bus stands
+    let stands : Stands c.pass.new.self (first_run sc (suc n)) = subst (Stands c.pass.new.self) (sym (run-busy sc w some)) (c.pass.ensures.world w is.stands) in
+    recorded-more sc c.args.node n c.args.world.now c.pass.new.self c.args.log.now c.write_next.new.log held (g.K.Sink.held c.args.output.now) (g.K.Sink.held c.write_next.new.output) is next some
+    c.pass.ensures.bus stands
