@@ -1,26 +1,28 @@
 //! What a passive listener tells of a log.
-ghost use Rattle.std.specs.Prelude.{◌≡◌, OnOk, OnErr};
+ghost use Rattle.std.specs.Prelude.{◌≡◌, ◌⊎◌};
 ghost use Rattle.std.specs.Io.KnownBytes.{Appends};
 ghost use Rattle.rb_outside.specs.Bytes.{AppendsPart};
-ghost use Rattle.rb_outside.specs.Causes.{HasCause, Rose};
+ghost use Rattle.rb_outside.specs.Causes.{Rose};
 ghost use Rattle.rb_top.specs.Inputs.{rmu_text};
 ghost use Rattle.rb_top.specs.Serving.{FailsToListen, IsListened, IsOfLog, RefusesToListen};
 
-use crate::lines::write_line;
-use crate::replaying::write_fault;
+use crate::reading::refuse_with;
+use crate::replaying::refuse_log;
 use crate::status::Status;
 use rb_log::LogReader;
 use rb_outside::{Failed, Sink};
 use rb_overheard::{is_biu, listen};
 use rb_report::refused_line;
 
-// Writes the line that says that a log is not that of a BIU.
-fn write_not_biu<K: Sink>(output: &mut K) -> Result<(), Failed>
-    ensures all { OnOk result (Appends (K.held output.old) (K.held output.new) rmu_text) }
-    ensures part { OnErr result (AppendsPart (K.held output.old) (K.held output.new) rmu_text) }
-    ensures cause { HasCause (K.faults output.old) (K.faults output.new) result }
+// Refuses a log that is not that of a BIU.
+fn refuse_rmu<K: Sink>(output: &mut K) -> Status
+    ensures refused { result ≡ Status.Refused → Appends (K.held output.old) (K.held output.new) rmu_text }
+    ensures part { result ≡ Status.WriteFault → AppendsPart (K.held output.old) (K.held output.new) rmu_text }
+    ensures cause { result ≡ Status.WriteFault → Rose (K.faults output.old) (K.faults output.new) }
+    ensures either { (result ≡ Status.Refused) ⊎ (result ≡ Status.WriteFault) }
 {
-    write_line(output, &refused_line(5, None, true))
+    let line = refused_line(5, None, true);
+    refuse_with(&line, output)
 }
 
 /// Gives the log that the bytes spell to a passive listener, from the tick of this number on, and writes what that tells, or the
@@ -34,18 +36,10 @@ pub(crate) fn listen_to<K: Sink>(bytes: &[u8], skip: u32, output: &mut K) -> Sta
 {
     let log = match LogReader::open(bytes) {
         Ok(log) => log,
-        Err(fault) => {
-            return match write_fault(fault, output) {
-                Ok(()) => Status::Refused,
-                Err(Failed) => Status::WriteFault,
-            };
-        }
+        Err(fault) => return refuse_log(fault, output),
     };
     if !is_biu(&log) {
-        return match write_not_biu(output) {
-            Ok(()) => Status::Refused,
-            Err(Failed) => Status::WriteFault,
-        };
+        return refuse_rmu(output);
     }
     match listen(log, skip, output) {
         Ok(()) => Status::Done,

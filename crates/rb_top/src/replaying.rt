@@ -1,12 +1,12 @@
 //! What the node of a log tells.
-ghost use Rattle.std.specs.Prelude.{◌≡◌, OnOk, OnErr};
+ghost use Rattle.std.specs.Prelude.{◌≡◌, ◌⊎◌};
 ghost use Rattle.std.specs.Io.KnownBytes.{Appends};
 ghost use Rattle.rb_outside.specs.Bytes.{AppendsPart};
-ghost use Rattle.rb_outside.specs.Causes.{HasCause, Rose};
+ghost use Rattle.rb_outside.specs.Causes.{Rose};
 ghost use Rattle.rb_top.specs.Inputs.{fault_text, log_code, log_place};
 ghost use Rattle.rb_top.specs.Serving.{FailsToReplay, IsOfLog, IsReplayed, RefusesLog};
 
-use crate::lines::write_line;
+use crate::reading::refuse_with;
 use crate::status::Status;
 use rb_log::{LogReader, LogRefusal};
 use rb_outside::{Failed, Sink};
@@ -36,13 +36,15 @@ fn place_of(fault: LogRefusal) -> Option<u64>
     }
 }
 
-/// Writes the line of a log's fault.
-pub(crate) fn write_fault<K: Sink>(fault: LogRefusal, output: &mut K) -> Result<(), Failed>
-    ensures all { OnOk result (Appends (K.held output.old) (K.held output.new) (fault_text fault)) }
-    ensures part { OnErr result (AppendsPart (K.held output.old) (K.held output.new) (fault_text fault)) }
-    ensures cause { HasCause (K.faults output.old) (K.faults output.new) result }
+/// Refuses the log for its fault.
+pub(crate) fn refuse_log<K: Sink>(fault: LogRefusal, output: &mut K) -> Status
+    ensures refused { result ≡ Status.Refused → Appends (K.held output.old) (K.held output.new) (fault_text fault) }
+    ensures part { result ≡ Status.WriteFault → AppendsPart (K.held output.old) (K.held output.new) (fault_text fault) }
+    ensures cause { result ≡ Status.WriteFault → Rose (K.faults output.old) (K.faults output.new) }
+    ensures either { (result ≡ Status.Refused) ⊎ (result ≡ Status.WriteFault) }
 {
-    write_line(output, &refused_line(code_of(fault), place_of(fault), true))
+    let line = refused_line(code_of(fault), place_of(fault), true);
+    refuse_with(&line, output)
 }
 
 /// Gives the log that the bytes spell to its node and writes what it tells, or the line that says why they spell none.
@@ -58,9 +60,6 @@ pub(crate) fn replay_bytes<K: Sink>(bytes: &[u8], output: &mut K) -> Status
             Ok(()) => Status::Done,
             Err(Failed) => Status::WriteFault,
         },
-        Err(fault) => match write_fault(fault, output) {
-            Ok(()) => Status::Refused,
-            Err(Failed) => Status::WriteFault,
-        },
+        Err(fault) => refuse_log(fault, output),
     }
 }
