@@ -4,8 +4,6 @@
 mod fields;
 mod lines;
 mod receivers;
-#[cfg(test)]
-mod tests;
 
 pub use lines::{bridge_refused_line, cross_line, side_breach_line};
 pub use receivers::write_receivers;

@@ -4,8 +4,6 @@
 mod reading;
 mod running;
 pub mod status;
-#[cfg(test)]
-mod tests;
 pub mod top;
 
 pub use status::Status;

@@ -6,8 +6,6 @@ mod forms;
 mod ranges;
 mod reading;
 pub mod refusal;
-#[cfg(test)]
-mod tests;
 
 pub use bridge::Bridge;
 pub use reading::read_bridge;

@@ -107,6 +107,32 @@ const REPORTS: &[Case] = &[
             ("", "p 1 B0 10 5\np 1 B1 20 5\np 1 B3 40 5\nend 1"),
         ],
     },
+    // The clock of B1 is late, and B2 is silent from slot 3 of frame 0 on: its request was heard before, and its data slot comes after.
+    Case {
+        words: "run",
+        input: &[
+            "biu = 3\nrmu = 2\nslots = 3\nframes = 2\nrequests = [1, 1, 1]\nwords = [7, 8, 9]\napps = ['table', 'counter', 'follow']\n",
+            "clock = [{ node = 'B1', start = 30000 }]\n",
+            "fault = [{ node = 'B2', frame = 0, slot = 3 }]\n",
+        ],
+        status: Status::Done,
+        lines: &[
+            ("", "e 0 B0 0 0\ne 0 B1 0 30000"),
+            ("B2 R0 R1", "e 0 * 0 0"),
+            ("B0 B1 B2 R0 R1", "c 0 * 0 0"),
+            ("", "p 0 B0 7 0\np 0 B1 8 0\np 0 B2 9 0"),
+            ("B0 B1", "d 0 3 * B0 7\nd 0 4 * B1 9\nd 0 5 * B2 none"),
+            ("", "e 1 B0 557 5570000\ne 1 B1 554 5570000"),
+            ("R0 R1", "e 1 * 557 5570000"),
+            ("B0 B1 R0 R1", "c 1 * 4 0"),
+            ("", "p 1 B0 7 1\np 1 B1 11 1"),
+            ("B0 B1", "d 1 3 * B0 7\nd 1 4 * B1 12"),
+            ("", "e 2 B0 1114 11140000\ne 2 B1 1111 11140000"),
+            ("R0 R1", "e 2 * 1114 11140000"),
+            ("B0 B1 R0 R1", "c 2 * 4 0"),
+            ("", "p 2 B0 7 1\np 2 B1 13 1\nend 2"),
+        ],
+    },
 ];
 
 #[test]

@@ -6,6 +6,8 @@ mod applications;
 #[cfg(test)]
 mod breaches;
 #[cfg(test)]
+mod bridges;
+#[cfg(test)]
 mod calls;
 #[cfg(test)]
 mod faulty_bius;

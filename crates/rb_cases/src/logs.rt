@@ -145,7 +145,7 @@ fn logs_cut_off(rt: HostRuntime) -> Result<(), Fail> {
 }
 
 // The log with this byte at this place, and what is wanted.
-const SPOILT: [(usize, u8, Status, &str); 28] = [
+const SPOILT: [(usize, u8, Status, &str); 30] = [
     (0, 0x53, Status::Refused, "refused 1 BadMagic\n"),
     (3, 0x33, Status::Refused, "refused 1 BadMagic\n"),
     (4, 0x00, Status::Refused, "refused 2 BadField 4\n"),
@@ -156,6 +156,7 @@ const SPOILT: [(usize, u8, Status, &str); 28] = [
     (7, 0x41, Status::Refused, "refused 2 BadField 6\n"),
     (8, 0x01, Status::Refused, "refused 2 BadField 8\n"),
     (12, 0x01, Status::Refused, "refused 2 BadField 12\n"),
+    (13, 0x01, Status::Refused, "refused 2 BadField 12\n"),
     (
         15,
         0x00,
@@ -164,6 +165,7 @@ const SPOILT: [(usize, u8, Status, &str); 28] = [
     ),
     (16, 0x40, Status::Refused, "refused 2 BadField 16\n"),
     (22, 0x00, Status::Refused, "refused 2 BadField 20\n"),
+    (31, 0x05, Status::Refused, "refused 2 BadField 8\n"),
     (46, 0xea, Status::Refused, "refused 2 BadField 8\n"),
     (
         47,
@@ -330,6 +332,14 @@ fn logs_of_other_runs(rt: HostRuntime) -> Result<(), Fail> {
             Status::Breach,
             381,
             16360919807884160260,
+        ),
+        // Up to a breach in the first stage, after six ticks and the request.
+        (
+            "record B0",
+            &[SMALLEST, "fault = [{ node = 'R0', frame = 0, slot = 0 }]\n"] as &[&str],
+            Status::Breach,
+            66,
+            18241673162088731041,
         ),
         // Up to a breach that comes at once.
         (

@@ -1,8 +1,9 @@
 //! How a case is tried.
 use arrayvec::ArrayVec;
 use rb_base::Heard;
+use rb_bridge_top::run_bridge;
 use rb_group::{Voter, Voters, mid_of, most_of};
-use rb_outside::{MemSink, MemSource, Sink, Source};
+use rb_outside::{MemSink, MemSource, PlainSource, Sink, Source};
 use rb_port::{App, Apps};
 use rb_top::{Status, run_robus};
 use rb_world::{Drive, FirstDrive};
@@ -162,4 +163,23 @@ pub(crate) fn try_cases(rt: &impl Abort, alloc: Global, cases: &[Case]) -> Resul
         );
     }
     Ok(())
+}
+
+/// How the call of a bridge ends with this input, with drives that take the first event that is due.
+pub(crate) fn crossed(
+    alloc: Global,
+    input: Vec<u8>,
+    sink: &mut MemSink,
+) -> Result<rb_bridge_top::Status, AllocError> {
+    let words = words_of(alloc, "run")?;
+    let apps = applications!(alloc);
+    Ok(run_bridge(
+        alloc,
+        &words,
+        &mut PlainSource::new(input),
+        sink,
+        &apps,
+        &mut FirstDrive::new(),
+        &mut FirstDrive::new(),
+    ))
 }

@@ -10,6 +10,4 @@ pub mod inbox;
 pub mod reading;
 pub mod standing;
 pub mod taking;
-#[cfg(test)]
-mod tests;
 mod words;

@@ -15,6 +15,3 @@ pub use faults::{has_faults, onsets_of};
 pub use links::{IsLink, rules_in};
 pub use refusal::Refusal;
 pub use says::{IsSay, says_in};
-
-#[cfg(test)]
-mod tests;

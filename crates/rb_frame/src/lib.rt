@@ -13,9 +13,6 @@ use arrayvec::ArrayVec;
 use byteorder::{BigEndian, ByteOrder};
 pub use rb_rules::{Message, Tag, Version};
 
-#[cfg(test)]
-mod tests;
-
 // The exclusive or of the bytes.
 fn check(bytes: &[u8]) -> u8
     ensures { result ≡ check_of bytes.now }

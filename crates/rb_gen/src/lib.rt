@@ -8,6 +8,3 @@ pub mod text;
 pub use draws::Draws;
 pub use generator::generate;
 pub use text::line;
-
-#[cfg(test)]
-mod tests;

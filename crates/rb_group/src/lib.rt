@@ -3,8 +3,6 @@
 #![tactic(auto)]
 
 pub mod group;
-#[cfg(test)]
-mod tests;
 pub mod voters;
 mod votes;
 

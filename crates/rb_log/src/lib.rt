@@ -13,8 +13,6 @@ mod heading;
 mod laws;
 mod reader;
 mod refusal;
-#[cfg(test)]
-mod tests;
 mod writer;
 
 pub use headers::header;

@@ -103,36 +103,3 @@ fn is_found(stamps: &[u64], stamp: u64, range: &mut Range) -> bool
     }
     is_middle(stamps, stamp, range)
 }
-
-#[cfg(test)]
-mod tests {
-    use super::*;
-    use std::test::Fail;
-
-    #[test]
-    fn middles(rt: HostRuntime) -> Result<(), Fail> {
-        let cases: [(&[u64], Option<u64>); 10] = [
-            (&[], None),
-            (&[40], Some(40)),
-            (&[45, 41], Some(41)),
-            (&[861, 862, 862, 862], Some(862)),
-            (&[894, 897, 897, 897], Some(897)),
-            (&[870, 878, 878], Some(878)),
-            (&[878, 878, 887], Some(878)),
-            (&[887, 878, 878], Some(878)),
-            (&[4, 2, 3, 1], Some(2)),
-            (
-                &[16, 1, 15, 2, 14, 3, 13, 4, 12, 5, 11, 6, 10, 7, 9, 8],
-                Some(8),
-            ),
-        ];
-        for (stamps, value) in cases {
-            assert_eq!(rt;
-                middle(&ArrayVec::try_from(stamps)?),
-                value,
-                "of {stamps:?}"
-            );
-        }
-        Ok(())
-    }
-}

@@ -6,8 +6,6 @@ mod script;
 mod sink;
 mod source;
 mod standard;
-#[cfg(test)]
-mod tests;
 mod traits;
 mod whole;
 

@@ -14,7 +14,5 @@ mod places;
 pub mod reading;
 pub mod status;
 mod style;
-#[cfg(test)]
-mod tests;
 
 pub use status::Status;

@@ -10,9 +10,6 @@ use rb_base::Shape;
 pub use rb_rules::{Plan, Window};
 use std::marker::Model;
 
-#[cfg(test)]
-mod tests;
-
 // The number of the sync slot.
 fn sync_slot(shape: &Shape) -> u16
     ensures value { result ≡ sync_slot_of shape.now }

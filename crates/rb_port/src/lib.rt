@@ -3,8 +3,6 @@
 
 pub mod apps;
 pub mod port;
-#[cfg(test)]
-mod tests;
 
 pub use apps::{App, Apps, Learn, Offer};
 pub use port::Port;

@@ -3,7 +3,5 @@
 
 mod lines;
 mod replaying;
-#[cfg(test)]
-mod tests;
 
 pub use replaying::replay;

@@ -14,8 +14,6 @@ use rb_rules::Cause;
 
 mod fields;
 mod names;
-#[cfg(test)]
-mod tests;
 
 /// The begin of a frame at a node, as `e FRAME NODE TICK TIME`: the tick of its clock with which the frame begins, and the
 /// reference time of that tick where it is known.

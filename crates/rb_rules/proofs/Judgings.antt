@@ -1,4 +1,4 @@
--- For the laws of agreement: whoever was seen unlike was taken: so the three classes leave nothing out, and none of them meets
+-- For readers of the laws; no contract cites it yet: whoever was seen unlike was taken: so the three classes leave nothing out, and none of them meets
 -- another.
 use Rattle.std.proofs.Common.{◌≡◌, ℕ, Bool, true, false, ◌&&◌, ◌||◌, not, List, [], ◌∷◌, ◌⊎◌, inl, inr, sym, subst, refl}
 use Rattle.std.specs.List.{list_any}

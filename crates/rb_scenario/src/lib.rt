@@ -10,6 +10,3 @@ pub mod scenario;
 pub use document::read;
 pub use rb_entries::Refusal;
 pub use scenario::{ClockList, SayList, Scenario};
-
-#[cfg(test)]
-mod tests;

@@ -1,4 +1,4 @@
-//! Trials of single runs and nodes: the records of a run by any choice among events, and nodes to which anything comes.
+//! Trials of single runs: the records of a run by any choice among events, and its numbers.
 #![tactic(auto)]
 
 #[cfg(test)]
@@ -8,7 +8,7 @@ mod documents;
 #[cfg(test)]
 mod generated;
 #[cfg(test)]
-mod nodes;
+mod numbers;
 #[cfg(test)]
 mod runs;
 #[cfg(test)]

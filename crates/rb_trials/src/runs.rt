@@ -1,7 +1,11 @@
-//! How a run is taken, record by record.
+//! How a run is taken, record by record or at once.
+ghost use Rattle.std.specs.Prelude.{IfOk};
+ghost use Rattle.rb_run.specs.Runs.{HasGivenNothing};
+
 use rb_port::{App, Apps};
+use rb_run::{Ending, Totals, tally};
 use rb_scenario::read;
-use rb_world::{Ties, Turn, World};
+use rb_world::{FirstDrive, Ties, Turn, World};
 use std::alloc::{AllocError, Global};
 use std::test::Fail;
 
@@ -40,11 +44,16 @@ macro_rules! applications {
 }
 
 /// The run of a document before its first event.
-pub(crate) fn opened(alloc: Global, document: &[u8]) -> Result<World, Fail> {
+pub(crate) fn opened(alloc: Global, document: &[u8]) -> Result<World, Fail>
+    ensures { IfOk result HasGivenNothing }
+{
     let Ok(scenario) = read(alloc, document) else {
         return Err("refused".into());
     };
-    Ok(World::open(alloc, scenario)?)
+    let Ok(world) = World::open(alloc, scenario) else {
+        return Err("no memory".into());
+    };
+    Ok(world)
 }
 
 // The next record of a run.
@@ -81,4 +90,12 @@ pub(crate) fn records(
 pub(crate) fn run_of(alloc: Global, document: &[u8], ties: Ties) -> Result<Vec<Turn>, Fail> {
     let mut world = opened(alloc, document)?;
     Ok(records(alloc, &mut world, ties, 20000)?)
+}
+
+/// How a run ends that has just been opened, and its numbers.
+pub(crate) fn counted(alloc: Global, world: &mut World) -> Result<(Ending, Totals), AllocError>
+    requires { HasGivenNothing world.old }
+{
+    let apps = applications!(alloc);
+    Ok(tally(world, &apps, &mut FirstDrive::new()))
 }

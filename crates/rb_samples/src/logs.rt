@@ -1,7 +1,12 @@
-use super::*;
+//! Logs: what is read of them and written into them, and a replay that breaks off.
 use arrayvec::ArrayVec;
 use rb_base::{Event, EventKind, NodeName};
+use rb_log::{LogEvent, LogReader, LogRefusal, LogWriter, header};
+use rb_outside::MemSink;
+use rb_replay::replay;
 use rb_rules::Version;
+use std::alloc::Global;
+use std::test::Fail;
 
 // What the one RMU of the smallest bus was given in a frame of ordinary use: 243 ticks and eight arrivals.
 const LOG: [u8; 208] = [
@@ -50,41 +55,6 @@ fn refusal_of(bytes: &[u8]) -> Option<LogRefusal> {
         Ok(_) => None,
         Err(refusal) => Some(refusal),
     }
-}
-
-fn spoilt(place: usize, byte: u8) -> Option<LogRefusal> {
-    let mut bytes = LOG;
-    if place < 208 {
-        bytes[place] = byte;
-    }
-    refusal_of(&bytes)
-}
-
-#[test]
-fn first_fault_is_found(rt: HostRuntime) {
-    let rows = [
-        (0, 0x53, Some(LogRefusal::BadMagic)),
-        (4, 17, Some(LogRefusal::BadField(4))),
-        (13, 1, Some(LogRefusal::BadField(12))),
-        (31, 5, Some(LogRefusal::BadField(8))),
-        (49, 0xff, Some(LogRefusal::BadField(49))),
-        (50, 0xfd, Some(LogRefusal::BadField(50))),
-        (56, 0xff, Some(LogRefusal::BadField(56))),
-        (57, 0xf4, Some(LogRefusal::BadField(57))),
-        (58, 0xfe, None),
-    ];
-    for (place, byte, refusal) in rows {
-        assert_eq!(rt; spoilt(place, byte), refusal);
-    }
-    for n in 0..208 {
-        assert_eq!(rt;
-            refusal_of(&LOG[..n]),
-            Some(LogRefusal::Truncated(n as u64))
-        );
-    }
-    let mut longer = [4; 209];
-    longer[..208].copy_from_slice(&LOG);
-    assert_eq!(rt; refusal_of(&longer), Some(LogRefusal::AfterEnd(208)));
 }
 
 // A log of form 2 without a record.
@@ -151,4 +121,21 @@ fn ticks_gather(rt: HostRuntime) {
     assert!(rt; are(writer.event(&wanted), &[1, 0, 0, 1, 2]));
     assert!(rt; are(writer.event(&idle), &[]));
     assert!(rt; are(writer.end(), &[2, 0, 0, 0, 7, 4]));
+}
+
+// What a sink holds of a log's replay, of whose calls these fail.
+fn replayed(alloc: Global, bytes: &[u8], failing: Vec<u64>) -> Result<MemSink, Fail> {
+    let log = LogReader::open(bytes).map_err(|_| "refused")?;
+    let mut output = MemSink::new(alloc, 100, failing).map_err(|_| "no memory")?;
+    let _done = replay(log, &mut output);
+    Ok(output)
+}
+
+#[test]
+fn nothing_is_written_after_a_fault(rt: HostRuntime) -> Result<(), Fail> {
+    let alloc = rt.alloc();
+    let output = replayed(alloc, &LOG, vec![in alloc; 3]?)?;
+    assert!(rt; output.bytes() == b"e 0 R0 0\nc 0 R0 0 0\n".as_slice());
+    assert_eq!(rt; output.calls(), 3);
+    Ok(())
 }

@@ -1,5 +1,5 @@
 //! What no clause says: which errors of a reader or a writer are faults, and that a call succeeds.
-use crate::{
+use rb_outside::{
     MemSink, MemSource, PlainSource, ShortSink, ShortSource, Sink, Source, StdSink, StdSource,
     Unread, read_all, write_all,
 };

@@ -1,11 +1,9 @@
-//! The texts of seeds, as another program writes them, and scenarios that are read again from their texts.
-ghost use Rattle.std.specs.Prelude.{◌≤◌};
+//! A generated scenario: lines of its text as another program writes them, and the scenario that is read again from the text.
 ghost use Rattle.rb_scenario.specs.Acceptance.{as_scenario};
 ghost use Rattle.rb_gen.specs.Generated.{IsGenerated};
 
-use crate::generator::{receiver_of, sender_of};
-use crate::{Draws, generate, line};
-use rb_base::Place;
+use rb_base::{NodeName, Place};
+use rb_gen::{Draws, generate, line};
 use rb_scenario::{ClockList, SayList, Scenario, read};
 use std::alloc::{AllocError, Global};
 use std::test::Fail;
@@ -26,43 +24,6 @@ fn text_of(alloc: Global, scenario: &Scenario) -> Result<Vec<u8>, AllocError>
         }
     }
     Ok(text)
-}
-
-fn generated_text(alloc: Global, seed: u64, frames: u32) -> Result<Vec<u8>, Fail>
-    requires least { 1 ≤ frames }
-    requires most { frames ≤ 4096 }
-{
-    let Ok(scenario) = generate(alloc, seed, frames) else {
-        return Err("no memory".into());
-    };
-    Ok(text_of(alloc, &scenario)?)
-}
-
-// The checksum FNV-1a of 64 bits.
-fn checksum(text: &[u8]) -> u64 {
-    let mut sum: u64 = 14695981039346656037;
-    for byte in text {
-        sum = (sum ^ u64::from(*byte)).wrapping_mul(1099511628211);
-    }
-    sum
-}
-
-#[test]
-fn texts_of_seeds(rt: HostRuntime) -> Result<(), Fail> {
-    let alloc = rt.alloc();
-    for (seed, frames, length, sum) in [
-        (7, 200, 4861, 2043352170229018656),
-        (0, 1, 4833, 8637814740356559196),
-        (1, 2, 4835, 16926553856641768219),
-        (18446744073709551615, 4096, 4863, 17750449319336788803),
-        (12345678901234567890, 4095, 4859, 9699031879645481083),
-    ] {
-        assert!(rt; 1 <= frames && frames <= 4096);
-        let text = generated_text(alloc, seed, frames)?;
-        assert_eq!(rt; text.len(), length);
-        assert_eq!(rt; checksum(&text), sum);
-    }
-    Ok(())
 }
 
 #[test]
@@ -124,10 +85,14 @@ fn same_delays(a: &Scenario, b: &Scenario) -> bool {
         stage: 3,
     };
     let mut same = true;
-    for link in 0..80 {
-        let (from, to) = (sender_of(link), receiver_of(link));
-        for place in [first, last] {
-            same = same && a.delays.delay(from, to, place) == b.delays.delay(from, to, place);
+    for biu in 0..8 {
+        for rmu in 0..5 {
+            let (biu, rmu) = (NodeName::Biu(biu), NodeName::Rmu(rmu));
+            for place in [first, last] {
+                same = same
+                    && a.delays.delay(biu, rmu, place) == b.delays.delay(biu, rmu, place)
+                    && a.delays.delay(rmu, biu, place) == b.delays.delay(rmu, biu, place);
+            }
         }
     }
     same

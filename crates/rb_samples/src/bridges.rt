@@ -1,5 +1,5 @@
 //! Documents that say a bridge, and one for each refusal.
-use super::*;
+use rb_bridging::read_bridge;
 use std::alloc::Global;
 use std::test::Fail;
 

@@ -1,7 +1,7 @@
 //! What no clause says: which texts are reports, and that a call succeeds.
-use crate::draw::draw;
-use crate::status::Status;
 use rb_outside::{MemSink, PlainSource};
+use rb_picture::Status;
+use rb_picture::draw::draw;
 use std::alloc::Global;
 use std::test::Fail;
 

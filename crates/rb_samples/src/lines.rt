@@ -1,7 +1,14 @@
-use super::*;
+//! Lines of a report and of a bridge, as they are printed.
+use rb_base::{Heard, NodeName, Place};
+use rb_bridge::{bridge_refused_line, cross_line, side_breach_line};
+use rb_report::{
+    breach_line, convicted_line, delivery_line, end_line, epoch_line, group_line, letter_line,
+    port_line, refused_line, side_line, summary_line, word_line,
+};
+use rb_rules::Cause;
 
 #[test]
-fn lines(rt: HostRuntime) {
+fn lines_of_runs(rt: HostRuntime) {
     let lines = [
         (
             epoch_line(1, NodeName::Biu(0), 917, Some(9170000)),
@@ -52,4 +59,30 @@ fn lines(rt: HostRuntime) {
         letter_line(0, 11, 0, 3, b"hi").as_str(),
         "m 0 11 B0 B3 6869\n"
     );
+}
+
+#[test]
+fn lines_of_bridges(rt: HostRuntime) {
+    let place = Place {
+        frame: 2,
+        slot: 0,
+        stage: 1,
+    };
+    let lines = [
+        (cross_line(1, false, 0, Heard::Word(60)), "x 1 left B0 60\n"),
+        (cross_line(1, true, 3, Heard::Fault), "x 1 right B3 none\n"),
+        (
+            side_breach_line(true, place, Cause::FewGoodBiu),
+            "breach right 2 0 1 FewGoodBiu\n",
+        ),
+        (bridge_refused_line(22, None), "refused 22 BridgeForm\n"),
+        (
+            bridge_refused_line(23, Some(2)),
+            "refused 23 LeftRefused 2\n",
+        ),
+        (bridge_refused_line(25, None), "refused 25 BridgeRange\n"),
+    ];
+    for (line, text) in lines {
+        assert_eq!(rt; line.as_str(), text);
+    }
 }

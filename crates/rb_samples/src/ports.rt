@@ -1,5 +1,6 @@
-use super::*;
+//! What stands behind a BIU: its application, and the port.
 use rb_base::{Delivery, Heard};
+use rb_port::{App, Apps, Port};
 use std::test::Fail;
 
 fn delivery(slot: u16, value: Heard) -> Delivery {

@@ -1,11 +1,12 @@
-//! Plans at their edges, by numbers that were worked out by hand.
-use crate::{Feasible, Plan, Window, sides};
+//! Plans at their edges, by numbers that were worked out by hand, and when frames begin by them.
 use rb_base::Shape;
+use rb_plan::{Feasible, Plan, Window, sides};
+use rb_resync::{epoch_biu, epoch_rmu};
 use rb_rules::Version;
 use std::test::Fail;
 
-// A plan that is feasible up to sync slot 52.
-const ORDINARY: Plan = Plan {
+/// A plan that is feasible up to sync slot 52.
+pub(crate) const ORDINARY: Plan = Plan {
     u: 10000,
     r: 1,
     dmin: 5000,
@@ -20,9 +21,14 @@ const ORDINARY: Plan = Plan {
     probation: 0,
 };
 
-// Four BIUs, three RMUs and so many data slots.
-fn bus(slots: u16) -> Result<Shape, Fail> {
+/// Four BIUs, three RMUs and so many data slots.
+pub(crate) fn bus(slots: u16) -> Result<Shape, Fail> {
     Ok(Shape::new(4, 3, slots).ok_or("no such shape")?)
+}
+
+/// The same with eight data slots, and with the plan.
+pub(crate) fn planned() -> Result<Feasible, Fail> {
+    Ok(Feasible::new(&bus(8)?, &ORDINARY).map_err(|_| "not feasible")?)
 }
 
 #[test]
@@ -40,7 +46,6 @@ fn both_sides(rt: HostRuntime) -> Result<(), Fail> {
 
 #[test]
 fn first_that_fails(rt: HostRuntime) -> Result<(), Fail> {
-    let bus = bus(8)?;
     let close = Plan {
         p: 60109,
         ..ORDINARY
@@ -50,23 +55,22 @@ fn first_that_fails(rt: HostRuntime) -> Result<(), Fail> {
         ..ORDINARY
     };
     let early = Plan { h: 5, ..ORDINARY };
-    assert_eq!(rt; Feasible::new(&bus, &ORDINARY).err(), None);
-    assert_eq!(rt; Feasible::new(&bus, &close).err(), None);
-    assert_eq!(rt; Feasible::new(&bus, &closer).err(), Some(7));
-    assert_eq!(rt; Feasible::new(&bus, &early).err(), Some(1));
-    Ok(())
-}
-
-#[test]
-fn most_data_slots(rt: HostRuntime) -> Result<(), Fail> {
-    assert_eq!(rt; Feasible::new(&bus(41)?, &ORDINARY).err(), None);
-    assert_eq!(rt; Feasible::new(&bus(42)?, &ORDINARY).err(), Some(6));
+    for (slots, plan, failing) in [
+        (8, ORDINARY, None),
+        (8, close, None),
+        (8, closer, Some(7)),
+        (8, early, Some(1)),
+        (41, ORDINARY, None),
+        (42, ORDINARY, Some(6)),
+    ] {
+        assert_eq!(rt; Feasible::new(&bus(slots)?, &plan).err(), failing);
+    }
     Ok(())
 }
 
 #[test]
 fn windows_of_a_frame(rt: HostRuntime) -> Result<(), Fail> {
-    let feasible = Feasible::new(&bus(8)?, &ORDINARY).map_err(|_| "not feasible")?;
+    let feasible = planned()?;
     assert_eq!(rt; feasible.f0(), 855);
     for (offset, slot, stage, first, last) in [
         (0, 0, 1, 0, 14),
@@ -90,5 +94,14 @@ fn windows_of_a_frame(rt: HostRuntime) -> Result<(), Fail> {
         assert_eq!(rt; feasible.window(offset), Some(window));
     }
     assert_eq!(rt; feasible.window(908), None);
+    Ok(())
+}
+
+// With v 18, z 20 and c 1 both kinds begin the next frame at tick 917.
+#[test]
+fn begins_of_the_next_frame(rt: HostRuntime) -> Result<(), Fail> {
+    let plan = planned()?;
+    assert_eq!(rt; epoch_biu(&plan, 878), 917);
+    assert_eq!(rt; epoch_rmu(&plan, 897), 917);
     Ok(())
 }

@@ -1,0 +1,60 @@
+//! Nodes by themselves, to which nothing comes or anything.
+use crate::plans::planned;
+use rb_base::{Biu, Kind, Rmu};
+use rb_node::{Node, Want};
+use std::test::Fail;
+
+// BIU 0 begins frame 0, sends its request at offset 6, and closes each window with its last tick.
+#[test]
+fn first_ticks(rt: HostRuntime) -> Result<(), Fail> {
+    let plan = planned()?;
+    let mut biu: Node<Biu> = Node::new(&plan, 0);
+    assert_eq!(rt; biu.next_tick(), Some(0));
+    assert_eq!(rt; biu.wants_then(), Want::Nothing);
+    let first = biu.tick(0);
+    assert!(rt; first.epoch.is_some() && first.send.is_none());
+    assert_eq!(rt; biu.next_tick(), Some(6));
+    assert_eq!(rt; biu.wants(), Want::Nothing);
+    assert_eq!(rt; biu.wants_then(), Want::Request);
+    Ok(())
+}
+
+// Any bytes of any source may come, and no number of a source is too high.
+#[test]
+fn any_bytes(rt: HostRuntime) -> Result<(), Fail> {
+    let plan = planned()?;
+    let mut rmu: Node<Rmu> = Node::new(&plan, 0);
+    for from in 0..=255u8 {
+        rmu.arrive(from, &[from; 40]);
+        rmu.arrive(from, &[]);
+    }
+    for _ in 0..2000 {
+        let _step = rmu.step(0);
+    }
+    assert_eq!(rt; rmu.had(), 2000);
+    Ok(())
+}
+
+// Ticks up to the next at which the node has something to do. Its number is told.
+fn next_busy_tick<K: Kind>(node: &mut Node<K>) -> u64 {
+    for _ in 0..100 {
+        let had = node.had();
+        let is_busy = node.next_tick() == Some(had);
+        let _act = node.tick(2);
+        if is_busy {
+            return had;
+        }
+    }
+    0
+}
+
+// BIU 0 of four has something to do at a frame's first tick, when it says its request, and at the ends of windows.
+#[test]
+fn ticks_that_are_not_quiet(rt: HostRuntime) -> Result<(), Fail> {
+    let plan = planned()?;
+    let mut node: Node<Biu> = Node::new(&plan, 0);
+    for expected in [0, 6, 14, 29] {
+        assert_eq!(rt; next_busy_tick(&mut node), expected);
+    }
+    Ok(())
+}

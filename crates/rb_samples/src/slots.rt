@@ -1,0 +1,58 @@
+//! What the slots of a frame are for, and who owns them.
+use crate::plans::bus;
+use rb_base::Heard::{Fault, Word};
+use rb_base::{Heard, NodeSet};
+use rb_schedule::{Owners, owners_of};
+use rb_slot::{Role, role_of};
+use std::test::Fail;
+
+// Four BIUs, three RMUs and eight data slots.
+#[test]
+fn roles(rt: HostRuntime) -> Result<(), Fail> {
+    let bus = bus(8)?;
+    for (slot, role) in [
+        (0, Role::Schedule(0)),
+        (3, Role::Schedule(3)),
+        (4, Role::Data(0)),
+        (11, Role::Data(7)),
+        (12, Role::DiagBiu(0)),
+        (15, Role::DiagBiu(3)),
+        (16, Role::DiagRmu(0)),
+        (18, Role::DiagRmu(2)),
+        (19, Role::Sync),
+    ] {
+        assert_eq!(rt; role_of(&bus, slot), role);
+    }
+    Ok(())
+}
+
+// The requests of four BIUs for eight data slots.
+#[test]
+fn owners(rt: HostRuntime) -> Result<(), Fail> {
+    let cases: [([Heard; 4], u16, &[u8]); 4] = [
+        (
+            [Word(3), Word(1), Word(0), Word(2)],
+            0b1111,
+            &[0, 1, 3, 0, 3, 0],
+        ),
+        (
+            [Word(1), Word(1), Word(4294967295), Word(1)],
+            0b1111,
+            &[0, 1, 2, 3, 2, 2, 2, 2],
+        ),
+        ([Word(2), Word(2), Word(1), Fault], 0b1110, &[1, 2, 1]),
+        ([Fault, Fault, Fault, Fault], 0b1111, &[]),
+    ];
+    let bus = bus(8)?;
+    for (asked, trusted, owned) in cases {
+        let mut requests = [Fault; 16];
+        requests[..4].copy_from_slice(&asked);
+        let owners = owners_of(&requests, NodeSet::from_bits(trusted), &bus);
+        for number in 0..9u16 {
+            let owner = owned.get(usize::from(number)).copied();
+            assert_eq!(rt; owners.owner(number), owner, "slot {number} of {asked:?}");
+        }
+    }
+    assert_eq!(rt; Owners::none().owner(0), None);
+    Ok(())
+}
