@@ -1,12 +1,12 @@
 -- A set of one source.
-use Rattle.std.proofs.Common.{◌≡◌, ℕ, ◌+◌, ◌*◌, ◌<◌, ◌^◌, Bool, true, false, not, ◌&&◌, ◌==◌, if◌then◌else◌, lit<, Option, Some, None, IfSome, unwrap_or, List, [], ◌∷◌, suc, length, get_or, set, inl, inr, refl, sym, ◌∙◌, ap, arith}
+use Rattle.std.proofs.Common.{◌≡◌, ℕ, ◌<◌, ◌^◌, Bool, true, false, not, ◌&&◌, ◌==◌, if◌then◌else◌, lit<, Option, Some, None, IfNone, IfSome, unwrap_or, List, [], ◌∷◌, suc, length, get_or, set, inl, inr, refl, sym, ◌∙◌, ap, arith}
 use Rattle.std.proofs.Math.ListN.{length-set}
-use Rattle.std.proofs.lemmas.Bool.{cases_eq, eqb-true}
+use Rattle.std.proofs.lemmas.Bool.{cases_eq, cases_lt, eqb-true}
 use Rattle.std.proofs.lemmas.List.{get_or-set_other, get_or-set_same}
-use Rattle.rb_base.specs.Nodes.{has, size}
+use Rattle.rb_base.specs.Nodes.{TakesFirst, has}
 use Rattle.rb_base.specs.declared.values.Heard.{Heard}
 use Rattle.rb_base.specs.declared.values.Heard.TheVariants.{Fault}
-use Rattle.rb_base.proofs.Sets.{eq_other, eq_self, has_none}
+use Rattle.rb_base.proofs.Sets.{eq_other, eq_self, has-is, has_none, same_set, set_of-lt}
 use Rattle.rb_base.proofs.SetSizes.{size_some}
 use Rattle.rb_rules.specs.ExactStage.{present}
 use Rattle.rb_rules.specs.Majority.{majority_of}
@@ -15,6 +15,38 @@ use Rattle.rb_eligible.proofs.Alike.{leading_vote}
 pub if_some_then : {P Q : ℕ → Type 0} (o : Option ℕ) → ((k : ℕ) → P k → Q k) → IfSome o P → IfSome o Q
 if_some_then None gives there = tt
 if_some_then (Some k) gives there = gives k there
+
+pub if_none_then : {P Q : Type 0} (o : Option ℕ) → (P → Q) → IfNone o P → IfNone o Q
+if_none_then None gives there = gives there
+if_none_then (Some k) gives there = tt
+
+-- no node is the only one of an empty set
+pub none_only : (set source : ℕ) → set ≡ 0 → source < 16 → ¬ ((j : ℕ) → j < 16 → has set j ≡ (j == source))
+none_only set source none below only =
+    let e : true ≡ false = sym (only source below ∙ eq_self source) ∙ ap (λ s. has s source) none ∙ has_none source in absurd cc
+
+-- nor of one in which some node is left once its first is taken out
+pub more_than_one : (before after k source : ℕ) → TakesFirst before after k → ¬ (after ≡ 0) → source < 16 → ¬ ((j : ℕ) → j < 16 → has before j ≡ (j == source))
+more_than_one before after k source takes left below only =
+    left (same_set after 0 (rw takes.rest (set_of-lt (λ i. has before i && not (i == k)))) (lit< tt)
+    (λ i h. has-is after i (λ i. has before i && not (i == k)) takes.rest h ∙ ap (λ b. b && not (i == k)) (only i h ∙ ap (λ s. i == s) (sym same)) ∙ no_other (i == k) ∙ sym (has_none i)))
+  where
+    no_other : (b : Bool) → (b && not b) ≡ false
+    no_other true = refl
+    no_other false = refl
+
+    inside : has before source ≡ true
+    inside = only source below ∙ eq_self source
+
+    small : k < 16
+    small =
+        elim (cases_lt source k) [
+          | inl less ↦ let e : true ≡ false = sym inside ∙ takes.first source less in absurd cc
+          | inr more ↦ omega (arith, more, below)
+        ]
+
+    same : k ≡ source
+    same = eqb-true k source (sym (only k small) ∙ takes.inside)
 
 -- where none is left once it is taken out
 pub only_is : (before after j k : ℕ) → has before k ≡ true → has after j ≡ (has before j && not (j == k)) → has after j ≡ false → has before j ≡ (j == k)

@@ -1,5 +1,5 @@
 //! What a node takes in a window, and whom it accuses for what came.
-ghost use Rattle.std.specs.Prelude.{◌≡◌, ℕ, ◌<◌, ◌*◌, ◌^◌, ◌&&◌, ◌==◌, not, true, if◌then◌else◌, None, unwrap_or, IfSome, IsTrue};
+ghost use Rattle.std.specs.Prelude.{◌≡◌, ℕ, ◌<◌, ◌*◌, ◌^◌, ◌&&◌, ◌==◌, not, true, if◌then◌else◌, None, unwrap_or, IfNone, IfSome, IsTrue};
 ghost use Rattle.rb_base.specs.Nodes.{has, set_of, size};
 ghost use Rattle.rb_base.specs.declared.values.Heard.{Heard};
 ghost use Rattle.rb_rules.specs.ExactStage.{present};
@@ -86,7 +86,8 @@ fn make_room<K: Copy>(
 // The only node of the set, if it has exactly one.
 #[inline(always)]
 fn only_of<K: Copy>(set: NodeSet<K>) -> Option<NodeId<K>>
-    ensures { IfSome result (λ source. (j : ℕ) → j < 16 → has set j ≡ (j == source)) }
+    ensures only { IfSome result (λ source. (j : ℕ) → j < 16 → has set j ≡ (j == source)) }
+    ensures none { IfNone result ((source : ℕ) → source < 16 → ¬ ((j : ℕ) → j < 16 → has set j ≡ (j == source))) }
 {
     let mut left = set;
     let Some(first) = left.pop_first() else {
@@ -275,16 +276,20 @@ fn take_all<K: Copy>(
     taking
 }
 
-/// The only source of which something may be taken in a window, if there is exactly one and nobody who is expected is accused.
-/// None says nothing.
+/// The only source of which something may be taken in a window. None exactly where there is none or more than one, or where
+/// somebody who is expected is accused directly.
 #[inline(always)]
 pub fn single_of<K: Copy>(
     inbox: &Inbox<K>,
     standing: &Standing<K>,
     expected: NodeSet<K>,
 ) -> Option<NodeId<K>>
-    ensures { IfSome result (λ source. (j : ℕ) → j < 16
+    ensures only { IfSome result (λ source. (j : ℕ) → j < 16
         → ((has expected j && is_eligible (standing_of standing.now) j) && is_sole inbox.now j) ≡ (j == source)) }
+    ensures barred { IfSome result (λ _. set_of (λ j. has expected j && has standing.now.direct j) ≡ 0) }
+    ensures none { IfNone result (set_of (λ j. has expected j && has standing.now.direct j) ≡ 0 → (source : ℕ) → source < 16
+        → ¬ ((j : ℕ) → j < 16
+        → ((has expected j && is_eligible (standing_of standing.now) j) && is_sole inbox.now j) ≡ (j == source))) }
 {
     let eligible = standing.eligible_of(expected);
     let due = eligible.intersection(inbox.soles());
@@ -360,6 +365,7 @@ pub fn take_single<K: Copy>(
 pub fn is_quiet<K: Copy>(inbox: &Inbox<K>, standing: &Standing<K>, expected: NodeSet<K>) -> bool
     ensures came { IsTrue result → inbox.now.came ≡ 0 }
     ensures nobody { IsTrue result → set_of (λ j. has standing.now.trusted j && has expected j) ≡ 0 }
+    ensures told { inbox.now.came ≡ 0 → set_of (λ j. has standing.now.trusted j && has expected j) ≡ 0 → IsTrue result }
     ensures direct { standing.now.direct < 2 ^ 16 }
     ensures fresh { standing.now.fresh < 2 ^ 16 }
 {

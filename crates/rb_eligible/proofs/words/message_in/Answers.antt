@@ -1,4 +1,4 @@
-use Rattle.std.proofs.Common.{◌/◌, ◌%◌, sym, ◌∙◌, ap}
+use Rattle.std.proofs.Common.{◌/◌, ◌%◌, sym, ◌∙◌}
 use Rattle.rb_rules.specs.Spelling.{message_with}
 use Rattle.rb_eligible.proofs.Forms.{message_from, no_message}
 use Rattle.rb_eligible.specs.Readings.{spelled}
