@@ -235,6 +235,7 @@ impl<K: Kind> Node<K> {
         ensures core { (c : Core) → IsCore self.old c → IsCore self.new (tick_of (side_of K.CODE) self.old c word).core }
         ensures act { (c : Core) → IsCore self.old c
             → IsWholeAct self.old.seat.plan.version result (tick_of (side_of K.CODE) self.old c word) }
+        ensures shown { self.new.shown ≡ unwrap_or result.closed self.old.shown }
         ensures same { IsSameNode self.old self.new }
         ensures spent { 2 ^ 31 ≤ self.old.had → self.new ≡ self.old }
     {
