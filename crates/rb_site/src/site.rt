@@ -12,6 +12,7 @@ ghost use Rattle.rb_rules.specs.WorldStep.{Site as WorldSite, after_arrival, fre
 ghost use Rattle.rb_node.specs.Acts.{IsSendable, span_in};
 ghost use Rattle.rb_node.specs.Cores.{IsCore, IsSameNode, passing_end};
 ghost use Rattle.rb_node.specs.Wants.{want_for};
+ghost use Rattle.rb_slot.specs.Engines.{nothing_shown};
 ghost use Rattle.rb_site.specs.Sites.{KeptSite, Stands, goes_on, number_of};
 ghost use Rattle.rb_site.specs.Tells.{IsTicked};
 
@@ -85,6 +86,7 @@ impl<K: Kind> Site<K> {
         ensures stands { (sc : Scenario) → plan.now.sizes ≡ sc.sizes → plan.now.plan ≡ sc.plan
             → Stands sc (side_of K.CODE) result (fresh_site sc.sizes (side_of K.CODE)) }
         ensures number { number_of result ≡ index }
+        ensures shown { result.node.shown ≡ nothing_shown }
     {
         Site {
             node: Node::new(plan, index),
@@ -200,6 +202,10 @@ impl<K: Kind> Site<K> {
             → Stands sc (side_of K.CODE) self.old s
             → Stands sc (side_of K.CODE) self.new
             (after_arrival sc (side_of K.CODE) (number_of self.old) place (record { time = time; from = from; bytes = bytes.now }) s) }
+        ensures rest { self.new ≡ record self.old {
+          node = record self.old.node { had = self.new.node.had; inbox = self.new.node.inbox };
+          times = slice_set self.old.times from time;
+        } }
         ensures same { IsSameNode self.old.node self.new.node }
     {
         let near = self.node.next_tick().unwrap_or(LAST_TICK);
@@ -216,6 +222,8 @@ impl<K: Kind> Site<K> {
         ensures ticked { (sc : Scenario) (ports : List PortState) (s : WorldSite) → Stands sc (side_of K.CODE) self.old s
             → word ≡ word_of sc ports (number_of self.old) (wants_in sc (side_of K.CODE) (number_of self.old) (pass_to k s.core))
             → IsTicked sc ports (side_of K.CODE) self.old self.new result k s }
+        ensures shown { result.closed ≡ false → self.new.node.shown ≡ self.old.node.shown }
+        ensures rest { self.new ≡ record self.old { node = self.new.node } }
         ensures message { IfSome result.message IsSendable }
         ensures epoch { IfSome result.epoch (λ e. e.tick < 2 ^ 31) }
         ensures same { IsSameNode self.old.node self.new.node }
