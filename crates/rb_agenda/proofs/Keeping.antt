@@ -42,7 +42,7 @@ with-in-order lanes (node.Rmu i) lane h =
 
 -- Least times.
 
-order-with : (lanes new : Each Held) (bius : ℕ) (name : NodeName) (lane : Held) → bius ≡ length lanes.bius → HasLane lanes name → new ≡ with_lane name lane lanes
+pub order-with : (lanes new : Each Held) (bius : ℕ) (name : NodeName) (lane : Held) → bius ≡ length lanes.bius → HasLane lanes name → new ≡ with_lane name lane lanes
     → in_order new ≡ slice_set (in_order lanes) (position_of bius name) lane
 order-with lanes new bius name lane split h after =
     ap in_order after ∙ with-in-order lanes name lane h ∙ ap (λ b. slice_set (in_order lanes) (position_of b name) lane) (sym split)
@@ -137,26 +137,29 @@ lane-at lanes bius position split h = go (nat_lt position bius) refl
         (within, ap (slice_get (in_order lanes)) at ∙ right lanes.bius lanes.rmus (position - bius) within)
 
 -- what holds of all lanes holds of the lane of a node
-pub room-of : (lanes : Each Held) (bius : ℕ) (name : NodeName) → AreFew lanes bius → HasLane lanes name → (lane_of lanes name).room ≤ 65536
-room-of lanes bius name few h = go name h
+pub holds-of : (P : Held → Type 0) (lanes : Each Held) (name : NodeName) → All P (in_order lanes) → HasLane lanes name → P (lane_of lanes name)
+holds-of P lanes name all h = go name h
   where
-    at : (xs : List Held) (i : ℕ) → All (λ l. l.room ≤ 65536) xs → i < length xs → (unwrap_or (slice_get xs i) (empty_lane 0)).room ≤ 65536
+    at : (xs : List Held) (i : ℕ) → All P xs → i < length xs → P (unwrap_or (slice_get xs i) (empty_lane 0))
     at [] i all h = absurd (omega arith)
-    at (x ∷ xs) zero all h = All-head (λ l. l.room ≤ 65536) x xs all
-    at (x ∷ xs) (suc i) all h = at xs i (All-tail (λ l. l.room ≤ 65536) x xs all) (omega arith)
+    at (x ∷ xs) zero all h = All-head P x xs all
+    at (x ∷ xs) (suc i) all h = at xs i (All-tail P x xs all) (omega arith)
 
-    front : (xs ys : List Held) → All (λ l. l.room ≤ 65536) (xs ++ ys) → All (λ l. l.room ≤ 65536) ys
+    front : (xs ys : List Held) → All P (xs ++ ys) → All P ys
     front [] ys all = all
-    front (x ∷ xs) ys all = front xs ys (All-tail (λ l. l.room ≤ 65536) x (xs ++ ys) all)
+    front (x ∷ xs) ys all = front xs ys (All-tail P x (xs ++ ys) all)
 
-    back : (xs ys : List Held) (i : ℕ) → All (λ l. l.room ≤ 65536) (xs ++ ys) → i < length xs → (unwrap_or (slice_get xs i) (empty_lane 0)).room ≤ 65536
+    back : (xs ys : List Held) (i : ℕ) → All P (xs ++ ys) → i < length xs → P (unwrap_or (slice_get xs i) (empty_lane 0))
     back [] ys i all h = absurd (omega arith)
-    back (x ∷ xs) ys zero all h = All-head (λ l. l.room ≤ 65536) x (xs ++ ys) all
-    back (x ∷ xs) ys (suc i) all h = back xs ys i (All-tail (λ l. l.room ≤ 65536) x (xs ++ ys) all) (omega arith)
+    back (x ∷ xs) ys zero all h = All-head P x (xs ++ ys) all
+    back (x ∷ xs) ys (suc i) all h = back xs ys i (All-tail P x (xs ++ ys) all) (omega arith)
 
-    go : (name : NodeName) → HasLane lanes name → (lane_of lanes name).room ≤ 65536
-    go (node.Biu i) h = back lanes.bius lanes.rmus i few.short h
-    go (node.Rmu i) h = at lanes.rmus i (front lanes.bius lanes.rmus few.short) h
+    go : (name : NodeName) → HasLane lanes name → P (lane_of lanes name)
+    go (node.Biu i) h = back lanes.bius lanes.rmus i all h
+    go (node.Rmu i) h = at lanes.rmus i (front lanes.bius lanes.rmus all) h
+
+pub room-of : (lanes : Each Held) (bius : ℕ) (name : NodeName) → AreFew lanes bius → HasLane lanes name → (lane_of lanes name).room ≤ 65536
+room-of lanes bius name few h = holds-of (λ l. l.room ≤ 65536) lanes name few.short h
 
 -- the keys of all lanes are times
 times-of : (ls : List Held) (keys : List ℕ) → keys ≡ map key_of ls → All (λ k. k ≤ 18446744073709551615) keys → AreTimes ls

@@ -109,7 +109,7 @@ ready-at lane place r e = by (head_of lane) refl e
 
 -- One is taken out.
 
-all-others : (P : Coming → Type 0) (xs : List Coming) (n : ℕ) → All P xs → All P (remove xs n)
+pub all-others : (P : Coming → Type 0) (xs : List Coming) (n : ℕ) → All P xs → All P (remove xs n)
 all-others P [] zero all = all
 all-others P [] (suc n) all = all
 all-others P (x ∷ xs) zero all = All-tail P x xs all

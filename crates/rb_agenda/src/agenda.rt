@@ -1,5 +1,5 @@
 //! The agenda of all nodes.
-ghost use Rattle.std.specs.Prelude.{◌≡◌, ℕ, ◌<◌, ◌≤◌, [], length, slice_get, IfOk, Some, IsTrue, ◌↔◌};
+ghost use Rattle.std.specs.Prelude.{◌≡◌, ℕ, ◌<◌, ◌≤◌, [], length, slice_get, IfOk, Some};
 ghost use Rattle.std.proofs.Math.ListN.{replicate};
 ghost use Rattle.rb_base.specs.Nodes.{Side};
 ghost use Rattle.rb_base.specs.Sizes.{Sizes};
@@ -8,12 +8,12 @@ ghost use Rattle.rb_rules.specs.Goodness.{Scenario};
 ghost use Rattle.rb_rules.specs.Links.{name_of};
 ghost use Rattle.rb_rules.specs.WorldStep.{Site, World};
 ghost use Rattle.rb_queue.specs.Waiting.{HasLane, IsFirstBefore, empty_lane, lane_of, ready_event, ready_of, spare_of, with_arrival, with_lane, with_tick, without_events, without_place, without_tick};
-ghost use Rattle.rb_agenda.specs.Agenda.{IsDue, IsFirstAhead, StandsAt, Takes, TakesDue, due_now, first_tick_time, first_time, how_many};
+ghost use Rattle.rb_agenda.specs.Agenda.{IsDue, IsFirstAhead, IsFirstAt, IsFirstDue, StandsAt, Takes, TakesDue, due_now, first_tick_time, first_time, how_many};
 ghost use Rattle.rb_agenda.specs.Holding.{HoldsSites};
 
 use crate::scan::{
-    Front, after_event, are_some, due_count, front_now, front_of, is_at_front, keep_key, locate,
-    node_at, position_of, put_tick,
+    Front, after_event, due_count, first_node, front_now, front_of, keep_key, locate, node_at,
+    position_of, put_tick,
 };
 use arrayvec::ArrayVec;
 use rb_base::{Event, NodeName, OutOfMemory, Shape};
@@ -37,14 +37,14 @@ impl Model for Agenda {
     ghost use Rattle.std.specs.Prelude.{◌≡◌, false};
     ghost use Rattle.rb_rules.specs.Book.{Each};
     ghost use Rattle.rb_queue.specs.Waiting.{Held};
-    ghost use Rattle.rb_agenda.specs.Agenda.{AreKeptUnless, AreTicks};
+    ghost use Rattle.rb_agenda.specs.Agenda.{AreKeptUnless, AreKnown, AreTicks};
     ghost use Rattle.rb_agenda.specs.Fronts.{IsFront};
 
     ghost Value = { Each Held };
 
     ghost view = { λ a. a.lanes };
 
-    ghost invariant = { λ a. AreKeptUnless a.stale a.lanes a.keys.items a.bius × (a.stale ≡ false → IsFront a.keys.items a.front) × AreTicks a.lanes a.ticks.items };
+    ghost invariant = { λ a. AreKeptUnless a.stale a.lanes a.keys.items a.bius × (a.stale ≡ false → IsFront a.keys.items a.front) × AreTicks a.lanes a.ticks.items × AreKnown a.lanes };
 }
 
 // So many least times of nodes at which nothing is pending.
@@ -138,16 +138,14 @@ impl Agenda {
         due_count(&self.lanes, &self.keys, self.bius, self.stale, front.least)
     }
 
-    /// Whether an event is due. None is counted where the first is found at once.
-    pub fn is_due(&self) -> bool
-        ensures value { IsTrue result ↔ 0 < how_many self.now }
-        ensures world { (sc : Scenario) → (w : World) → HoldsSites sc.sizes self.now w.sites → IsTrue result ↔ 0 < length (due_now sc w) }
+    /// The node at which the first due event waits: the first of those that are ready there. None exactly where no event is due.
+    #[inline(always)]
+    pub fn first_node(&self) -> Option<NodeName>
+        ensures first { IsFirstAt self.now (first_time self.now) result }
+        ensures world { (sc : Scenario) → (w : World) → HoldsSites sc.sizes self.now w.sites → IsFirstDue sc w self.now result }
     {
         let front = front_now(&self.lanes, &self.keys, self.bius, self.front, self.stale);
-        if is_at_front(&self.lanes, &self.keys, self.bius, self.stale, front) {
-            return true;
-        }
-        are_some(self.due())
+        first_node(&self.lanes, &self.keys, self.bius, self.stale, front)
     }
 
     /// The node at which the i-th due event waits, counted from 0, and the event's place among those that are ready there.
@@ -235,6 +233,25 @@ impl Agenda {
     {
         self.lanes.drop_at(node, place);
         self.stale = true;
+    }
+
+    /// Drops the arrival at this place among those of the node, in the order of pushing, and nothing else. The node's least time is kept
+    /// beside, for a run that asks after each event which is due first. Where many are dropped at once `drop_at` costs less.
+    pub fn take_at(&mut self, node: NodeName, place: usize)
+        requires in_shape { HasLane self.old node }
+        requires below { place < length (lane_of self.old node).arrivals }
+        ensures after { self.new ≡ with_lane node (without_place place (lane_of self.old node)) self.old }
+    {
+        let lanes = &mut self.lanes;
+        lanes.drop_at(node, place);
+        self.front = keep_key(
+            &mut self.keys,
+            self.front,
+            self.stale,
+            self.bius,
+            &self.lanes,
+            node,
+        );
     }
 
     /// The time of the node's tick, in reference units, if one is pending.

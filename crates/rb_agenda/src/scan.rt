@@ -1,8 +1,8 @@
 //! What is looked up among the least times of all nodes.
 ghost use Rattle.std.specs.Prelude.{◌≡◌, ℕ, ◌<◌, ◌≤◌, false, length, nat_lt, slice_set, if◌then◌else◌, IsTrue, ◌↔◌};
 ghost use Rattle.rb_rules.specs.Book.{Each, in_order};
-ghost use Rattle.rb_queue.specs.Waiting.{HasLane, Held, lane_of, ready_of, with_lane};
-ghost use Rattle.rb_agenda.specs.Agenda.{AreFew, AreKept, AreKeptUnless, StandsAt, due_count, due_in, is_tick, key_of, keys_of, node_at, position_of, ticks_after};
+ghost use Rattle.rb_queue.specs.Waiting.{HasLane, Held, lane_of, with_lane};
+ghost use Rattle.rb_agenda.specs.Agenda.{AreFew, AreKept, AreKeptUnless, AreKnown, IsFirstAt, StandsAt, due_count, due_in, is_tick, key_of, keys_of, node_at, position_of, ticks_after};
 ghost use Rattle.rb_agenda.specs.Fronts.{IsFront, lowered};
 
 use rb_base::{EventKind, NodeName};
@@ -228,42 +228,6 @@ fn due_in(lanes: &Lanes, node: NodeName, kept: u64, stale: bool, time: u64) -> u
     if key == time { lanes.ready(node) } else { 0 }
 }
 
-// Whether an event is ready at a node. What arrives there is looked at first.
-fn is_any_ready(lanes: &Lanes, node: NodeName) -> bool
-    requires { HasLane lanes.now node }
-    ensures { IsTrue result → 0 < length (ready_of (lane_of lanes.now node)) }
-{
-    if lanes.first_before(node, u64::MAX).is_some() {
-        return true;
-    }
-    lanes.ready(node) > 0
-}
-
-// Whether an event is due at the node of the least key.
-pub(crate) fn is_at_front(
-    lanes: &Lanes,
-    keys: &[u64],
-    bius: usize,
-    stale: bool,
-    front: Front,
-) -> bool
-    requires unless { AreKeptUnless stale lanes.now keys.now bius }
-    requires kept { AreKept lanes.now (keys_of lanes.now) bius }
-    requires front { IsFront (keys_of lanes.now) front }
-    ensures stands { IsTrue result → StandsAt lanes.now front.least 0 (node_at bius front.first) 0 }
-    ensures some { IsTrue result → 0 < due_count front.least (in_order lanes.now) }
-{
-    if front.first >= keys.len() {
-        return false;
-    }
-    let node = node_at(bius, front.first);
-    let key = key_now(lanes, node, keys[front.first], stale);
-    if key != front.least {
-        return false;
-    }
-    is_any_ready(lanes, node)
-}
-
 // Whether there are any.
 pub(crate) fn are_some(count: usize) -> bool
     ensures { IsTrue result ↔ 0 < count }
@@ -284,6 +248,43 @@ pub(crate) fn due_count(lanes: &Lanes, keys: &[u64], bius: usize, stale: bool, t
     count
 }
 
+// Whether any event is due. At each time but the last that there is, the front is the time of one.
+#[inline(always)]
+fn is_any_due(lanes: &Lanes, keys: &[u64], bius: usize, stale: bool, front: Front) -> bool
+    requires unless { AreKeptUnless stale lanes.now keys.now bius }
+    requires kept { AreKept lanes.now (keys_of lanes.now) bius }
+    requires front { IsFront (keys_of lanes.now) front }
+    requires known { AreKnown lanes.now }
+    ensures { IsTrue result ↔ 0 < due_count front.least (in_order lanes.now) }
+{
+    if front.least < u64::MAX {
+        return true;
+    }
+    are_some(due_count(lanes, keys, bius, stale, front.least))
+}
+
+// The node of the first event that is due.
+#[inline(always)]
+pub(crate) fn first_node(
+    lanes: &Lanes,
+    keys: &[u64],
+    bius: usize,
+    stale: bool,
+    front: Front,
+) -> Option<NodeName>
+    requires unless { AreKeptUnless stale lanes.now keys.now bius }
+    requires kept { AreKept lanes.now (keys_of lanes.now) bius }
+    requires front { IsFront (keys_of lanes.now) front }
+    requires known { AreKnown lanes.now }
+    ensures { IsFirstAt lanes.now front.least result }
+{
+    if !is_any_due(lanes, keys, bius, stale, front) {
+        return None;
+    }
+    let (node, _) = locate(lanes, keys, bius, stale, front, 0);
+    Some(node)
+}
+
 // The node of the i-th event that is due, and the event's place among those that are ready there. The first is mostly looked for.
 #[inline(always)]
 pub(crate) fn locate(
@@ -297,10 +298,11 @@ pub(crate) fn locate(
     requires unless { AreKeptUnless stale lanes.now keys.now bius }
     requires kept { AreKept lanes.now (keys_of lanes.now) bius }
     requires front { IsFront (keys_of lanes.now) front }
+    requires known { AreKnown lanes.now }
     requires below { i < due_count front.least (in_order lanes.now) }
     ensures { StandsAt lanes.now front.least i result.0 result.1 }
 {
-    if i == 0 && is_at_front(lanes, keys, bius, stale, front) {
+    if i == 0 && front.least < u64::MAX {
         return (node_at(bius, front.first), 0);
     }
     locate_among(lanes, keys, bius, stale, front.least, i)

@@ -1,8 +1,11 @@
-use Rattle.std.proofs.Common.{sym, subst, arith}
+use Rattle.std.proofs.Common.{◌≤◌, sym, subst, arith}
+use Rattle.std.proofs.lemmas.List.Elements.{All-nil}
+use Rattle.rb_rules.specs.Hearing.{Coming}
 use Rattle.rb_queue.specs.Waiting.{HasLane, lane_of, without_events}
 use Rattle.rb_agenda.specs.Agenda.{AreTicks}
 use Rattle.rb_agenda.proofs.Keeping.{has-with, room-of}
 use Rattle.rb_agenda.proofs.Ticks.{place-within, tick-place, ticks-dropped}
+use Rattle.rb_agenda.proofs.Known.{known-with}
 use Rattle.rb_agenda.proofs.agenda.Agenda.drop_all.Goals as goal
 
 pub invariant_of-self : goal.invariant_of-self
@@ -17,6 +20,8 @@ invariant_of-self c =
       subst (AreTicks c.drop_all.new.self) (sym c.put_tick.ensures)
           (ticks-dropped lanes c.drop_all.new.self c.self.inside.ticks.items bius c.position_of-place.result name c.self.invariant.0.few.split c.position_of-place.ensures
           c.self.invariant.2 h c.drop_all.ensures.after),
+      known-with lanes c.drop_all.new.self bius name (without_events (lane_of lanes name)) c.self.invariant.0.few.split h c.drop_all.ensures.after c.self.invariant.3
+          (All-nil (λ (c : Coming). c.from ≤ 255)),
     )
 
 pub keep_key-self-inside-requires-clause-bius : goal.keep_key-self-inside-requires-clause-bius

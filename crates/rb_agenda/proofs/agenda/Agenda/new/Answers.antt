@@ -2,6 +2,7 @@ use Rattle.std.proofs.Common.{◌+◌, false, ap, subst, ◌∙◌}
 use Rattle.rb_agenda.specs.Fronts.{IsFront}
 use Rattle.rb_agenda.proofs.Keeping.{kept-empty, unless-kept}
 use Rattle.rb_agenda.proofs.Ticks.{ticks-empty}
+use Rattle.rb_agenda.proofs.Known.{known-empty}
 use Rattle.rb_agenda.proofs.agenda.Agenda.new.Goals as goal
 
 pub invariant_of-result : goal.invariant_of-result
@@ -13,4 +14,5 @@ invariant_of-result c =
       λ fresh. subst (λ ks. IsFront ks c.front_of-front.result) c.deref.ensures.value c.front_of-front.ensures,
       ticks-empty c.args.shape.now c.in_ok-lanes.lanes c.in_ok-ticks.ticks.items c.args.room bius (bius + c.from-2.result)
           (c.from-bius.ensures ∙ c.biu.ensures.value) (ap (λ n. bius + n) (c.from-2.ensures ∙ c.rmu-2.ensures.value)) c.in_ok-ticks.ensures c.in_ok-lanes.ensures,
+      known-empty c.args.shape.now c.in_ok-lanes.lanes c.args.room c.in_ok-lanes.ensures,
     )

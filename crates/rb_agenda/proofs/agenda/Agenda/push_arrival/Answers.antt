@@ -2,6 +2,7 @@ use Rattle.std.proofs.Common.{refl, sym, subst, arith}
 use Rattle.rb_queue.specs.Waiting.{HasLane, Held, lane_of, with_arrival}
 use Rattle.rb_agenda.proofs.Keeping.{has-with, room-of}
 use Rattle.rb_agenda.proofs.Ticks.{place-within, ticks-same}
+use Rattle.rb_agenda.proofs.Known.{known-more, known-of, known-with}
 use Rattle.rb_agenda.proofs.agenda.Agenda.push_arrival.Goals as goal
 
 pub invariant_of-self : goal.invariant_of-self
@@ -14,6 +15,8 @@ invariant_of-self c =
       c.keep_key-self-inside.ensures.kept lanes lane c.self.invariant.0 h c.push_arrival.ensures.after (room-of lanes bius name c.self.invariant.0.few h),
       c.keep_key-self-inside.ensures.front,
       ticks-same lanes c.push_arrival.new.self c.self.inside.ticks.items bius name lane c.self.invariant.0.few.split c.self.invariant.2 h c.push_arrival.ensures.after refl,
+      known-with lanes c.push_arrival.new.self bius name lane c.self.invariant.0.few.split h c.push_arrival.ensures.after c.self.invariant.3
+          (known-more (lane_of lanes name) (record { time = c.args.time; from = c.args.from; bytes = c.args.bytes.items }) (let small = c.ranges.from.fits in omega (arith, small)) (known-of lanes name c.self.invariant.3 h)),
     )
 
 pub keep_key-self-inside-requires-clause-bius : goal.keep_key-self-inside-requires-clause-bius

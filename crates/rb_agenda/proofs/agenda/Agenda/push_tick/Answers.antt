@@ -3,6 +3,7 @@ use Rattle.rb_queue.specs.Waiting.{HasLane, Held, lane_of, with_tick}
 use Rattle.rb_agenda.specs.Agenda.{AreTicks}
 use Rattle.rb_agenda.proofs.Keeping.{has-with, room-of}
 use Rattle.rb_agenda.proofs.Ticks.{place-within, tick-place, ticks-with}
+use Rattle.rb_agenda.proofs.Known.{known-of, known-with}
 use Rattle.rb_agenda.proofs.agenda.Agenda.push_tick.Goals as goal
 
 pub invariant_of-self : goal.invariant_of-self
@@ -17,6 +18,7 @@ invariant_of-self c =
       subst (AreTicks c.push_tick.new.self) (sym c.put_tick.ensures)
           (ticks-with lanes c.push_tick.new.self c.self.inside.ticks.items bius c.position_of-place.result name lane c.args.time c.self.invariant.0.few.split
           c.position_of-place.ensures c.self.invariant.2 h c.push_tick.ensures.after refl),
+      known-with lanes c.push_tick.new.self bius name lane c.self.invariant.0.few.split h c.push_tick.ensures.after c.self.invariant.3 (known-of lanes name c.self.invariant.3 h),
     )
 
 pub keep_key-self-inside-requires-clause-bius : goal.keep_key-self-inside-requires-clause-bius

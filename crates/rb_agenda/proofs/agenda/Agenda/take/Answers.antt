@@ -5,6 +5,7 @@ use Rattle.rb_agenda.specs.Holding.{HoldsSites}
 use Rattle.rb_agenda.proofs.Keeping.{has-with, kept-times, room-of, room-without}
 use Rattle.rb_agenda.proofs.Taking.{takes-due}
 use Rattle.rb_agenda.proofs.Ticks.{place-within, tick-place, ticks-taken}
+use Rattle.rb_agenda.proofs.Known.{known-less, known-of, known-with}
 use Rattle.rb_agenda.proofs.agenda.Agenda.take.Goals as goal
 
 pub invariant_of-self : goal.invariant_of-self
@@ -19,6 +20,8 @@ invariant_of-self c =
       subst (AreTicks c.take-event.new.self) (sym c.after_event.ensures)
           (ticks-taken lanes c.take-event.new.self c.self.inside.ticks.items bius c.position_of-place.result name place c.take-event.result c.self.invariant.0.few.split
           c.position_of-place.ensures c.self.invariant.2 c.locate-node.ensures.lane c.take-event.ensures.value c.take-event.ensures.after),
+      known-with lanes c.take-event.new.self bius name (without_ready place (lane_of lanes name)) c.self.invariant.0.few.split c.locate-node.ensures.lane c.take-event.ensures.after c.self.invariant.3
+          (known-less (lane_of lanes name) place (known-of lanes name c.self.invariant.3 c.locate-node.ensures.lane)),
     )
 
 pub keep_key-self-inside-requires-clause-bius : goal.keep_key-self-inside-requires-clause-bius

@@ -3,6 +3,7 @@ use Rattle.rb_queue.specs.Waiting.{HasLane, Held, lane_of, without_tick}
 use Rattle.rb_agenda.specs.Agenda.{AreTicks}
 use Rattle.rb_agenda.proofs.Keeping.{room-of, stale-with}
 use Rattle.rb_agenda.proofs.Ticks.{tick-place, ticks-with}
+use Rattle.rb_agenda.proofs.Known.{known-of, known-with}
 use Rattle.rb_agenda.proofs.agenda.Agenda.take_tick.Goals as goal
 
 pub invariant_of-self : goal.invariant_of-self
@@ -18,6 +19,7 @@ invariant_of-self c =
       subst (AreTicks c.take_tick.new.self) (sym c.put_tick.ensures)
           (ticks-with lanes c.take_tick.new.self c.self.inside.ticks.items bius c.position_of-place.result name lane 18446744073709551615 c.self.invariant.0.few.split
           c.position_of-place.ensures c.self.invariant.2 h c.take_tick.ensures.after refl),
+      known-with lanes c.take_tick.new.self bius name lane c.self.invariant.0.few.split h c.take_tick.ensures.after c.self.invariant.3 (known-of lanes name c.self.invariant.3 h),
     )
 
 pub put_tick-requires : goal.put_tick-requires
