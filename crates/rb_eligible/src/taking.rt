@@ -16,8 +16,8 @@ use crate::standing::Standing;
 use rb_base::{Heard, NodeId, NodeSet, See};
 use rb_rules::Expect;
 
-/// What was taken in a window: of which sources exactly one message came that is meant for it, and whether more than half of
-/// these carry the value of the first that has one. Where they do, `value` is that value.
+/// What was taken in a window: of which sources exactly one message came that is meant for it. Where `alike` says that more than
+/// half of what was taken is alike, `value` is what it is; where it doesn't, that has to be counted.
 #[derive(Clone, Copy, Debug, PartialEq, Eq)]
 pub struct Taking<K> {
     pub ones: NodeSet<K>,
