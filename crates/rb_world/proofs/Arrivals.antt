@@ -220,7 +220,7 @@ arrived-node sc kept w d me i x new r number stands =
           (All-cons (λ (c : Coming). c.from < count_of (other me) sc.sizes) x [] r.source (All-nil (λ (c : Coming). c.from < count_of (other me) sc.sizes)));
     }
 
-happens-arrival : (sc : Scenario) (w : World) (d : Due) (me : Side) (i n : ℕ) (x : Coming) (s : Site) → d ≡ record { side = me; node = i; pending = Arrival n x } → slice_get (of_kind me w.sites) i ≡ Some s
+pub happens-arrival : (sc : Scenario) (w : World) (d : Due) (me : Side) (i n : ℕ) (x : Coming) (s : Site) → d ≡ record { side = me; node = i; pending = Arrival n x } → slice_get (of_kind me w.sites) i ≡ Some s
     → happens sc w d ≡ moved me i (after_arrival sc me i n x) w
 unfolding happens
 happens-arrival sc w d me i n x s is there =

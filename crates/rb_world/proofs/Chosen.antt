@@ -17,7 +17,7 @@ use Rattle.rb_world.proofs.Idle.{due-busy}
 use Rattle.rb_world.proofs.Lanes.{rooms-with}
 use Rattle.rb_world.proofs.Turns.{due-is-now}
 
-waits-pends : (p : Waits) → Pends (without_waiting p)
+pub waits-pends : (p : Waits) → Pends (without_waiting p)
 waits-pends (Tick k) = record { row = λ s. refl; begun = λ s. refl; runs = λ s. refl }
 waits-pends (Arrival place c) = record { row = λ s. refl; begun = λ s. refl; runs = λ s. refl }
 

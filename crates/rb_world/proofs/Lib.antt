@@ -31,6 +31,7 @@ pub mod Showing
 pub mod InTime
 pub mod Arrivals
 pub mod Asked
+pub mod Heard
 pub mod Soonest
 pub mod Taken
 pub mod Passed

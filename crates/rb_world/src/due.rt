@@ -1,7 +1,8 @@
 //! What may be taken.
-ghost use Rattle.std.specs.Prelude.{◌≡◌, ℕ, ◌<◌, ◌≤◌, Option, Some, List, is_some, length, IsTrue, ◌↔◌};
+ghost use Rattle.std.specs.Prelude.{◌≡◌, ℕ, ◌<◌, ◌≤◌, Option, Some, List, is_some, length, option_map, IsSome, ◌↔◌};
 ghost use Rattle.rb_base.specs.Nodes.{side_of};
 ghost use Rattle.rb_base.specs.Sizes.{Sizes};
+ghost use Rattle.rb_base.specs.declared.event.Event.{Event as Happening};
 ghost use Rattle.rb_rules.specs.Ports.{PortState};
 ghost use Rattle.rb_rules.specs.WorldStep.{Pending, Site as WorldSite, World as RunWorld, due_of, event_at, event_of};
 ghost use Rattle.rb_rules.specs.WorldStep.Pending.{Arrival, Tick};
@@ -131,15 +132,17 @@ impl World {
         self.scene.agenda.due()
     }
 
-    /// Whether an event may be taken: whether `due` is more than 0. The events are not counted for it.
-    pub fn is_due(&self) -> bool
-        ensures value { IsTrue result ↔ 0 < due_in self.now }
-        ensures world { (w : RunWorld) → Stands self.now w → IsTrue result ↔ 0 < length (due_of self.now.bus w) }
+    /// The node at which the first of the events that are due happens. None exactly where no event may be taken: where `due` is 0. The
+    /// events are not counted for it.
+    pub fn first_node(&self) -> Option<NodeName>
+        ensures value { IsSome result ↔ 0 < due_in self.now }
+        ensures world { (w : RunWorld) → Stands self.now w → IsSome result ↔ 0 < length (due_of self.now.bus w) }
+        ensures node { (w : RunWorld) → Stands self.now w → option_map (λ (e : Happening). e.node) (event_at self.now.bus w 0) ≡ result }
     {
         if self.scene.book.has_ended() || self.scene.book.needs_no_event() {
-            return false;
+            return None;
         }
-        self.scene.agenda.is_due()
+        self.scene.agenda.first_node()
     }
 
     /// The i-th of the events that are due, counted from 0: how many quiet ticks its node has before it, and the arrival, or the tick

@@ -2,10 +2,12 @@
 ghost use Rattle.std.specs.Prelude.{◌≡◌, ◌<◌, ℕ};
 ghost use Rattle.rb_base.specs.Nodes.{side_of};
 ghost use Rattle.rb_rules.specs.Links.{name_of};
-ghost use Rattle.rb_site.specs.Sites.{number_of};
-ghost use Rattle.rb_rules.specs.WorldStep.{Due, Site as WorldSite, World as RunWorld, take};
+ghost use Rattle.rb_site.specs.Sites.{Stands as StandsFor, number_of};
+ghost use Rattle.rb_rules.specs.Hearing.{Coming};
+ghost use Rattle.rb_rules.specs.WorldStep.{Due, Site as WorldSite, World as RunWorld, after_arrival, take};
+ghost use Rattle.rb_queue.specs.Waiting.{lane_of, with_lane, without_place};
 ghost use Rattle.rb_world.specs.Numbering.{TakesInRounds};
-ghost use Rattle.rb_world.specs.Steps.{Happens, MayHappen, MayTick, Ticks, act_at};
+ghost use Rattle.rb_world.specs.Steps.{CanHear, Happens, MayHappen, MayHear, MayTick, Ticks, act_at};
 ghost use Rattle.rb_world.specs.Turning.{Gives};
 ghost use Rattle.rb_world.specs.Worlds.{Stands, due_in, last_of};
 ghost use Rattle.rb_book.specs.declared.turn.Turn.{Turn};
@@ -16,6 +18,7 @@ use crate::last::Last;
 use crate::scene::Scene;
 use crate::ticking::tick;
 use crate::world::World;
+use rb_agenda::Agenda;
 use rb_base::{Biu, Event, EventKind, Kind, NodeName, Rmu};
 use rb_book::{Turn, Way};
 use rb_port::Apps;
@@ -87,6 +90,51 @@ fn happen(
     }
 }
 
+// An arrival that is pending at a node comes to it, and is pending no more.
+fn hear_at<K: Kind>(
+    bus: &Bus,
+    node: NodeName,
+    place: usize,
+    site: &mut Site<K>,
+    agenda: &mut Agenda,
+)
+    requires name { node ≡ name_of (side_of K.CODE) (number_of site.old) }
+    requires may { (c : Coming) × CanHear bus.now (side_of K.CODE) (number_of site.old) node place site.old agenda.old c }
+    ensures lane { agenda.new ≡ with_lane node (without_place place (lane_of agenda.old node)) agenda.old }
+    ensures stands { (c : Coming) (at : ℕ) (s : WorldSite) → CanHear bus.now (side_of K.CODE) (number_of site.old) node place site.old agenda.old c
+        → StandsFor bus.now (side_of K.CODE) site.old s
+        → StandsFor bus.now (side_of K.CODE) site.new (after_arrival bus.now (side_of K.CODE) (number_of site.old) at c s) }
+    ensures number { number_of site.new ≡ number_of site.old }
+{
+    let arrival = agenda.arrival(node, place);
+    let time = arrival.time();
+    let from = arrival.from();
+    site.arrive(bus.clock(node), time, from, arrival.bytes());
+    agenda.take_at(node, place);
+}
+
+// The first event that is due is this arrival of the node, and happens.
+fn hear(
+    bus: &Bus,
+    bius: &mut Vec<Site<Biu>>,
+    rmus: &mut Vec<Site<Rmu>>,
+    scene: &mut Scene,
+    node: NodeName,
+    place: usize,
+)
+    requires { (w : RunWorld) × (d : Due) × (c : Coming)
+        × MayHear bus.now (record { bius = bius.old.items; rmus = rmus.old.items }) scene.old node place w d c }
+    ensures { (w : RunWorld) (d : Due) (c : Coming)
+        → MayHear bus.now (record { bius = bius.old.items; rmus = rmus.old.items }) scene.old node place w d c
+        → Happens bus.now (record { bius = bius.new.items; rmus = rmus.new.items }) scene.new w d }
+{
+    let agenda = &mut scene.agenda;
+    match node {
+        NodeName::Biu(i) => hear_at(bus, node, place, &mut bius[usize::from(i)], agenda),
+        NodeName::Rmu(i) => hear_at(bus, node, place, &mut rmus[usize::from(i)], agenda),
+    }
+}
+
 impl World {
     // Takes an event, as `take` does. The turn is `Quiet` before, and is written over where a record comes with the event.
     pub(crate) fn take_into(&mut self, apps: &Apps, i: usize, turn: &mut Turn)
@@ -129,6 +177,30 @@ impl World {
 
     /// Takes the first of the events that are due, as `take` does with 0, and gives no turn.
     pub fn pass(&mut self, apps: &Apps)
+        requires below { 0 < due_in self.old }
+        ensures world { (w : RunWorld) → Stands self.old w → Stands self.new (take self.old.bus w 0) }
+        ensures bus { self.new.bus ≡ self.old.bus }
+        ensures seeding { self.new.seeding ≡ self.old.seeding }
+    {
+        let (node, _) = self.scene.agenda.locate(0);
+        if let Some(place) = self.scene.agenda.first_before(node, u64::MAX) {
+            hear(
+                &self.bus,
+                &mut self.bius,
+                &mut self.rmus,
+                &mut self.scene,
+                node,
+                place,
+            );
+            self.last = Last::Quiet;
+            return;
+        }
+        self.pass_tick(apps);
+    }
+
+    // Takes the first of the events, where it may complete something.
+    #[inline(never)]
+    fn pass_tick(&mut self, apps: &Apps)
         requires below { 0 < due_in self.old }
         ensures world { (w : RunWorld) → Stands self.old w → Stands self.new (take self.old.bus w 0) }
         ensures bus { self.new.bus ≡ self.old.bus }
