@@ -1,10 +1,10 @@
 -- The log of what a node is given in a run, and how it is written while the run goes on.
-use Rattle.std.specs.Prelude.{⊤, ℕ, ◌≡◌, ◌+◌, ◌<◌, ◌≤◌, Option, List, [], ◌∷◌, ◌++◌, length}
+use Rattle.std.specs.Prelude.{⊤, ℕ, ◌≡◌, ◌+◌, ◌<◌, ◌≤◌, Option, Some, option_map, List, [], ◌∷◌, ◌++◌, length}
 use Rattle.std.specs.Io.KnownBytes.{Appends}
 use Rattle.rb_base.specs.declared.event.Event.{Event}
 use Rattle.rb_base.specs.declared.node.NodeName.{NodeName}
 use Rattle.rb_rules.specs.Goodness.{Scenario}
-use Rattle.rb_rules.specs.WorldStep.{World, due_of}
+use Rattle.rb_rules.specs.WorldStep.{World, due_of, event_at}
 use Rattle.rb_history.specs.Given.{AreGiven, first_run, given_in}
 use Rattle.rb_log.specs.Header.{header_of}
 use Rattle.rb_log.specs.Laws.{ticks_in}
@@ -34,6 +34,10 @@ pub record WritesPart (sc : Scenario) (name : NodeName) (held since : Option (Li
 pub record HasDue (k : KeptWorld) : Type 0 where
   pub kept : 0 < due_in k
   pub world : (w : World) → Stands k w → 1 ≤ length (due_of k.bus w)
+
+-- the first event that is due is of this node, in each world for which that stands
+abbrev pub IsFirstNode : KeptWorld → NodeName → Type 0
+IsFirstNode k first = (w : World) → Stands k w → option_map (λ (e : Event). e.node) (event_at k.bus w 0) ≡ Some first
 
 -- a writer that was given so many ticks may be told these events: a log has at most 2^31 ticks, and what arrives has bytes
 abbrev pub MayTell : ℕ → List Event → Type 0

@@ -3,7 +3,7 @@ ghost use Rattle.std.specs.Prelude.{◌≡◌, ◌+◌, ◌&&◌, ◌∷◌, [],
 ghost use Rattle.rb_base.specs.declared.event.Event.{Event as Given};
 ghost use Rattle.rb_history.specs.Given.{given_next, is_before_end, site_of};
 ghost use Rattle.rb_outside.specs.Causes.{HasCause};
-ghost use Rattle.rb_record.specs.Recording.{HasDue, IsOver, IsRecorded, IsRecordedWhole, MayTell, WritesAll, WritesNext, WritesPart, WritesPartOf};
+ghost use Rattle.rb_record.specs.Recording.{HasDue, IsFirstNode, IsOver, IsRecorded, IsRecordedWhole, MayTell, WritesAll, WritesNext, WritesPart, WritesPartOf};
 ghost use Rattle.rb_rules.specs.Lawful.{IsNodeOf};
 ghost use Rattle.rb_rules.specs.Links.{same_node};
 ghost use Rattle.rb_rules.specs.WorldStep.{World as RunWorld, event_at, first_world};
@@ -31,15 +31,15 @@ fn begin<K: Sink>(world: &World, node: NodeName, output: &mut K) -> Result<LogWr
     Ok(LogWriter::new())
 }
 
-// Whether the event that is due first is one that the node is given in the run: it is the node's, and comes no later than the
-// node's first tick of the frame after the last.
-fn is_given(world: &World, node: NodeName) -> bool
-    requires due { HasDue world.now }
+// Whether the event that is due first, at this node, is one that the node is given in the run: it is the node's, and comes no later
+// than the node's first tick of the frame after the last.
+fn is_given(world: &World, first: NodeName, node: NodeName) -> bool
+    requires first { IsFirstNode world.now first }
     requires node { IsNodeOf world.now.bus.sizes node }
     ensures { (w : RunWorld) (e : Given) → Stands world.now w → event_at world.now.bus w 0 ≡ Some e
         → result ≡ (same_node e.node node && is_before_end world.now.bus (site_of node w)) }
 {
-    if world.due_node(0) != node {
+    if first != node {
         return false;
     }
     world.frame(node) < world.frames()
@@ -57,15 +57,17 @@ fn write_event<K: Sink>(log: &mut LogWriter, event: Event, output: &mut K) -> Re
     write_all(output, bytes.as_slice())
 }
 
-// Writes what is complete of the log with the event that is due first, if the node is given it.
+// Writes what is complete of the log with the event that is due first, at this node, if the node of the log is given it.
 fn write_next<K: Sink>(
     world: &World,
     apps: &Apps,
+    first: NodeName,
     node: NodeName,
     log: &mut LogWriter,
     output: &mut K,
 ) -> Result<(), Failed>
     requires due { HasDue world.now }
+    requires first { IsFirstNode world.now first }
     requires node { IsNodeOf world.now.bus.sizes node }
     requires may { (w : RunWorld) × Stands world.now w × MayTell log.old.ticks (given_next world.now.bus node w) }
     ensures next { (w : RunWorld) → Stands world.now w → MayTell log.old.ticks (given_next world.now.bus node w)
@@ -74,22 +76,24 @@ fn write_next<K: Sink>(
         (λ _. WritesPartOf log.old (given_next world.now.bus node w) (K.held output.old) (K.held output.new)) }
     ensures cause { HasCause (K.faults output.old) (K.faults output.new) result }
 {
-    if !is_given(world, node) {
+    if !is_given(world, first, node) {
         return Ok(());
     }
     let event = world.event(apps, 0);
     write_event(log, event, output)
 }
 
-// Takes the event that is due first, once what is complete with it is written.
+// Takes the event that is due first, at this node, once what is complete with it is written.
 fn record_next<K: Sink>(
     world: &mut World,
     apps: &Apps,
+    first: NodeName,
     node: NodeName,
     log: &mut LogWriter,
     output: &mut K,
 ) -> Result<(), Failed>
     requires due { HasDue world.old }
+    requires first { IsFirstNode world.old first }
     requires node { IsNodeOf world.old.bus.sizes node }
     requires recorded { (n : ℕ) × (held : Option (List ℕ)) × IsRecorded world.old.bus node n world.old log.old held (K.held output.old) }
     ensures recorded { (n : ℕ) (held : Option (List ℕ)) → IsRecorded world.old.bus node n world.old log.old held (K.held output.old)
@@ -99,7 +103,7 @@ fn record_next<K: Sink>(
     ensures cause { HasCause (K.faults output.old) (K.faults output.new) result }
     ensures bus { world.new.bus ≡ world.old.bus }
 {
-    write_next(world, apps, node, log, output)?;
+    write_next(world, apps, first, node, log, output)?;
     world.pass(apps);
     Ok(())
 }
@@ -122,10 +126,10 @@ fn record_all<K: Sink>(
     ensures bus { world.new.bus ≡ world.old.bus }
 {
     for taken in 0..u64::MAX {
-        if !world.is_due() {
+        let Some(first) = world.first_node() else {
             return Ok(());
-        }
-        record_next(world, apps, node, log, output)?;
+        };
+        record_next(world, apps, first, node, log, output)?;
     }
     unreachable!()
 }

@@ -1,15 +1,20 @@
-use Rattle.std.proofs.Common.{sym, ◌∙◌, arith}
+use Rattle.std.proofs.Common.{sym, ap, ◌∙◌, arith}
+use Rattle.std.specs.Prelude.{is_some}
 use Rattle.rb_record.proofs.Runs.{few-steps}
 use Rattle.rb_record.proofs.Writing.{has-due, match-err, part-for, recorded-for, recorded-whole}
 use Rattle.rb_record.proofs.recording.record_all.Goals as goal
 
-pub returns-then-not-is_due-clause-recorded : goal.returns-then-not-is_due-clause-recorded
-returns-then-not-is_due-clause-recorded g c = λ held start.
-    recorded-whole c.args.world.now.bus c.args.node c.loop-taken.taken c.is_due.result c.loop-taken.world c.loop-taken.log held (g.K.Sink.held c.loop-taken.output)
-    (c.loop-taken.invariant.recorded held start) c.is_due.ensures.world c.if-not-is_due.true
+pub returns-in_default-clause-recorded : goal.returns-in_default-clause-recorded
+returns-in_default-clause-recorded g c = λ held start.
+    recorded-whole c.args.world.now.bus c.args.node c.loop-taken.taken (is_some c.first_node.result) c.loop-taken.world c.loop-taken.log held (g.K.Sink.held c.loop-taken.output)
+    (c.loop-taken.invariant.recorded held start) c.first_node.ensures.world (ap is_some c.in_default.is)
 
 pub record_next-requires-clause-due : goal.record_next-requires-clause-due
-record_next-requires-clause-due g c = has-due c.loop-taken.world c.is_due.result c.is_due.ensures.value c.is_due.ensures.world c.if-not-is_due.false
+record_next-requires-clause-due g c =
+    has-due c.loop-taken.world (is_some c.first_node.result) c.first_node.ensures.value c.first_node.ensures.world (ap is_some c.in-Some.is)
+
+pub record_next-requires-clause-first : goal.record_next-requires-clause-first
+record_next-requires-clause-first g c = λ w stands. c.first_node.ensures.node w stands ∙ c.in-Some.is
 
 pub record_next-requires-clause-recorded : goal.record_next-requires-clause-recorded
 record_next-requires-clause-recorded g c =
