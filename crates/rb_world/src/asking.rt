@@ -1,11 +1,10 @@
 //! What may be asked of a run.
-ghost use Rattle.std.specs.Prelude.{◌≡◌, ◌<◌, ◌↔◌, IsTrue, Some, option_map, slice_get};
-ghost use Rattle.rb_base.specs.declared.event.Event.{Event};
+ghost use Rattle.std.specs.Prelude.{◌≡◌, ◌↔◌, IsTrue, Some, slice_get};
 ghost use Rattle.rb_rules.specs.Book.{of_kind};
 ghost use Rattle.rb_rules.specs.Lawful.{IsNodeOf, kind_of};
-ghost use Rattle.rb_rules.specs.WorldStep.{Site as WorldSite, World as RunWorld, event_at};
+ghost use Rattle.rb_rules.specs.WorldStep.{Site as WorldSite, World as RunWorld};
 ghost use Rattle.rb_traffic.specs.Arriving.{number_of};
-ghost use Rattle.rb_world.specs.Worlds.{Stands, due_in};
+ghost use Rattle.rb_world.specs.Worlds.{Stands};
 
 use crate::world::World;
 use rb_base::NodeName;
@@ -34,15 +33,6 @@ impl World {
             NodeName::Biu(i) => i < self.bus.shape().biu(),
             NodeName::Rmu(i) => i < self.bus.shape().rmu(),
         }
-    }
-
-    /// The node at which the i-th of the events that are due happens, counted from 0.
-    pub fn due_node(&self, i: usize) -> NodeName
-        requires below { i < due_in self.now }
-        ensures world { (w : RunWorld) → Stands self.now w → option_map (λ (e : Event). e.node) (event_at self.now.bus w i) ≡ Some result }
-    {
-        let (node, _) = self.scene.agenda.locate(i);
-        node
     }
 
     /// The frame in which a node of the bus is. It begins with the node's first tick of it.
