@@ -2,5 +2,7 @@ pub mod Sources
 pub mod First
 pub mod Sorted
 pub mod Readiness
-pub mod EmptyLanes
+pub mod EmptyQueues
+pub mod Besides
+pub mod Bare
 mod Idle

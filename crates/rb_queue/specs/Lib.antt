@@ -1,3 +1,5 @@
 pub mod Waiting
+pub mod Queued
+pub mod Spots
 pub mod Scanning
 pub mod Keeping

@@ -54,7 +54,7 @@ fn make_room(kept: &mut Vec<Arrival>, start: usize, room: usize) -> usize
 }
 
 // The tick, as an event of the node.
-fn tick_event(node: NodeName) -> Event
+pub(crate) fn tick_event(node: NodeName) -> Event
     ensures { result ≡ event_with node Ticks }
 {
     let kind = EventKind::Tick {
@@ -83,7 +83,7 @@ impl Lane {
     }
 
     #[inline(always)]
-    fn waiting(&self) -> &[Arrival]
+    pub(crate) fn waiting(&self) -> &[Arrival]
         ensures { result.now ≡ self.now.arrivals }
     {
         &self.kept[self.start..]

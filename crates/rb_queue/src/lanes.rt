@@ -2,10 +2,11 @@
 ghost use Rattle.std.specs.Prelude.{◌≡◌, ◌+◌, ◌<◌, ◌≤◌, [], ◌∷◌, ◌++◌, length, map, slice_get, Some, IfOk, IsNone, ◌↔◌};
 ghost use Rattle.rb_base.specs.Counting.{numbers};
 ghost use Rattle.rb_rules.specs.Book.{each_of};
-ghost use Rattle.rb_queue.specs.Waiting.{HasLane, IsFirstBefore, IsIdle, empty_lane, head_of, lane_of, ready_event, ready_of, spare_of, with_arrival, with_event, with_lane, with_tick, without_events, without_place, without_ready, without_tick};
+ghost use Rattle.rb_queue.specs.Waiting.{IsFirstBefore, with_arrival, with_tick, without_place, without_tick};
+ghost use Rattle.rb_queue.specs.Queued.{HasQueue, IsEmpty, emptied, empty_queue, least_time_of, queue_of, room_left, takeable_event, takeable_of, with_lane_at, with_pushed, with_queue, without_takeable};
 
 use crate::arrival::Arrival;
-use crate::lane::Lane;
+use crate::queue::Queue;
 use arrayvec::ArrayVec;
 use rb_base::{Event, EventKind, NodeName, OutOfMemory, Shape};
 use std::alloc::Global;
@@ -15,51 +16,51 @@ use std::marker::Model;
 /// and the node's tick, with room for a fixed number of events.
 #[derive(Drop)]
 pub struct Lanes {
-    bius: Vec<Lane>,
-    rmus: Vec<Lane>,
+    bius: Vec<Queue>,
+    rmus: Vec<Queue>,
 }
 
 impl Model for Lanes {
     ghost use Rattle.rb_rules.specs.Book.{Each};
-    ghost use Rattle.rb_queue.specs.Waiting.{Held};
+    ghost use Rattle.rb_queue.specs.Queued.{Queued};
 
-    ghost Value = { Each Held };
+    ghost Value = { Each Queued };
 
     ghost view = { λ l. record { bius = l.bius.items; rmus = l.rmus.items } };
 }
 
-fn add_lane(lanes: &mut Vec<Lane>, lane: Lane) -> Result<(), OutOfMemory>
-    ensures { IfOk result (λ _. lanes.new.items ≡ lanes.old.items ++ lane ∷ []) }
+fn add_queue(queues: &mut Vec<Queue>, queue: Queue) -> Result<(), OutOfMemory>
+    ensures { IfOk result (λ _. queues.new.items ≡ queues.old.items ++ queue ∷ []) }
 {
-    lanes.push(lane).map_err(|_| OutOfMemory)
+    queues.push(queue).map_err(|_| OutOfMemory)
 }
 
-fn empty_lanes(alloc: Global, count: u8, room: usize) -> Result<Vec<Lane>, OutOfMemory>
-    ensures { IfOk result (λ lanes. lanes.items ≡ map (λ _. empty_lane room) (numbers count)) }
+fn empty_queues(alloc: Global, count: u8, room: usize) -> Result<Vec<Queue>, OutOfMemory>
+    ensures { IfOk result (λ queues. queues.items ≡ map (λ _. empty_queue room) (numbers count)) }
 {
-    let mut lanes = Vec::with_capacity(alloc, usize::from(count))?;
+    let mut queues = Vec::with_capacity(alloc, usize::from(count))?;
     for node in 0..count {
-        let lane = Lane::new(alloc, room)?;
-        add_lane(&mut lanes, lane)?;
+        let queue = Queue::new(alloc, room)?;
+        add_queue(&mut queues, queue)?;
     }
-    Ok(lanes)
+    Ok(queues)
 }
 
 impl Lanes {
     /// A lane with no event for each node of the shape. Each has room for `room` events, all of it taken from memory here:
     /// no other call takes memory.
     pub fn new(alloc: Global, shape: &Shape, room: usize) -> Result<Lanes, OutOfMemory>
-        ensures { IfOk result (λ lanes. lanes ≡ each_of shape.now (λ side i. empty_lane room)) }
+        ensures { IfOk result (λ lanes. lanes ≡ each_of shape.now (λ side i. empty_queue room)) }
     {
-        let bius = empty_lanes(alloc, shape.biu(), room)?;
-        let rmus = empty_lanes(alloc, shape.rmu(), room)?;
+        let bius = empty_queues(alloc, shape.biu(), room)?;
+        let rmus = empty_queues(alloc, shape.rmu(), room)?;
         Ok(Lanes { bius, rmus })
     }
 
     #[inline(always)]
-    fn lane(&self, node: NodeName) -> &Lane
-        requires { HasLane self.now node }
-        ensures { result.now ≡ lane_of self.now node }
+    fn queue(&self, node: NodeName) -> &Queue
+        requires { HasQueue self.now node }
+        ensures { result.now ≡ queue_of self.now node }
     {
         match node {
             NodeName::Biu(i) => &self.bius[usize::from(i)],
@@ -69,47 +70,46 @@ impl Lanes {
 
     /// How many events more the node's lane has room for: the room less the number of its events.
     pub fn spare(&self, node: NodeName) -> usize
-        requires in_shape { HasLane self.now node }
-        ensures value { result ≡ spare_of (lane_of self.now node) }
+        requires in_shape { HasQueue self.now node }
+        ensures value { result ≡ room_left (queue_of self.now node) }
     {
-        self.lane(node).spare()
+        self.queue(node).spare()
     }
 
     /// Adds an event to its node's lane, due at this time in reference units. The lane has room for it. Of a tick the time is kept:
     /// one tick of a node is pending at most, and a further one takes its place.
     pub fn push(&mut self, time: u64, event: Event)
-        requires in_shape { HasLane self.old event.node }
-        requires spare { 1 ≤ spare_of (lane_of self.old event.node) }
-        ensures after { self.new ≡ with_lane event.node (with_event time event.kind (lane_of self.old event.node)) self.old }
+        requires in_shape { HasQueue self.old event.node }
+        requires spare { 1 ≤ room_left (queue_of self.old event.node) }
+        ensures after { self.new ≡ with_queue event.node (with_pushed time event (queue_of self.old event.node)) self.old }
     {
-        let Event { node, kind, .. } = event;
-        match kind {
-            EventKind::Arrive { from, bytes } => self.push_arrival(node, time, from, bytes),
-            EventKind::Tick { .. } => self.push_tick(node, time),
+        match event.node {
+            NodeName::Biu(i) => self.bius[usize::from(i)].push(time, event),
+            NodeName::Rmu(i) => self.rmus[usize::from(i)].push(time, event),
         }
     }
 
     /// Adds what comes to a node from a sender, due at this time in reference units, to its lane. The lane has room for it.
     #[inline(always)]
     pub fn push_arrival(&mut self, node: NodeName, time: u64, from: u8, bytes: ArrayVec<u8, 32>)
-        requires in_shape { HasLane self.old node }
-        requires spare { 1 ≤ spare_of (lane_of self.old node) }
-        ensures after { self.new ≡ with_lane node
-            (with_arrival (record { time = time; from = from; bytes = bytes.items }) (lane_of self.old node))
+        requires in_shape { HasQueue self.old node }
+        requires spare { 1 ≤ room_left (queue_of self.old node) }
+        ensures after { self.new ≡ with_lane_at node
+            (with_arrival (record { time = time; from = from; bytes = bytes.items }) (queue_of self.old node).lane)
             self.old }
     {
         let arrival = Arrival::new(time, from, bytes);
         match node {
-            NodeName::Biu(i) => self.bius[usize::from(i)].push(arrival),
-            NodeName::Rmu(i) => self.rmus[usize::from(i)].push(arrival),
+            NodeName::Biu(i) => self.bius[usize::from(i)].push_arrival(arrival),
+            NodeName::Rmu(i) => self.rmus[usize::from(i)].push_arrival(arrival),
         }
     }
 
     /// The node's tick is pending, due at this time in reference units.
     #[inline(always)]
     pub fn push_tick(&mut self, node: NodeName, time: u64)
-        requires in_shape { HasLane self.old node }
-        ensures after { self.new ≡ with_lane node (with_tick time (lane_of self.old node)) self.old }
+        requires in_shape { HasQueue self.old node }
+        ensures after { self.new ≡ with_lane_at node (with_tick time (queue_of self.old node).lane) self.old }
     {
         match node {
             NodeName::Biu(i) => self.bius[usize::from(i)].push_tick(time),
@@ -119,37 +119,37 @@ impl Lanes {
 
     /// The least time, in reference units, at which an event of the node is due. None exactly where its lane has no event.
     pub fn head(&self, node: NodeName) -> Option<u64>
-        requires in_shape { HasLane self.now node }
-        ensures value { result ≡ head_of (lane_of self.now node) }
-        ensures none { IsNone result ↔ IsIdle (lane_of self.now node) }
+        requires in_shape { HasQueue self.now node }
+        ensures value { result ≡ least_time_of (queue_of self.now node) }
+        ensures none { IsNone result ↔ IsEmpty (queue_of self.now node) }
     {
-        self.lane(node).head()
+        self.queue(node).head()
     }
 
     /// How many events of the node are ready: the arrivals of its least time or, where there are none, its tick.
     pub fn ready(&self, node: NodeName) -> usize
-        requires in_shape { HasLane self.now node }
-        ensures value { result ≡ length (ready_of (lane_of self.now node)) }
-        ensures few { result ≤ (lane_of self.now node).room + 1 }
+        requires in_shape { HasQueue self.now node }
+        ensures value { result ≡ length (takeable_of (queue_of self.now node)) }
+        ensures few { result ≤ (queue_of self.now node).lane.room + 1 }
     {
-        self.lane(node).ready()
+        self.queue(node).ready()
     }
 
     /// The ready event at place `i`, counted from 0. They are listed by sender and then in the order of pushing.
     pub fn event(&self, node: NodeName, i: usize) -> Event
-        requires in_shape { HasLane self.now node }
-        requires below { i < length (ready_of (lane_of self.now node)) }
-        ensures value { ready_event node i (lane_of self.now node) ≡ Some result }
+        requires in_shape { HasQueue self.now node }
+        requires below { i < length (takeable_of (queue_of self.now node)) }
+        ensures value { takeable_event node i (queue_of self.now node) ≡ Some result }
     {
-        self.lane(node).event(node, i)
+        self.queue(node).event(node, i)
     }
 
     /// Takes the ready event at place `i`, counted from 0, out of the node's lane, and no other.
     pub fn take(&mut self, node: NodeName, i: usize) -> Event
-        requires in_shape { HasLane self.old node }
-        requires below { i < length (ready_of (lane_of self.old node)) }
-        ensures value { ready_event node i (lane_of self.old node) ≡ Some result }
-        ensures after { self.new ≡ with_lane node (without_ready i (lane_of self.old node)) self.old }
+        requires in_shape { HasQueue self.old node }
+        requires below { i < length (takeable_of (queue_of self.old node)) }
+        ensures value { takeable_event node i (queue_of self.old node) ≡ Some result }
+        ensures after { self.new ≡ with_queue node (without_takeable i (queue_of self.old node)) self.old }
     {
         match node {
             NodeName::Biu(index) => self.bius[usize::from(index)].take(node, i),
@@ -161,28 +161,28 @@ impl Lanes {
     /// None exactly where nothing is due at the node before then but its tick.
     #[inline(always)]
     pub fn first_before(&self, node: NodeName, until: u64) -> Option<usize>
-        requires in_shape { HasLane self.now node }
-        ensures first { IsFirstBefore until (lane_of self.now node) result }
+        requires in_shape { HasQueue self.now node }
+        ensures first { IsFirstBefore until (queue_of self.now node).lane result }
     {
-        self.lane(node).first_before(until)
+        self.queue(node).first_before(until)
     }
 
     /// The arrival at this place among those of the node, in the order of pushing.
     #[inline(always)]
     pub fn arrival(&self, node: NodeName, place: usize) -> &Arrival
-        requires in_shape { HasLane self.now node }
-        requires below { place < length (lane_of self.now node).arrivals }
-        ensures value { slice_get (lane_of self.now node).arrivals place ≡ Some result.now }
+        requires in_shape { HasQueue self.now node }
+        requires below { place < length (queue_of self.now node).lane.arrivals }
+        ensures value { slice_get (queue_of self.now node).lane.arrivals place ≡ Some result.now }
     {
-        self.lane(node).arrival(place)
+        self.queue(node).arrival(place)
     }
 
     /// Drops the arrival at this place among those of the node, in the order of pushing, and nothing else.
     #[inline(always)]
     pub fn drop_at(&mut self, node: NodeName, place: usize)
-        requires in_shape { HasLane self.old node }
-        requires below { place < length (lane_of self.old node).arrivals }
-        ensures after { self.new ≡ with_lane node (without_place place (lane_of self.old node)) self.old }
+        requires in_shape { HasQueue self.old node }
+        requires below { place < length (queue_of self.old node).lane.arrivals }
+        ensures after { self.new ≡ with_lane_at node (without_place place (queue_of self.old node).lane) self.old }
     {
         match node {
             NodeName::Biu(i) => self.bius[usize::from(i)].drop_at(place),
@@ -193,17 +193,17 @@ impl Lanes {
     /// The time of the node's tick, in reference units, if one is pending.
     #[inline(always)]
     pub fn tick(&self, node: NodeName) -> Option<u64>
-        requires in_shape { HasLane self.now node }
-        ensures value { result ≡ (lane_of self.now node).tick }
+        requires in_shape { HasQueue self.now node }
+        ensures value { result ≡ (queue_of self.now node).lane.tick }
     {
-        self.lane(node).tick()
+        self.queue(node).tick()
     }
 
     /// The node's tick is pending no more. Nothing else changes.
     #[inline(always)]
     pub fn take_tick(&mut self, node: NodeName)
-        requires in_shape { HasLane self.old node }
-        ensures after { self.new ≡ with_lane node (without_tick (lane_of self.old node)) self.old }
+        requires in_shape { HasQueue self.old node }
+        ensures after { self.new ≡ with_lane_at node (without_tick (queue_of self.old node).lane) self.old }
     {
         match node {
             NodeName::Biu(i) => self.bius[usize::from(i)].take_tick(),
@@ -213,8 +213,8 @@ impl Lanes {
 
     /// Drops all events of the node, and no others.
     pub fn drop_all(&mut self, node: NodeName)
-        requires in_shape { HasLane self.old node }
-        ensures after { self.new ≡ with_lane node (without_events (lane_of self.old node)) self.old }
+        requires in_shape { HasQueue self.old node }
+        ensures after { self.new ≡ with_queue node (emptied (queue_of self.old node)) self.old }
     {
         match node {
             NodeName::Biu(i) => self.bius[usize::from(i)].clear(),

@@ -91,7 +91,7 @@ pub(crate) fn least_time(arrivals: &[Arrival], first: usize, tick: Option<u64>) 
 }
 
 // How many ticks there are at a time.
-fn count_tick(tick: Option<u64>, time: u64) -> usize
+pub(crate) fn count_tick(tick: Option<u64>, time: u64) -> usize
     ensures value { result ≡ length (tick_at time tick) }
     ensures few { result ≤ 1 }
 {
@@ -150,7 +150,7 @@ fn lowest_source(arrivals: &[Arrival], time: u64, first: u16) -> u16
 
 // The place of the arrival that comes from a source at a time after so many others. Where there is none, how many of those others
 // are still to be found elsewhere.
-fn place_among(arrivals: &[Arrival], time: u64, source: u16, others: usize) -> Result<usize, usize>
+pub(crate) fn place_among(arrivals: &[Arrival], time: u64, source: u16, others: usize) -> Result<usize, usize>
     ensures { MatchResult result (λ place. StandsAt (coming_at time arrivals.now source) others arrivals.now place)
         (λ left. left + length (coming_at time arrivals.now source) ≡ others) }
 {
