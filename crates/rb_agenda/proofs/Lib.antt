@@ -10,3 +10,4 @@ pub mod Changes
 pub mod Taking
 pub mod Ticks
 pub mod Known
+mod Bare

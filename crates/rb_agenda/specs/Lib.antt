@@ -1,3 +1,4 @@
 pub mod Holding
 pub mod Agenda
 pub mod Fronts
+pub mod Bare

@@ -11,20 +11,21 @@ ghost use Rattle.rb_queue.specs.Waiting.{HasLane, IsFirstBefore, empty_lane, lan
 ghost use Rattle.rb_agenda.specs.Agenda.{IsDue, IsFirstAhead, IsFirstAt, IsFirstDue, StandsAt, Takes, TakesDue, due_now, first_tick_time, first_time, how_many};
 ghost use Rattle.rb_agenda.specs.Holding.{HoldsSites};
 
+use crate::run_lanes::RunLanes;
 use crate::scan::{
     Front, after_event, due_count, first_node, front_now, front_of, keep_key, locate, node_at,
     position_of, put_tick,
 };
 use arrayvec::ArrayVec;
 use rb_base::{Event, NodeName, OutOfMemory, Shape};
-use rb_queue::{Arrival, Lanes};
+use rb_queue::Arrival;
 use std::alloc::Global;
 use std::marker::Model;
 
 /// The pending events of the nodes of a bus, and which of them may be taken next: those of the least time, node by node.
 #[derive(Drop)]
 pub struct Agenda {
-    lanes: Lanes,
+    lanes: RunLanes,
     keys: Vec<u64>,
     ticks: Vec<u64>,
     bius: usize,
@@ -60,7 +61,7 @@ impl Agenda {
         requires { room ≤ 65536 }
         ensures { IfOk result (λ a. a ≡ each_of shape.now (λ side i. empty_lane room)) }
     {
-        let lanes = Lanes::new(alloc, shape, room)?;
+        let lanes = RunLanes::new(alloc, shape, room)?;
         let bius = usize::from(shape.biu());
         let keys = no_times(alloc, bius + usize::from(shape.rmu()))?;
         let ticks = no_times(alloc, bius + usize::from(shape.rmu()))?;

@@ -2,6 +2,7 @@
 #![tactic(auto)]
 
 pub mod agenda;
+mod run_lanes;
 mod scan;
 
 pub use agenda::Agenda;

@@ -5,8 +5,8 @@ ghost use Rattle.rb_queue.specs.Waiting.{HasLane, Held, lane_of, with_lane};
 ghost use Rattle.rb_agenda.specs.Agenda.{AreFew, AreKept, AreKeptUnless, AreKnown, IsFirstAt, StandsAt, due_count, due_in, is_tick, key_of, keys_of, node_at, position_of, ticks_after};
 ghost use Rattle.rb_agenda.specs.Fronts.{IsFront, lowered};
 
+use crate::run_lanes::RunLanes;
 use rb_base::{EventKind, NodeName};
-use rb_queue::Lanes;
 
 // The node at a position, BIUs before RMUs.
 pub(crate) fn node_at(bius: usize, position: usize) -> NodeName
@@ -32,7 +32,7 @@ pub(crate) fn position_of(bius: usize, node: NodeName) -> usize
 }
 
 // The least time at a node, or the last time that there is.
-pub(crate) fn key_of(lanes: &Lanes, node: NodeName) -> u64
+pub(crate) fn key_of(lanes: &RunLanes, node: NodeName) -> u64
     requires { HasLane lanes.now node }
     ensures value { result ≡ key_of (lane_of lanes.now node) }
     ensures small { result ≤ 18446744073709551615 }
@@ -113,7 +113,7 @@ fn put_key(keys: &mut Vec<u64>, front: Front, place: usize, key: u64) -> Front
 }
 
 // The front of all nodes, whose keys are looked for anew.
-fn fresh_front(lanes: &Lanes, bius: usize, count: usize) -> Front
+fn fresh_front(lanes: &RunLanes, bius: usize, count: usize) -> Front
     requires few { AreFew lanes.now bius }
     requires many { count ≡ length (keys_of lanes.now) }
     ensures front { IsFront (keys_of lanes.now) result }
@@ -132,7 +132,7 @@ fn fresh_front(lanes: &Lanes, bius: usize, count: usize) -> Front
 
 // The front as it is kept, or looked for anew where the keys are stale.
 pub(crate) fn front_now(
-    lanes: &Lanes,
+    lanes: &RunLanes,
     keys: &[u64],
     bius: usize,
     front: Front,
@@ -156,7 +156,7 @@ pub(crate) fn keep_key(
     front: Front,
     stale: bool,
     bius: usize,
-    lanes: &Lanes,
+    lanes: &RunLanes,
     node: NodeName,
 ) -> Front
     requires bius { bius ≤ 16 }
@@ -205,7 +205,7 @@ pub(crate) fn after_event(ticks: &mut Vec<u64>, place: usize, kind: &EventKind)
 }
 
 // The least time at a node: as it is kept, or looked for where it may be stale.
-fn key_now(lanes: &Lanes, node: NodeName, kept: u64, stale: bool) -> u64
+fn key_now(lanes: &RunLanes, node: NodeName, kept: u64, stale: bool) -> u64
     requires lane { HasLane lanes.now node }
     requires kept { stale ≡ false → kept ≡ key_of (lane_of lanes.now node) }
     ensures { result ≡ key_of (lane_of lanes.now node) }
@@ -217,7 +217,7 @@ fn key_now(lanes: &Lanes, node: NodeName, kept: u64, stale: bool) -> u64
 }
 
 // How many events of a node are due at a time, where this is the least time of the node unless it is stale.
-fn due_in(lanes: &Lanes, node: NodeName, kept: u64, stale: bool, time: u64) -> usize
+fn due_in(lanes: &RunLanes, node: NodeName, kept: u64, stale: bool, time: u64) -> usize
     requires lane { HasLane lanes.now node }
     requires kept { stale ≡ false → kept ≡ key_of (lane_of lanes.now node) }
     requires short { (lane_of lanes.now node).room ≤ 65536 }
@@ -236,7 +236,13 @@ pub(crate) fn are_some(count: usize) -> bool
 }
 
 // How many events are due at a time.
-pub(crate) fn due_count(lanes: &Lanes, keys: &[u64], bius: usize, stale: bool, time: u64) -> usize
+pub(crate) fn due_count(
+    lanes: &RunLanes,
+    keys: &[u64],
+    bius: usize,
+    stale: bool,
+    time: u64,
+) -> usize
     requires unless { AreKeptUnless stale lanes.now keys.now bius }
     requires kept { AreKept lanes.now (keys_of lanes.now) bius }
     ensures { result ≡ due_count time (in_order lanes.now) }
@@ -250,7 +256,7 @@ pub(crate) fn due_count(lanes: &Lanes, keys: &[u64], bius: usize, stale: bool, t
 
 // Whether any event is due. At each time but the last that there is, the front is the time of one.
 #[inline(always)]
-fn is_any_due(lanes: &Lanes, keys: &[u64], bius: usize, stale: bool, front: Front) -> bool
+fn is_any_due(lanes: &RunLanes, keys: &[u64], bius: usize, stale: bool, front: Front) -> bool
     requires unless { AreKeptUnless stale lanes.now keys.now bius }
     requires kept { AreKept lanes.now (keys_of lanes.now) bius }
     requires front { IsFront (keys_of lanes.now) front }
@@ -266,7 +272,7 @@ fn is_any_due(lanes: &Lanes, keys: &[u64], bius: usize, stale: bool, front: Fron
 // The node of the first event that is due.
 #[inline(always)]
 pub(crate) fn first_node(
-    lanes: &Lanes,
+    lanes: &RunLanes,
     keys: &[u64],
     bius: usize,
     stale: bool,
@@ -288,7 +294,7 @@ pub(crate) fn first_node(
 // The node of the i-th event that is due, and the event's place among those that are ready there. The first is mostly looked for.
 #[inline(always)]
 pub(crate) fn locate(
-    lanes: &Lanes,
+    lanes: &RunLanes,
     keys: &[u64],
     bius: usize,
     stale: bool,
@@ -311,7 +317,7 @@ pub(crate) fn locate(
 // The same, node by node.
 #[inline(never)]
 fn locate_among(
-    lanes: &Lanes,
+    lanes: &RunLanes,
     keys: &[u64],
     bius: usize,
     stale: bool,

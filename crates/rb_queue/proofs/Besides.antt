@@ -3,23 +3,23 @@ use Rattle.std.proofs.Common.{◌≡◌, ℕ, zero, suc, ◌+◌, ◌-◌, ◌<�
 use Rattle.std.specs.List.{enumerate_from, flat_map, range_with_len}
 use Rattle.std.specs.Prelude.{option_map}
 use Rattle.std.proofs.lemmas.Bool.Decides.{nat_tests}
-use Rattle.std.proofs.lemmas.List.{append-nil, length-map, map-append, take_more}
+use Rattle.std.proofs.lemmas.List.{length-map, map-append, take_more}
 use Rattle.std.proofs.lemmas.Option.{slice_get-get_or, slice_get-map}
-use Rattle.rb_base.specs.Counting.{count_if, numbers}
+use Rattle.rb_base.specs.Counting.{count_if}
 use Rattle.rb_base.proofs.Counts.{count_if-take_more}
 use Rattle.rb_rules.specs.Hearing.{Coming}
 use Rattle.rb_rules.specs.WorldStep.{least}
 use Rattle.rb_queue.specs.declared.pending.Pending.{Pending}
-use Rattle.rb_queue.specs.Waiting.{Held, Ready, arrivals_at, comes, coming_at, tick_at}
+use Rattle.rb_queue.specs.Waiting.{Held, Ready, comes, coming_at, tick_at}
 use Rattle.rb_queue.specs.Waiting.Ready.{Comes, Ticks}
-use Rattle.rb_queue.specs.Queued.{IsBeside, Takeable, beside_at, is_of, is_sent_between, senders_at, sent_at, sooner_of, source_of, takeable_at, ticks_at, unless_some}
+use Rattle.rb_queue.specs.Queued.{IsBeside, Takeable, beside_at, is_of, is_sent_between, senders_at, sent_at, sooner_of, source_of, ticks_at, unless_some}
 use Rattle.rb_queue.specs.Queued.Takeable.{InLane, Beside}
 use Rattle.rb_queue.specs.Scanning.{StandsAt, is_between}
 use Rattle.rb_queue.specs.Spots.{IsArrival, IsKept, IsSpot}
 use Rattle.rb_queue.specs.declared.beside.Spot.{Spot}
 use Rattle.rb_queue.specs.declared.beside.Spot.TheVariants as spot
 use Rattle.rb_queue.proofs.Readiness.{tick-get}
-use Rattle.rb_queue.proofs.Sources.{count_arrivals, from_on, from_on-suc, from_on-zero, get-left, get-right, is_within, length-coming_at, length-from_on, no_items}
+use Rattle.rb_queue.proofs.Sources.{from_on, from_on-suc, from_on-zero, get-left, get-right, is_within, length-coming_at, length-from_on}
 
 -- ---- the least time
 
@@ -105,8 +105,11 @@ length-sent_on : (time : ℕ) (lane : Held) (more : List Pending) (a n e : ℕ) 
 length-sent_on time lane more a zero e h =
     let same : a ≡ e = omega (arith, h) in
     ap length (sent_on-zero time lane more a)
-    ∙ omega (arith, subst (λ e. count_if (is_sent_between time a e) more ≡ 0) same (count_none time a more),
-    subst (λ e. count_if (is_between time a e) lane.arrivals ≡ 0) same (none_from time a lane.arrivals))
+    ∙ omega (
+      arith,
+      subst (λ e. count_if (is_sent_between time a e) more ≡ 0) same (count_none time a more),
+      subst (λ e. count_if (is_between time a e) lane.arrivals ≡ 0) same (none_from time a lane.arrivals),
+    )
   where
     none_from : (time a : ℕ) (xs : List Coming) → count_if (is_between time a a) xs ≡ 0
     none_from time a xs = sym (length-from_on time xs a 0 a (omega arith)) ∙ ap length (from_on-zero time xs a)
@@ -115,14 +118,26 @@ length-sent_on time lane more a (suc n) e h =
     let arrivals : count_if (comes time a) lane.arrivals + count_if (is_between time (a + 1) e) lane.arrivals ≡ count_if (is_between time a e) lane.arrivals =
     later time a n e (omega (arith, h)) lane.arrivals in
     ap length (sent_on-suc time lane more a n) ∙ length-append (sent_at time lane more a) (sent_on time lane more (a + 1) n)
-    ∙ omega (arith, next, arrivals, length-sent_at time lane more a, length-coming_at time lane.arrivals a, length-passing (is_of time a) 0 more,
-    count_between time a e (omega (arith, h)) more)
+    ∙ omega (
+      arith,
+      next,
+      arrivals,
+      length-sent_at time lane more a,
+      length-coming_at time lane.arrivals a,
+      length-passing (is_of time a) 0 more,
+      count_between time a e (omega (arith, h)) more,
+    )
   where
     later : (time a n e : ℕ) → a + suc n ≡ e → (xs : List Coming)
         → count_if (comes time a) xs + count_if (is_between time (a + 1) e) xs ≡ count_if (is_between time a e) xs
     later time a n e h xs =
-        omega (arith, length-from_on time xs a (suc n) e h, length-from_on time xs (a + 1) n e (omega (arith, h)), length-coming_at time xs a,
-        ap length (from_on-suc time xs a n) ∙ length-append (coming_at time xs a) (from_on time xs (a + 1) n))
+        omega (
+          arith,
+          length-from_on time xs a (suc n) e h,
+          length-from_on time xs (a + 1) n e (omega (arith, h)),
+          length-coming_at time xs a,
+          ap length (from_on-suc time xs a n) ∙ length-append (coming_at time xs a) (from_on time xs (a + 1) n),
+        )
 
 -- how many arrivals of a time there are
 pub count_senders : (time : ℕ) (lane : Held) (more : List Pending)
@@ -134,8 +149,14 @@ pub count_ticks : (time : ℕ) (lane : Held) (more : List Pending)
     → length (ticks_at time lane more) ≡ length (tick_at time lane.tick) + count_if (is_sent_between time 256 257) more
 count_ticks time lane more =
     length-append (map (λ r. InLane r) (tick_at time lane.tick)) (map (λ c. Beside c.0 c.1) (beside_at time more 256))
-    ∙ omega (arith, length-map (tick_at time lane.tick) (λ r. InLane r), length-map (beside_at time more 256) (λ c. Beside c.0 c.1),
-    length-passing (is_of time 256) 0 more, count_between time 256 257 (omega arith) more, count_none time 257 more)
+    ∙ omega (
+      arith,
+      length-map (tick_at time lane.tick) (λ r. InLane r),
+      length-map (beside_at time more 256) (λ c. Beside c.0 c.1),
+      length-passing (is_of time 256) 0 more,
+      count_between time 256 257 (omega arith) more,
+      count_none time 257 more,
+    )
 
 pub counted : (here later : List Takeable) → 0 < length here → length (unless_some here later) ≡ length here
 counted [] later some = absurd (omega (arith, some))
@@ -325,6 +346,13 @@ tick_behind time lane more i ticks place many h at =
 pub tick_past : (time : ℕ) (lane : Held) (more : List Pending) (i ticks left : ℕ) → ticks ≡ length (tick_at time lane.tick) → ticks ≤ i
     → left + length (beside_at time more 256) ≡ i - ticks → i < length (ticks_at time lane more) → ⊥
 tick_past time lane more i ticks left many h past below =
-    omega (arith, many, h, past, below,
-    length-append (map (λ r. InLane r) (tick_at time lane.tick)) (map (λ c. Beside c.0 c.1) (beside_at time more 256)),
-    length-map (tick_at time lane.tick) (λ r. InLane r), length-map (beside_at time more 256) (λ c. Beside c.0 c.1))
+    omega (
+      arith,
+      many,
+      h,
+      past,
+      below,
+      length-append (map (λ r. InLane r) (tick_at time lane.tick)) (map (λ c. Beside c.0 c.1) (beside_at time more 256)),
+      length-map (tick_at time lane.tick) (λ r. InLane r),
+      length-map (beside_at time more 256) (λ c. Beside c.0 c.1),
+    )

@@ -7,7 +7,7 @@ use Rattle.rb_base.specs.declared.event.EventKind.{EventKind}
 use Rattle.rb_base.specs.declared.event.EventKind.TheVariants as kind
 use Rattle.rb_base.specs.declared.node.NodeName.{NodeName}
 use Rattle.rb_base.specs.declared.node.NodeName.TheVariants as node
-use Rattle.rb_rules.specs.Book.{Each, in_order}
+use Rattle.rb_rules.specs.Book.{Each}
 use Rattle.rb_rules.specs.WorldStep.{least}
 use Rattle.rb_queue.specs.declared.pending.Pending.{Pending}
 use Rattle.rb_queue.specs.Waiting.{Held, IsIdle, Ready, coming_at, empty_lane, event_with, tick_at, with_event, without, without_events}

@@ -1,5 +1,5 @@
 -- Where something that is pending stands.
-use Rattle.std.specs.Prelude.{ℕ, ◌≡◌, Option, Some, List, slice_get}
+use Rattle.std.specs.Prelude.{ℕ, ◌≡◌, Some, List, slice_get}
 use Rattle.rb_rules.specs.Hearing.{Coming}
 use Rattle.rb_queue.specs.declared.pending.Pending.{Pending}
 use Rattle.rb_queue.specs.declared.beside.Spot.{Spot}

@@ -80,7 +80,13 @@ fn beside_among(more: &[Pending], time: u64, source: u16, others: usize) -> Resu
 }
 
 // The spot of what comes from a sender at a time after so many others.
-fn spot_among(lane: &Lane, more: &[Pending], time: u64, source: u16, others: usize) -> Result<Spot, usize>
+fn spot_among(
+    lane: &Lane,
+    more: &[Pending],
+    time: u64,
+    source: u16,
+    others: usize,
+) -> Result<Spot, usize>
     ensures { MatchResult result (λ spot. IsSpot (sent_at time lane.now more.now source) others lane.now more.now spot)
         (λ left. left + length (sent_at time lane.now more.now source) ≡ others) }
 {

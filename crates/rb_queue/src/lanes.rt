@@ -12,8 +12,9 @@ use rb_base::{Event, EventKind, NodeName, OutOfMemory, Shape};
 use std::alloc::Global;
 use std::marker::Model;
 
-/// The pending events of the nodes of a bus, a lane for each node. A lane keeps what comes to the node in the order of pushing,
-/// and the node's tick, with room for a fixed number of events.
+/// The pending events of the nodes of a bus, a lane for each node, with room for a fixed number of events. A lane holds what comes to the
+/// node in the order of pushing, and the time of the node's tick. Beside it stands what it doesn't hold whole: a further tick, a tick with
+/// a word, what has quiet ticks before it, and all that `push` is given after such an event.
 #[derive(Drop)]
 pub struct Lanes {
     bius: Vec<Queue>,
@@ -76,8 +77,8 @@ impl Lanes {
         self.queue(node).spare()
     }
 
-    /// Adds an event to its node's lane, due at this time in reference units. The lane has room for it. Of a tick the time is kept:
-    /// one tick of a node is pending at most, and a further one takes its place.
+    /// Adds an event to its node's events, due at this time in reference units. There is room for it. It comes back as it is given here,
+    /// and stands behind all that was pushed of its sender, or of the node's own ticks, before it.
     pub fn push(&mut self, time: u64, event: Event)
         requires in_shape { HasQueue self.old event.node }
         requires spare { 1 ≤ room_left (queue_of self.old event.node) }
@@ -89,7 +90,8 @@ impl Lanes {
         }
     }
 
-    /// Adds what comes to a node from a sender, due at this time in reference units, to its lane. The lane has room for it.
+    /// Adds what comes to a node from a sender, due at this time in reference units, to its lane. There is room for it. It comes before what
+    /// `push` kept beside the lane of that sender and that time.
     #[inline(always)]
     pub fn push_arrival(&mut self, node: NodeName, time: u64, from: u8, bytes: ArrayVec<u8, 32>)
         requires in_shape { HasQueue self.old node }
@@ -105,7 +107,8 @@ impl Lanes {
         }
     }
 
-    /// The node's tick is pending, due at this time in reference units.
+    /// The tick of the node's lane is pending, due at this time in reference units, in place of the one that was. A tick that `push` kept
+    /// beside the lane stays.
     #[inline(always)]
     pub fn push_tick(&mut self, node: NodeName, time: u64)
         requires in_shape { HasQueue self.old node }
@@ -117,7 +120,7 @@ impl Lanes {
         }
     }
 
-    /// The least time, in reference units, at which an event of the node is due. None exactly where its lane has no event.
+    /// The least time, in reference units, at which an event of the node is due. None exactly where the node has no event.
     pub fn head(&self, node: NodeName) -> Option<u64>
         requires in_shape { HasQueue self.now node }
         ensures value { result ≡ least_time_of (queue_of self.now node) }
@@ -126,7 +129,7 @@ impl Lanes {
         self.queue(node).head()
     }
 
-    /// How many events of the node are ready: the arrivals of its least time or, where there are none, its tick.
+    /// How many events of the node are ready: the arrivals of its least time or, where there are none, its ticks of that time.
     pub fn ready(&self, node: NodeName) -> usize
         requires in_shape { HasQueue self.now node }
         ensures value { result ≡ length (takeable_of (queue_of self.now node)) }
@@ -135,7 +138,8 @@ impl Lanes {
         self.queue(node).ready()
     }
 
-    /// The ready event at place `i`, counted from 0. They are listed by sender and then in the order of pushing.
+    /// The ready event at place `i`, counted from 0. They are listed by sender and then in the order of pushing, and ticks in
+    /// the order of pushing. It is the event as it was pushed.
     pub fn event(&self, node: NodeName, i: usize) -> Event
         requires in_shape { HasQueue self.now node }
         requires below { i < length (takeable_of (queue_of self.now node)) }
@@ -144,7 +148,7 @@ impl Lanes {
         self.queue(node).event(node, i)
     }
 
-    /// Takes the ready event at place `i`, counted from 0, out of the node's lane, and no other.
+    /// Takes the ready event at place `i`, counted from 0, out of the node's events, and no other.
     pub fn take(&mut self, node: NodeName, i: usize) -> Event
         requires in_shape { HasQueue self.old node }
         requires below { i < length (takeable_of (queue_of self.old node)) }
@@ -157,8 +161,8 @@ impl Lanes {
         }
     }
 
-    /// The place, among the arrivals of the node in the order of pushing, of the first that is ready, where it is due before this time.
-    /// None exactly where nothing is due at the node before then but its tick.
+    /// The place, among the arrivals of the node's lane in the order of pushing, of the first that is ready there, where it is due before
+    /// this time. None exactly where nothing that the lane holds is due before then but its tick. What `push` kept beside is not looked at.
     #[inline(always)]
     pub fn first_before(&self, node: NodeName, until: u64) -> Option<usize>
         requires in_shape { HasQueue self.now node }
@@ -167,7 +171,7 @@ impl Lanes {
         self.queue(node).first_before(until)
     }
 
-    /// The arrival at this place among those of the node, in the order of pushing.
+    /// The arrival at this place among those of the node's lane, in the order of pushing.
     #[inline(always)]
     pub fn arrival(&self, node: NodeName, place: usize) -> &Arrival
         requires in_shape { HasQueue self.now node }
@@ -177,7 +181,7 @@ impl Lanes {
         self.queue(node).arrival(place)
     }
 
-    /// Drops the arrival at this place among those of the node, in the order of pushing, and nothing else.
+    /// Drops the arrival at this place among those of the node's lane, in the order of pushing, and nothing else.
     #[inline(always)]
     pub fn drop_at(&mut self, node: NodeName, place: usize)
         requires in_shape { HasQueue self.old node }
@@ -190,7 +194,7 @@ impl Lanes {
         }
     }
 
-    /// The time of the node's tick, in reference units, if one is pending.
+    /// The time of the tick of the node's lane, in reference units, if one is pending.
     #[inline(always)]
     pub fn tick(&self, node: NodeName) -> Option<u64>
         requires in_shape { HasQueue self.now node }
@@ -199,7 +203,7 @@ impl Lanes {
         self.queue(node).tick()
     }
 
-    /// The node's tick is pending no more. Nothing else changes.
+    /// The tick of the node's lane is pending no more. Nothing else changes.
     #[inline(always)]
     pub fn take_tick(&mut self, node: NodeName)
         requires in_shape { HasQueue self.old node }

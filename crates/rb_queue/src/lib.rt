@@ -5,10 +5,9 @@ pub mod arrival;
 mod beside;
 mod lane;
 pub mod lanes;
-pub mod pending;
+mod pending;
 mod queue;
 mod scan;
 
 pub use arrival::Arrival;
 pub use lanes::Lanes;
-pub use pending::Pending;

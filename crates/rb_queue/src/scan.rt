@@ -150,7 +150,12 @@ fn lowest_source(arrivals: &[Arrival], time: u64, first: u16) -> u16
 
 // The place of the arrival that comes from a source at a time after so many others. Where there is none, how many of those others
 // are still to be found elsewhere.
-pub(crate) fn place_among(arrivals: &[Arrival], time: u64, source: u16, others: usize) -> Result<usize, usize>
+pub(crate) fn place_among(
+    arrivals: &[Arrival],
+    time: u64,
+    source: u16,
+    others: usize,
+) -> Result<usize, usize>
     ensures { MatchResult result (λ place. StandsAt (coming_at time arrivals.now source) others arrivals.now place)
         (λ left. left + length (coming_at time arrivals.now source) ≡ others) }
 {

@@ -21,5 +21,10 @@ returns-clause-value c =
     let many : length (senders_at c.args.time lane c.args.more.now) ≡ c.count.result + c.count_beside.result =
     omega (arith, arriving, c.count_beside.ensures.value, count_senders c.args.time lane c.args.more.now) in
     let ticks : c.count_tick.result ≡ length (tick_at c.args.time lane.tick) = c.count_tick.ensures.value ∙ ap (λ o. length (tick_at c.args.time o)) c.tick.ensures in
-    omega (arith, ticks, c.count_beside-2.ensures.value, count_ticks c.args.time lane c.args.more.now,
-    uncounted (senders_at c.args.time lane c.args.more.now) (ticks_at c.args.time lane c.args.more.now) (omega (arith, many, c.if-arriving-gt0.false)))
+    omega (
+      arith,
+      ticks,
+      c.count_beside-2.ensures.value,
+      count_ticks c.args.time lane c.args.more.now,
+      uncounted (senders_at c.args.time lane c.args.more.now) (ticks_at c.args.time lane c.args.more.now) (omega (arith, many, c.if-arriving-gt0.false)),
+    )

@@ -1,4 +1,4 @@
-use Rattle.std.proofs.Common.{◌<◌, ◌++◌, length, map, arith, ap, ◌∙◌, Some}
+use Rattle.std.proofs.Common.{◌<◌, ◌++◌, length, map, ap, ◌∙◌, Some}
 use Rattle.std.specs.Prelude.{option_to_list}
 use Rattle.rb_queue.proofs.Besides.{least_more}
 use Rattle.rb_queue.proofs.beside.least_time.Goals as goal

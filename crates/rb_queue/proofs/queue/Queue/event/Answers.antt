@@ -1,4 +1,4 @@
-use Rattle.std.proofs.Common.{arith, sym, ◌∙◌}
+use Rattle.std.proofs.Common.{arith, ◌∙◌}
 use Rattle.rb_queue.proofs.Bare.{event_inside, length_inside}
 use Rattle.rb_queue.proofs.queue.Queue.event.Goals as goal
 

@@ -1,5 +1,4 @@
-use Rattle.std.proofs.Common.{arith, sym, ◌∙◌, ap}
-use Rattle.rb_queue.specs.Queued.{Queued}
+use Rattle.std.proofs.Common.{arith, ◌∙◌, ap}
 use Rattle.rb_queue.proofs.Bare.{event_inside, length_inside, without_inside}
 use Rattle.rb_queue.proofs.queue.Queue.take.Goals as goal
 
