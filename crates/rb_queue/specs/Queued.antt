@@ -1,5 +1,5 @@
 -- All that is pending by node: what lanes hold, and what is kept beside them as it was pushed.
-use Rattle.std.specs.Prelude.{ℕ, ◌≡◌, ◌+◌, ◌-◌, ◌<◌, ◌≤◌, ◌==◌, ◌&&◌, nat_le, nat_lt, min, not, Bool, true, false, Option, Some, None, is_none, option_map, option_to_list, unwrap_or, List, [], ◌∷◌, ◌++◌, filter, flat_map, length, map, remove, slice_get, slice_set}
+use Rattle.std.specs.Prelude.{⊤, ℕ, ◌≡◌, ◌+◌, ◌-◌, ◌<◌, ◌≤◌, ◌==◌, ◌&&◌, nat_le, nat_lt, min, not, Bool, true, false, Option, Some, None, is_none, option_map, option_to_list, unwrap_or, List, [], ◌∷◌, ◌++◌, filter, flat_map, length, map, remove, slice_get, slice_set}
 use Rattle.std.specs.List.{enumerate_from}
 use Rattle.rb_base.specs.Counting.{numbers}
 use Rattle.rb_base.specs.declared.event.Event.{Event}
@@ -11,7 +11,7 @@ use Rattle.rb_rules.specs.Book.{Each}
 use Rattle.rb_rules.specs.WorldStep.{least}
 use Rattle.rb_queue.specs.declared.pending.Pending.{Pending}
 use Rattle.rb_queue.specs.Waiting.{Held, IsIdle, Ready, coming_at, empty_lane, event_with, tick_at, with_event, without, without_events}
-use Rattle.rb_queue.specs.Waiting.Ready.{Comes}
+use Rattle.rb_queue.specs.Waiting.Ready.{Comes, Ticks}
 
 -- what is pending at a node: what its lane holds, and what is kept beside, in the order of pushing
 pub record Queued : Type 0 where
@@ -116,6 +116,34 @@ as_event name (Beside place p) = p.event
 -- the i-th of what may be taken, as an event of the node
 abbrev pub takeable_event : NodeName → ℕ → Queued → Option Event
 takeable_event name i q = option_map (as_event name) (slice_get (takeable_of q) i)
+
+-- Each source by itself.
+
+-- what a lane holds of a source, as events of a node, each with its time
+abbrev pub lane_events : NodeName → ℕ → Held → List (ℕ × Event)
+lane_events name source lane = elim (256 == source) [
+  | true ↦ map (λ t. (t, event_with name Ticks)) (option_to_list lane.tick)
+  | false ↦ map (λ c. (c.time, event_with name (Comes 0 c))) (filter (λ c. c.from == source) lane.arrivals)
+]
+
+-- all that is pending at a node of a source, in the order of pushing, each with its time
+abbrev pub events_of : NodeName → ℕ → Queued → List (ℕ × Event)
+events_of name source q = lane_events name source q.lane ++ map (λ p. (p.time, p.event)) (filter (λ p. source_of p.event.kind == source) q.more)
+
+-- this, if the test passes
+abbrev pub only_if : {X : Type 0} → Bool → X → List X
+only_if true x = x ∷ []
+only_if false x = []
+
+-- an event that was pushed at a time is the last of its source, as it was pushed. Of every other source all stays
+abbrev pub IsLastOf : ℕ → Event → Queued → Queued → Type 0
+IsLastOf time event before after = (source : ℕ)
+    → events_of event.node source after ≡ events_of event.node source before ++ only_if (source_of event.kind == source) (time, event)
+
+-- the number of a sender has eight bits
+abbrev pub IsSent : EventKind → Type 0
+IsSent (kind.Arrive from bytes) = from ≤ 255
+IsSent (kind.Tick word wanted) = ⊤
 
 -- it is taken out
 abbrev pub without_one : Takeable → Queued → Queued

@@ -3,7 +3,7 @@ ghost use Rattle.std.specs.Prelude.{◌≡◌, ◌+◌, ◌<◌, ◌≤◌, [], 
 ghost use Rattle.rb_base.specs.Counting.{numbers};
 ghost use Rattle.rb_rules.specs.Book.{each_of};
 ghost use Rattle.rb_queue.specs.Waiting.{IsFirstBefore, with_arrival, with_tick, without_place, without_tick};
-ghost use Rattle.rb_queue.specs.Queued.{HasQueue, IsEmpty, emptied, empty_queue, least_time_of, queue_of, room_left, takeable_event, takeable_of, with_lane_at, with_pushed, with_queue, without_takeable};
+ghost use Rattle.rb_queue.specs.Queued.{HasQueue, IsEmpty, IsLastOf, emptied, empty_queue, least_time_of, queue_of, room_left, takeable_event, takeable_of, with_lane_at, with_pushed, with_queue, without_takeable};
 
 use crate::arrival::Arrival;
 use crate::queue::Queue;
@@ -83,6 +83,7 @@ impl Lanes {
         requires in_shape { HasQueue self.old event.node }
         requires spare { 1 ≤ room_left (queue_of self.old event.node) }
         ensures after { self.new ≡ with_queue event.node (with_pushed time event (queue_of self.old event.node)) self.old }
+        ensures last { IsLastOf time event (queue_of self.old event.node) (queue_of self.new event.node) }
     {
         match event.node {
             NodeName::Biu(i) => self.bius[usize::from(i)].push(time, event),

@@ -1,7 +1,7 @@
 //! All that is pending at one node.
 ghost use Rattle.std.specs.Prelude.{◌≡◌, ◌+◌, ◌<◌, ◌≤◌, length, Some, IfOk, slice_get, IsNone, ◌↔◌};
 ghost use Rattle.rb_queue.specs.Waiting.{IsFirstBefore, spare_of, with_arrival, with_event, with_tick, without_place, without_tick};
-ghost use Rattle.rb_queue.specs.Queued.{IsEmpty, emptied, empty_queue, fits_lane, has_place, least_time_of, room_left, takeable_event, takeable_of, with_held, with_pushed, without_takeable};
+ghost use Rattle.rb_queue.specs.Queued.{IsEmpty, IsLastOf, IsSent, emptied, empty_queue, fits_lane, has_place, least_time_of, room_left, takeable_event, takeable_of, with_held, with_pushed, without_takeable};
 ghost use Rattle.rb_queue.specs.Spots.{IsSpot};
 
 use crate::arrival::Arrival;
@@ -42,7 +42,8 @@ fn has_place(kind: &EventKind, tick: Option<u64>) -> bool
 
 fn push_plain(lane: &mut Lane, time: u64, kind: EventKind)
     requires { 1 ≤ spare_of lane.old }
-    ensures { lane.new ≡ with_event time kind lane.old }
+    ensures after { lane.new ≡ with_event time kind lane.old }
+    ensures sent { IsSent kind }
 {
     match kind {
         EventKind::Arrive { from, bytes } => lane.push(Arrival::new(time, from, bytes)),
@@ -73,7 +74,8 @@ impl Queue {
 
     pub(crate) fn push(&mut self, time: u64, event: Event)
         requires { 1 ≤ room_left self.old }
-        ensures { self.new ≡ with_pushed time event self.old }
+        ensures after { self.new ≡ with_pushed time event self.old }
+        ensures last { IsLastOf time event self.old self.new }
     {
         if self.fits_lane(&event) {
             push_plain(&mut self.lane, time, event.kind);

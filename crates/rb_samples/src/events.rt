@@ -62,6 +62,55 @@ fn a_tick_waits_for_an_arrival_of_its_time(rt: HostRuntime) -> Result<(), Fail> 
     Ok(())
 }
 
+fn asked(node: NodeName, word: u32) -> Event
+    ensures { result.node ≡ node }
+{
+    Event {
+        node,
+        quiet: 0,
+        kind: EventKind::Tick { word, wanted: true },
+    }
+}
+
+fn late(node: NodeName, quiet: u32, from: u8) -> Event
+    ensures { result.node ≡ node }
+{
+    Event {
+        node,
+        quiet,
+        kind: EventKind::Arrive {
+            from,
+            bytes: ArrayVec::new(),
+        },
+    }
+}
+
+#[test]
+fn events_come_back_as_they_were_pushed(rt: HostRuntime) -> Result<(), Fail> {
+    let shape = Shape::new(1, 2, 1).unwrap();
+    let mut lanes = Lanes::new(rt.alloc(), &shape, 4)?;
+    let b0 = NodeName::Biu(0);
+    assert!(rt; lanes.spare(b0) >= 1);
+    lanes.push(5, tick(b0));
+    assert!(rt; lanes.spare(b0) >= 1);
+    lanes.push(5, asked(b0, 7));
+    assert!(rt; lanes.spare(b0) >= 1);
+    lanes.push(6, tick(b0));
+    assert!(rt; lanes.spare(b0) >= 1);
+    lanes.push(5, late(b0, 3, 1));
+    assert_eq!(rt; lanes.spare(b0), 0);
+    assert_eq!(rt; lanes.ready(b0), 1);
+    assert!(rt; lanes.take(b0, 0) == late(b0, 3, 1));
+    assert_eq!(rt; lanes.ready(b0), 2);
+    assert!(rt; lanes.event(b0, 0) == tick(b0));
+    assert!(rt; lanes.take(b0, 1) == asked(b0, 7));
+    assert_eq!(rt; lanes.ready(b0), 1);
+    assert!(rt; lanes.take(b0, 0) == tick(b0));
+    assert_eq!(rt; lanes.head(b0), Some(6));
+    assert_eq!(rt; lanes.spare(b0), 3);
+    Ok(())
+}
+
 #[test]
 fn events_of_other_nodes_stay(rt: HostRuntime) -> Result<(), Fail> {
     let shape = Shape::new(1, 2, 1).unwrap();
