@@ -48,6 +48,7 @@ impl Book {
 
     /// A node closes a window. What it saw of a source with a stamp is noted with the reference time of that source, in reference
     /// units; `biu` and `rmu` are the nodes that it trusts. Of the tail nothing is noted.
+    #[inline(always)]
     pub fn close(
         &mut self,
         node: NodeName,

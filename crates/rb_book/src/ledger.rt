@@ -378,6 +378,7 @@ impl Ledger {
 
     /// A node closes a window. What it saw of a source with a stamp is noted with the reference time of that source, and nothing of
     /// sources that all are good to the end of the frame. Of the tail nothing is noted.
+    #[inline(always)]
     pub(crate) fn close(
         &mut self,
         node: NodeName,

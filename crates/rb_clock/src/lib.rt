@@ -213,6 +213,7 @@ impl Clock {
 
     /// The stamp of a time: the least tick that does not begin before it. An arrival at that time is given to a node
     /// before this tick. The time has come by tick 2^31.
+    #[inline(never)]
     pub fn first_at(&self, time: u64) -> u64
         requires { ComesBy (2 ^ 31) self.now time }
         ensures stamp { IsStamp self.now time result }
@@ -245,7 +246,7 @@ impl Clock {
     }
 
     // Whether this tick is the stamp of a time: the time has come by it, and not by the tick before.
-    #[inline]
+    #[inline(always)]
     fn is_stamp(&self, time: u64, tick: u64) -> bool
         requires { tick ≤ 2 ^ 31 }
         ensures stamp { result ≡ true → IsStamp self.now time tick }
@@ -256,7 +257,7 @@ impl Clock {
 
     // The tick that is nearly always the stamp of a time where the last length stands from there to this tick. Else it may be any
     // before this one.
-    #[inline]
+    #[inline(always)]
     fn guess(&self, time: u64, tick: u64) -> u64
         requires { tick ≤ 2 ^ 31 }
         ensures { result ≤ tick }
@@ -267,7 +268,7 @@ impl Clock {
 
     /// The stamp of a time, as `first_at` gives it, for who knows a tick near to it, of ticks up to 2^31. Where the time comes not
     /// long before that tick it takes no division.
-    #[inline]
+    #[inline(always)]
     pub fn first_near(&self, time: u64, tick: u64) -> u64
         requires come { ComesBy (2 ^ 31) self.now time }
         requires tick { tick ≤ 2 ^ 31 }

@@ -50,6 +50,7 @@ impl<K: Copy> Inbox<K> {
     }
 
     /// One arrival of the source, with its stamp in ticks. Any bytes may come.
+    #[inline(always)]
     pub fn take(&mut self, from: NodeId<K>, at: u64, bytes: &[u8])
         ensures shows { (received : List Received) → HoldsArrivals self.old received
             → HoldsArrivals self.new (received

@@ -167,6 +167,7 @@ impl<K: Kind> Node<K> {
     /// A message comes, or other bytes: any number of any bytes, with the number of their source among the nodes of the other
     /// kind. They are stamped with the number of the next tick. A number that no node has changes nothing, and a node that has
     /// had 2^31 ticks does not change.
+    #[inline(always)]
     pub fn arrive(&mut self, from: u8, bytes: &[u8])
         ensures core { (c : Core) → IsCore self.old c → IsCore self.new (arrive_of (side_of K.CODE) self.old c from bytes.now) }
         ensures rest { self.new ≡ record self.old { inbox = self.new.inbox } }

@@ -195,6 +195,7 @@ impl<K: Kind> Site<K> {
 
     /// A message or other bytes come to the node from a source at a reference time, no later than its next busy tick, by the
     /// node's clock. The quiet ticks before its stamp pass.
+    #[inline(always)]
     pub fn arrive(&mut self, clock: &Clock, time: u64, from: u8, bytes: &[u8])
         requires in_time { ComesBy (passing_end (side_of K.CODE) self.old.node) clock.now time }
         requires source { from < count_of (other (side_of K.CODE)) self.old.node.seat.sizes }

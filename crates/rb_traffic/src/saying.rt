@@ -150,6 +150,7 @@ fn say_one(
 }
 
 // What the entries with these numbers bring.
+#[inline(never)]
 fn say_each(
     agenda: &mut Agenda,
     says: &SayList,
@@ -176,7 +177,7 @@ fn say_each(
 }
 
 // The same. As a rule there are none.
-#[inline]
+#[inline(always)]
 fn say_all(
     agenda: &mut Agenda,
     says: &SayList,
@@ -225,7 +226,7 @@ impl Sayings {
         })
     }
 
-    #[inline]
+    #[inline(always)]
     fn places(&self, to: NodeName) -> &[u16]
         requires { IsNodeOf self.now.faults.sizes to }
         ensures { AreFor self.now.says to (senders_to self.now.faults.sizes to) result.now }
@@ -246,7 +247,7 @@ impl Sayings {
 
     /// What nodes that are not good say to the node in a window comes to it: by sender, and then in the order of the entries. `clock`
     /// is the node's. There is room for as much as is said to it in a window at most.
-    #[inline]
+    #[inline(always)]
     pub fn say(&self, agenda: &mut Agenda, clock: &Clock, to: NodeName, span: &Span)
         requires node { IsNodeOf self.now.faults.sizes to }
         requires in_shape { HasLane agenda.old to }

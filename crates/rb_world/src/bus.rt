@@ -171,6 +171,7 @@ impl Bus {
     }
 
     /// What nodes that are not good say to the node in a window comes to it.
+    #[inline(always)]
     pub fn say(&self, agenda: &mut Agenda, node: NodeName, span: &Span)
         requires node { IsNodeOf self.now.sizes node }
         requires lane { HasLane agenda.old node }

@@ -27,6 +27,7 @@ fn without<K: Copy>(set: NodeSet<K>, i: u8) -> NodeSet<K>
 }
 
 // The node's next tick that isn't quiet is pending.
+#[inline(always)]
 fn await_tick<K: Kind>(bus: &Bus, node: NodeName, site: &Site<K>, scene: &mut Scene)
     requires node { IsNodeOf bus.now.sizes node }
     requires kind { kind_of node ≡ side_of K.CODE }
@@ -58,6 +59,7 @@ fn stop_at(bus: &Bus, node: NodeName, scene: &mut Scene)
 
 /// The node goes on to its next tick. At a window's begin a node that is not good there stops, and to the others comes what they
 /// are told in it.
+#[inline(always)]
 pub(crate) fn proceed<K: Kind>(bus: &Bus, node: NodeName, site: &mut Site<K>, scene: &mut Scene)
     requires name { node ≡ name_of (side_of K.CODE) (number_of site.old) }
     requires may { (w : World) × (s : WorldSite) × MayProceed bus.now (side_of K.CODE) (number_of site.old) site.old scene.old w s }

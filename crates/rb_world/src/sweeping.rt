@@ -19,6 +19,7 @@ use rb_base::{Biu, Kind, NodeName, Rmu};
 use rb_site::Site;
 
 /// What comes to the node before this time is taken, one arrival after another, and with it a tick of the node before then.
+#[inline(always)]
 pub(crate) fn sweep<K: Kind>(
     bus: &Bus,
     node: NodeName,

@@ -38,6 +38,7 @@ pub(crate) fn last_of(turn: &Turn) -> Last
 }
 
 // The node takes the tick that is ahead of it.
+#[inline(always)]
 pub(crate) fn tick_at<K: Kind>(
     bus: &Bus,
     apps: &Apps,
