@@ -75,9 +75,6 @@ without_bare i q none = ap (λ o. without_any o q) (found_bare q i none) ∙ lef
 
 -- ---- as it is kept
 
-pub bare_inside : (lane : Held) (more : List Pending) (q : Queued) → record { lane = lane; more = more } ≡ q → length more ≡ 0 → (q.more ≡ []) × (q.lane ≡ lane)
-bare_inside lane more q is none = (ap (λ (q : Queued). q.more) (sym is) ∙ no_items more none, ap (λ (q : Queued). q.lane) (sym is))
-
 pub length_inside : (lane : Held) (more : List Pending) (q : Queued) → record { lane = lane; more = more } ≡ q → length more ≡ 0
     → length (takeable_of q) ≡ length (ready_of lane)
 length_inside lane more q is none =

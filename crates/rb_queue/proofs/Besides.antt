@@ -1,5 +1,5 @@
 -- What is pending at one node where something is kept beside its lane.
-use Rattle.std.proofs.Common.{◌≡◌, ℕ, zero, suc, ◌+◌, ◌-◌, ◌<◌, ◌≤◌, ◌==◌, ◌&&◌, min, nat_le, nat_lt, Bool, true, false, cond, Option, Some, None, slice_get, List, [], ◌∷◌, ◌++◌, length, filter, map, take, drop, get_or, refl, sym, ap, ◌∙◌, subst, arith, length-append, append_assoc, drop-cons, add-one}
+use Rattle.std.proofs.Common.{◌≡◌, ℕ, zero, suc, ◌+◌, ◌-◌, ◌<◌, ◌==◌, ◌&&◌, min, nat_le, nat_lt, Bool, true, false, cond, Option, Some, None, slice_get, List, [], ◌∷◌, ◌++◌, length, filter, map, take, drop, get_or, refl, sym, ap, ◌∙◌, subst, arith, length-append, append_assoc, drop-cons, add-one}
 use Rattle.std.specs.List.{enumerate_from, flat_map, range_with_len}
 use Rattle.std.specs.Prelude.{option_map}
 use Rattle.std.proofs.lemmas.Bool.Decides.{nat_tests}
@@ -10,15 +10,14 @@ use Rattle.rb_base.proofs.Counts.{count_if-take_more}
 use Rattle.rb_rules.specs.Hearing.{Coming}
 use Rattle.rb_rules.specs.WorldStep.{least}
 use Rattle.rb_queue.specs.declared.pending.Pending.{Pending}
-use Rattle.rb_queue.specs.Waiting.{Held, Ready, comes, coming_at, tick_at}
+use Rattle.rb_queue.specs.Waiting.{Held, comes, coming_at, tick_at}
 use Rattle.rb_queue.specs.Waiting.Ready.{Comes, Ticks}
 use Rattle.rb_queue.specs.Queued.{IsBeside, Takeable, beside_at, is_of, is_sent_between, senders_at, sent_at, sooner_of, source_of, ticks_at, unless_some}
 use Rattle.rb_queue.specs.Queued.Takeable.{InLane, Beside}
-use Rattle.rb_queue.specs.Scanning.{StandsAt, is_between}
+use Rattle.rb_queue.specs.Scanning.{is_between}
 use Rattle.rb_queue.specs.Spots.{IsArrival, IsKept, IsSpot}
 use Rattle.rb_queue.specs.declared.beside.Spot.{Spot}
 use Rattle.rb_queue.specs.declared.beside.Spot.TheVariants as spot
-use Rattle.rb_queue.proofs.Readiness.{tick-get}
 use Rattle.rb_queue.proofs.Sources.{from_on, from_on-suc, from_on-zero, get-left, get-right, is_within, length-coming_at, length-from_on}
 
 -- ---- the least time
@@ -195,20 +194,6 @@ found_here time more source others k left p h is passes none same =
       stands = item;
     }
 
--- an arrival of the sender
-pub arrival_sent : (time : ℕ) (lane : Held) (more : List Pending) (source others place : ℕ) → StandsAt (coming_at time lane.arrivals source) others lane.arrivals place
-    → IsArrival (sent_at time lane more source) others lane.arrivals place
-arrival_sent time lane more source others place at =
-    let cs : List (ℕ × Coming) = coming_at time lane.arrivals source in
-    let within : others < length (map (λ c. InLane (Comes c.0 c.1)) cs) =
-    omega (arith, is_within cs others (place, at.coming) at.found, length-map cs (λ c. InLane (Comes c.0 c.1))) in
-    record {
-      coming = at.coming;
-      found = get-left (map (λ c. InLane (Comes c.0 c.1)) cs) (map (λ c. Beside c.0 c.1) (beside_at time more source)) others within
-          ∙ slice_get-map (λ (c : ℕ × Coming). InLane (Comes c.0 c.1)) cs others ∙ ap (option_map (λ (c : ℕ × Coming). InLane (Comes c.0 c.1))) at.found;
-      stands = at.stands;
-    }
-
 -- what stands beside, behind others
 kept_behind : (listed : List (ℕ × Pending)) (front : List Takeable) (more : List Pending) (others left place : ℕ) → left + length front ≡ others
     → IsBeside listed left more place → IsKept (front ++ map (λ c. Beside c.0 c.1) listed) others more place
@@ -226,10 +211,6 @@ pub kept_sent : (time : ℕ) (lane : Held) (more : List Pending) (source others 
 kept_sent time lane more source others left place many at =
     kept_behind (beside_at time more source) (map (λ c. InLane (Comes c.0 c.1)) (coming_at time lane.arrivals source)) more others left place
     (omega (arith, many, length-map (coming_at time lane.arrivals source) (λ c. InLane (Comes c.0 c.1)))) at
-
-pub none_sent : (time : ℕ) (lane : Held) (more : List Pending) (source others left rest : ℕ) → left + length (coming_at time lane.arrivals source) ≡ others
-    → rest + length (beside_at time more source) ≡ left → rest + length (sent_at time lane more source) ≡ others
-none_sent time lane more source others left rest a b = omega (arith, a, b, length-sent_at time lane more source)
 
 -- the i-th arrival is the left-th of those from this source on
 pub record IsLeftOf (time : ℕ) (lane : Held) (more : List Pending) (i source left : ℕ) : Type 0 where
@@ -298,61 +279,3 @@ pub spot_left : (time : ℕ) (lane : Held) (more : List Pending) (i source left 
 spot_left time lane more i source left (spot.Arrival place) h is at = arrival_left time lane more i source left place h is at
 spot_left time lane more i source left spot.Tick h is at = here time lane more i source left (InLane Ticks) h is at
 spot_left time lane more i source left (spot.Kept place) h is at = kept_left time lane more i source left place h is at
-
--- the same place in another list
-moved : (xs ys : List Takeable) (i j : ℕ) (lane : Held) (more : List Pending) (s : Spot) → ((t : Takeable) → slice_get xs i ≡ Some t → slice_get ys j ≡ Some t)
-    → IsSpot xs i lane more s → IsSpot ys j lane more s
-moved xs ys i j lane more (spot.Arrival place) same at =
-    record { coming = at.coming; found = same (InLane (Comes place at.coming)) at.found; stands = at.stands }
-moved xs ys i j lane more spot.Tick same at = same (InLane Ticks) at
-moved xs ys i j lane more (spot.Kept place) same at = record { kept = at.kept; found = same (Beside place at.kept) at.found; stands = at.stands }
-
--- something comes
-pub spot_first : (here later : List Takeable) (i : ℕ) (lane : Held) (more : List Pending) (s : Spot) → IsSpot here i lane more s
-    → IsSpot (unless_some here later) i lane more s
-spot_first here later i lane more s at = moved here (unless_some here later) i i lane more s (there here) at
-  where
-    there : (xs : List Takeable) (t : Takeable) → slice_get xs i ≡ Some t → slice_get (unless_some xs later) i ≡ Some t
-    there [] t e = absurd (let never : ◌≡◌ {A = Option Takeable} None (Some t) = e in cc)
-    there (x ∷ xs) t e = e
-
--- nothing comes
-pub later_left : (here later : List Takeable) (i left : ℕ) → i < length (unless_some here later) → left + length here ≡ i
-    → (left < length later) × (left ≡ i) × (unless_some here later ≡ later)
-later_left [] later i left below many = (omega (arith, below, many), omega (arith, many), refl)
-later_left (x ∷ xs) later i left below many = absurd (omega (arith, below, many))
-
-pub spot_later : (here later : List Takeable) (i left : ℕ) (lane : Held) (more : List Pending) (s : Spot) → i < length (unless_some here later)
-    → left + length here ≡ i → IsSpot later left lane more s → IsSpot (unless_some here later) i lane more s
-spot_later here later i left lane more s below many at =
-    let is = later_left here later i left below many in
-    moved later (unless_some here later) left i lane more s (λ t e. ap (λ l. slice_get l i) is.2 ∙ ap (slice_get later) (sym is.1) ∙ e) at
-
--- ---- ticks
-
-pub tick_there : (time : ℕ) (lane : Held) (more : List Pending) (i : ℕ) → i < length (tick_at time lane.tick)
-    → slice_get (ticks_at time lane more) i ≡ Some (InLane Ticks)
-tick_there time lane more i h =
-    let ticks : List Ready = tick_at time lane.tick in
-    get-left (map (λ r. InLane r) ticks) (map (λ c. Beside c.0 c.1) (beside_at time more 256)) i (omega (arith, h, length-map ticks (λ r. InLane r)))
-    ∙ slice_get-map (λ r. InLane r) ticks i ∙ ap (option_map (λ r. InLane r)) (tick-get lane.tick time i h)
-
-pub tick_behind : (time : ℕ) (lane : Held) (more : List Pending) (i ticks place : ℕ) → ticks ≡ length (tick_at time lane.tick) → ticks ≤ i
-    → IsBeside (beside_at time more 256) (i - ticks) more place → IsKept (ticks_at time lane more) i more place
-tick_behind time lane more i ticks place many h at =
-    kept_behind (beside_at time more 256) (map (λ r. InLane r) (tick_at time lane.tick)) more i (i - ticks) place
-    (omega (arith, many, h, length-map (tick_at time lane.tick) (λ r. InLane r))) at
-
-pub tick_past : (time : ℕ) (lane : Held) (more : List Pending) (i ticks left : ℕ) → ticks ≡ length (tick_at time lane.tick) → ticks ≤ i
-    → left + length (beside_at time more 256) ≡ i - ticks → i < length (ticks_at time lane more) → ⊥
-tick_past time lane more i ticks left many h past below =
-    omega (
-      arith,
-      many,
-      h,
-      past,
-      below,
-      length-append (map (λ r. InLane r) (tick_at time lane.tick)) (map (λ c. Beside c.0 c.1) (beside_at time more 256)),
-      length-map (tick_at time lane.tick) (λ r. InLane r),
-      length-map (beside_at time more 256) (λ c. Beside c.0 c.1),
-    )

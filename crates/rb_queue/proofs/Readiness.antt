@@ -161,7 +161,7 @@ before_some arrivals tick room place until f first within at soon not_sooner =
 -- ---- the place of one that is ready
 
 -- the tick alone is ready
-pub tick-get : (tick : Option ℕ) (t i : ℕ) → i < length (tick_at t tick) → slice_get (tick_at t tick) i ≡ Some Ticks
+tick-get : (tick : Option ℕ) (t i : ℕ) → i < length (tick_at t tick) → slice_get (tick_at t tick) i ≡ Some Ticks
 tick-get None t i below = absurd (omega (arith, below))
 tick-get (Some u) t i below =
     let go : (b : Bool) → i < length (elim b as (λ _. List Ready) [ true ↦ Ticks ∷ [] | false ↦ [] ])
