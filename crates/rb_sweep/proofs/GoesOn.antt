@@ -1,6 +1,7 @@
 -- A world that is ahead of another goes on as its ticks alone make the other go on.
-use Rattle.std.proofs.Common.{◌≡◌, ℕ, suc, ◌+◌, ◌<◌, ◌≤◌, ◌⊎◌, ◌&&◌, Bool, true, false, List, [], ◌∷◌, ◌++◌, refl, ap, sym, ◌∙◌, subst, arith, inl, inr, Option, Some, None, option_map, slice_get}
+use Rattle.std.proofs.Common.{◌≡◌, ℕ, suc, ◌+◌, ◌<◌, ◌≤◌, ◌⊎◌, ◌&&◌, Bool, true, false, List, [], ◌∷◌, ◌++◌, append_assoc, refl, ap, sym, ◌∙◌, subst, arith, inl, inr, Option, Some, None, option_map, slice_get, if◌then◌else◌}
 use Rattle.std.proofs.lemmas.Bool.{cases_lt}
+use Rattle.std.proofs.lemmas.List.{append-nil}
 use Rattle.rb_base.specs.Nodes.{Side, other}
 use Rattle.rb_rules.specs.declared.message.Message.{Message}
 use Rattle.rb_rules.specs.Book.{Each, Record, map_each, of_kind}
@@ -9,25 +10,29 @@ use Rattle.rb_rules.specs.Core.{Act}
 use Rattle.rb_rules.specs.Goodness.{Scenario, clock_of}
 use Rattle.rb_rules.specs.Hearing.{Sending, coming_of}
 use Rattle.rb_rules.specs.Lawful.{IsLawful}
+use Rattle.rb_rules.specs.Links.{name_of, same_node}
 use Rattle.rb_rules.specs.Slots.{same_side}
-use Rattle.rb_rules.specs.WorldStep.{Choice, Due, Site, Timed, World, after_act, at_node, due_of, happens, pass_and_tick, sent_to, settle, take, take_if_due, with_act, with_message, world_after}
+use Rattle.rb_rules.specs.WorldStep.{Choice, Due, Site, Timed, World, after_act, at_node, due_of, event_of, happens, pass_and_tick, sent_to, settle, take, take_if_due, with_act, with_message, world_after}
 use Rattle.rb_rules.specs.WorldStep.Pending.{Tick}
 use Rattle.rb_rules.specs.WorldStep.Way.{ByAnEvent}
 use Rattle.rb_rules.proofs.WindowNumbers.{get-each}
 use Rattle.rb_order.proofs.OneEvent.{happens-is}
 use Rattle.rb_order.proofs.WorldNodes.{settle-sites}
 use Rattle.rb_order.proofs.WorldStands.{back-from, get-at, is_node, node-is, node-itself}
-use Rattle.rb_sweep.specs.AheadOf.{GoesOnAhead, IsFirstTick, LeadsToTick, after_takes, ahead_of, each_swept, is_behind, tick_alone, until_tick}
+use Rattle.rb_sweep.specs.AheadOf.{GoesOnAhead, IsFirstTick, LeadsToTick, TellsAhead, after_takes, ahead_of, each_swept, is_behind, tick_alone, told_in, until_tick}
 use Rattle.rb_sweep.specs.Laws.{NeedsEvent, WorldsGoOnAhead}
 use Rattle.rb_sweep.specs.Sweeping.{swept}
+use Rattle.rb_sweep.specs.Told.{heard, told_alone, told_next, telling}
 use Rattle.rb_sweep.proofs.AfterTick.{Later, TicksNow, act-later, takes-are, ticks-now}
 use Rattle.rb_sweep.proofs.EachNode.{KeepsAhead, behind-so-on, each-alike, first-changed, nodes-order, until-behind, until-least, until-most, until-not, until-own}
 use Rattle.rb_sweep.proofs.Firsts.{some-same}
+use Rattle.rb_sweep.proofs.Hearing.{hearing-composes, hears-none, sent-unheard}
 use Rattle.rb_sweep.proofs.Leads.{leads-to-tick}
 use Rattle.rb_sweep.proofs.OpenWorlds.{Goes, goes-reached}
 use Rattle.rb_sweep.proofs.SentLater.{sent-passes}
 use Rattle.rb_sweep.proofs.Settles.{KeepsTold, each-fuse, settle-changed, settle-turn}
 use Rattle.rb_sweep.proofs.Sweeps.{all-every, sweep-stays, sweeps-compose, sweeps-keep}
+use Rattle.rb_sweep.proofs.Telling.{named-itself, same-named, told-one}
 
 -- Sweeps of all nodes.
 
@@ -105,6 +110,16 @@ message-back sc me i frame k (Some m) sites side n y there =
     let was = back-from (sent side n) (slice_get (of_kind side sites) n) y (sym (get-each sent sites side n) ∙ there) in
     (was.0, (was.1.0, ap (λ (s : Site). s.ahead) (sym was.1.1) ∙ sent-ahead sc me i frame x side n was.0))
 
+-- a node with it, if there is one, hears in a sweep through its tick what it hears without it
+message-unheard : (sc : Scenario) → IsLawful sc → (me side : Side) (i j frame k until : ℕ) (m : Option Message) (sites : Each Site) (s : Site) → slice_get (of_kind side sites) j ≡ Some s
+    → until ≤ time_of (clock_of sc me i) k + 1
+    → (y : Site) × ((slice_get (of_kind side (with_message sc me i frame k m sites)) j ≡ Some y) × (heard sc side j until y ≡ heard sc side j until s))
+message-unheard sc lawful me side i j frame k until None sites s there le = (s, (there, refl))
+message-unheard sc lawful me side i j frame k until (Some m) sites s there le =
+    let x : Sending = record { tick = k; message = m } in
+    let sent : Side → ℕ → Site → Site = sent_to sc me i frame x in
+    (sent side j s, (get-each sent sites side j ∙ ap (option_map (sent side j)) there, sent-unheard sc lawful me side i j frame until x s le))
+
 -- the nodes before the message
 node-back : (me : Side) (i : ℕ) (first next : Site → Site) (sites : Each Site) (side : Side) (n : ℕ) (y : Site)
     → slice_get (of_kind side (at_node me i next (at_node me i first sites))) n ≡ Some y
@@ -141,8 +156,8 @@ untils-rise me you i n t u (inr same) side j = by (is_behind you n side j) refl
 
 goes-on : (sc : Scenario) → IsLawful sc → (choices : List Choice) (until : Side → ℕ → ℕ) (w : World) → world_after sc choices ≡ ahead_of sc until w → NeedsEvent sc w
     → (me : Side) (i : ℕ) (a : Timed) → IsFirstTick w me i a → ((side : Side) (j : ℕ) → until side j ≤ until_tick me i a.time side j) → GoesOnAhead sc until w me i a
-unfolding after_takes take with_act
-goes-on sc lawful choices until w is event me i a first le = record { leads = leads; after = after; choices = cs; reached = reached; later = later }
+unfolding after_takes take told_in with_act
+goes-on sc lawful choices until w is event me i a first le = record { leads = leads; after = after; choices = cs; reached = reached; later = later; tells = tells }
   where
     ahead : World
     ahead = ahead_of sc until w
@@ -251,6 +266,72 @@ goes-on sc lawful choices until w is event me i a first le = record { leads = le
 
     behind-sites : (tick_alone sc me i a w).sites ≡ (with_act sc alone me i a.tick x).sites
     behind-sites = settle-sites sc ByAnEvent 2 (happens sc alone d) ∙ ap (λ (y : World). y.sites) alone-is
+
+    tells : (side : Side) (j : ℕ) (s : Site) → slice_get (of_kind side w.sites) j ≡ Some s → TellsAhead sc until w me i a (suc n) side j s
+    tells side j s here =
+        let time = ticks.time in
+        let most = until-most me side i j a.time in
+        let swept_there : slice_get (of_kind side ahead.sites) j ≡ Some (sweep_to sc until side j s) =
+        get-each (sweep_to sc until) w.sites side j ∙ ap (option_map (sweep_to sc until side j)) here in
+        let sent = message-unheard sc lawful me side i j x.core.state.frame a.tick (next side j) x.message (at_node me i act (at_node me i sweep w.sites)) moved moved-there (omega (arith, most, time)) in
+        record {
+          after = sent.0;
+          there = ap (λ sites. slice_get (of_kind side sites) j) behind-sites ∙ sent.1.0;
+          told = ap (λ l. heard sc side j (until side j) s ++ (l ++ told_next sc side j (after_takes sc n ahead))) (leads.told side j (sweep_to sc until side j s) swept_there)
+              ∙ sym (append_assoc (heard sc side j (until side j) s) (heard sc side j (next side j) (sweep_to sc until side j s)) (told_next sc side j (after_takes sc n ahead)))
+              ∙ ap (λ l. l ++ told_next sc side j (after_takes sc n ahead)) (sym (hearing-composes sc side j s (until side j) (next side j) (le side j)))
+              ∙ ap (λ y. heard sc side j (next side j) s ++ told_next sc side j y) there-is
+              ∙ by s here (is_node me i side j) refl
+              ∙ ap (λ l. told_alone sc w me i a side j s ++ l) (sym sent.1.1);
+        }
+      where
+        moved : Site
+        moved = one_changes act me i side j (one_changes sweep me i side j s)
+
+        moved-there : slice_get (of_kind side (at_node me i act (at_node me i sweep w.sites))) j ≡ Some moved
+        moved-there =
+            get-at me side i j act (at_node me i sweep w.sites)
+            ∙ ap (option_map (one_changes act me i side j)) (get-at me side i j sweep w.sites ∙ ap (option_map (one_changes sweep me i side j)) here)
+
+        -- what is told of the tick
+        tick-told : (side : Side) (j : ℕ) (s : Site) → slice_get (of_kind side w.sites) j ≡ Some s
+            → told_next sc side j there
+            ≡ (if same_node (name_of me i) (name_of side j)
+            then (record { frame = (swept sc side j (next side j) s).core.state.frame; event = event_of sc w.ports me i z.core (Tick a.tick) }) ∷ []
+            else [])
+        tick-told side j s here =
+            told-one sc there d z (ap (λ y. slice_get (due_of sc y) 0) (sym there-is) ∙ leads.tick) node-there side j (sweep_to sc next side j s)
+            (get-each (sweep_to sc next) w.sites side j ∙ ap (option_map (sweep_to sc next side j)) here)
+
+        own-tells : heard sc me i (next me i) first.node ++ told_next sc me i there ≡ told_alone sc w me i a me i first.node ++ heard sc me i (next me i) (act z)
+        own-tells =
+            ap (λ l. heard sc me i (next me i) first.node ++ l) (tick-told me i first.node first.there)
+            ∙ ap (λ u. heard sc me i u first.node ++ (if same_node (name_of me i) (name_of me i) then (record { frame = (swept sc me i u first.node).core.state.frame; event = event_of sc w.ports me i z.core (Tick a.tick) }) ∷ [] else [])) own
+            ∙ ap (λ b. heard sc me i (a.time + 1) first.node ++ (if b then telling sc w.ports me i z (Tick a.tick) ∷ [] else [])) (named-itself me i)
+            ∙ sym (append-nil (heard sc me i (a.time + 1) first.node ++ telling sc w.ports me i z (Tick a.tick) ∷ []))
+            ∙ ap (λ b. (if b then heard sc me i (a.time + 1) first.node ++ telling sc w.ports me i z (Tick a.tick) ∷ [] else []) ++ []) (sym (named-itself me i))
+            ∙ ap (λ l. told_alone sc w me i a me i first.node ++ l) (sym (hears-none sc me i (a.time + 1) (act z) acted.coming))
+            ∙ ap (λ u. told_alone sc w me i a me i first.node ++ heard sc me i u (act z)) (sym own)
+
+        by : (s : Site) → slice_get (of_kind side w.sites) j ≡ Some s → (b : Bool) → is_node me i side j ≡ b
+            → heard sc side j (next side j) s ++ told_next sc side j there
+            ≡ told_alone sc w me i a side j s
+            ++ heard sc side j (next side j)
+            (elim b as (λ _. Site) [ true ↦ act (elim b as (λ _. Site) [ true ↦ sweep s | false ↦ s ]) | false ↦ elim b as (λ _. Site) [ true ↦ sweep s | false ↦ s ] ])
+        by s here false e =
+            let no : same_node (name_of me i) (name_of side j) ≡ false = same-named me side i j ∙ e in
+            ap (λ l. heard sc side j (next side j) s ++ l)
+            (tick-told side j s here
+            ∙ ap (λ b. if b then (record { frame = (swept sc side j (next side j) s).core.state.frame; event = event_of sc w.ports me i z.core (Tick a.tick) }) ∷ [] else []) no)
+            ∙ append-nil (heard sc side j (next side j) s)
+            ∙ ap (λ b. (if b then heard sc side j (a.time + 1) s ++ telling sc w.ports side j (swept sc side j (a.time + 1) s) (Tick a.tick) ∷ [] else []) ++ heard sc side j (next side j) s) (sym no)
+        by s here true e =
+            let is = node-is me side i j e in
+            let its : slice_get (of_kind me w.sites) i ≡ Some s = sym (ap (λ k. slice_get (of_kind k w.sites) j) is.0 ∙ ap (slice_get (of_kind me w.sites)) is.1) ∙ here in
+            let same : first.node ≡ s = some-same first.node s (sym first.there ∙ its) in
+            subst (λ s. heard sc side j (next side j) s ++ told_next sc side j there ≡ told_alone sc w me i a side j s ++ heard sc side j (next side j) (act (sweep s))) same
+            (subst (λ k. heard sc k j (next k j) first.node ++ told_next sc k j there ≡ told_alone sc w me i a k j first.node ++ heard sc k j (next k j) (act z)) (sym is.0)
+            (subst (λ m. heard sc me m (next me m) first.node ++ told_next sc me m there ≡ told_alone sc w me i a me m first.node ++ heard sc me m (next me m) (act z)) (sym is.1) own-tells))
 
     later : (you : Side) (m : ℕ) (b : Timed) → IsFirstTick (tick_alone sc me i a w) you m b → (side : Side) (j : ℕ) → next side j ≤ until_tick you m b.time side j
     later you m b following =

@@ -1,11 +1,13 @@
 pub mod Firsts
 pub mod Sweeps
 pub mod SentLater
+pub mod Hearing
 pub mod Settles
 pub mod OpenWorlds
 pub mod ReadyFirst
 pub mod EachNode
 pub mod DueFirst
+pub mod Telling
 pub mod Leads
 pub mod AfterTick
 pub mod GoesOn

@@ -28,7 +28,7 @@ use Rattle.rb_sweep.proofs.Sweeps.{all-every, every-all, push-passes, sweeps-kee
 -- A message.
 
 -- it is on its way for some time
-message-later : (sc : Scenario) → IsLawful sc → (me side : Side) (j i frame : ℕ) (x : Sending) → same_side side (other me) ≡ true
+pub message-later : (sc : Scenario) → IsLawful sc → (me side : Side) (j i frame : ℕ) (x : Sending) → same_side side (other me) ≡ true
     → time_of (clock_of sc me j) x.tick + 1 ≤ (coming_of sc side i j frame x).time
 message-later sc lawful me side j i frame x kind =
     let place : Place = record { frame = frame; slot = x.message.slot; stage = x.message.stage } in
@@ -39,7 +39,7 @@ message-later sc lawful me side j i frame x kind =
     omega (arith, time, low, some)
 
 -- the node with it, where the test passes
-abbrev sent_where : Scenario → Side → ℕ → ℕ → Sending → Side → ℕ → Site → Bool → Site
+abbrev pub sent_where : Scenario → Side → ℕ → ℕ → Sending → Side → ℕ → Site → Bool → Site
 sent_where sc me j frame x side i s b = elim b as (λ _. Site) [ true ↦ record s { coming = s.coming ++ coming_of sc side i j frame x ∷ [] } | false ↦ s ]
 
 pub sent-passes : (sc : Scenario) → IsLawful sc → (me side : Side) (j i frame until : ℕ) (x : Sending) (s : Site) → until ≤ time_of (clock_of sc me j) x.tick + 1

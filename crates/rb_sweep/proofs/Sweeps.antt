@@ -25,7 +25,7 @@ all-every P (x ∷ xs) a = (All-head P x xs a, all-every P xs (All-tail P x xs a
 
 -- One arrival.
 
-step-stays : (sc : Scenario) (me : Side) (i until : ℕ) (s : Site) → Every (λ c. until ≤ c.time) s.coming → after_first sc me i until (first_of s.coming) s ≡ s
+pub step-stays : (sc : Scenario) (me : Side) (i until : ℕ) (s : Site) → Every (λ c. until ≤ c.time) s.coming → after_first sc me i until (first_of s.coming) s ≡ s
 step-stays sc me i until s late = by (first_of s.coming) refl
   where
     by : (o : Option Placed) → first_of s.coming ≡ o → after_first sc me i until o s ≡ s
@@ -33,7 +33,7 @@ step-stays sc me i until s late = by (first_of s.coming) refl
     by (Some p) h = ap (λ b. elim b as (λ _. Site) [ true ↦ after_arrival sc me i p.place p.coming s | false ↦ s ])
         (le-ltb p.coming.time until (every-stands (λ c. until ≤ c.time) p.place p.coming s.coming (first-stands s.coming p h) late))
 
-step-takes : (sc : Scenario) (me : Side) (i until : ℕ) (s : Site) (p : Placed) → first_of s.coming ≡ Some p → p.coming.time < until
+pub step-takes : (sc : Scenario) (me : Side) (i until : ℕ) (s : Site) (p : Placed) → first_of s.coming ≡ Some p → p.coming.time < until
     → after_first sc me i until (first_of s.coming) s ≡ after_arrival sc me i p.place p.coming s
 step-takes sc me i until s p e lt =
     ap (λ o. after_first sc me i until o s) e
@@ -110,7 +110,7 @@ sweeps-keep sc me i until s =
     (arrival-from sc me i until p.place p.coming s (swept sc me i until (after_arrival sc me i p.place p.coming s)) rest)) s
 
 -- what comes later is pushed before an arrival or after it
-arrival-more : (sc : Scenario) (me : Side) (i place : ℕ) (c : Coming) (ahead : Option Timed) (more : List Coming) (s : Site) → StandsAt place c s.coming
+pub arrival-more : (sc : Scenario) (me : Side) (i place : ℕ) (c : Coming) (ahead : Option Timed) (more : List Coming) (s : Site) → StandsAt place c s.coming
     → after_arrival sc me i place c (with_more ahead more s) ≡ with_more ahead more (after_arrival sc me i place c s)
 unfolding after_arrival
 arrival-more sc me i place c ahead more s stands =

@@ -1,5 +1,5 @@
 -- A world that is ahead of another by arrivals alone, and how both go on from tick to tick.
-use Rattle.std.specs.Prelude.{ℕ, zero, suc, ◌≡◌, ◌+◌, ◌<◌, ◌≤◌, nat_lt, Bool, true, false, if◌then◌else◌, None, Some, slice_get, List}
+use Rattle.std.specs.Prelude.{ℕ, zero, suc, ◌≡◌, ◌+◌, ◌<◌, ◌≤◌, nat_lt, Bool, true, false, if◌then◌else◌, None, Some, slice_get, List, [], ◌++◌}
 use Rattle.rb_base.specs.Nodes.{Side}
 use Rattle.rb_base.specs.Nodes.Side.{Biu, Rmu}
 use Rattle.rb_rules.specs.Book.{Each, map_each, of_kind}
@@ -9,6 +9,7 @@ use Rattle.rb_rules.specs.WorldStep.{Choice, Site, Timed, World, at_node, due_of
 use Rattle.rb_rules.specs.WorldStep.Pending.{Arrival, Tick}
 use Rattle.rb_rules.specs.WorldStep.Way.{ByAnEvent}
 use Rattle.rb_sweep.specs.Sweeping.{swept}
+use Rattle.rb_sweep.specs.Told.{Told, heard, told_alone, told_next}
 
 -- Ticks.
 
@@ -55,6 +56,11 @@ unfoldable pub after_takes : Scenario → ℕ → World → World
 after_takes sc zero w = w
 after_takes sc (suc n) w = take sc (after_takes sc n w) 0
 
+-- what node i of kind me is told in so many takes of the first due event
+unfoldable pub told_in : Scenario → Side → ℕ → ℕ → World → List Told
+told_in sc me i zero w = []
+told_in sc me i (suc n) w = told_in sc me i n w ++ told_next sc me i (after_takes sc n w)
+
 -- the first due event is an arrival
 pub record ArrivalIsFirst (sc : Scenario) (w : World) : Type 0 where
   pub side : Side
@@ -64,13 +70,23 @@ pub record ArrivalIsFirst (sc : Scenario) (w : World) : Type 0 where
   pub is : slice_get (due_of sc w) 0 ≡ Some (record { side = side; node = node; pending = Arrival place coming })
 
 -- Takes of arrivals, none of which gives a record, lead to the world in which this tick is the first due event: each node is swept, those
--- behind the tick's node up to its time and the others through it, and nothing else changes
+-- behind the tick's node up to its time and the others through it, and nothing else changes. Each node is told what it hears in its sweep
 pub record LeadsToTick (sc : Scenario) (w : World) (me : Side) (i : ℕ) (a : Timed) : Type 0 where
   pub takes : ℕ
   pub arrivals : (n : ℕ) → n < takes → ArrivalIsFirst sc (after_takes sc n w)
   pub quiet : (n : ℕ) → 1 ≤ n → n ≤ takes → (after_takes sc n w).turn ≡ None
   pub world : after_takes sc takes w ≡ record (ahead_of sc (until_tick me i a.time) w) { turn = (after_takes sc takes w).turn }
   pub tick : slice_get (due_of sc (after_takes sc takes w)) 0 ≡ Some (record { side = me; node = i; pending = Tick a.tick })
+  pub told : (side : Side) (j : ℕ) (s : Site) → slice_get (of_kind side w.sites) j ≡ Some s
+      → told_in sc side j takes w ≡ heard sc side j (until_tick me i a.time side j) s
+
+-- What each node is told in these takes: with what it hears of what the world behind had left, it is what the tick alone tells the node, and
+-- then what it hears of what is left behind after that
+pub record TellsAhead (sc : Scenario) (until : Side → ℕ → ℕ) (w : World) (me : Side) (i : ℕ) (a : Timed) (takes : ℕ) (side : Side) (j : ℕ) (s : Site) : Type 0 where
+  pub after : Site
+  pub there : slice_get (of_kind side (tick_alone sc me i a w).sites) j ≡ Some after
+  pub told : heard sc side j (until side j) s ++ told_in sc side j takes (ahead_of sc until w)
+      ≡ told_alone sc w me i a side j s ++ heard sc side j (until_tick me i a.time side j) after
 
 -- And one take more, that of the tick, leads from a world that is ahead to one that is ahead of what the tick alone makes of the world
 -- behind. So some choices lead there, too, and what is first there comes no earlier
@@ -81,3 +97,5 @@ pub record GoesOnAhead (sc : Scenario) (until : Side → ℕ → ℕ) (w : World
   pub reached : world_after sc choices ≡ ahead_of sc (until_tick me i a.time) (tick_alone sc me i a w)
   pub later : (you : Side) (n : ℕ) (b : Timed) → IsFirstTick (tick_alone sc me i a w) you n b
       → (side : Side) (j : ℕ) → until_tick me i a.time side j ≤ until_tick you n b.time side j
+  pub tells : (side : Side) (j : ℕ) (s : Site) → slice_get (of_kind side w.sites) j ≡ Some s
+      → TellsAhead sc until w me i a (suc leads.takes) side j s

@@ -1,5 +1,5 @@
 -- What is proved of sweeps.
-use Rattle.std.specs.Prelude.{ℕ, ◌≡◌, ◌+◌, ◌<◌, ◌≤◌, All, false, Option, Some, None, List, ◌++◌, slice_get}
+use Rattle.std.specs.Prelude.{ℕ, ◌≡◌, ◌+◌, ◌<◌, ◌≤◌, All, false, Option, Some, None, List, [], ◌∷◌, ◌++◌, slice_get}
 use Rattle.rb_base.specs.Nodes.{Side}
 use Rattle.rb_rules.specs.Clock.{time_of}
 use Rattle.rb_rules.specs.Goodness.{Scenario, clock_of}
@@ -10,6 +10,7 @@ use Rattle.rb_rules.specs.WorldStep.{Choice, Site, Timed, World, after_arrival, 
 use Rattle.rb_rules.specs.WorldStep.Pending.{Arrival}
 use Rattle.rb_sweep.specs.AheadOf.{GoesOnAhead, IsFirstTick, LeadsToTick, ahead_of, until_tick}
 use Rattle.rb_sweep.specs.Sweeping.{Placed, first_of, swept}
+use Rattle.rb_sweep.specs.Told.{heard, telling}
 
 -- Nodes.
 
@@ -37,6 +38,24 @@ SweepsKeepTheRest = (sc : Scenario) (me : Side) (i until : ℕ) (s : Site) → S
 -- where nothing comes before the time a sweep changes nothing
 abbrev pub NothingIsSwept : Type 0
 NothingIsSwept = (sc : Scenario) (me : Side) (i until : ℕ) (s : Site) → All (λ c. until ≤ c.time) s.coming → swept sc me i until s ≡ s
+
+-- What is heard.
+
+-- what a node hears up to a time is what it hears up to an earlier one, and then the rest
+abbrev pub HearingComposes : Type 0
+HearingComposes =
+    (sc : Scenario) (me : Side) (i : ℕ) (s : Site) (until later : ℕ) → until ≤ later
+    → heard sc me i later s ≡ heard sc me i until s ++ heard sc me i later (swept sc me i until s)
+
+-- what comes first is heard first, and then the rest
+abbrev pub HearingTakesTheFirst : Type 0
+HearingTakesTheFirst =
+    (sc : Scenario) (me : Side) (i until : ℕ) (s : Site) (p : Placed) → first_of s.coming ≡ Some p → p.coming.time < until
+    → heard sc me i until s ≡ telling sc [] me i s (Arrival p.place p.coming) ∷ heard sc me i until (after_arrival sc me i p.place p.coming s)
+
+-- where nothing comes before the time nothing is heard
+abbrev pub NothingIsHeard : Type 0
+NothingIsHeard = (sc : Scenario) (me : Side) (i until : ℕ) (s : Site) → All (λ c. until ≤ c.time) s.coming → heard sc me i until s ≡ []
 
 -- Pushes.
 

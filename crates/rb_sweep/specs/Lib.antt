@@ -2,3 +2,4 @@ pub mod AheadOf
 pub mod Laws
 pub mod Room
 pub mod Sweeping
+pub mod Told

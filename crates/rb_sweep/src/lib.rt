@@ -2,7 +2,7 @@
 //! that does nothing.
 #![tactic(none)]
 
-ghost use Rattle.rb_sweep.specs.Laws.{ArrivalsSettleNothing, GoOnPassesASweep, NobodyIsAhead, NothingIsSwept, PushesPassASweep, SomeTickIsFirst, SweepsCompose, SweepsKeepTheRest, SweepsTakeTheFirst, TakesLeadToTheFirstTick, WhatIsSentComesLaterInLawful, WorldsGoOnAhead};
+ghost use Rattle.rb_sweep.specs.Laws.{ArrivalsSettleNothing, GoOnPassesASweep, HearingComposes, HearingTakesTheFirst, NobodyIsAhead, NothingIsHeard, NothingIsSwept, PushesPassASweep, SomeTickIsFirst, SweepsCompose, SweepsKeepTheRest, SweepsTakeTheFirst, TakesLeadToTheFirstTick, WhatIsSentComesLaterInLawful, WorldsGoOnAhead};
 ghost use Rattle.rb_sweep.specs.Room.{PendingBehindIsFew, StoppedStayEmptyInEach, TicksBehindAreInTime, TicksBehindFit};
 
 /// A sweep takes what comes first to a node, by time, then by source, then in the order of pushing, and then the rest.
@@ -26,6 +26,22 @@ pub fn nothing_is_swept()
     ensures { NothingIsSwept }
 {}
 
+/// What a node hears in a sweep, event by event, is what it hears up to an earlier time and then the rest, so a run may tell it when it takes
+/// the arrivals.
+pub fn hearing_composes()
+    ensures { HearingComposes }
+{}
+
+/// What comes first to a node is heard first, and then the rest.
+pub fn hearing_takes_the_first()
+    ensures { HearingTakesTheFirst }
+{}
+
+/// Where nothing comes before the time nothing is heard.
+pub fn nothing_is_heard()
+    ensures { NothingIsHeard }
+{}
+
 /// What comes at the time or later may be pushed before the sweep or after it.
 pub fn pushes_pass_a_sweep()
     ensures { PushesPassASweep }
@@ -44,7 +60,8 @@ pub fn arrivals_settle_nothing()
 
 /// In every lawful scenario, whatever was chosen before, takes of the first due event lead to the first tick, as long as the run has not
 /// ended and its next record needs an event. Each is an arrival and gives no record. After them each node is swept, those behind the
-/// tick's node up to its time and the others through it, and nothing else has changed.
+/// tick's node up to its time and the others through it, and nothing else has changed. What a node is told in these takes, event by
+/// event, is what it hears in its sweep.
 pub fn takes_lead_to_the_first_tick()
     ensures { TakesLeadToTheFirstTick }
 {}
@@ -58,7 +75,8 @@ pub fn some_tick_is_first()
 /// In every lawful scenario, whatever was chosen before: where the world is ahead of another, each of whose nodes lacks only arrivals before
 /// a time, and the first tick is pending there, takes of the first due event lead to the tick. One take more, that of the tick, leads to
 /// a world that is ahead of what the tick alone makes of the other: one node is swept, takes its tick, and what that completes is settled.
-/// The times of the nodes only rise.
+/// The times of the nodes only rise. What each node is told in these takes is what the other world had left for it, then its tick if it is
+/// the tick's node, but for what is left behind again: so a run may tell a node's arrivals when it takes them.
 pub fn worlds_go_on_ahead()
     ensures { WorldsGoOnAhead }
 {}
