@@ -12,7 +12,7 @@ use Rattle.rb_sweep.proofs.GoesOn.{sweep_to, swept-told}
 use Rattle.rb_sweep.proofs.Settles.{settle-changed}
 use Rattle.rb_sweep.proofs.Sweeps.{sweep-stays}
 
-at-any-time : (cs : List Coming) → Every (λ c. 0 ≤ c.time) cs
+pub at-any-time : (cs : List Coming) → Every (λ c. 0 ≤ c.time) cs
 at-any-time [] = tt
 at-any-time (c ∷ cs) = (omega arith, at-any-time cs)
 

@@ -22,7 +22,7 @@ use Rattle.rb_world.proofs.GoneOn.{trails-by-itself, turn-by-itself}
 
 -- Steps of the first choice.
 
-taking : (sc : Scenario) (w : World) (d : ℕ) (due : Due) → slice_get (due_of sc w) 0 ≡ Some due → step sc First (record { world = w; draws = d }) ≡ record { world = take sc w 0; draws = d }
+pub taking : (sc : Scenario) (w : World) (d : ℕ) (due : Due) → slice_get (due_of sc w) 0 ≡ Some due → step sc First (record { world = w; draws = d }) ≡ record { world = take sc w 0; draws = d }
 unfolding step
 taking sc w d due e = by (due_of sc w) e
   where
@@ -35,14 +35,14 @@ unfolding step due_of
 going sc w d e =
     ap (λ b. step_among sc First (length (elim b as (λ _. List Due) [ true ↦ [] | false ↦ due_at sc w (least (flat_map times_of (in_order w.sites))) ])) (record { world = w; draws = d })) e
 
-steps-on : (sc : Scenario) (m n : ℕ) (s : Standing) → after_steps sc First (m + n) s ≡ after_steps sc First m (after_steps sc First n s)
+pub steps-on : (sc : Scenario) (m n : ℕ) (s : Standing) → after_steps sc First (m + n) s ≡ after_steps sc First m (after_steps sc First n s)
 unfolding after_steps
 steps-on sc zero n s = let same : 0 + n ≡ n = omega arith in ap (λ k. after_steps sc First k s) same
 steps-on sc (suc m) n s =
     let same : suc m + n ≡ suc (m + n) = omega arith in
     ap (λ k. after_steps sc First k s) same ∙ ap (step sc First) (steps-on sc m n s)
 
-takes-on : (sc : Scenario) (n : ℕ) (w : World) (d : ℕ) → ((m : ℕ) → m < n → ArrivalIsFirst sc (after_takes sc m w))
+pub takes-on : (sc : Scenario) (n : ℕ) (w : World) (d : ℕ) → ((m : ℕ) → m < n → ArrivalIsFirst sc (after_takes sc m w))
     → after_steps sc First n (record { world = w; draws = d }) ≡ record { world = after_takes sc n w; draws = d }
 unfolding after_steps after_takes
 takes-on sc zero w d all = refl
@@ -52,7 +52,7 @@ takes-on sc (suc n) w d all =
 
 -- The run.
 
-pub along-begins : (sc : Scenario) (kept : Each KeptSite) (scene : Scene) (until : Side → ℕ → ℕ) (w0 : World) (d : ℕ) → Trails sc kept scene until w0 w0 → w0.book.ended ≡ false
+unfoldable pub along-begins : (sc : Scenario) (kept : Each KeptSite) (scene : Scene) (until : Side → ℕ → ℕ) (w0 : World) (d : ℕ) → Trails sc kept scene until w0 w0 → w0.book.ended ≡ false
     → Along sc kept scene until 0 w0 d
 unfolding after_steps
 along-begins sc kept scene until w0 d trails going = record {
@@ -66,7 +66,7 @@ along-begins sc kept scene until w0 d trails going = record {
   quiet = λ m some le. absurd (omega (arith, some, le));
 }
 
-pub comes-by-itself : (sc : Scenario) (kept : Each KeptSite) (scene : Scene) (until : Side → ℕ → ℕ) (n : ℕ) (w0 : World) (d : ℕ) (book : Ledger) (turn : Turn)
+unfoldable pub comes-by-itself : (sc : Scenario) (kept : Each KeptSite) (scene : Scene) (until : Side → ℕ → ℕ) (n : ℕ) (w0 : World) (d : ℕ) (book : Ledger) (turn : Turn)
     → (on : Along sc kept scene until n w0 d) → needs_no_event sc on.back.book.upcoming ≡ true → Settles sc ByItself on.back book turn
     → Comes sc kept (record scene { book = book }) until n w0 d turn
 unfolding after_steps
@@ -87,7 +87,7 @@ comes-by-itself sc kept scene until n w0 d book turn on free settles =
       quiet = on.quiet;
     }
 
-pub comes-by-tick : (sc : Scenario) (kept new : Each KeptSite) (scene after : Scene) (until : Side → ℕ → ℕ) (n : ℕ) (w0 : World) (d : ℕ) (name : NodeName) (time : ℕ) (turn : Turn)
+unfoldable pub comes-by-tick : (sc : Scenario) (kept new : Each KeptSite) (scene after : Scene) (until : Side → ℕ → ℕ) (n : ℕ) (w0 : World) (d : ℕ) (name : NodeName) (time : ℕ) (turn : Turn)
     → (on : Along sc kept scene until n w0 d) → (to : GoesToTick sc new after until on.back name time turn) → Comes sc new after (until_tick to.me to.i to.a.time) n w0 d turn
 unfolding after_steps after_takes
 comes-by-tick sc kept new scene after until n w0 d name time turn on to =
@@ -120,7 +120,7 @@ comes-by-tick sc kept new scene after until n w0 d name time turn on to =
     }
 
 -- No record came.
-pub comes-quiet : (sc : Scenario) (kept : Each KeptSite) (scene : Scene) (until : Side → ℕ → ℕ) (n : ℕ) (w0 : World) (d : ℕ) (turn : Turn) → (it : Comes sc kept scene until n w0 d turn)
+unfoldable pub comes-quiet : (sc : Scenario) (kept : Each KeptSite) (scene : Scene) (until : Side → ℕ → ℕ) (n : ℕ) (w0 : World) (d : ℕ) (turn : Turn) → (it : Comes sc kept scene until n w0 d turn)
     → record_of turn ≡ None → Along sc kept scene until (n + 1) w0 d
 comes-quiet sc kept scene until n w0 d turn it none =
     let many = it.many in
@@ -142,6 +142,6 @@ comes-quiet sc kept scene until n w0 d turn it none =
     }
 
 -- It came.
-pub comes-next : (sc : Scenario) (kept : Each KeptSite) (scene : Scene) (until : Side → ℕ → ℕ) (n : ℕ) (w0 : World) (d : ℕ) (turn : Turn) → (it : Comes sc kept scene until n w0 d turn)
+unfoldable pub comes-next : (sc : Scenario) (kept : Each KeptSite) (scene : Scene) (until : Side → ℕ → ℕ) (n : ℕ) (w0 : World) (d : ℕ) (turn : Turn) → (it : Comes sc kept scene until n w0 d turn)
     → is_some (record_of turn) ≡ true → IsNext sc First (record { world = w0; draws = d }) (record { world = it.now; draws = d })
 comes-next sc kept scene until n w0 d turn it some = record { others = it.others; is = sym it.is; quiet = it.quiet; gives = ap is_some it.turn_is ∙ some }

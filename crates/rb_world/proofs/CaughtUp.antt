@@ -89,7 +89,7 @@ first-there sc until me (suc n) i sites below = elim (cases_lt i n) [
       ∙ ap (option_map (swept sc me n (until me n))) (first-rest sc until me n n sites (omega arith)))
 ]
 
-first-other : (sc : Scenario) (until : Side → ℕ → ℕ) (me : Side) (n i : ℕ) (sites : Each Site)
+pub first-other : (sc : Scenario) (until : Side → ℕ → ℕ) (me : Side) (n i : ℕ) (sites : Each Site)
     → slice_get (of_kind (other me) (swept_first sc until me n sites)) i ≡ slice_get (of_kind (other me) sites) i
 unfolding swept_first
 first-other sc until me zero i sites = refl

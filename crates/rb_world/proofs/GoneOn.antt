@@ -81,6 +81,7 @@ goes-to-tick sc kept new scene after until w v me i a name time book turn h happ
       named = named;
       at = at;
       small = small;
+      first = h.first;
       goes = goes;
       trails = record {
         lawful = h.trails.lawful;

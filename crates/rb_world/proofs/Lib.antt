@@ -38,9 +38,13 @@ pub mod Passed
 pub mod Spans
 pub mod Swept
 pub mod OneTaken
+pub mod Observed
+pub mod SweptTold
 pub mod Behind
 pub mod GoneOn
 pub mod CaughtUp
 pub mod Along
 pub mod Small
 pub mod Running
+pub mod ToldOn
+pub mod LeftTold

@@ -109,7 +109,7 @@ not-so-many n ties s0 s1 before mid w stands is = few-steps before.bus ties n (r
 pub with-seeding : (k : KeptWorld) (w : World) (s : Seeding) → Stands k w → Stands (record k { seeding = s }) w
 with-seeding k w s is = record { lawful = is.lawful; reached = is.reached; nodes = is.nodes; scene = is.scene; last = is.last }
 
-pub goes-on : (ties : Ties) (b after : Seeding) (before mid : KeptWorld) (turn : Turn) (w : World) → b ≡ begun_with ties before.seeding → after.seed ≡ b.seed
+unfoldable pub goes-on : (ties : Ties) (b after : Seeding) (before mid : KeptWorld) (turn : Turn) (w : World) → b ≡ begun_with ties before.seeding → after.seed ≡ b.seed
     → RunsOn ties b.draws.state after.draws.state before mid turn w
     → GoesToNext ties before (record mid { seeding = after }) turn w
 goes-on ties b after before mid turn w is seed runs = record {

@@ -36,11 +36,11 @@ use Rattle.rb_world.proofs.Steps.{few-steps}
 
 -- Names.
 
-biu-named : (me : Side) (i j : ℕ) → name_of me i ≡ node.Biu j → (me ≡ Biu) × (i ≡ j)
+pub biu-named : (me : Side) (i j : ℕ) → name_of me i ≡ node.Biu j → (me ≡ Biu) × (i ≡ j)
 biu-named Biu i j e = (refl, cc)
 biu-named Rmu i j e = cc
 
-rmu-named : (me : Side) (i j : ℕ) → name_of me i ≡ node.Rmu j → (me ≡ Rmu) × (i ≡ j)
+pub rmu-named : (me : Side) (i j : ℕ) → name_of me i ≡ node.Rmu j → (me ≡ Rmu) × (i ≡ j)
 rmu-named Biu i j e = cc
 rmu-named Rmu i j e = (refl, cc)
 
@@ -159,10 +159,10 @@ ticks-along sc kept new scene after until n w d name time turn on to =
 
 -- The whole.
 
-pub along-first : (sc : Scenario) (kept : Each KeptSite) (scene : Scene) (w : World) (d : ℕ) → MayRun sc kept scene w → Along sc kept scene (until_from None) 0 w d
+unfoldable pub along-first : (sc : Scenario) (kept : Each KeptSite) (scene : Scene) (w : World) (d : ℕ) → MayRun sc kept scene w → Along sc kept scene (until_from None) 0 w d
 along-first sc kept scene w d may = along-begins sc kept scene (until_from None) w d may.trails may.going
 
-pub comes-to : (sc : Scenario) (kept new : Each KeptSite) (scene after : Scene) (until : Side → ℕ → ℕ) (n : ℕ) (w : World) (d : ℕ) (turn : Turn) → (it : Comes sc kept scene until n w d turn)
+unfoldable pub comes-to : (sc : Scenario) (kept new : Each KeptSite) (scene after : Scene) (until : Side → ℕ → ℕ) (n : ℕ) (w : World) (d : ℕ) (turn : Turn) → (it : Comes sc kept scene until n w d turn)
     → is_some (record_of turn) ≡ true → HasCaughtUp sc new after it.now → ComesToRecord sc new after turn w d
 comes-to sc kept new scene after until n w d turn it some caught = record {
   next = it.now;
@@ -182,7 +182,7 @@ few-along sc kept scene until n w d lawful reached on =
 pub may-run : (k : KeptWorld) (w : World) → Stands k w → w.book.ended ≡ false → MayRun k.bus k.nodes k.scene w
 may-run k w is going = record { trails = trails-first k w is; going = going }
 
-pub run-to : (k : KeptWorld) (w : World) (nodes : Each KeptSite) (scene : Scene) (turn : Turn) (last : Last) (d : ℕ) → Stands k w → ComesToRecord k.bus nodes scene turn w d
+unfoldable pub run-to : (k : KeptWorld) (w : World) (nodes : Each KeptSite) (scene : Scene) (turn : Turn) (last : Last) (d : ℕ) → Stands k w → ComesToRecord k.bus nodes scene turn w d
     → last ≡ last_of (record_of turn) → RunsOn First d d k (record { bus = k.bus; nodes = nodes; scene = scene; seeding = k.seeding; last = last }) turn w
 run-to k w nodes scene turn last d is comes kept = record {
   next = comes.next;
@@ -193,11 +193,11 @@ run-to k w nodes scene turn last d is comes kept = record {
   };
 }
 
-some-last : (o : Option Record) → is_last o ≡ true → is_some o ≡ true
+pub some-last : (o : Option Record) → is_last o ≡ true → is_some o ≡ true
 some-last None e = cc
 some-last (Some r) e = refl
 
-pub run-ended : (k : KeptWorld) (w : World) (turn : Turn) (d : ℕ) → Stands k w → w.book.ended ≡ true → w.turn ≡ record_of turn → RunsOn First d d k k turn w
+unfoldable pub run-ended : (k : KeptWorld) (w : World) (turn : Turn) (d : ℕ) → Stands k w → w.book.ended ≡ true → w.turn ≡ record_of turn → RunsOn First d d k k turn w
 unfolding after_steps
 run-ended k w turn d is ended same = record {
   next = w;

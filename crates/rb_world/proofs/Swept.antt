@@ -96,7 +96,7 @@ comes-in-time sc me i until place site s c h = by (next_tick sc.sizes sc.plan me
         record { tick = k; in_time = omega (arith, end); come = comes-before sc me i until place site s c h k e }
 
 -- the node after it
-come-node : (sc : Scenario) (me : Side) (i until place : ℕ) (site new : KeptSite) (s : Site) (c : Coming) → MayCome sc me i until place site s c → number_of new ≡ i
+pub come-node : (sc : Scenario) (me : Side) (i until place : ℕ) (site new : KeptSite) (s : Site) (c : Coming) → MayCome sc me i until place site s c → number_of new ≡ i
     → StandsFor sc me new (after_arrival sc me i place c s) → IsNode sc me i new (after_arrival sc me i place c s)
 unfolding after_arrival
 come-node sc me i until place site new s c h number stands =
@@ -126,10 +126,10 @@ pub record SweepsOn (sc : Scenario) (me : Side) (i until : ℕ) (site : KeptSite
   pub ahead : now.ahead ≡ s.ahead
   pub may : MaySweep sc me i until site lanes (at_node me i (λ _. now) sites) now
 
-at-itself : (me : Side) (i : ℕ) (sites : Each Site) (s : Site) → slice_get (of_kind me sites) i ≡ Some s → at_node me i (λ _. s) sites ≡ sites
+pub at-itself : (me : Side) (i : ℕ) (sites : Each Site) (s : Site) → slice_get (of_kind me sites) i ≡ Some s → at_node me i (λ _. s) sites ≡ sites
 at-itself me i sites s there = at-same me i (λ _. s) (λ z. z) sites (λ z at. some-same s z (sym there ∙ at)) ∙ at-id me i sites
 
-pub sweep-begins : (sc : Scenario) (me : Side) (i until : ℕ) (site : KeptSite) (lanes : Each Held) (sites : Each Site) (s : Site) → MaySweep sc me i until site lanes sites s
+unfoldable pub sweep-begins : (sc : Scenario) (me : Side) (i until : ℕ) (site : KeptSite) (lanes : Each Held) (sites : Each Site) (s : Site) → MaySweep sc me i until site lanes sites s
     → SweepsOn sc me i until site lanes sites s
 sweep-begins sc me i until site lanes sites s may = record {
   now = s;
@@ -139,7 +139,7 @@ sweep-begins sc me i until site lanes sites s may = record {
   may = subst (λ x. MaySweep sc me i until site lanes x s) (sym (at-itself me i sites s may.there)) may;
 }
 
-there-now : (sc : Scenario) (me : Side) (i : ℕ) (sites : Each Site) (s z : Site) → slice_get (of_kind me sites) i ≡ Some s → slice_get (of_kind me (at_node me i (λ _. z) sites)) i ≡ Some z
+pub there-now : (sc : Scenario) (me : Side) (i : ℕ) (sites : Each Site) (s z : Site) → slice_get (of_kind me sites) i ≡ Some s → slice_get (of_kind me (at_node me i (λ _. z) sites)) i ≡ Some z
 there-now sc me i sites s z there = changed-there me i (λ _. z) (record (first_world sc) { sites = sites }) s there
 
 -- what may come next
@@ -156,7 +156,7 @@ may-come sc me i until site lanes new sites s c on takes = record {
 }
 
 -- only what comes and what has come are other than before
-come-lanes : (sc : Scenario) (me : Side) (i place : ℕ) (c : Coming) (z : Site) (lanes : Each Held) (sites : Each Site)
+pub come-lanes : (sc : Scenario) (me : Side) (i place : ℕ) (c : Coming) (z : Site) (lanes : Each Held) (sites : Each Site)
     → HoldsSites sc.sizes lanes (at_node me i (without_waiting (Arrival place c)) (at_node me i (λ _. z) sites)) → HoldsSites sc.sizes lanes (at_node me i (λ _. after_arrival sc me i place c z) sites)
 unfolding after_arrival
 come-lanes sc me i place c z lanes sites holds =
@@ -167,12 +167,12 @@ come-lanes sc me i place c z lanes sites holds =
     subst (HoldsSites sc.sizes lanes) (at-twice me i change (λ _. without_waiting (Arrival place c) z) sites)
     (holds-one sc.sizes lanes (at_node me i (λ _. without_waiting (Arrival place c) z) sites) me i change (λ x. refl) (λ x. refl) before)
 
-come-same : (sc : Scenario) (me : Side) (i place : ℕ) (c : Coming) (z : Site) → ((after_arrival sc me i place c z).ahead ≡ z.ahead) × ((after_arrival sc me i place c z).runs ≡ z.runs)
+pub come-same : (sc : Scenario) (me : Side) (i place : ℕ) (c : Coming) (z : Site) → ((after_arrival sc me i place c z).ahead ≡ z.ahead) × ((after_arrival sc me i place c z).runs ≡ z.runs)
 unfolding after_arrival
 come-same sc me i place c z = (refl, refl)
 
 -- one arrival more
-pub sweep-goes : (sc : Scenario) (me : Side) (i until : ℕ) (site after : KeptSite) (lanes new : Each Held) (sites : Each Site) (s : Site) (c : Coming)
+unfoldable pub sweep-goes : (sc : Scenario) (me : Side) (i until : ℕ) (site after : KeptSite) (lanes new : Each Held) (sites : Each Site) (s : Site) (c : Coming)
     → (on : SweepsOn sc me i until site lanes sites s) → (takes : TakesArrival sc.sizes me i until new (at_node me i (λ _. on.now) sites) on.now c)
     → HasLane new (name_of me i) → HaveRooms sc new → number_of after ≡ i → StandsFor sc me after (after_arrival sc me i takes.place c on.now)
     → SweepsOn sc me i until after new sites s

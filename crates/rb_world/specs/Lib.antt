@@ -9,3 +9,4 @@ pub mod Openings
 pub mod Showing
 pub mod Trailing
 pub mod Sweeping
+pub mod Observing

@@ -134,6 +134,7 @@ pub record GoesToTick (sc : Scenario) (kept : Each KeptSite) (scene : Scene) (un
   pub named : name ≡ name_of me i
   pub at : time ≡ a.time
   pub small : time < 18446744073709551615
+  pub first : IsFirstTick v me i a
   pub goes : GoesOnAhead sc until v me i a
   pub trails : Trails sc kept scene (until_tick me i a.time) (ahead_of sc (until_tick me i a.time) (tick_alone sc me i a v)) (tick_alone sc me i a v)
   pub turn_is : (tick_alone sc me i a v).turn ≡ record_of turn

@@ -43,7 +43,7 @@ fn is_word(want: Want) -> bool
 }
 
 // The next tick of a node, as it is shown.
-fn show_tick<K: Kind>(
+pub(crate) fn show_tick<K: Kind>(
     bus: &Bus,
     apps: &Apps,
     site: &Site<K>,
@@ -73,7 +73,7 @@ fn show_tick<K: Kind>(
 }
 
 // An arrival at a node, as it is shown.
-fn show_arrival<K: Kind>(
+pub(crate) fn show_arrival<K: Kind>(
     bus: &Bus,
     site: &Site<K>,
     time: u64,

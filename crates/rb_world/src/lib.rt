@@ -8,6 +8,7 @@ mod due;
 mod handing;
 mod last;
 mod next;
+pub mod observing;
 mod opening;
 mod proceeding;
 mod scene;
@@ -19,6 +20,7 @@ mod trailing;
 pub mod world;
 
 pub use drive::{Drive, FirstDrive, MemDrive};
+pub use observing::Observer;
 pub use rb_book::{Cause, FrameRecord, NodeLine, PortLine, SlotLine, SlotRecord, Turn};
 pub use ties::Ties;
 pub use world::World;

@@ -1,20 +1,24 @@
 //! How a run comes to its next record.
-ghost use Rattle.std.specs.Prelude.{◌≡◌, ℕ, true, Option, is_some};
+ghost use Rattle.std.specs.Prelude.{◌≡◌, ℕ, true, Option, Some, is_some};
 ghost use Rattle.rb_rules.specs.Book.{Record};
+ghost use Rattle.rb_rules.specs.Lawful.{IsNodeOf};
 ghost use Rattle.rb_rules.specs.WorldStep.{World as RunWorld, go_on};
 ghost use Rattle.rb_book.specs.declared.turn.Turn.{Turn};
 ghost use Rattle.rb_book.specs.Records.{record_of};
 ghost use Rattle.rb_world.specs.declared.ties.Ties.TheVariants.{First};
 ghost use Rattle.rb_world.specs.Nexts.{GoesToNext, RunsOn, TakesStep, is_last};
 ghost use Rattle.rb_world.specs.Numbering.{GoesInRounds};
+ghost use Rattle.rb_world.specs.Observing.{RunsTold, TellsToNext};
 ghost use Rattle.rb_world.specs.Turning.{Gives};
 ghost use Rattle.rb_world.specs.Worlds.{Stands, last_of};
 
 use crate::last::Last;
+use crate::observing::{Nobody, Observer};
 use crate::taking::last_of;
 use crate::ties::{Ties, choose};
 use crate::trailing::run_ticks;
 use crate::world::World;
+use rb_base::NodeName;
 use rb_book::{Turn, Way};
 use rb_gen::Draws;
 use rb_port::Apps;
@@ -79,12 +83,20 @@ impl World {
         unreachable!()
     }
 
-    // The same by first choices: from tick to tick.
-    fn run_first(&mut self, apps: &Apps, turn: &mut Turn)
+    // The same by first choices: from tick to tick. What the node that is observed is given up to there is told.
+    fn run_first<T: Observer>(
+        &mut self,
+        apps: &Apps,
+        turn: &mut Turn,
+        observed: Option<NodeName>,
+        observer: &mut T,
+    )
         requires stands { (w : RunWorld) × Stands self.old w }
         requires quiet { turn.old ≡ Turn.Quiet }
         ensures world { (w : RunWorld) (state : ℕ) → Stands self.old w → RunsOn First state state self.old self.new turn.new w }
         ensures bus { self.new.bus ≡ self.old.bus }
+        ensures told { (name : NodeName) → observed ≡ Some name → IsNodeOf self.old.bus.sizes name → (w : RunWorld) (state : ℕ) → Stands self.old w
+            → RunsTold T T.observes name observer.old observer.new state self.old self.new turn.new w }
     {
         if self.scene.book.has_ended() {
             *turn = last_turn(self.last);
@@ -97,6 +109,8 @@ impl World {
             &mut self.rmus,
             &mut self.scene,
             turn,
+            observed,
+            observer,
         );
         self.last = last_of(turn);
     }
@@ -109,7 +123,7 @@ impl World {
         ensures bus { self.new.bus ≡ self.old.bus }
     {
         match ties {
-            Ties::First => self.run_first(apps, turn),
+            Ties::First => self.run_first(apps, turn, None, &mut Nobody),
             _ => self.run_counted(apps, ties, draws, turn),
         }
     }
@@ -125,6 +139,29 @@ impl World {
         let mut seeding = self.seeding.begin(ties);
         let mut turn = Turn::Quiet;
         self.run_on(apps, ties, &mut seeding.draws, &mut turn);
+        self.seeding = seeding;
+        turn
+    }
+
+    /// The next record by first choices, as `next` gives it. Up to its event, an observer is told one after another what a node of the bus
+    /// is given: each event with the frame in which the node stood before it. What is given after the event of the record is told by the
+    /// next call. After the last record nothing is told.
+    pub fn next_observed<T: Observer>(
+        &mut self,
+        apps: &Apps,
+        node: NodeName,
+        observer: &mut T,
+    ) -> Turn
+        requires node { IsNodeOf self.old.bus.sizes node }
+        ensures world { (w : RunWorld) → Stands self.old w → GoesToNext First self.old self.new result w }
+        ensures told { (w : RunWorld) → Stands self.old w → TellsToNext T T.observes node observer.old observer.new self.old self.new result w }
+        ensures record { is_some (record_of result) ≡ true }
+        ensures bus { self.new.bus ≡ self.old.bus }
+        ensures rounds { (w : RunWorld) → Stands self.old w → GoesInRounds self.old self.new result w }
+    {
+        let seeding = self.seeding.begin(Ties::First);
+        let mut turn = Turn::Quiet;
+        self.run_first(apps, &mut turn, Some(node), observer);
         self.seeding = seeding;
         turn
     }

@@ -1,19 +1,23 @@
 //! How arrivals that were left behind are taken.
-ghost use Rattle.std.specs.Prelude.{◌≡◌, ℕ, ◌+◌, ◌<◌, ◌≤◌, IfSome, List, length};
+ghost use Rattle.std.specs.Prelude.{◌≡◌, [], ℕ, ◌+◌, ◌<◌, ◌≤◌, IfSome, List, Some, if◌then◌else◌, length};
 ghost use Rattle.rb_base.specs.Nodes.{Side, side_of};
 ghost use Rattle.rb_rules.specs.Book.{Each};
-ghost use Rattle.rb_rules.specs.Lawful.{kind_of};
-ghost use Rattle.rb_rules.specs.Links.{name_of};
+ghost use Rattle.rb_rules.specs.Lawful.{IsNodeOf, kind_of};
+ghost use Rattle.rb_rules.specs.Links.{name_of, same_node};
 ghost use Rattle.rb_rules.specs.Slots.{count_of};
 ghost use Rattle.rb_rules.specs.WorldStep.{Site as WorldSite, World as RunWorld};
 ghost use Rattle.rb_queue.specs.Waiting.{HasLane, Held};
 ghost use Rattle.rb_site.specs.Sites.{KeptSite, number_of};
 ghost use Rattle.rb_sweep.specs.AheadOf.{until_tick};
+ghost use Rattle.rb_sweep.specs.Told.{heard};
 ghost use Rattle.rb_traffic.specs.Arriving.{number_of as number_in};
+ghost use Rattle.rb_world.specs.Observing.{WasTold, left_below, left_for};
 ghost use Rattle.rb_world.specs.Trailing.{HasCaughtUp, HaveCaughtUp, MayCatchUp, MaySweep, Sweeps, Trails, until_from};
 
 use crate::bus::Bus;
+use crate::observing::{Observer, is_observed, tell_arrival};
 use crate::scene::Scene;
+use crate::taking::hear_at;
 use rb_agenda::Agenda;
 use rb_base::{Biu, Kind, NodeName, Rmu};
 use rb_site::Site;
@@ -56,6 +60,66 @@ pub(crate) fn sweep<K: Kind>(
     }
 }
 
+// So with each arrival told to an observer before it is taken.
+fn sweep_told<K: Kind, T: Observer>(
+    bus: &Bus,
+    node: NodeName,
+    until: u64,
+    site: &mut Site<K>,
+    agenda: &mut Agenda,
+    observer: &mut T,
+)
+    requires name { node ≡ name_of (side_of K.CODE) (number_of site.old) }
+    requires may { (sites : Each WorldSite) × (s : WorldSite) × MaySweep bus.now (side_of K.CODE) (number_of site.old) until site.old agenda.old sites s }
+    ensures swept { (sites : Each WorldSite) (s : WorldSite) → MaySweep bus.now (side_of K.CODE) (number_of site.old) until site.old agenda.old sites s
+        → Sweeps bus.now (side_of K.CODE) (number_of site.old) until site.new agenda.new sites s }
+    ensures number { number_of site.new ≡ number_of site.old }
+    ensures lanes { (other : NodeName) → HasLane agenda.old other → HasLane agenda.new other }
+    ensures told { (sites : Each WorldSite) (s : WorldSite) → MaySweep bus.now (side_of K.CODE) (number_of site.old) until site.old agenda.old sites s
+        → WasTold T T.observes observer.old (heard bus.now (side_of K.CODE) (number_of site.old) until s) observer.new }
+{
+    'events: loop {
+        match agenda.first_before(node, until) {
+            None => {
+                sweep(bus, node, until, site, agenda);
+                return;
+            }
+            Some(place) => {
+                tell_arrival(bus, node, place, site, agenda, observer);
+                hear_at(bus, node, place, site, agenda);
+            }
+        }
+    }
+}
+
+// The node is swept. If it is the one that is observed, each arrival is told.
+#[inline(always)]
+pub(crate) fn sweep_for<K: Kind, T: Observer>(
+    bus: &Bus,
+    node: NodeName,
+    until: u64,
+    site: &mut Site<K>,
+    agenda: &mut Agenda,
+    observed: Option<NodeName>,
+    observer: &mut T,
+)
+    requires name { node ≡ name_of (side_of K.CODE) (number_of site.old) }
+    requires may { (sites : Each WorldSite) × (s : WorldSite) × MaySweep bus.now (side_of K.CODE) (number_of site.old) until site.old agenda.old sites s }
+    ensures swept { (sites : Each WorldSite) (s : WorldSite) → MaySweep bus.now (side_of K.CODE) (number_of site.old) until site.old agenda.old sites s
+        → Sweeps bus.now (side_of K.CODE) (number_of site.old) until site.new agenda.new sites s }
+    ensures number { number_of site.new ≡ number_of site.old }
+    ensures lanes { (other : NodeName) → HasLane agenda.old other → HasLane agenda.new other }
+    ensures told { (name : NodeName) → observed ≡ Some name → (sites : Each WorldSite) (s : WorldSite)
+        → MaySweep bus.now (side_of K.CODE) (number_of site.old) until site.old agenda.old sites s
+        → WasTold T T.observes observer.old (if same_node node name then heard bus.now (side_of K.CODE) (number_of site.old) until s else []) observer.new }
+{
+    if is_observed(observed, node) {
+        sweep_told(bus, node, until, site, agenda, observer);
+        return;
+    }
+    sweep(bus, node, until, site, agenda);
+}
+
 // The time up to which a node is swept before the tick of another node at this time.
 fn until_before(from: NodeName, time: u64, node: NodeName) -> u64
     requires { time < 18446744073709551615 }
@@ -70,13 +134,15 @@ fn until_before(from: NodeName, time: u64, node: NodeName) -> u64
 }
 
 // One node more is swept up to the tick of a node at this time.
-fn catch_up_at<K: Kind>(
+fn catch_up_at<K: Kind, T: Observer>(
     bus: &Bus,
     from: NodeName,
     time: u64,
     i: usize,
     sites: &mut Vec<Site<K>>,
     agenda: &mut Agenda,
+    observed: Option<NodeName>,
+    observer: &mut T,
 )
     requires within { i < length sites.old.items }
     requires small { time < 18446744073709551615 }
@@ -88,45 +154,69 @@ fn catch_up_at<K: Kind>(
         → HaveCaughtUp bus.now (until_tick (kind_of from) (number_in from) time) (side_of K.CODE) i sites.old.items agenda.old nodes
         → HaveCaughtUp bus.now (until_tick (kind_of from) (number_in from) time) (side_of K.CODE) (i + 1) sites.new.items agenda.new nodes }
     ensures many { length sites.new.items ≡ length sites.old.items }
+    ensures told { (name : NodeName) → observed ≡ Some name → (first : List KeptSite) (begun : Each Held) (nodes : Each WorldSite)
+        → MayCatchUp bus.now (until_tick (kind_of from) (number_in from) time) (side_of K.CODE) first begun nodes
+        → HaveCaughtUp bus.now (until_tick (kind_of from) (number_in from) time) (side_of K.CODE) i sites.old.items agenda.old nodes
+        → WasTold T T.observes observer.old
+        (if same_node (name_of (side_of K.CODE) i) name then left_for bus.now (until_tick (kind_of from) (number_in from) time) nodes name else []) observer.new }
 {
     let site = &mut sites[i];
     let node = site.name();
-    sweep(bus, node, until_before(from, time, node), site, agenda);
+    sweep_for(
+        bus,
+        node,
+        until_before(from, time, node),
+        site,
+        agenda,
+        observed,
+        observer,
+    );
 }
 
 // All nodes of a kind are.
-fn catch_up_all<K: Kind>(
+fn catch_up_all<K: Kind, T: Observer>(
     bus: &Bus,
     from: NodeName,
     time: u64,
     sites: &mut Vec<Site<K>>,
     agenda: &mut Agenda,
+    observed: Option<NodeName>,
+    observer: &mut T,
 )
     requires small { time < 18446744073709551615 }
     requires may { (nodes : Each WorldSite) × MayCatchUp bus.now (until_tick (kind_of from) (number_in from) time) (side_of K.CODE) sites.old.items agenda.old nodes }
-    ensures { (nodes : Each WorldSite) → MayCatchUp bus.now (until_tick (kind_of from) (number_in from) time) (side_of K.CODE) sites.old.items agenda.old nodes
+    ensures caught { (nodes : Each WorldSite) → MayCatchUp bus.now (until_tick (kind_of from) (number_in from) time) (side_of K.CODE) sites.old.items agenda.old nodes
         → HaveCaughtUp bus.now (until_tick (kind_of from) (number_in from) time) (side_of K.CODE) (count_of (side_of K.CODE) bus.now.sizes) sites.new.items agenda.new nodes }
+    ensures told { (name : NodeName) → observed ≡ Some name → (nodes : Each WorldSite)
+        → MayCatchUp bus.now (until_tick (kind_of from) (number_in from) time) (side_of K.CODE) sites.old.items agenda.old nodes
+        → WasTold T T.observes observer.old
+        (left_below bus.now (until_tick (kind_of from) (number_in from) time) (side_of K.CODE) (count_of (side_of K.CODE) bus.now.sizes) nodes name) observer.new }
 {
     for i in 0..sites.len() {
-        catch_up_at(bus, from, time, i, sites, agenda);
+        catch_up_at(bus, from, time, i, sites, agenda, observed, observer);
     }
 }
 
 /// All nodes are swept up to the last tick, if there was one.
-pub(crate) fn catch_up(
+pub(crate) fn catch_up<T: Observer>(
     bus: &Bus,
     tick: Option<(NodeName, u64)>,
     bius: &mut Vec<Site<Biu>>,
     rmus: &mut Vec<Site<Rmu>>,
     scene: &mut Scene,
+    observed: Option<NodeName>,
+    observer: &mut T,
 )
     requires small { IfSome tick (λ t. t.1 < 18446744073709551615) }
     requires trails { (w : RunWorld) × (v : RunWorld) × Trails bus.now (record { bius = bius.old.items; rmus = rmus.old.items }) scene.old (until_from tick) w v }
-    ensures { (w : RunWorld) (v : RunWorld) → Trails bus.now (record { bius = bius.old.items; rmus = rmus.old.items }) scene.old (until_from tick) w v
+    ensures caught { (w : RunWorld) (v : RunWorld) → Trails bus.now (record { bius = bius.old.items; rmus = rmus.old.items }) scene.old (until_from tick) w v
         → HasCaughtUp bus.now (record { bius = bius.new.items; rmus = rmus.new.items }) scene.new w }
+    ensures told { (name : NodeName) → observed ≡ Some name → IsNodeOf bus.now.sizes name → (w : RunWorld) (v : RunWorld)
+        → Trails bus.now (record { bius = bius.old.items; rmus = rmus.old.items }) scene.old (until_from tick) w v
+        → WasTold T T.observes observer.old (left_for bus.now (until_from tick) v.sites name) observer.new }
 {
     if let Some((from, time)) = tick {
-        catch_up_all(bus, from, time, bius, &mut scene.agenda);
-        catch_up_all(bus, from, time, rmus, &mut scene.agenda);
+        catch_up_all(bus, from, time, bius, &mut scene.agenda, observed, observer);
+        catch_up_all(bus, from, time, rmus, &mut scene.agenda, observed, observer);
     }
 }

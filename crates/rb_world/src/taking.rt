@@ -92,7 +92,7 @@ fn happen(
 }
 
 // An arrival that is pending at a node comes to it, and is pending no more.
-fn hear_at<K: Kind>(
+pub(crate) fn hear_at<K: Kind>(
     bus: &Bus,
     node: NodeName,
     place: usize,
@@ -111,7 +111,7 @@ fn hear_at<K: Kind>(
     let time = arrival.time();
     let from = arrival.from();
     site.arrive(bus.clock(node), time, from, arrival.bytes());
-    agenda.take_at(node, place);
+    agenda.drop_at(node, place);
 }
 
 // The first event that is due is this arrival of the node, and happens.

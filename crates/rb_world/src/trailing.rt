@@ -1,24 +1,28 @@
 //! How a run goes from tick to tick: arrivals are left behind until a tick of their node comes, or a record.
-ghost use Rattle.std.specs.Prelude.{◌≡◌, ℕ, ◌<◌, IfSome, length};
+ghost use Rattle.std.specs.Prelude.{◌≡◌, ℕ, ◌<◌, IfSome, Some, length};
 ghost use Rattle.rb_base.specs.Nodes.{Side, other, side_of};
 ghost use Rattle.rb_rules.specs.Book.{Each, of_kind};
+ghost use Rattle.rb_rules.specs.Lawful.{IsNodeOf};
 ghost use Rattle.rb_rules.specs.Links.{name_of};
 ghost use Rattle.rb_rules.specs.WorldStep.{Timed, World as RunWorld};
 ghost use Rattle.rb_book.specs.declared.turn.Turn.{Turn};
 ghost use Rattle.rb_site.specs.Sites.{KeptSite};
+ghost use Rattle.rb_world.specs.Observing.{AlongTold, ComesTold, ToldToRecord, WasTold, alone_for};
 ghost use Rattle.rb_world.specs.Trailing.{Along, BehindTick, Comes, ComesToRecord, GoesToTick, MayRun, MayTakeFirst, MayTickFirst, TakesFirst, TakesFirstAt, until_from};
 
 use crate::bus::Bus;
+use crate::observing::{Observer, tell_tick_for};
 use crate::scene::Scene;
-use crate::sweeping::{catch_up, sweep};
+use crate::sweeping::{catch_up, sweep_for};
 use crate::taking::tick_at;
 use rb_base::{Biu, Kind, NodeName, Rmu};
 use rb_book::{Turn, Way};
 use rb_port::Apps;
 use rb_site::Site;
 
-// Node `i` of the kind is swept up to its tick, which comes at this time, and takes it.
-fn take_tick<K: Kind>(
+// Node `i` of the kind is swept up to its tick, which comes at this time, and takes it. If it is the node that is observed, it is told first
+// what the node is given.
+fn take_tick<K: Kind, T: Observer>(
     bus: &Bus,
     apps: &Apps,
     node: NodeName,
@@ -26,51 +30,72 @@ fn take_tick<K: Kind>(
     time: u64,
     sites: &mut Vec<Site<K>>,
     scene: &mut Scene,
+    observed: Option<NodeName>,
+    observer: &mut T,
 )
     requires name { node ≡ name_of (side_of K.CODE) i }
     requires within { i < length sites.old.items }
     requires small { time < 18446744073709551615 }
     requires may { (kept : Each KeptSite) × (until : Side → ℕ → ℕ) × (w : RunWorld) × (v : RunWorld) × (a : Timed)
         × MayTakeFirst bus.now kept scene.old until w v (side_of K.CODE) i a time sites.old.items }
-    ensures { (kept : Each KeptSite) (until : Side → ℕ → ℕ) (w v : RunWorld) (a : Timed)
+    ensures takes { (kept : Each KeptSite) (until : Side → ℕ → ℕ) (w v : RunWorld) (a : Timed)
         → MayTakeFirst bus.now kept scene.old until w v (side_of K.CODE) i a time sites.old.items
         → TakesFirst bus.now v (side_of K.CODE) i a sites.new.items (of_kind (other (side_of K.CODE)) kept) scene.new }
+    ensures told { (name : NodeName) → observed ≡ Some name → (kept : Each KeptSite) (until : Side → ℕ → ℕ) (w v : RunWorld) (a : Timed)
+        → MayTakeFirst bus.now kept scene.old until w v (side_of K.CODE) i a time sites.old.items
+        → WasTold T T.observes observer.old (alone_for bus.now v (side_of K.CODE) i a name) observer.new }
 {
     let site = &mut sites[usize::from(i)];
-    sweep(bus, node, time + 1, site, &mut scene.agenda);
+    sweep_for(
+        bus,
+        node,
+        time + 1,
+        site,
+        &mut scene.agenda,
+        observed,
+        observer,
+    );
+    tell_tick_for(bus, apps, site, &scene.ports, node, observed, observer);
     tick_at(bus, apps, node, i, site, scene);
 }
 
 // The first tick of all is taken at its node. Before it the node is swept.
-fn take_first(
+fn take_first<T: Observer>(
     bus: &Bus,
     apps: &Apps,
     bius: &mut Vec<Site<Biu>>,
     rmus: &mut Vec<Site<Rmu>>,
     scene: &mut Scene,
+    observed: Option<NodeName>,
+    observer: &mut T,
 ) -> (NodeName, u64)
     requires may { (until : Side → ℕ → ℕ) × (w : RunWorld) × (v : RunWorld) × (me : Side) × (i : ℕ) × (a : Timed)
         × BehindTick bus.now (record { bius = bius.old.items; rmus = rmus.old.items }) scene.old until w v me i a }
     ensures happens { (until : Side → ℕ → ℕ) (w v : RunWorld) (me : Side) (i : ℕ) (a : Timed)
         → BehindTick bus.now (record { bius = bius.old.items; rmus = rmus.old.items }) scene.old until w v me i a
         → TakesFirstAt bus.now (record { bius = bius.new.items; rmus = rmus.new.items }) scene.new v me i a result.0 result.1 }
+    ensures told { (name : NodeName) → observed ≡ Some name → (until : Side → ℕ → ℕ) (w v : RunWorld) (me : Side) (i : ℕ) (a : Timed)
+        → BehindTick bus.now (record { bius = bius.old.items; rmus = rmus.old.items }) scene.old until w v me i a
+        → WasTold T T.observes observer.old (alone_for bus.now v me i a name) observer.new }
 {
     let (node, time) = scene.agenda.first_tick();
     match node {
-        NodeName::Biu(i) => take_tick(bus, apps, node, i, time, bius, scene),
-        NodeName::Rmu(i) => take_tick(bus, apps, node, i, time, rmus, scene),
+        NodeName::Biu(i) => { take_tick(bus, apps, node, i, time, bius, scene, observed, observer) }
+        NodeName::Rmu(i) => { take_tick(bus, apps, node, i, time, rmus, scene, observed, observer) }
     }
     (node, time)
 }
 
 // And what that completes is settled.
-fn tick_first(
+fn tick_first<T: Observer>(
     bus: &Bus,
     apps: &Apps,
     bius: &mut Vec<Site<Biu>>,
     rmus: &mut Vec<Site<Rmu>>,
     scene: &mut Scene,
     turn: &mut Turn,
+    observed: Option<NodeName>,
+    observer: &mut T,
 ) -> (NodeName, u64)
     requires quiet { turn.old ≡ Turn.Quiet }
     requires may { (until : Side → ℕ → ℕ) × (w : RunWorld) × (v : RunWorld)
@@ -78,14 +103,17 @@ fn tick_first(
     ensures goes { (until : Side → ℕ → ℕ) (w v : RunWorld) → MayTickFirst bus.now (record { bius = bius.old.items; rmus = rmus.old.items }) scene.old until w v
         → GoesToTick bus.now (record { bius = bius.new.items; rmus = rmus.new.items }) scene.new until v result.0 result.1 turn.new }
     ensures small { result.1 < 18446744073709551615 }
+    ensures told { (name : NodeName) → observed ≡ Some name → (until : Side → ℕ → ℕ) (w v : RunWorld) (me : Side) (i : ℕ) (a : Timed)
+        → BehindTick bus.now (record { bius = bius.old.items; rmus = rmus.old.items }) scene.old until w v me i a
+        → WasTold T T.observes observer.old (alone_for bus.now v me i a name) observer.new }
 {
-    let (node, time) = take_first(bus, apps, bius, rmus, scene);
+    let (node, time) = take_first(bus, apps, bius, rmus, scene, observed, observer);
     scene.book.settle_into(Way::ByAnEvent, turn);
     (node, time)
 }
 
 // What needs no event is given, or the first tick of all is taken.
-fn step_on(
+fn step_on<T: Observer>(
     bus: &Bus,
     apps: &Apps,
     bius: &mut Vec<Site<Biu>>,
@@ -93,6 +121,8 @@ fn step_on(
     scene: &mut Scene,
     turn: &mut Turn,
     tick: &mut Option<(NodeName, u64)>,
+    observed: Option<NodeName>,
+    observer: &mut T,
 )
     requires quiet { turn.old ≡ Turn.Quiet }
     requires small { IfSome tick.old (λ t. t.1 < 18446744073709551615) }
@@ -101,35 +131,46 @@ fn step_on(
     ensures comes { (n : ℕ) (w : RunWorld) (d : ℕ) → Along bus.now (record { bius = bius.old.items; rmus = rmus.old.items }) scene.old (until_from tick.old) n w d
         → Comes bus.now (record { bius = bius.new.items; rmus = rmus.new.items }) scene.new (until_from tick.new) n w d turn.new }
     ensures small { IfSome tick.new (λ t. t.1 < 18446744073709551615) }
+    ensures told { (name : NodeName) → observed ≡ Some name → IsNodeOf bus.now.sizes name → (a : T) (n : ℕ) (w : RunWorld) (d : ℕ)
+        → AlongTold T T.observes name a observer.old bus.now (record { bius = bius.old.items; rmus = rmus.old.items }) scene.old (until_from tick.old) n w d
+        → ComesTold T T.observes name a observer.new bus.now (record { bius = bius.new.items; rmus = rmus.new.items }) scene.new (until_from tick.new) n w d turn.new }
 {
     if scene.book.needs_no_event() {
         scene.book.settle_into(Way::ByItself, turn);
         return;
     }
-    *tick = Some(tick_first(bus, apps, bius, rmus, scene, turn));
+    *tick = Some(tick_first(bus, apps, bius, rmus, scene, turn, observed, observer));
 }
 
-/// Takes the run from tick to tick up to its next record. Before that it has not ended. A run has fewer than 2^64 - 1 events.
-pub(crate) fn run_ticks(
+/// Takes the run from tick to tick up to its next record. Before that it has not ended. A run has fewer than 2^64 - 1 events. What the node
+/// that is observed is given up to there is told.
+pub(crate) fn run_ticks<T: Observer>(
     bus: &Bus,
     apps: &Apps,
     bius: &mut Vec<Site<Biu>>,
     rmus: &mut Vec<Site<Rmu>>,
     scene: &mut Scene,
     turn: &mut Turn,
+    observed: Option<NodeName>,
+    observer: &mut T,
 )
     requires quiet { turn.old ≡ Turn.Quiet }
     requires may { (w : RunWorld) × MayRun bus.now (record { bius = bius.old.items; rmus = rmus.old.items }) scene.old w }
-    ensures { (w : RunWorld) (d : ℕ) → MayRun bus.now (record { bius = bius.old.items; rmus = rmus.old.items }) scene.old w
+    ensures comes { (w : RunWorld) (d : ℕ) → MayRun bus.now (record { bius = bius.old.items; rmus = rmus.old.items }) scene.old w
         → ComesToRecord bus.now (record { bius = bius.new.items; rmus = rmus.new.items }) scene.new turn.new w d }
+    ensures told { (name : NodeName) → observed ≡ Some name → IsNodeOf bus.now.sizes name → (w : RunWorld) (d : ℕ)
+        → MayRun bus.now (record { bius = bius.old.items; rmus = rmus.old.items }) scene.old w
+        → ToldToRecord T T.observes name observer.old observer.new bus.now (record { bius = bius.new.items; rmus = rmus.new.items }) scene.new turn.new w d }
 {
     let mut tick = None;
     for passed in 0..u64::MAX {
-        step_on(bus, apps, bius, rmus, scene, turn, &mut tick);
+        step_on(
+            bus, apps, bius, rmus, scene, turn, &mut tick, observed, observer,
+        );
         if let Turn::Quiet = turn {
             continue;
         }
-        catch_up(bus, tick, bius, rmus, scene);
+        catch_up(bus, tick, bius, rmus, scene, observed, observer);
         return;
     }
     unreachable!()

@@ -6,13 +6,14 @@ use Rattle.rb_traffic.specs.Arriving.{number_of as number_in}
 use Rattle.rb_world.specs.Trailing.{swept_first}
 use Rattle.rb_world.proofs.Behind.{indexed}
 use Rattle.rb_world.proofs.CaughtUp.{catch-may, catch-then}
+use Rattle.rb_world.proofs.LeftTold.{catch-told}
 use Rattle.rb_world.proofs.sweeping.catch_up_at.Goals as goal
 
-pub sweep-requires-clause-name : goal.sweep-requires-clause-name
-sweep-requires-clause-name g c = c.name-node.ensures
+pub sweep_for-requires-clause-name : goal.sweep_for-requires-clause-name
+sweep_for-requires-clause-name g c = c.name-node.ensures
 
-pub sweep-requires-clause-may : goal.sweep-requires-clause-may
-sweep-requires-clause-may g c =
+pub sweep_for-requires-clause-may : goal.sweep_for-requires-clause-may
+sweep_for-requires-clause-may g c =
     let sc = c.args.bus.now in
     let me = side_of g.K.Kind.CODE in
     let kept = c.args.sites.now.items in
@@ -29,5 +30,16 @@ returns-clause-caught g c = λ first begun nodes may is.
     let site = c.index_mut-site.result.now in
     let there : slice_get kept c.args.i ≡ Some site = indexed kept c.args.i site c.requires.within c.index_mut-site.ensures.value in
     let h = catch-may sc c.args.from c.args.time me c.args.i c.until_before.result first begun kept c.args.agenda.now nodes site c.name-node.result may is c.requires.within there c.name-node.ensures c.until_before.ensures in
-    catch-then sc c.args.from c.args.time me c.args.i c.until_before.result first begun kept c.args.agenda.now c.sweep.new.agenda nodes site c.sweep.new.site may is h
-    (c.sweep.ensures.swept (swept_first sc (until_tick (kind_of c.args.from) (number_in c.args.from) c.args.time) me c.args.i nodes) h.next.s h.may) c.sweep.ensures.lanes
+    catch-then sc c.args.from c.args.time me c.args.i c.until_before.result first begun kept c.args.agenda.now c.sweep_for.new.agenda nodes site c.sweep_for.new.site may is h
+    (c.sweep_for.ensures.swept (swept_first sc (until_tick (kind_of c.args.from) (number_in c.args.from) c.args.time) me c.args.i nodes) h.next.s h.may) c.sweep_for.ensures.lanes
+
+pub returns-clause-told : goal.returns-clause-told
+returns-clause-told g c = λ name is first begun nodes may caught.
+    let sc = c.args.bus.now in
+    let me = side_of g.K.Kind.CODE in
+    let kept = c.args.sites.now.items in
+    let site = c.index_mut-site.result.now in
+    let there : slice_get kept c.args.i ≡ Some site = indexed kept c.args.i site c.requires.within c.index_mut-site.ensures.value in
+    let h = catch-may sc c.args.from c.args.time me c.args.i c.until_before.result first begun kept c.args.agenda.now nodes site c.name-node.result may caught c.requires.within there c.name-node.ensures c.until_before.ensures in
+    catch-told _ g.T.Observer.observes c.args.observer.now c.sweep_for.new.observer sc c.args.from c.args.time me c.args.i c.until_before.result kept c.args.agenda.now nodes site c.name-node.result name c.name-node.ensures h
+    (c.sweep_for.ensures.told name is (swept_first sc (until_tick (kind_of c.args.from) (number_in c.args.from) c.args.time) me c.args.i nodes) h.next.s h.may)

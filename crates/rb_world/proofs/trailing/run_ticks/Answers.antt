@@ -4,10 +4,11 @@ use Rattle.rb_world.specs.Trailing.{until_from}
 use Rattle.rb_world.proofs.Along.{comes-quiet}
 use Rattle.rb_world.proofs.NextRecord.{some-record}
 use Rattle.rb_world.proofs.Running.{along-first, comes-to, few-along}
+use Rattle.rb_world.proofs.ToldOn.{told-first, told-quiet, told-to-record}
 use Rattle.rb_world.proofs.trailing.run_ticks.Goals as goal
 
 pub loop-passed-init : goal.loop-passed-init
-loop-passed-init g c = record { is_quiet = c.requires.quiet; small = tt; goes = λ w d may. along-first c.args.bus.now (record { bius = c.args.bius.now.items; rmus = c.args.rmus.now.items }) c.args.scene.now w d may }
+loop-passed-init g c = record { is_quiet = c.requires.quiet; small = tt; goes = λ w d may. along-first c.args.bus.now (record { bius = c.args.bius.now.items; rmus = c.args.rmus.now.items }) c.args.scene.now w d may; told = λ name is node w d may. told-first _ g.T.Observer.observes name c.args.observer.now c.args.bus.now (record { bius = c.args.bius.now.items; rmus = c.args.rmus.now.items }) c.args.scene.now w d may node }
 
 pub step_on-requires-clause-may : goal.step_on-requires-clause-may
 step_on-requires-clause-may g c = (c.loop-passed.passed, c.requires.may.0, 0, c.loop-passed.invariant.goes c.requires.may.0 0 c.requires.may.1)
@@ -19,6 +20,10 @@ loop-passed-preserved g c = record {
   goes = λ w d may.
       comes-quiet c.args.bus.now (record { bius = c.step_on.new.bius.items; rmus = c.step_on.new.rmus.items }) c.step_on.new.scene (until_from c.step_on.new.tick) c.loop-passed.passed w d c.step_on.new.turn
       (c.step_on.ensures.comes c.loop-passed.passed w d (c.loop-passed.invariant.goes w d may)) (ap record_of c.in-Quiet.is);
+  told = λ name is node w d may.
+      told-quiet _ g.T.Observer.observes name c.args.observer.now c.step_on.new.observer c.args.bus.now (record { bius = c.step_on.new.bius.items; rmus = c.step_on.new.rmus.items }) c.step_on.new.scene (until_from c.step_on.new.tick) c.loop-passed.passed w d
+      c.step_on.new.turn
+      (c.step_on.ensures.told name is node c.args.observer.now c.loop-passed.passed w d (c.loop-passed.invariant.told name is node w d may)) (ap record_of c.in-Quiet.is);
 }
 
 pub catch_up-requires-clause-trails : goal.catch_up-requires-clause-trails
@@ -26,12 +31,19 @@ catch_up-requires-clause-trails g c =
     let it = c.step_on.ensures.comes c.loop-passed.passed c.requires.may.0 0 (c.loop-passed.invariant.goes c.requires.may.0 0 c.requires.may.1) in
     (it.now, it.back, it.trails)
 
-pub returns-in-loop-passed : goal.returns-in-loop-passed
-returns-in-loop-passed g c = λ w d may.
+pub returns-in-loop-passed-clause-comes : goal.returns-in-loop-passed-clause-comes
+returns-in-loop-passed-clause-comes g c = λ w d may.
     let it = c.step_on.ensures.comes c.loop-passed.passed w d (c.loop-passed.invariant.goes w d may) in
     comes-to c.args.bus.now (record { bius = c.step_on.new.bius.items; rmus = c.step_on.new.rmus.items }) (record { bius = c.catch_up.new.bius.items; rmus = c.catch_up.new.rmus.items }) c.step_on.new.scene c.catch_up.new.scene
     (until_from c.step_on.new.tick) c.loop-passed.passed w d c.step_on.new.turn it (some-record c.step_on.new.turn c.in_default.not-Quiet)
-    (c.catch_up.ensures it.now it.back it.trails)
+    (c.catch_up.ensures.caught it.now it.back it.trails)
+
+pub returns-in-loop-passed-clause-told : goal.returns-in-loop-passed-clause-told
+returns-in-loop-passed-clause-told g c = λ name is node w d may.
+    let it = c.step_on.ensures.told name is node c.args.observer.now c.loop-passed.passed w d (c.loop-passed.invariant.told name is node w d may) in
+    told-to-record _ g.T.Observer.observes name c.args.observer.now c.step_on.new.observer c.catch_up.new.observer c.args.bus.now (record { bius = c.step_on.new.bius.items; rmus = c.step_on.new.rmus.items })
+    (record { bius = c.catch_up.new.bius.items; rmus = c.catch_up.new.rmus.items }) c.step_on.new.scene c.catch_up.new.scene (until_from c.step_on.new.tick) c.loop-passed.passed w d c.step_on.new.turn it
+    (some-record c.step_on.new.turn c.in_default.not-Quiet) (c.catch_up.ensures.caught it.on.now it.on.back it.on.trails) (c.catch_up.ensures.told name is node it.on.now it.on.back it.on.trails)
 
 pub unreachable-requires : goal.unreachable-requires
 unreachable-requires g c =

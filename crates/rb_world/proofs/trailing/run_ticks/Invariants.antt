@@ -1,8 +1,11 @@
 -- So many steps or more gave no record.
-use Rattle.std.proofs.Common.{◌≡◌, ℕ, ◌<◌}
+use Rattle.std.proofs.Common.{◌≡◌, ℕ, ◌<◌, Some}
 use Rattle.std.specs.Prelude.{IfSome}
 use Rattle.rb_rules.specs.WorldStep.{World as RunWorld}
 use Rattle.rb_book.specs.declared.turn.Turn.TheVariants as shown
+use Rattle.rb_base.specs.declared.node.NodeName.{NodeName}
+use Rattle.rb_rules.specs.Lawful.{IsNodeOf}
+use Rattle.rb_world.specs.Observing.{AlongTold}
 use Rattle.rb_world.specs.Trailing.{Along, MayRun, until_from}
 use Rattle.rb_world.proofs.trailing.run_ticks.Given as goal
 
@@ -12,4 +15,6 @@ invariant-loop-passed g l = record {
   small : IfSome l.tick (λ t. t.1 < 18446744073709551615);
   goes : (w : RunWorld) (d : ℕ) → MayRun l.bus (record { bius = l.fn.bius.items; rmus = l.fn.rmus.items }) l.fn.scene w
       → Along l.bus (record { bius = l.bius.items; rmus = l.rmus.items }) l.scene (until_from l.tick) l.passed w d;
+  told : (name : NodeName) → l.observed ≡ Some name → IsNodeOf l.bus.sizes name → (w : RunWorld) (d : ℕ) → MayRun l.bus (record { bius = l.fn.bius.items; rmus = l.fn.rmus.items }) l.fn.scene w
+      → AlongTold _ g.T.Observer.observes name l.fn.observer l.observer l.bus (record { bius = l.bius.items; rmus = l.rmus.items }) l.scene (until_from l.tick) l.passed w d;
 }

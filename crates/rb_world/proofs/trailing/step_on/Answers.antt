@@ -1,8 +1,11 @@
 use Rattle.std.proofs.Common.{◌≡◌, true, false, sym, ◌∙◌}
 use Rattle.rb_rules.specs.WorldStep.{needs_no_event}
 use Rattle.rb_world.specs.Trailing.{until_from}
+use Rattle.rb_rules.specs.Book.{Each}
+use Rattle.rb_site.specs.Sites.{KeptSite}
 use Rattle.rb_world.proofs.Along.{comes-by-itself}
 use Rattle.rb_world.proofs.Running.{may-tick-along, ticks-along}
+use Rattle.rb_world.proofs.ToldOn.{told-by-itself, told-by-tick}
 use Rattle.rb_world.proofs.trailing.step_on.Goals as goal
 
 pub returns-then-needs_no_event-clause-comes : goal.returns-then-needs_no_event-clause-comes
@@ -29,3 +32,21 @@ returns-clause-comes g c = λ n w d on.
     ticks-along sc (record { bius = c.args.bius.now.items; rmus = c.args.rmus.now.items }) (record { bius = c.tick_first.new.bius.items; rmus = c.tick_first.new.rmus.items }) c.args.scene.now c.tick_first.new.scene
     (until_from c.args.tick.now) n w d c.tick_first.result.0 c.tick_first.result.1 c.tick_first.new.turn on
     (c.tick_first.ensures.goes (until_from c.args.tick.now) on.now on.back (may-tick-along sc (record { bius = c.args.bius.now.items; rmus = c.args.rmus.now.items }) c.args.scene.now (until_from c.args.tick.now) n w d on needs))
+
+pub returns-then-needs_no_event-clause-told : goal.returns-then-needs_no_event-clause-told
+returns-then-needs_no_event-clause-told g c = λ name is node a n w d on.
+    let sc = c.args.bus.now in
+    let free : needs_no_event sc on.on.back.book.upcoming ≡ true = sym (c.needs_no_event.ensures sc on.on.back on.on.trails.surrounds.book) ∙ c.if-needs_no_event.true in
+    told-by-itself _ g.T.Observer.observes name a c.args.observer.now sc (record { bius = c.args.bius.now.items; rmus = c.args.rmus.now.items }) c.args.scene.now (until_from c.args.tick.now) n w d c.settle_into.new.self c.settle_into.new.turn
+    on free (c.settle_into.ensures.settled sc on.on.back on.on.trails.surrounds.book)
+
+pub returns-clause-told : goal.returns-clause-told
+returns-clause-told g c = λ name is node a n w d on.
+    let sc = c.args.bus.now in
+    let kept : Each KeptSite = record { bius = c.args.bius.now.items; rmus = c.args.rmus.now.items } in
+    let needs : needs_no_event sc on.on.back.book.upcoming ≡ false = sym (c.needs_no_event.ensures sc on.on.back on.on.trails.surrounds.book) ∙ c.if-needs_no_event.false in
+    let may = may-tick-along sc kept c.args.scene.now (until_from c.args.tick.now) n w d on.on needs in
+    let to = c.tick_first.ensures.goes (until_from c.args.tick.now) on.on.now on.on.back may in
+    told-by-tick _ g.T.Observer.observes name a c.args.observer.now c.tick_first.new.observer sc kept (record { bius = c.tick_first.new.bius.items; rmus = c.tick_first.new.rmus.items }) c.args.scene.now c.tick_first.new.scene
+    (until_from c.args.tick.now) n w d c.tick_first.result.0 c.tick_first.result.1 c.tick_first.new.turn on to node
+    (c.tick_first.ensures.told name is (until_from c.args.tick.now) on.on.now on.on.back to.me to.i to.a (record { trails = on.on.trails; event = may.event; first = to.first }))

@@ -1,6 +1,10 @@
-use Rattle.std.proofs.Common.{refl, subst}
+use Rattle.std.proofs.Common.{refl, sym, ◌∙◌, subst}
+use Rattle.rb_base.specs.Nodes.Side.{Biu, Rmu}
 use Rattle.rb_base.specs.declared.node.NodeName.TheVariants as node
-use Rattle.rb_world.proofs.Running.{FirstHere, biu-may, biu-taken, first-here, rmu-may, rmu-taken}
+use Rattle.rb_rules.specs.Book.{Each}
+use Rattle.rb_site.specs.Sites.{KeptSite}
+use Rattle.rb_world.proofs.Running.{FirstHere, biu-may, biu-named, biu-taken, first-here, rmu-may, rmu-named, rmu-taken}
+use Rattle.rb_world.proofs.ToldOn.{alone-moved}
 use Rattle.rb_world.proofs.trailing.take_first.Goals as goal
 
 pub take_tick-requires-clause-within : goal.take_tick-requires-clause-within
@@ -49,7 +53,14 @@ returns-in-Biu g c = record {
       let here = first-here c.args.bus.now (record { bius = c.args.bius.now.items; rmus = c.args.rmus.now.items }) c.args.scene.now until w v me i a c.first_tick-node.result.0 c.first_tick-node.result.1 h c.first_tick-node.ensures.world in
       let may = (biu-may sc (record { bius = c.args.bius.now.items; rmus = c.args.rmus.now.items }) c.args.scene.now until w v me i a c.first_tick-node.result.0 c.first_tick-node.result.1 c.in-Biu.i h here c.in-Biu.is).1 in
       biu-taken sc c.take_tick.new.scene v me i a (node.Biu c.in-Biu.i) c.first_tick-node.result.1 c.in-Biu.i c.take_tick.new.sites.items c.args.rmus.now.items
-      (subst (λ n. FirstHere sc me i a n c.first_tick-node.result.1) c.in-Biu.is here) refl (c.take_tick.ensures (record { bius = c.args.bius.now.items; rmus = c.args.rmus.now.items }) until w v a may);
+      (subst (λ n. FirstHere sc me i a n c.first_tick-node.result.1) c.in-Biu.is here) refl (c.take_tick.ensures.takes (record { bius = c.args.bius.now.items; rmus = c.args.rmus.now.items }) until w v a may);
+  told = λ name is until w v me i a h.
+      let sc = c.args.bus.now in
+      let kept : Each KeptSite = record { bius = c.args.bius.now.items; rmus = c.args.rmus.now.items } in
+      let here = first-here sc kept c.args.scene.now until w v me i a c.first_tick-node.result.0 c.first_tick-node.result.1 h c.first_tick-node.ensures.world in
+      let may = (biu-may sc kept c.args.scene.now until w v me i a c.first_tick-node.result.0 c.first_tick-node.result.1 c.in-Biu.i h here c.in-Biu.is).1 in
+      alone-moved _ g.T.Observer.observes c.args.observer.now c.take_tick.new.observer sc v me Biu i c.in-Biu.i a name (biu-named me i c.in-Biu.i (sym here.named ∙ c.in-Biu.is))
+      (c.take_tick.ensures.told name is kept until w v a may);
 }
 
 pub take_tick-requires-in-Rmu-clause-within : goal.take_tick-requires-in-Rmu-clause-within
@@ -98,5 +109,12 @@ returns-in-Rmu g c = record {
       let here = first-here c.args.bus.now (record { bius = c.args.bius.now.items; rmus = c.args.rmus.now.items }) c.args.scene.now until w v me i a c.first_tick-node.result.0 c.first_tick-node.result.1 h c.first_tick-node.ensures.world in
       let may = (rmu-may sc (record { bius = c.args.bius.now.items; rmus = c.args.rmus.now.items }) c.args.scene.now until w v me i a c.first_tick-node.result.0 c.first_tick-node.result.1 c.in-Rmu.i h here c.in-Rmu.is).1 in
       rmu-taken sc c.take_tick-in-Rmu.new.scene v me i a (node.Rmu c.in-Rmu.i) c.first_tick-node.result.1 c.in-Rmu.i c.args.bius.now.items c.take_tick-in-Rmu.new.sites.items
-      (subst (λ n. FirstHere sc me i a n c.first_tick-node.result.1) c.in-Rmu.is here) refl (c.take_tick-in-Rmu.ensures (record { bius = c.args.bius.now.items; rmus = c.args.rmus.now.items }) until w v a may);
+      (subst (λ n. FirstHere sc me i a n c.first_tick-node.result.1) c.in-Rmu.is here) refl (c.take_tick-in-Rmu.ensures.takes (record { bius = c.args.bius.now.items; rmus = c.args.rmus.now.items }) until w v a may);
+  told = λ name is until w v me i a h.
+      let sc = c.args.bus.now in
+      let kept : Each KeptSite = record { bius = c.args.bius.now.items; rmus = c.args.rmus.now.items } in
+      let here = first-here sc kept c.args.scene.now until w v me i a c.first_tick-node.result.0 c.first_tick-node.result.1 h c.first_tick-node.ensures.world in
+      let may = (rmu-may sc kept c.args.scene.now until w v me i a c.first_tick-node.result.0 c.first_tick-node.result.1 c.in-Rmu.i h here c.in-Rmu.is).1 in
+      alone-moved _ g.T.Observer.observes c.args.observer.now c.take_tick-in-Rmu.new.observer sc v me Rmu i c.in-Rmu.i a name (rmu-named me i c.in-Rmu.i (sym here.named ∙ c.in-Rmu.is))
+      (c.take_tick-in-Rmu.ensures.told name is kept until w v a may);
 }

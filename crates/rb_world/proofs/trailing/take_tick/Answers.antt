@@ -1,18 +1,23 @@
-use Rattle.std.proofs.Common.{◌≡◌, ◌+◌, Some, get_or, slice_get, sym, ap, subst, ◌∙◌}
+use Rattle.std.proofs.Common.{◌≡◌, ◌+◌, Some, [], ◌∷◌, get_or, slice_get, sym, ap, subst, ◌∙◌, if◌then◌else◌}
 use Rattle.std.specs.Prelude.{slice_set}
 use Rattle.rb_base.specs.Nodes.{other, side_of}
 use Rattle.rb_rules.specs.Book.{of_kind}
-use Rattle.rb_rules.specs.Links.{name_of}
+use Rattle.rb_rules.specs.Links.{name_of, same_node}
 use Rattle.rb_rules.specs.WorldStep.Pending.{Tick}
 use Rattle.rb_agenda.specs.Holding.{without_waiting}
 use Rattle.rb_site.specs.Sites.{number_of}
+use Rattle.rb_sweep.specs.Told.{heard, telling}
+use Rattle.rb_world.specs.Observing.{WasTold}
+use Rattle.rb_world.specs.Showing.{MayShowTick}
 use Rattle.rb_world.specs.Steps.{MayTick, Ticks, act_at, moved}
 use Rattle.rb_world.specs.Trailing.{MaySweep, Sweeps, TakesFirst, alone, bare}
 use Rattle.rb_world.proofs.Behind.{indexed, may-take, may-then, takes-first}
+use Rattle.rb_world.proofs.Observed.{was-both}
+use Rattle.rb_world.proofs.ToldOn.{alone-told, tick-shown}
 use Rattle.rb_world.proofs.trailing.take_tick.Goals as goal
 
-pub sweep-requires-clause-name : goal.sweep-requires-clause-name
-sweep-requires-clause-name g c =
+pub sweep_for-requires-clause-name : goal.sweep_for-requires-clause-name
+sweep_for-requires-clause-name g c =
     let sc = c.args.bus.now in
     let me = side_of g.K.Kind.CODE in
     let sites = c.args.sites.now.items in
@@ -21,8 +26,8 @@ sweep-requires-clause-name g c =
     let both = may-take sc c.requires.may.0 c.args.scene.now c.requires.may.1 c.requires.may.2 c.requires.may.3 me c.args.i c.requires.may.4 c.args.time sites site c.requires.may.5 there in
     c.requires.name ∙ ap (name_of me) (sym both.0)
 
-pub sweep-requires-clause-may : goal.sweep-requires-clause-may
-sweep-requires-clause-may g c =
+pub sweep_for-requires-clause-may : goal.sweep_for-requires-clause-may
+sweep_for-requires-clause-may g c =
     let sc = c.args.bus.now in
     let me = side_of g.K.Kind.CODE in
     let sites = c.args.sites.now.items in
@@ -39,7 +44,7 @@ tick_at-requires-clause-number g c =
     let site = c.index_mut-site.result.now in
     let there : slice_get sites c.args.i ≡ Some site = indexed sites c.args.i site c.requires.within (c.index_mut-site.ensures.value ∙ ap (λ n. get_or sites n site) c.from.ensures) in
     let both = may-take sc c.requires.may.0 c.args.scene.now c.requires.may.1 c.requires.may.2 c.requires.may.3 me c.args.i c.requires.may.4 c.args.time sites site c.requires.may.5 there in
-    sym (c.sweep.ensures.number ∙ both.0)
+    sym (c.sweep_for.ensures.number ∙ both.0)
 
 pub tick_at-requires-clause-name : goal.tick_at-requires-clause-name
 tick_at-requires-clause-name g c =
@@ -49,7 +54,7 @@ tick_at-requires-clause-name g c =
     let site = c.index_mut-site.result.now in
     let there : slice_get sites c.args.i ≡ Some site = indexed sites c.args.i site c.requires.within (c.index_mut-site.ensures.value ∙ ap (λ n. get_or sites n site) c.from.ensures) in
     let both = may-take sc c.requires.may.0 c.args.scene.now c.requires.may.1 c.requires.may.2 c.requires.may.3 me c.args.i c.requires.may.4 c.args.time sites site c.requires.may.5 there in
-    c.requires.name ∙ ap (name_of me) (sym (c.sweep.ensures.number ∙ both.0))
+    c.requires.name ∙ ap (name_of me) (sym (c.sweep_for.ensures.number ∙ both.0))
 
 pub tick_at-requires-clause-may : goal.tick_at-requires-clause-may
 tick_at-requires-clause-may g c =
@@ -59,36 +64,94 @@ tick_at-requires-clause-may g c =
     let site = c.index_mut-site.result.now in
     let there : slice_get sites c.args.i ≡ Some site = indexed sites c.args.i site c.requires.within (c.index_mut-site.ensures.value ∙ ap (λ n. get_or sites n site) c.from.ensures) in
     let both = may-take sc c.requires.may.0 c.args.scene.now c.requires.may.1 c.requires.may.2 c.requires.may.3 me c.args.i c.requires.may.4 c.args.time sites site c.requires.may.5 there in
-    let sweeps : Sweeps sc me c.args.i (c.args.time + 1) c.sweep.new.site c.sweep.new.agenda c.requires.may.3.sites c.requires.may.5.at.first.node =
-    subst (λ n. Sweeps sc me n (c.args.time + 1) c.sweep.new.site c.sweep.new.agenda c.requires.may.3.sites c.requires.may.5.at.first.node) both.0
-    (c.sweep.ensures.swept c.requires.may.3.sites c.requires.may.5.at.first.node (subst (λ n. MaySweep sc me n (c.args.time + 1) site c.args.scene.now.agenda c.requires.may.3.sites c.requires.may.5.at.first.node) (sym both.0) both.1)) in
+    let sweeps : Sweeps sc me c.args.i (c.args.time + 1) c.sweep_for.new.site c.sweep_for.new.agenda c.requires.may.3.sites c.requires.may.5.at.first.node =
+    subst (λ n. Sweeps sc me n (c.args.time + 1) c.sweep_for.new.site c.sweep_for.new.agenda c.requires.may.3.sites c.requires.may.5.at.first.node) both.0
+    (c.sweep_for.ensures.swept c.requires.may.3.sites c.requires.may.5.at.first.node (subst (λ n. MaySweep sc me n (c.args.time + 1) site c.args.scene.now.agenda c.requires.may.3.sites c.requires.may.5.at.first.node) (sym both.0) both.1)) in
     let x = moved me c.args.i (without_waiting (Tick c.requires.may.4.tick)) (alone sc me c.args.i c.requires.may.4 c.requires.may.3) in
     let s = bare sc me c.args.i c.requires.may.4 c.requires.may.5.at.first.node in (
       c.requires.may.4.tick,
       x,
       s,
-      subst (λ n. MayTick sc me n c.requires.may.4.tick c.sweep.new.site (record c.args.scene.now { agenda = c.sweep.new.agenda }) x s) (sym (c.sweep.ensures.number ∙ both.0))
-          (may-then sc c.requires.may.0 c.args.scene.now c.requires.may.1 c.requires.may.2 c.requires.may.3 me c.args.i c.requires.may.4 c.args.time sites c.sweep.new.site c.sweep.new.agenda c.requires.may.5 sweeps),
+      subst (λ n. MayTick sc me n c.requires.may.4.tick c.sweep_for.new.site (record c.args.scene.now { agenda = c.sweep_for.new.agenda }) x s) (sym (c.sweep_for.ensures.number ∙ both.0))
+          (may-then sc c.requires.may.0 c.args.scene.now c.requires.may.1 c.requires.may.2 c.requires.may.3 me c.args.i c.requires.may.4 c.args.time sites c.sweep_for.new.site c.sweep_for.new.agenda c.requires.may.5 sweeps),
     )
 
-pub returns : goal.returns
-returns g c = λ kept until w v a m.
+pub returns-clause-takes : goal.returns-clause-takes
+returns-clause-takes g c = λ kept until w v a m.
     let sc = c.args.bus.now in
     let me = side_of g.K.Kind.CODE in
     let sites = c.args.sites.now.items in
     let site = c.index_mut-site.result.now in
     let there : slice_get sites c.args.i ≡ Some site = indexed sites c.args.i site c.requires.within (c.index_mut-site.ensures.value ∙ ap (λ n. get_or sites n site) c.from.ensures) in
     let both = may-take sc kept c.args.scene.now until w v me c.args.i a c.args.time sites site m there in
-    let sweeps : Sweeps sc me c.args.i (c.args.time + 1) c.sweep.new.site c.sweep.new.agenda v.sites m.at.first.node =
-    subst (λ n. Sweeps sc me n (c.args.time + 1) c.sweep.new.site c.sweep.new.agenda v.sites m.at.first.node) both.0
-    (c.sweep.ensures.swept v.sites m.at.first.node (subst (λ n. MaySweep sc me n (c.args.time + 1) site c.args.scene.now.agenda v.sites m.at.first.node) (sym both.0) both.1)) in
+    let sweeps : Sweeps sc me c.args.i (c.args.time + 1) c.sweep_for.new.site c.sweep_for.new.agenda v.sites m.at.first.node =
+    subst (λ n. Sweeps sc me n (c.args.time + 1) c.sweep_for.new.site c.sweep_for.new.agenda v.sites m.at.first.node) both.0
+    (c.sweep_for.ensures.swept v.sites m.at.first.node (subst (λ n. MaySweep sc me n (c.args.time + 1) site c.args.scene.now.agenda v.sites m.at.first.node) (sym both.0) both.1)) in
     let x = moved me c.args.i (without_waiting (Tick a.tick)) (alone sc me c.args.i a v) in
     let s = bare sc me c.args.i a m.at.first.node in
-    let number : number_of c.sweep.new.site ≡ c.args.i = c.sweep.ensures.number ∙ both.0 in
-    let may : MayTick sc me c.args.i a.tick c.sweep.new.site (record c.args.scene.now { agenda = c.sweep.new.agenda }) x s =
-    may-then sc kept c.args.scene.now until w v me c.args.i a c.args.time sites c.sweep.new.site c.sweep.new.agenda m sweeps in
+    let number : number_of c.sweep_for.new.site ≡ c.args.i = c.sweep_for.ensures.number ∙ both.0 in
+    let may : MayTick sc me c.args.i a.tick c.sweep_for.new.site (record c.args.scene.now { agenda = c.sweep_for.new.agenda }) x s =
+    may-then sc kept c.args.scene.now until w v me c.args.i a c.args.time sites c.sweep_for.new.site c.sweep_for.new.agenda m sweeps in
     let ticks : Ticks sc me c.args.i a.tick c.tick_at.new.site c.tick_at.new.scene x s (act_at sc x me c.args.i a.tick s) =
     subst (λ n. Ticks sc me n a.tick c.tick_at.new.site c.tick_at.new.scene x s (act_at sc x me n a.tick s)) number
-    (c.tick_at.ensures a.tick x s (subst (λ n. MayTick sc me n a.tick c.sweep.new.site (record c.args.scene.now { agenda = c.sweep.new.agenda }) x s) (sym number) may)) in
-    let takes = takes-first sc kept c.args.scene.now c.tick_at.new.scene until w v me c.args.i a c.args.time sites c.sweep.new.site c.tick_at.new.site c.sweep.new.agenda m sweeps ticks in
+    (c.tick_at.ensures a.tick x s (subst (λ n. MayTick sc me n a.tick c.sweep_for.new.site (record c.args.scene.now { agenda = c.sweep_for.new.agenda }) x s) (sym number) may)) in
+    let takes = takes-first sc kept c.args.scene.now c.tick_at.new.scene until w v me c.args.i a c.args.time sites c.sweep_for.new.site c.tick_at.new.site c.sweep_for.new.agenda m sweeps ticks in
     subst (λ n. TakesFirst sc v me c.args.i a (slice_set sites n c.tick_at.new.site) (of_kind (other me) kept) c.tick_at.new.scene) (sym c.from.ensures) takes
+
+pub tell_tick_for-requires : goal.tell_tick_for-requires
+tell_tick_for-requires g c =
+    let sc = c.args.bus.now in
+    let me = side_of g.K.Kind.CODE in
+    let sites = c.args.sites.now.items in
+    let site = c.index_mut-site.result.now in
+    let there : slice_get sites c.args.i ≡ Some site = indexed sites c.args.i site c.requires.within (c.index_mut-site.ensures.value ∙ ap (λ n. get_or sites n site) c.from.ensures) in
+    let v = c.requires.may.3 in
+    let a = c.requires.may.4 in
+    let m = c.requires.may.5 in
+    let both = may-take sc c.requires.may.0 c.args.scene.now c.requires.may.1 c.requires.may.2 v me c.args.i a c.args.time sites site m there in
+    let sweeps : Sweeps sc me c.args.i (c.args.time + 1) c.sweep_for.new.site c.sweep_for.new.agenda v.sites m.at.first.node =
+    subst (λ n. Sweeps sc me n (c.args.time + 1) c.sweep_for.new.site c.sweep_for.new.agenda v.sites m.at.first.node) both.0
+    (c.sweep_for.ensures.swept v.sites m.at.first.node (subst (λ n. MaySweep sc me n (c.args.time + 1) site c.args.scene.now.agenda v.sites m.at.first.node) (sym both.0) both.1)) in
+    let x = moved me c.args.i (without_waiting (Tick a.tick)) (alone sc me c.args.i a v) in
+    let s = bare sc me c.args.i a m.at.first.node in
+    let may : MayTick sc me c.args.i a.tick c.sweep_for.new.site (record c.args.scene.now { agenda = c.sweep_for.new.agenda }) x s =
+    may-then sc c.requires.may.0 c.args.scene.now c.requires.may.1 c.requires.may.2 v me c.args.i a c.args.time sites c.sweep_for.new.site c.sweep_for.new.agenda m sweeps in
+    record {
+      may = (
+        a.tick,
+        x.ports,
+        s,
+        subst (λ ps. MayShowTick sc me (number_of c.sweep_for.new.site) a.tick c.sweep_for.new.site ps c.args.node x.ports s) (sym c.deref.ensures.value)
+            (tick-shown sc me c.args.i a.tick c.sweep_for.new.site (record c.args.scene.now { agenda = c.sweep_for.new.agenda }) x s c.args.node may c.requires.name),
+      );
+    }
+
+pub returns-clause-told : goal.returns-clause-told
+returns-clause-told g c = λ name is kept until w v a m.
+    let sc = c.args.bus.now in
+    let me = side_of g.K.Kind.CODE in
+    let sites = c.args.sites.now.items in
+    let site = c.index_mut-site.result.now in
+    let there : slice_get sites c.args.i ≡ Some site = indexed sites c.args.i site c.requires.within (c.index_mut-site.ensures.value ∙ ap (λ n. get_or sites n site) c.from.ensures) in
+    let both = may-take sc kept c.args.scene.now until w v me c.args.i a c.args.time sites site m there in
+    let may_sweep : MaySweep sc me (number_of site) (c.args.time + 1) site c.args.scene.now.agenda v.sites m.at.first.node =
+    subst (λ n. MaySweep sc me n (c.args.time + 1) site c.args.scene.now.agenda v.sites m.at.first.node) (sym both.0) both.1 in
+    let sweeps : Sweeps sc me c.args.i (c.args.time + 1) c.sweep_for.new.site c.sweep_for.new.agenda v.sites m.at.first.node =
+    subst (λ n. Sweeps sc me n (c.args.time + 1) c.sweep_for.new.site c.sweep_for.new.agenda v.sites m.at.first.node) both.0 (c.sweep_for.ensures.swept v.sites m.at.first.node may_sweep) in
+    let x = moved me c.args.i (without_waiting (Tick a.tick)) (alone sc me c.args.i a v) in
+    let s = bare sc me c.args.i a m.at.first.node in
+    let may : MayTick sc me c.args.i a.tick c.sweep_for.new.site (record c.args.scene.now { agenda = c.sweep_for.new.agenda }) x s =
+    may-then sc kept c.args.scene.now until w v me c.args.i a c.args.time sites c.sweep_for.new.site c.sweep_for.new.agenda m sweeps in
+    let number : number_of c.sweep_for.new.site ≡ c.args.i = c.sweep_for.ensures.number ∙ both.0 in
+    let heard_it : WasTold _ g.T.Observer.observes c.args.observer.now (if same_node c.args.node name then heard sc me c.args.i (a.time + 1) m.at.first.node else []) c.sweep_for.new.observer =
+    subst (λ t. WasTold _ g.T.Observer.observes c.args.observer.now (if same_node c.args.node name then heard sc me c.args.i (t + 1) m.at.first.node else []) c.sweep_for.new.observer) m.time_is
+    (subst (λ n. WasTold _ g.T.Observer.observes c.args.observer.now (if same_node c.args.node name then heard sc me n (c.args.time + 1) m.at.first.node else []) c.sweep_for.new.observer) both.0
+    (c.sweep_for.ensures.told name is v.sites m.at.first.node may_sweep)) in
+    let ticked : WasTold _ g.T.Observer.observes c.sweep_for.new.observer (if same_node c.args.node name then telling sc v.ports me c.args.i s (Tick a.tick) ∷ [] else []) c.tell_tick_for.new.observer =
+    subst (λ n. WasTold _ g.T.Observer.observes c.sweep_for.new.observer (if same_node c.args.node name then telling sc v.ports me n s (Tick a.tick) ∷ [] else []) c.tell_tick_for.new.observer) number
+    (c.tell_tick_for.ensures name is a.tick x.ports s
+    (subst (λ ps. MayShowTick sc me (number_of c.sweep_for.new.site) a.tick c.sweep_for.new.site ps c.args.node x.ports s) (sym c.deref.ensures.value)
+    (tick-shown sc me c.args.i a.tick c.sweep_for.new.site (record c.args.scene.now { agenda = c.sweep_for.new.agenda }) x s c.args.node may c.requires.name))) in
+    subst (λ l. WasTold _ g.T.Observer.observes c.args.observer.now l c.tell_tick_for.new.observer)
+    (alone-told sc v me c.args.i a m.at.first.node c.args.node name c.requires.name m.at.first.there)
+    (was-both _ g.T.Observer.observes c.args.observer.now c.sweep_for.new.observer c.tell_tick_for.new.observer _ _ heard_it ticked)

@@ -29,3 +29,6 @@ returns-clause-small g c =
     let v = c.requires.may.2 in
     let some = some-first c.args.bus.now (record { bius = c.args.bius.now.items; rmus = c.args.rmus.now.items }) c.args.scene.now until w v c.requires.may.3 in
     (c.take_first-node.ensures.happens until w v some.0 some.1.0 some.1.1.0 some.1.1.1).small
+
+pub returns-clause-told : goal.returns-clause-told
+returns-clause-told g c = λ name is until w v me i a h. c.take_first-node.ensures.told name is until w v me i a h

@@ -1,10 +1,14 @@
-use Rattle.std.proofs.Common.{◌≡◌, ℕ, true, false, sym, ◌∙◌, subst}
+use Rattle.std.proofs.Common.{◌≡◌, ℕ, Some, true, false, sym, ◌∙◌, subst}
+use Rattle.rb_base.specs.declared.node.NodeName.{NodeName}
+use Rattle.rb_rules.specs.Lawful.{IsNodeOf}
 use Rattle.rb_rules.specs.WorldStep.{World as RunWorld}
 use Rattle.rb_world.specs.declared.ties.Ties.TheVariants.{First}
 use Rattle.rb_world.specs.Nexts.{RunsOn}
+use Rattle.rb_world.specs.Observing.{RunsTold}
 use Rattle.rb_world.specs.Worlds.{KeptWorld, Stands}
 use Rattle.rb_world.proofs.LastTurn.{reached-ends}
 use Rattle.rb_world.proofs.Running.{may-run, run-ended, run-to}
+use Rattle.rb_world.proofs.ToldOn.{told-ended, told-runs}
 use Rattle.rb_world.proofs.world.World.run_first.Goals as goal
 
 pub returns-then-has_ended-clause-world : goal.returns-then-has_ended-clause-world
@@ -27,7 +31,7 @@ invariant_of-self g c =
     let w : RunWorld = c.self.invariant.0 in
     let is : Stands k w = c.self.invariant.1 in
     let going : w.book.ended ≡ false = sym (c.has_ended.ensures k.bus w is.scene.book) ∙ c.if-has_ended.false in
-    let comes = c.run_ticks.ensures w 0 (may-run k w is going) in
+    let comes = c.run_ticks.ensures.comes w 0 (may-run k w is going) in
     let to = run-to k w (record { bius = c.run_ticks.new.bius.items; rmus = c.run_ticks.new.rmus.items }) c.run_ticks.new.scene c.run_ticks.new.turn c.last_of-self-inside.result 0 is comes
     c.last_of-self-inside.ensures in
     (to.next, to.gives.stands)
@@ -38,4 +42,21 @@ returns-clause-world g c =
     let after : KeptWorld = record { bus = k.bus; nodes = record { bius = c.run_ticks.new.bius.items; rmus = c.run_ticks.new.rmus.items }; scene = c.run_ticks.new.scene; seeding = k.seeding; last = c.last_of-self-inside.result } in
     subst (λ (x : KeptWorld). (w : RunWorld) (state : ℕ) → Stands x w → RunsOn First state state x after c.run_ticks.new.turn w) c.self.view_is (λ w state is.
     let going : w.book.ended ≡ false = sym (c.has_ended.ensures k.bus w is.scene.book) ∙ c.if-has_ended.false in
-    run-to k w after.nodes after.scene c.run_ticks.new.turn after.last state is (c.run_ticks.ensures w state (may-run k w is going)) c.last_of-self-inside.ensures)
+    run-to k w after.nodes after.scene c.run_ticks.new.turn after.last state is (c.run_ticks.ensures.comes w state (may-run k w is going)) c.last_of-self-inside.ensures)
+
+pub returns-then-has_ended-clause-told : goal.returns-then-has_ended-clause-told
+returns-then-has_ended-clause-told g c =
+    let k : KeptWorld = record { bus = c.self.inside.bus; nodes = record { bius = c.self.inside.bius.items; rmus = c.self.inside.rmus.items }; scene = c.self.inside.scene; seeding = c.self.inside.seeding; last = c.self.inside.last } in
+    subst (λ (k : KeptWorld). (name : NodeName) → c.args.observed ≡ Some name → IsNodeOf k.bus.sizes name → (w : RunWorld) (state : ℕ) → Stands k w
+    → RunsTold _ g.T.Observer.observes name c.args.observer.now c.args.observer.now state k k c.last_turn.result w) c.self.view_is (λ name at node w state is.
+    let ended : w.book.ended ≡ true = sym (c.has_ended.ensures k.bus w is.scene.book) ∙ c.if-has_ended.true in
+    told-ended _ g.T.Observer.observes name c.args.observer.now k w c.last_turn.result state is ended (c.last_turn.ensures w.turn is.last (reached-ends k.bus w is.reached ended)))
+
+pub returns-clause-told : goal.returns-clause-told
+returns-clause-told g c =
+    let k : KeptWorld = record { bus = c.self.inside.bus; nodes = record { bius = c.self.inside.bius.items; rmus = c.self.inside.rmus.items }; scene = c.self.inside.scene; seeding = c.self.inside.seeding; last = c.self.inside.last } in
+    let after : KeptWorld = record { bus = k.bus; nodes = record { bius = c.run_ticks.new.bius.items; rmus = c.run_ticks.new.rmus.items }; scene = c.run_ticks.new.scene; seeding = k.seeding; last = c.last_of-self-inside.result } in
+    subst (λ (x : KeptWorld). (name : NodeName) → c.args.observed ≡ Some name → IsNodeOf x.bus.sizes name → (w : RunWorld) (state : ℕ) → Stands x w
+    → RunsTold _ g.T.Observer.observes name c.args.observer.now c.run_ticks.new.observer state x after c.run_ticks.new.turn w) c.self.view_is (λ name at node w state is.
+    let going : w.book.ended ≡ false = sym (c.has_ended.ensures k.bus w is.scene.book) ∙ c.if-has_ended.false in
+    told-runs _ g.T.Observer.observes name c.args.observer.now c.run_ticks.new.observer k w after.nodes after.scene c.run_ticks.new.turn after.last state is (c.run_ticks.ensures.told name at node w state (may-run k w is going)) c.last_of-self-inside.ensures)

@@ -1,0 +1,125 @@
+//! Who is told what one node is given while a run goes on.
+ghost use Rattle.std.specs.Prelude.{◌≡◌, ⊤, [], ◌∷◌, ℕ, List, Option, Some, if◌then◌else◌};
+ghost use Rattle.rb_base.specs.Nodes.{side_of};
+ghost use Rattle.rb_base.specs.declared.node.NodeName.{NodeName};
+ghost use Rattle.rb_rules.specs.Goodness.{Scenario};
+ghost use Rattle.rb_rules.specs.Hearing.{Coming};
+ghost use Rattle.rb_rules.specs.Links.{name_of, same_node};
+ghost use Rattle.rb_rules.specs.Ports.{PortState};
+ghost use Rattle.rb_rules.specs.WorldStep.{Site as WorldSite};
+ghost use Rattle.rb_rules.specs.WorldStep.Pending.{Arrival, Tick};
+ghost use Rattle.rb_site.specs.Sites.{Stands as StandsFor, number_of};
+ghost use Rattle.rb_sweep.specs.Told.{Told, telling};
+ghost use Rattle.rb_world.specs.Observing.{WasTold};
+ghost use Rattle.rb_world.specs.Showing.{MayShowTick};
+ghost use Rattle.rb_world.specs.Steps.{CanHear};
+
+use crate::bus::Bus;
+use crate::due::{show_arrival, show_tick};
+use rb_agenda::Agenda;
+use rb_base::{Event, Kind, NodeName};
+use rb_port::{Apps, Port};
+use rb_site::Site;
+
+/// Who is told what one node is given while a run goes on, event by event.
+pub trait Observer {
+    /// What it was, what it is told, and what it may be then.
+    ghost observes: { Self → Told → Self → Type 0 };
+
+    /// The node is given this event, and stood in this frame before it.
+    fn observe(&mut self, frame: u32, event: &Event)
+        ensures { observes self.old (record { frame = frame; event = event.now }) self.new };
+}
+
+/// Nobody, who is told nothing.
+#[derive(Clone, Copy)]
+pub(crate) struct Nobody;
+
+impl Observer for Nobody {
+    ghost observes = { λ _ _ _. ⊤ };
+
+    fn observe(&mut self, _frame: u32, _event: &Event) {}
+}
+
+// Whether this is the node that is observed.
+#[inline(always)]
+pub(crate) fn is_observed(observed: Option<NodeName>, node: NodeName) -> bool
+    ensures { (name : NodeName) → observed ≡ Some name → result ≡ same_node node name }
+{
+    match observed {
+        None => false,
+        Some(name) => node == name,
+    }
+}
+
+// The frame in which a node stands.
+fn frame_of<K: Kind>(site: &Site<K>) -> u32
+    ensures { (sc : Scenario) (s : WorldSite) → StandsFor sc (side_of K.CODE) site.now s → result ≡ s.core.state.frame }
+{
+    site.node().engine().frame()
+}
+
+// An arrival that is pending at the node is told, before it comes to the node.
+pub(crate) fn tell_arrival<K: Kind, T: Observer>(
+    bus: &Bus,
+    node: NodeName,
+    place: usize,
+    site: &Site<K>,
+    agenda: &Agenda,
+    observer: &mut T,
+)
+    requires name { node ≡ name_of (side_of K.CODE) (number_of site.now) }
+    requires stands { (s : WorldSite) × StandsFor bus.now (side_of K.CODE) site.now s }
+    requires may { (c : Coming) × CanHear bus.now (side_of K.CODE) (number_of site.now) node place site.now agenda.now c }
+    ensures { (c : Coming) (at : ℕ) (s : WorldSite) → CanHear bus.now (side_of K.CODE) (number_of site.now) node place site.now agenda.now c
+        → StandsFor bus.now (side_of K.CODE) site.now s
+        → T.observes observer.old (telling bus.now [] (side_of K.CODE) (number_of site.now) s (Arrival at c)) observer.new }
+{
+    let arrival = agenda.arrival(node, place);
+    let time = arrival.time();
+    let from = arrival.from();
+    let event = show_arrival(bus, site, time, node, from, arrival.bytes());
+    observer.observe(frame_of(site), &event);
+}
+
+// The tick that is ahead of the node is told, before the node takes it.
+fn tell_tick<K: Kind, T: Observer>(
+    bus: &Bus,
+    apps: &Apps,
+    site: &Site<K>,
+    ports: &[Port],
+    node: NodeName,
+    observer: &mut T,
+)
+    requires may { (k : ℕ) × (states : List PortState) × (s : WorldSite)
+        × MayShowTick bus.now (side_of K.CODE) (number_of site.now) k site.now ports.now node states s }
+    ensures { (k : ℕ) (states : List PortState) (s : WorldSite)
+        → MayShowTick bus.now (side_of K.CODE) (number_of site.now) k site.now ports.now node states s
+        → T.observes observer.old (telling bus.now states (side_of K.CODE) (number_of site.now) s (Tick k)) observer.new }
+{
+    let event = show_tick(bus, apps, site, ports, node);
+    observer.observe(frame_of(site), &event);
+}
+
+// It is told if the node is the one that is observed.
+#[inline(always)]
+pub(crate) fn tell_tick_for<K: Kind, T: Observer>(
+    bus: &Bus,
+    apps: &Apps,
+    site: &Site<K>,
+    ports: &[Port],
+    node: NodeName,
+    observed: Option<NodeName>,
+    observer: &mut T,
+)
+    requires may { (k : ℕ) × (states : List PortState) × (s : WorldSite)
+        × MayShowTick bus.now (side_of K.CODE) (number_of site.now) k site.now ports.now node states s }
+    ensures { (name : NodeName) → observed ≡ Some name → (k : ℕ) (states : List PortState) (s : WorldSite)
+        → MayShowTick bus.now (side_of K.CODE) (number_of site.now) k site.now ports.now node states s
+        → WasTold T T.observes observer.old
+        (if same_node node name then telling bus.now states (side_of K.CODE) (number_of site.now) s (Tick k) ∷ [] else []) observer.new }
+{
+    if is_observed(observed, node) {
+        tell_tick(bus, apps, site, ports, node, observer);
+    }
+}
