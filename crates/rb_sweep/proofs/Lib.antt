@@ -20,3 +20,4 @@ pub mod BehindFew
 pub mod Stopped
 pub mod TickFits
 pub mod InTime
+pub mod StampsOff

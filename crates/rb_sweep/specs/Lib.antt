@@ -1,5 +1,6 @@
 pub mod AheadOf
 pub mod Laws
 pub mod Room
+pub mod Stamps
 pub mod Sweeping
 pub mod Told

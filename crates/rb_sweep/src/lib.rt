@@ -4,6 +4,7 @@
 
 ghost use Rattle.rb_sweep.specs.Laws.{ArrivalsSettleNothing, GoOnPassesASweep, HearingComposes, HearingTakesTheFirst, NobodyIsAhead, NothingIsHeard, NothingIsSwept, PushesPassASweep, SomeTickIsFirst, SweepsCompose, SweepsKeepTheRest, SweepsTakeTheFirst, TakesLeadToTheFirstTick, WhatIsSentComesLaterInLawful, WorldsGoOnAhead};
 ghost use Rattle.rb_sweep.specs.Room.{PendingBehindIsFew, StoppedStayEmptyInEach, TicksBehindAreInTime, TicksBehindFit};
+ghost use Rattle.rb_sweep.specs.Stamps.{StampsMakeNoDifference};
 
 /// A sweep takes what comes first to a node, by time, then by source, then in the order of pushing, and then the rest.
 pub fn sweeps_take_the_first()
@@ -112,4 +113,11 @@ pub fn ticks_behind_fit()
 /// to a node is from nodes that there are (`senders`).
 pub fn ticks_behind_are_in_time()
     ensures { TicksBehindAreInTime }
+{}
+
+/// A tick, one of those that a node may have, that ends a window of a slot before the sync slot gives the same whatever stamps what came has,
+/// and however many of the ticks before it were counted. So where a run takes what came to a node together, right before such a tick,
+/// it needs no stamps.
+pub fn stamps_make_no_difference()
+    ensures { StampsMakeNoDifference }
 {}
