@@ -21,3 +21,4 @@ pub mod Stopped
 pub mod TickFits
 pub mod InTime
 pub mod StampsOff
+pub mod Bringing

@@ -1,4 +1,5 @@
 pub mod AheadOf
+pub mod Brought
 pub mod Laws
 pub mod Room
 pub mod Stamps

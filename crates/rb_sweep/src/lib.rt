@@ -2,6 +2,7 @@
 //! that does nothing.
 #![tactic(none)]
 
+ghost use Rattle.rb_sweep.specs.Brought.{SweepsBring};
 ghost use Rattle.rb_sweep.specs.Laws.{ArrivalsSettleNothing, GoOnPassesASweep, HearingComposes, HearingTakesTheFirst, NobodyIsAhead, NothingIsHeard, NothingIsSwept, PushesPassASweep, SomeTickIsFirst, SweepsCompose, SweepsKeepTheRest, SweepsTakeTheFirst, TakesLeadToTheFirstTick, WhatIsSentComesLaterInLawful, WorldsGoOnAhead};
 ghost use Rattle.rb_sweep.specs.Room.{PendingBehindIsFew, StoppedStayEmptyInEach, TicksBehindAreInTime, TicksBehindFit};
 ghost use Rattle.rb_sweep.specs.Stamps.{StampsMakeNoDifference};
@@ -20,6 +21,14 @@ pub fn sweeps_compose()
 /// is left comes at the time or later.
 pub fn sweeps_keep_the_rest()
     ensures { SweepsKeepTheRest }
+{}
+
+/// Where what is due is from nodes that there are, and neither it nor what the node has had is past the ticks that a node may have: a sweep
+/// leaves pending what comes at the time or later, in its order (`coming`). Of each source the core keeps as many more as were due, and
+/// where one was due and nothing was kept, that one (`inbox`); so it is with what came (`got`), which stays in step with what the core
+/// keeps (`together`). The rest of the node is as it was (`is`, `state`).
+pub fn sweeps_bring()
+    ensures { SweepsBring }
 {}
 
 /// Where nothing comes before the time a sweep changes nothing.
