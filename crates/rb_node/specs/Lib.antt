@@ -4,3 +4,4 @@ pub mod Acts
 pub mod Saids
 pub mod Aheads
 pub mod Events
+pub mod Ends

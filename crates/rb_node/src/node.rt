@@ -1,7 +1,7 @@
 //! One node core.
-ghost use Rattle.std.specs.Prelude.{◌≡◌, ℕ, ◌+◌, ◌<◌, ◌≤◌, ◌^◌, false, IfSome, option_map, unwrap_or};
+ghost use Rattle.std.specs.Prelude.{◌≡◌, ℕ, ◌+◌, ◌<◌, ◌≤◌, ◌^◌, false, IfSome, IsTrue, Some, option_map, unwrap_or};
 ghost use Rattle.rb_base.specs.Nodes.{side_of};
-ghost use Rattle.rb_rules.specs.Core.{Core, first_core, pass_to};
+ghost use Rattle.rb_rules.specs.Core.{Core, first_core, is_tick, pass_to};
 ghost use Rattle.rb_rules.specs.NodeState.{first_state};
 ghost use Rattle.rb_rules.specs.Slots.{count_of};
 ghost use Rattle.rb_rules.specs.SyncStage.{new_epoch_of};
@@ -9,6 +9,7 @@ ghost use Rattle.rb_rules.specs.WorldStep.{span_from};
 ghost use Rattle.rb_slot.specs.Engines.{nothing_shown};
 ghost use Rattle.rb_node.specs.Acts.{IsAct, IsSendable, IsWholeAct, span_in};
 ghost use Rattle.rb_node.specs.Cores.{IsCore, IsSameNode, Running, arrive_of, next_of, passing_end, tick_of, ticks_of};
+ghost use Rattle.rb_node.specs.Ends.{EndsExactWindow};
 ghost use Rattle.rb_node.specs.Events.{EventsComeInParts};
 ghost use Rattle.rb_node.specs.Wants.{want_of, want_then};
 
@@ -119,6 +120,23 @@ impl<K: Kind> Node<K> {
         } else {
             None
         }
+    }
+
+    /// Whether its next tick that isn't quiet is the last of a window of a slot before the sync slot, and no frame begins with it.
+    #[inline(always)]
+    pub fn ends_exact_window(&self) -> bool
+        ensures ends { (c : Core) (k : ℕ) → IsCore self.now c → next_of (side_of K.CODE) self.now c ≡ Some k
+            → IsTrue result → EndsExactWindow self.now.seat.sizes self.now.seat.plan (side_of K.CODE) c.state k }
+        ensures stays { (c : Core) (k : ℕ) → IsCore self.now c → next_of (side_of K.CODE) self.now c ≡ Some k
+            → IsTrue result → is_tick (new_epoch_of self.now.seat.plan (side_of K.CODE) c.state) k ≡ false }
+        ensures otherwise { (c : Core) (k : ℕ) → IsCore self.now c → next_of (side_of K.CODE) self.now c ≡ Some k
+            → is_tick (new_epoch_of self.now.seat.plan (side_of K.CODE) c.state) k ≡ false
+            → EndsExactWindow self.now.seat.sizes self.now.seat.plan (side_of K.CODE) c.state k → IsTrue result }
+    {
+        let tick = self.ahead.busy.tick;
+        self.ahead.window.slot < self.engine.plan().shape().sync_slot()
+            && self.engine.epoch() + self.ahead.window.last == tick
+            && !is_tick(self.engine.new_epoch(), tick)
     }
 
     /// What the node wants to be handed for its next tick.
