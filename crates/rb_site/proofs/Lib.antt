@@ -1,3 +1,4 @@
 pub mod Closing
 pub mod Coming
 pub mod Standing
+pub mod Alike

@@ -27,7 +27,7 @@ use Rattle.rb_node.specs.Cores.{IsCore, IsSameNode, Running, bare_core, next_of,
 use Rattle.rb_node.specs.declared.act.Step.{Step}
 use Rattle.rb_node.proofs.Between.{arrive-spent, arrive-takes}
 use Rattle.rb_node.proofs.Cores.{tick-now, tick-spent}
-use Rattle.rb_site.specs.Sites.{ComeTogether, HoldsTimes, KeptSite, Stands, goes_on, number_of}
+use Rattle.rb_site.specs.Sites.{ComeTogether, HoldsTimes, KeptSite, Stands, goes_on, number_of, taken_in}
 use Rattle.rb_site.specs.Tells.{IsTicked, begun_after, row_after, row_at}
 use Rattle.rb_site.proofs.Closing.{Leaves, ShowsTime, tick-leaves}
 use Rattle.rb_site.proofs.Coming.{sees-same, times-more, together-more}
@@ -47,22 +47,40 @@ arrive-together sizes me d got c there together below =
           absurd (omega (arith, same, below, ge))
     ]
 
-pub arrived : (sc : Scenario) (me : Side) (k : KeptSite) (node : Running) (c : Coming) (place stamp i : ℕ) (s : Site)
-    → Stands sc me k s → length k.times ≡ 16 → IsSameNode k.node node → c.from < count_of (other me) sc.sizes → stamp ≡ stamp_of (clock_of sc me i) c.time
-    → IsCore node (arrive sc.sizes me (pass_to stamp s.core) c.from c.bytes)
-    → Stands sc me (record { node = node; runs = k.runs; times = slice_set k.times c.from c.time }) (after_arrival sc me i place c s)
-unfolding after_arrival
-arrived sc me k node c place stamp i s is all same there stamp_is core =
-    let d : Core = pass_to (stamp_of (clock_of sc me i) c.time) s.core in
-    let passed : s.core.had ≤ d.had = omega arith in
+-- taken in as it comes
+pub takes : (sc : Scenario) (me : Side) (k : KeptSite) (node : Running) (c : Coming) (s : Site) → Stands sc me k s → length k.times ≡ 16
+    → IsSameNode k.node node → c.from < count_of (other me) sc.sizes → IsCore node (arrive sc.sizes me s.core c.from c.bytes)
+    → Stands sc me (record { node = node; runs = k.runs; times = slice_set k.times c.from c.time }) (taken_in sc me c s)
+takes sc me k node c s is all same there core = record {
+  sizes = same.sizes ∙ is.sizes;
+  plan = same.plan ∙ is.plan;
+  core = core;
+  runs = is.runs;
+  together = arrive-together sc.sizes me s.core s.got c there is.together;
+  times = times-more k.times s.got c all is.times;
+}
+
+-- once the ticks up to its stamp have passed
+pub passed : (sc : Scenario) (me : Side) (k : KeptSite) (node : Running) (stamp : ℕ) (s : Site) → Stands sc me k s → IsSameNode k.node node
+    → IsCore node (pass_to stamp s.core) → Stands sc me (record k { node = node }) (record s { core = pass_to stamp s.core })
+passed sc me k node stamp s is same core =
+    let later : s.core.had ≤ (pass_to stamp s.core).had = omega arith in
     record {
       sizes = same.sizes ∙ is.sizes;
       plan = same.plan ∙ is.plan;
-      core = subst (λ t. IsCore node (arrive sc.sizes me (pass_to t s.core) c.from c.bytes)) stamp_is core;
+      core = core;
       runs = is.runs;
-      together = arrive-together sc.sizes me d s.got c there (λ below. is.together (omega (arith, below, passed)));
-      times = times-more k.times s.got c all is.times;
+      together = λ below. is.together (omega (arith, below, later));
+      times = is.times;
     }
+
+pub arrived : (sc : Scenario) (me : Side) (k : KeptSite) (c : Coming) (place stamp i : ℕ) (s : Site) → stamp ≡ stamp_of (clock_of sc me i) c.time
+    → Stands sc me k (taken_in sc me c (record s { core = pass_to stamp s.core })) → Stands sc me k (after_arrival sc me i place c s)
+unfolding after_arrival
+arrived sc me k c place stamp i s stamp_is is =
+    let at : Stands sc me k (taken_in sc me c (record s { core = pass_to (stamp_of (clock_of sc me i) c.time) s.core })) =
+    subst (λ t. Stands sc me k (taken_in sc me c (record s { core = pass_to t s.core }))) stamp_is is in
+    record { sizes = at.sizes; plan = at.plan; core = at.core; runs = at.runs; together = at.together; times = at.times }
 
 -- Ticks.
 

@@ -1,7 +1,7 @@
 -- Which site of a world is stood for.
-use Rattle.std.specs.Prelude.{ℕ, ◌≡◌, ◌<◌, ◌^◌, Bool, true, Option, Some, None, List, [], ◌∷◌, map, slice_index}
+use Rattle.std.specs.Prelude.{ℕ, ◌≡◌, ◌<◌, ◌^◌, Bool, true, Option, Some, None, List, [], ◌∷◌, ◌++◌, length, map, slice_index}
 use Rattle.rb_base.specs.Nodes.{Side}
-use Rattle.rb_rules.specs.Core.{Act}
+use Rattle.rb_rules.specs.Core.{Act, arrive, of_source}
 use Rattle.rb_rules.specs.Goodness.{Scenario, is_good}
 use Rattle.rb_rules.specs.Hearing.{Coming, Span}
 use Rattle.rb_rules.specs.Ports.{PortState}
@@ -35,6 +35,25 @@ pub record Stands (sc : Scenario) (me : Side) (k : KeptSite) (s : Site) : Type 0
   pub runs : k.runs ≡ s.runs
   pub together : s.core.had < 2 ^ 31 → ComeTogether s.core.inbox s.got
   pub times : HoldsTimes k.times s.got
+
+-- the site after an arrival that is taken in before its stamp is known: it is stamped with the next tick, and is still pending
+abbrev pub taken_in : Scenario → Side → Coming → Site → Site
+taken_in sc me c s = record s { core = arrive sc.sizes me s.core c.from c.bytes; got = s.got ++ c ∷ [] }
+
+-- what came of a source, as two nodes have it, is alike: nothing, one message with the same bytes and the same stamp, or more than one
+pub data AreAlike (xs ys : List Arrival) : Type 0 where
+  Nothing : xs ≡ [] → ys ≡ [] → AreAlike xs ys
+  Single : (x y : Arrival) → xs ≡ x ∷ [] → ys ≡ y ∷ [] → y.bytes ≡ x.bytes → y.stamp ≡ x.stamp → AreAlike xs ys
+  Several : 1 < length xs → 1 < length ys → AreAlike xs ys
+
+-- a site t is in the state of s, and has heard the like of each source: what is kept of s can't tell them apart
+pub record IsHeardAlike (s t : Site) : Type 0 where
+  pub state : t.core.state ≡ s.core.state
+  pub had : t.core.had ≡ s.core.had
+  pub runs : t.runs ≡ s.runs
+  pub inbox : (j : ℕ) → j < 16 → AreAlike (of_source s.core.inbox j) (of_source t.core.inbox j)
+  pub got : (j : ℕ) → j < 16 → (c : Coming) → coming_from t.got j ≡ c ∷ [] → coming_from s.got j ≡ c ∷ []
+  pub together : t.core.had < 2 ^ 31 → ComeTogether t.core.inbox t.got
 
 -- the site after a tick that gave this, before the node goes on to the next
 abbrev pub after_tick : Scenario → List PortState → Side → ℕ → Act → Site → Site

@@ -13,7 +13,7 @@ ghost use Rattle.rb_node.specs.Acts.{IsSendable, span_in};
 ghost use Rattle.rb_node.specs.Cores.{IsCore, IsSameNode, passing_end};
 ghost use Rattle.rb_node.specs.Wants.{want_for};
 ghost use Rattle.rb_slot.specs.Engines.{nothing_shown};
-ghost use Rattle.rb_site.specs.Sites.{KeptSite, Stands, goes_on, number_of};
+ghost use Rattle.rb_site.specs.Sites.{KeptSite, Stands, goes_on, number_of, taken_in};
 ghost use Rattle.rb_site.specs.Tells.{IsTicked};
 
 use rb_base::{Kind, NodeName};
@@ -212,6 +212,23 @@ impl<K: Kind> Site<K> {
         let near = self.node.next_tick().unwrap_or(LAST_TICK);
         let stamp = clock.first_near(time, near);
         pass_to(&mut self.node, stamp);
+        self.take_in(time, from, bytes);
+    }
+
+    /// A message or other bytes come to the node from a source at a reference time, and no tick passes before them: they have the
+    /// stamp of its next tick, and not their own. It is for a node whose next busy tick depends on no stamp.
+    #[inline(always)]
+    pub fn take_in(&mut self, time: u64, from: u8, bytes: &[u8])
+        requires source { from < count_of (other (side_of K.CODE)) self.old.node.seat.sizes }
+        ensures stands { (sc : Scenario) (s : WorldSite) → Stands sc (side_of K.CODE) self.old s
+            → Stands sc (side_of K.CODE) self.new
+            (taken_in sc (side_of K.CODE) (record { time = time; from = from; bytes = bytes.now }) s) }
+        ensures rest { self.new ≡ record self.old {
+          node = record self.old.node { inbox = self.new.node.inbox };
+          times = slice_set self.old.times from time;
+        } }
+        ensures same { IsSameNode self.old.node self.new.node }
+    {
         self.node.arrive(from, bytes);
         keep_time(&mut self.times, from, time);
     }
