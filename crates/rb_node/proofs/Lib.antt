@@ -9,4 +9,4 @@ pub mod Turning
 pub mod Acting
 pub mod Numbering
 pub mod Going
-mod Ending
+pub mod Ending
