@@ -1,5 +1,5 @@
 -- Where all senders are known, something is ready at each node at which anything is pending.
-use Rattle.std.proofs.Common.{◌≡◌, ℕ, ◌<◌, ◌≤◌, ◌==◌, ◌&&◌, min, nat_le, nat_lt, Bool, true, false, Option, Some, None, List, [], ◌∷◌, ◌++◌, length, map, take, slice_get, refl, sym, ap, IsTrue, ◌↔◌, ◌+◌, ◌∙◌, subst, arith, inl, inr}
+use Rattle.std.proofs.Common.{◌≡◌, ℕ, ◌<◌, ◌≤◌, ◌==◌, ◌&&◌, min, nat_le, nat_lt, Bool, true, false, Option, Some, None, List, [], ◌∷◌, ◌++◌, length, map, filter, cond, take, slice_get, refl, sym, ap, IsTrue, ◌↔◌, ◌+◌, ◌∙◌, subst, arith, inl, inr}
 use Rattle.std.specs.Prelude.{All, option_to_list, unwrap_or}
 use Rattle.std.proofs.lemmas.Bool.{cases_lt}
 use Rattle.std.proofs.lemmas.Bool.Decides.{nat_tests}
@@ -12,7 +12,7 @@ use Rattle.rb_rules.specs.Goodness.{Scenario}
 use Rattle.rb_rules.specs.Hearing.{Coming}
 use Rattle.rb_rules.specs.WorldStep.{World, least}
 use Rattle.rb_queue.specs.Scanning.{is_between}
-use Rattle.rb_queue.specs.Waiting.{HasLane, Held, Ready, arrivals_at, empty_lane, head_of, lane_of, ready_from, ready_of, tick_at, unless_any, with_arrival, with_lane, without_found, without_ready}
+use Rattle.rb_queue.specs.Waiting.{HasLane, Held, Ready, arrivals_at, empty_lane, head_of, lane_of, ready_from, ready_of, tick_at, unless_any, with_arrival, with_lane, without_before, without_found, without_ready}
 use Rattle.rb_queue.specs.Waiting.Ready.{Comes, Ticks}
 use Rattle.rb_queue.proofs.Sources.{count_arrivals}
 use Rattle.rb_agenda.specs.declared.scan.Front.{Front}
@@ -48,6 +48,23 @@ known-less lane place is = go (slice_get (ready_of lane) place)
     go None = is
     go (Some (Comes n c)) = all-others (λ (c : Coming). c.from ≤ 255) lane.arrivals n is
     go (Some Ticks) = is
+
+pub known-left : (lane : Held) (until : ℕ) → IsKnown lane → IsKnown (without_before until lane)
+known-left lane until is = go lane.arrivals is
+  where
+    Sent : Coming → Type 0
+    Sent c = c.from ≤ 255
+
+    later : Coming → Bool
+    later c = nat_le until c.time
+
+    at : (c : Coming) (cs : List Coming) → Sent c → All Sent (filter later cs) → (b : Bool) → All Sent (cond b (c ∷ filter later cs) (filter later cs))
+    at c cs one rest false = rest
+    at c cs one rest true = All-cons Sent c (filter later cs) one rest
+
+    go : (cs : List Coming) → All Sent cs → All Sent (filter later cs)
+    go [] all = all
+    go (c ∷ cs) all = at c cs (All-head Sent c cs all) (go cs (All-tail Sent c cs all)) (later c)
 
 pub known-empty : (sizes : Sizes) (lanes : Each Held) (room : ℕ) → lanes ≡ each_of sizes (λ side i. empty_lane room) → AreKnown lanes
 known-empty sizes lanes room is =

@@ -7,7 +7,7 @@ ghost use Rattle.rb_rules.specs.Book.{Each, each_of};
 ghost use Rattle.rb_rules.specs.Goodness.{Scenario};
 ghost use Rattle.rb_rules.specs.Links.{name_of};
 ghost use Rattle.rb_rules.specs.WorldStep.{Site, World};
-ghost use Rattle.rb_queue.specs.Waiting.{HasLane, IsFirstBefore, empty_lane, lane_of, ready_event, ready_of, spare_of, with_arrival, with_lane, with_tick, without_events, without_place, without_tick};
+ghost use Rattle.rb_queue.specs.Waiting.{HasLane, IsFirstBefore, empty_lane, lane_of, ready_event, ready_of, spare_of, with_arrival, with_lane, with_tick, without_before, without_events, without_place, without_tick};
 ghost use Rattle.rb_agenda.specs.Agenda.{IsDue, IsFirstAhead, IsFirstAt, IsFirstDue, StandsAt, Takes, TakesDue, due_now, first_tick_time, first_time, how_many};
 ghost use Rattle.rb_agenda.specs.Holding.{HoldsSites};
 
@@ -253,6 +253,25 @@ impl Agenda {
             &self.lanes,
             node,
         );
+    }
+
+    /// The arrivals of the node, in the order of pushing.
+    #[inline(always)]
+    pub fn waiting(&self, node: NodeName) -> &[Arrival]
+        requires in_shape { HasLane self.now node }
+        ensures value { result.now ≡ (lane_of self.now node).arrivals }
+    {
+        self.lanes.waiting(node)
+    }
+
+    /// Drops the arrivals of the node that are due before this time, and nothing else. The others stay in the order of pushing.
+    #[inline(always)]
+    pub fn drop_before(&mut self, node: NodeName, until: u64)
+        requires in_shape { HasLane self.old node }
+        ensures after { self.new ≡ with_lane node (without_before until (lane_of self.old node)) self.old }
+    {
+        self.lanes.drop_before(node, until);
+        self.stale = true;
     }
 
     /// The time of the node's tick, in reference units, if one is pending.

@@ -1,7 +1,7 @@
 //! The lanes of a run.
 ghost use Rattle.std.specs.Prelude.{◌≡◌, ◌+◌, ◌<◌, ◌≤◌, length, slice_get, IfOk, Some};
 ghost use Rattle.rb_rules.specs.Book.{each_of};
-ghost use Rattle.rb_queue.specs.Waiting.{HasLane, IsFirstBefore, empty_lane, head_of, lane_of, ready_event, ready_of, spare_of, with_arrival, with_lane, with_tick, without_events, without_place, without_ready, without_tick};
+ghost use Rattle.rb_queue.specs.Waiting.{HasLane, IsFirstBefore, empty_lane, head_of, lane_of, ready_event, ready_of, spare_of, with_arrival, with_lane, with_tick, without_before, without_events, without_place, without_ready, without_tick};
 
 use arrayvec::ArrayVec;
 use rb_base::{Event, NodeName, OutOfMemory, Shape};
@@ -129,6 +129,22 @@ impl RunLanes {
         ensures after { self.new ≡ with_lane node (without_place place (lane_of self.old node)) self.old }
     {
         self.all.drop_at(node, place);
+    }
+
+    #[inline(always)]
+    pub(crate) fn waiting(&self, node: NodeName) -> &[Arrival]
+        requires in_shape { HasLane self.now node }
+        ensures value { result.now ≡ (lane_of self.now node).arrivals }
+    {
+        self.all.waiting(node)
+    }
+
+    #[inline(always)]
+    pub(crate) fn drop_before(&mut self, node: NodeName, until: u64)
+        requires in_shape { HasLane self.old node }
+        ensures after { self.new ≡ with_lane node (without_before until (lane_of self.old node)) self.old }
+    {
+        self.all.drop_before(node, until);
     }
 
     #[inline(always)]

@@ -1,6 +1,7 @@
 pub mod Sources
 pub mod First
 pub mod Sorted
+pub mod Later
 pub mod Readiness
 pub mod EmptyQueues
 pub mod Besides

@@ -1,5 +1,5 @@
 -- Pending events by node: which is the least time at a node, and which events are ready then.
-use Rattle.std.specs.Prelude.{ℕ, ◌≡◌, ◌+◌, ◌-◌, ◌<◌, ◌≤◌, ◌==◌, ◌&&◌, ◌⊎◌, Bool, true, false, Option, Some, None, option_map, option_to_list, unwrap_or, List, [], ◌∷◌, ◌++◌, filter, flat_map, length, map, remove, slice_get, slice_set}
+use Rattle.std.specs.Prelude.{ℕ, ◌≡◌, ◌+◌, ◌-◌, ◌<◌, ◌≤◌, ◌==◌, ◌&&◌, ◌⊎◌, nat_le, Bool, true, false, Option, Some, None, option_map, option_to_list, unwrap_or, List, [], ◌∷◌, ◌++◌, filter, flat_map, length, map, remove, slice_get, slice_set}
 use Rattle.std.specs.List.{enumerate_from}
 use Rattle.rb_base.specs.Counting.{numbers}
 use Rattle.rb_base.specs.declared.event.Event.{Event}
@@ -104,6 +104,10 @@ ready_event name i lane = option_map (event_with name) (slice_get (ready_of lane
 -- the arrival at this place is taken out, and no other
 abbrev pub without_place : ℕ → Held → Held
 without_place place lane = record lane { arrivals = remove lane.arrivals place }
+
+-- what comes before this time is taken out, and no other
+abbrev pub without_before : ℕ → Held → Held
+without_before until lane = record lane { arrivals = filter (λ c. nat_le until c.time) lane.arrivals }
 
 -- the tick is taken out
 abbrev pub without_tick : Held → Held

@@ -1,12 +1,13 @@
 //! The pending events of one node.
-ghost use Rattle.std.specs.Prelude.{◌≡◌, ◌+◌, ◌-◌, ◌<◌, ◌≤◌, drop, length, Some, IfOk, slice_get, IsNone, IsTrue, ◌↔◌, vec_capacity};
-ghost use Rattle.rb_queue.specs.Waiting.{IsFirstBefore, IsIdle, empty_lane, event_with, head_of, ready_event, ready_of, spare_of, with_arrival, with_tick, without_events, without_place, without_ready, without_tick};
+ghost use Rattle.std.specs.Prelude.{◌≡◌, ◌+◌, ◌-◌, ◌<◌, ◌≤◌, drop, filter, length, nat_le, Some, IfOk, slice_get, IsNone, IsTrue, ◌↔◌, vec_capacity};
+ghost use Rattle.rb_queue.specs.Waiting.{IsFirstBefore, IsIdle, empty_lane, event_with, head_of, ready_event, ready_of, spare_of, with_arrival, with_tick, without_before, without_events, without_place, without_ready, without_tick};
 ghost use Rattle.rb_queue.specs.Waiting.Ready.{Comes, Ticks};
 ghost use Rattle.rb_queue.specs.Scanning.{HasFirst, IsReadyAt};
 
 use crate::arrival::Arrival;
 use crate::scan::{
-    count, count_ready, first_of, first_sorted, is_sooner, is_sorted_with, least_time, place_of,
+    are_before, count, count_ready, first_of, first_sorted, is_sooner, is_sorted_with, least_time,
+    place_of,
 };
 use rb_base::{Event, EventKind, NodeName, OutOfMemory};
 use std::alloc::Global;
@@ -51,6 +52,26 @@ fn make_room(kept: &mut Vec<Arrival>, start: usize, room: usize) -> usize
     }
     kept.drain(..start);
     0
+}
+
+// Those before the start are taken out.
+fn drop_gone(kept: &mut Vec<Arrival>, start: usize)
+    requires { start ≤ length kept.old.items }
+    ensures left { kept.new.items ≡ drop start kept.old.items }
+    ensures capacity { vec_capacity kept.new ≡ vec_capacity kept.old }
+{
+    kept.drain(..start);
+}
+
+// Of those from the start on the ones stay that don't come before this time, and no others.
+#[inline(never)]
+fn keep_later(kept: &mut Vec<Arrival>, start: usize, until: u64)
+    requires { start ≤ length kept.old.items }
+    ensures left { kept.new.items ≡ filter (λ c. nat_le until c.time) (drop start kept.old.items) }
+    ensures capacity { vec_capacity kept.new ≡ vec_capacity kept.old }
+{
+    drop_gone(kept, start);
+    kept.retain(|arrival| arrival.time() >= until);
 }
 
 // The tick, as an event of the node.
@@ -262,6 +283,21 @@ impl Lane {
         }
         let _ = self.kept.remove(self.start + place);
         self.sorted = false;
+    }
+
+    // Mostly all come before.
+    #[inline(always)]
+    pub(crate) fn drop_before(&mut self, until: u64)
+        ensures { self.new ≡ without_before until self.old }
+    {
+        if are_before(self.waiting(), until) {
+            self.kept.clear();
+            self.start = 0;
+            self.sorted = true;
+            return;
+        }
+        keep_later(&mut self.kept, self.start, until);
+        self.start = 0;
     }
 
     #[inline(always)]

@@ -2,7 +2,7 @@
 ghost use Rattle.std.specs.Prelude.{◌≡◌, ◌+◌, ◌<◌, ◌≤◌, [], ◌∷◌, ◌++◌, length, map, slice_get, Some, IfOk, IsNone, ◌↔◌};
 ghost use Rattle.rb_base.specs.Counting.{numbers};
 ghost use Rattle.rb_rules.specs.Book.{each_of};
-ghost use Rattle.rb_queue.specs.Waiting.{IsFirstBefore, with_arrival, with_tick, without_place, without_tick};
+ghost use Rattle.rb_queue.specs.Waiting.{IsFirstBefore, with_arrival, with_tick, without_before, without_place, without_tick};
 ghost use Rattle.rb_queue.specs.Queued.{HasQueue, IsEmpty, IsLastOf, emptied, empty_queue, least_time_of, queue_of, room_left, takeable_event, takeable_of, with_lane_at, with_pushed, with_queue, without_takeable};
 
 use crate::arrival::Arrival;
@@ -192,6 +192,27 @@ impl Lanes {
         match node {
             NodeName::Biu(i) => self.bius[usize::from(i)].drop_at(place),
             NodeName::Rmu(i) => self.rmus[usize::from(i)].drop_at(place),
+        }
+    }
+
+    /// The arrivals of the node's lane, in the order of pushing.
+    #[inline(always)]
+    pub fn waiting(&self, node: NodeName) -> &[Arrival]
+        requires in_shape { HasQueue self.now node }
+        ensures value { result.now ≡ (queue_of self.now node).lane.arrivals }
+    {
+        self.queue(node).waiting()
+    }
+
+    /// Drops the arrivals of the node's lane that are due before this time, and nothing else. The others stay in the order of pushing.
+    #[inline(always)]
+    pub fn drop_before(&mut self, node: NodeName, until: u64)
+        requires in_shape { HasQueue self.old node }
+        ensures after { self.new ≡ with_lane_at node (without_before until (queue_of self.old node).lane) self.old }
+    {
+        match node {
+            NodeName::Biu(i) => self.bius[usize::from(i)].drop_before(until),
+            NodeName::Rmu(i) => self.rmus[usize::from(i)].drop_before(until),
         }
     }
 

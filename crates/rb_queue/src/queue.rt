@@ -1,6 +1,6 @@
 //! All that is pending at one node.
 ghost use Rattle.std.specs.Prelude.{◌≡◌, ◌+◌, ◌<◌, ◌≤◌, length, Some, IfOk, slice_get, IsNone, ◌↔◌};
-ghost use Rattle.rb_queue.specs.Waiting.{IsFirstBefore, spare_of, with_arrival, with_event, with_tick, without_place, without_tick};
+ghost use Rattle.rb_queue.specs.Waiting.{IsFirstBefore, spare_of, with_arrival, with_event, with_tick, without_before, without_place, without_tick};
 ghost use Rattle.rb_queue.specs.Queued.{IsEmpty, IsLastOf, IsSent, emptied, empty_queue, fits_lane, has_place, least_time_of, room_left, takeable_event, takeable_of, with_held, with_pushed, without_takeable};
 ghost use Rattle.rb_queue.specs.Spots.{IsSpot};
 
@@ -207,6 +207,20 @@ impl Queue {
         ensures { self.new ≡ with_held (without_place place self.old.lane) self.old }
     {
         self.lane.drop_at(place);
+    }
+
+    #[inline(always)]
+    pub(crate) fn waiting(&self) -> &[Arrival]
+        ensures { result.now ≡ self.now.lane.arrivals }
+    {
+        self.lane.waiting()
+    }
+
+    #[inline(always)]
+    pub(crate) fn drop_before(&mut self, until: u64)
+        ensures { self.new ≡ with_held (without_before until self.old.lane) self.old }
+    {
+        self.lane.drop_before(until);
     }
 
     #[inline(always)]

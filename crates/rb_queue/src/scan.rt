@@ -1,5 +1,6 @@
 //! What is looked up among the arrivals of one lane.
-ghost use Rattle.std.specs.Prelude.{◌≡◌, ℕ, ◌+◌, ◌<◌, ◌≤◌, ◌++◌, ◌∷◌, [], length, map, true, MatchResult, Option, option_to_list};
+ghost use Rattle.std.specs.Prelude.{◌≡◌, ℕ, ◌+◌, ◌<◌, ◌≤◌, ◌++◌, ◌∷◌, [], length, map, nat_lt, true, MatchResult, Option, option_to_list};
+ghost use Rattle.std.specs.List.{list_all};
 ghost use Rattle.rb_base.specs.Counting.{count_if};
 ghost use Rattle.rb_rules.specs.WorldStep.{least};
 ghost use Rattle.rb_queue.specs.Waiting.{arrivals_at, coming_at, comes, tick_at, unless_any};
@@ -47,6 +48,14 @@ pub(crate) fn first_sorted(arrivals: &[Arrival]) -> usize
     }
     let _source = arrivals[0].source();
     0
+}
+
+// Whether all of them come before this time.
+#[inline(always)]
+pub(crate) fn are_before(arrivals: &[Arrival], until: u64) -> bool
+    ensures { result ≡ list_all (λ c. nat_lt c.time until) arrivals.now }
+{
+    arrivals.iter().all(|arrival| arrival.time() < until)
 }
 
 // Whether they are sorted with one more behind them.
