@@ -91,7 +91,7 @@ stopped sc kept scene until w v h me i s there stops =
     let n = node-of sc kept scene until w v h me i s there in
     (n.node.awaits.tick_of_none stops, n.node.awaits.nothing stops)
 
-few : (sc : Scenario) (kept : Each KeptSite) (scene : Scene) (until : Side → ℕ → ℕ) (w v : World) → Trails sc kept scene until w v → (me : Side) (i : ℕ) (s : Site)
+pub few : (sc : Scenario) (kept : Each KeptSite) (scene : Scene) (until : Side → ℕ → ℕ) (w v : World) → Trails sc kept scene until w v → (me : Side) (i : ℕ) (s : Site)
     → slice_get (of_kind me v.sites) i ≡ Some s → length (times_of s) ≤ most_pending sc me
 few sc kept scene until w v h = behind-few sc h.lawful h.reached.choices until v (is-ahead sc kept scene until w v h) (stopped sc kept scene until w v h)
 
@@ -116,12 +116,12 @@ may-sweep-own sc kept scene until w v me i a h n =
       };
     }
 
-tick-gone : (a : Timed) (o : Option Timed) → o ≡ Some a → tick_from (a.time + 1) o ≡ None
+pub tick-gone : (a : Timed) (o : Option Timed) → o ≡ Some a → tick_from (a.time + 1) o ≡ None
 tick-gone a o e =
     let lt : a.time < a.time + 1 = omega arith in
     ap (tick_from (a.time + 1)) e ∙ ap (λ b. elim b as (λ _. Option Timed) [ true ↦ None | false ↦ Some a ]) (lt-ltb a.time (a.time + 1) lt)
 
-cleared-bare : (sc : Scenario) (me : Side) (i : ℕ) (a : Timed) (v : World) → (first : IsFirstTick v me i a) → at_node me i (cleared sc me i (a.time + 1)) v.sites ≡ at_node me i (bare sc me i a) v.sites
+pub cleared-bare : (sc : Scenario) (me : Side) (i : ℕ) (a : Timed) (v : World) → (first : IsFirstTick v me i a) → at_node me i (cleared sc me i (a.time + 1)) v.sites ≡ at_node me i (bare sc me i a) v.sites
 cleared-bare sc me i a v first =
     at-same me i (cleared sc me i (a.time + 1)) (bare sc me i a) v.sites
     (λ s there.
@@ -129,7 +129,7 @@ cleared-bare sc me i a v first =
     let gone : tick_from (a.time + 1) s.ahead ≡ None = tick-gone a s.ahead (sym (ap (λ (s : Site). s.ahead) same) ∙ first.pends) in
     ap (λ (o : Option Timed). record (swept sc me i (a.time + 1) s) { ahead = o }) gone)
 
-bare-pends : (sc : Scenario) (me : Side) (i : ℕ) (a : Timed) → Pends (bare sc me i a)
+pub bare-pends : (sc : Scenario) (me : Side) (i : ℕ) (a : Timed) → Pends (bare sc me i a)
 bare-pends sc me i a = record {
   row = λ s. ap (λ (s : Site). s.row) (sweeps-keep sc me i (a.time + 1) s).is;
   begun = λ s. ap (λ (s : Site). s.begun) (sweeps-keep sc me i (a.time + 1) s).is;
@@ -149,7 +149,7 @@ sweep-fewer sc me i until s =
     subst (λ (z : Site). length z.coming ≤ length s.coming) (sym (sweep-takes sc me i until s p e lt))
     (let less = come-fewer sc me i s p e in omega (arith, rest, less))) s
 
-bare-few : (sc : Scenario) (me : Side) (i : ℕ) (a : Timed) (most : ℕ) (s : Site) → length (times_of s) ≤ most → length (times_of (bare sc me i a s)) ≤ most
+pub bare-few : (sc : Scenario) (me : Side) (i : ℕ) (a : Timed) (most : ℕ) (s : Site) → length (times_of s) ≤ most → length (times_of (bare sc me i a s)) ≤ most
 bare-few sc me i a most s all =
     let less = sweep-fewer sc me i (a.time + 1) s in
     let own = times-many (bare sc me i a s) in
@@ -172,7 +172,7 @@ bare-few sc me i a most s all =
 
 -- It may take the tick.
 
-ticks-there : (sc : Scenario) (kept : Each KeptSite) (scene : Scene) (until : Side → ℕ → ℕ) (w v : World) (me : Side) (i : ℕ) (a : Timed) → (h : BehindTick sc kept scene until w v me i a)
+pub ticks-there : (sc : Scenario) (kept : Each KeptSite) (scene : Scene) (until : Side → ℕ → ℕ) (w v : World) (me : Side) (i : ℕ) (a : Timed) → (h : BehindTick sc kept scene until w v me i a)
     → i < count_of me sc.sizes → TicksNow sc me i a (swept sc me i (a.time + 1) h.first.node)
 ticks-there sc kept scene until w v me i a h within =
     let its = in-time sc kept scene until w v me i a h in
@@ -236,7 +236,7 @@ may-tick-behind sc kept scene until w v me i a site lanes h sweeps =
 
 -- It has taken it.
 
-set-again : {X : Type 0} (xs : List X) (i : ℕ) (x y : X) → slice_set (slice_set xs i x) i y ≡ slice_set xs i y
+pub set-again : {X : Type 0} (xs : List X) (i : ℕ) (x y : X) → slice_set (slice_set xs i x) i y ≡ slice_set xs i y
 set-again [] i x y = refl
 set-again (z ∷ xs) zero x y = refl
 set-again (z ∷ xs) (suc i) x y = ap (λ l. z ∷ l) (set-again xs i x y)

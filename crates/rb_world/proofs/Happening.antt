@@ -79,7 +79,7 @@ sent-node sc me j frame m side n k s is = by (same_side side (other me)) s.runs 
     by true false e = is
     by false b e = is
 
-sent-nodes : (sc : Scenario) (me : Side) (j frame k : ℕ) (o : Option Message) (side : Side) (kept : List KeptSite) (sites : Each Site) → AreNodes sc side kept (of_kind side sites)
+pub sent-nodes : (sc : Scenario) (me : Side) (j frame k : ℕ) (o : Option Message) (side : Side) (kept : List KeptSite) (sites : Each Site) → AreNodes sc side kept (of_kind side sites)
     → AreNodes sc side kept (of_kind side (with_message sc me j frame k o sites))
 sent-nodes sc me j frame k None side kept sites are = are
 sent-nodes sc me j frame k (Some m) side kept sites are = record {

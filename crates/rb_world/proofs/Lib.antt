@@ -41,6 +41,9 @@ pub mod OneTaken
 pub mod Observed
 pub mod SweptTold
 pub mod Behind
+pub mod Unstamped
+pub mod TakenIn
+pub mod Readied
 pub mod GoneOn
 pub mod CaughtUp
 pub mod Along

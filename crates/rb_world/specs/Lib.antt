@@ -8,5 +8,6 @@ pub mod Driving
 pub mod Openings
 pub mod Showing
 pub mod Trailing
+pub mod Unstamped
 pub mod Sweeping
 pub mod Observing

@@ -1,18 +1,20 @@
 //! How arrivals that were left behind are taken.
-ghost use Rattle.std.specs.Prelude.{◌≡◌, [], ℕ, ◌+◌, ◌<◌, ◌≤◌, IfSome, List, Some, if◌then◌else◌, length};
-ghost use Rattle.rb_base.specs.Nodes.{Side, side_of};
+ghost use Rattle.std.specs.Prelude.{◌≡◌, [], ◌∷◌, ℕ, ◌+◌, ◌<◌, ◌≤◌, All, IfSome, List, Some, if◌then◌else◌, length};
+ghost use Rattle.rb_base.specs.Nodes.{Side, other, side_of};
 ghost use Rattle.rb_rules.specs.Book.{Each};
+ghost use Rattle.rb_rules.specs.Goodness.{Scenario};
 ghost use Rattle.rb_rules.specs.Lawful.{IsNodeOf, kind_of};
 ghost use Rattle.rb_rules.specs.Links.{name_of, same_node};
 ghost use Rattle.rb_rules.specs.Slots.{count_of};
 ghost use Rattle.rb_rules.specs.WorldStep.{Site as WorldSite, World as RunWorld};
-ghost use Rattle.rb_queue.specs.Waiting.{HasLane, Held};
-ghost use Rattle.rb_site.specs.Sites.{KeptSite, number_of};
+ghost use Rattle.rb_queue.specs.Waiting.{HasLane, Held, lane_of, with_lane, without_before, without_tick};
+ghost use Rattle.rb_site.specs.Sites.{KeptSite, Stands as StandsFor, number_of};
 ghost use Rattle.rb_sweep.specs.AheadOf.{until_tick};
 ghost use Rattle.rb_sweep.specs.Told.{heard};
 ghost use Rattle.rb_traffic.specs.Arriving.{number_of as number_in};
 ghost use Rattle.rb_world.specs.Observing.{WasTold, left_below, left_for};
 ghost use Rattle.rb_world.specs.Trailing.{HasCaughtUp, HaveCaughtUp, MayCatchUp, MaySweep, Sweeps, Trails, until_from};
+ghost use Rattle.rb_world.specs.Unstamped.{due_before, taken_all};
 
 use crate::bus::Bus;
 use crate::observing::{Observer, is_observed, tell_arrival};
@@ -20,6 +22,7 @@ use crate::scene::Scene;
 use crate::taking::hear_at;
 use rb_agenda::Agenda;
 use rb_base::{Biu, Kind, NodeName, Rmu};
+use rb_queue::Arrival;
 use rb_site::Site;
 
 /// What comes to the node before this time is taken, one arrival after another, and with it a tick of the node before then.
@@ -58,6 +61,43 @@ pub(crate) fn sweep<K: Kind>(
             }
         }
     }
+}
+
+// An arrival is taken in unstamped, if it comes before this time.
+#[inline(always)]
+fn take_in_before<K: Kind>(until: u64, arrival: &Arrival, site: &mut Site<K>)
+    requires sender { arrival.now.from < count_of (other (side_of K.CODE)) site.old.node.seat.sizes }
+    ensures stands { (sc : Scenario) (s : WorldSite) → StandsFor sc (side_of K.CODE) site.old s
+        → StandsFor sc (side_of K.CODE) site.new (taken_all sc (side_of K.CODE) (due_before until (arrival.now ∷ [])) s) }
+    ensures seat { site.new.node.seat ≡ site.old.node.seat }
+{
+    let time = arrival.time();
+    if time < until {
+        site.take_in(time, arrival.from(), arrival.bytes());
+    }
+}
+
+/// All that comes to the node before this time is taken in, unstamped and in the order of pushing. Neither that nor the node's tick is
+/// pending any more.
+#[inline(always)]
+pub(crate) fn take_in_all<K: Kind>(
+    node: NodeName,
+    until: u64,
+    site: &mut Site<K>,
+    agenda: &mut Agenda,
+)
+    requires lane { HasLane agenda.old node }
+    requires senders { All (λ c. c.from < count_of (other (side_of K.CODE)) site.old.node.seat.sizes) (lane_of agenda.old node).arrivals }
+    ensures stands { (sc : Scenario) (s : WorldSite) → StandsFor sc (side_of K.CODE) site.old s
+        → StandsFor sc (side_of K.CODE) site.new (taken_all sc (side_of K.CODE) (due_before until (lane_of agenda.old node).arrivals) s) }
+    ensures seat { site.new.node.seat ≡ site.old.node.seat }
+    ensures lanes { agenda.new ≡ with_lane node (without_tick (without_before until (lane_of agenda.old node))) agenda.old }
+{
+    for arrival in agenda.waiting(node) {
+        take_in_before(until, arrival, site);
+    }
+    agenda.drop_before(node, until);
+    agenda.take_tick(node);
 }
 
 // So with each arrival told to an observer before it is taken.

@@ -1,24 +1,58 @@
 //! How a run goes from tick to tick: arrivals are left behind until a tick of their node comes, or a record.
-ghost use Rattle.std.specs.Prelude.{◌≡◌, ℕ, ◌<◌, IfSome, Some, length};
+ghost use Rattle.std.specs.Prelude.{◌≡◌, ℕ, ◌<◌, IfSome, IsTrue, List, Some, false, length, slice_set};
 ghost use Rattle.rb_base.specs.Nodes.{Side, other, side_of};
 ghost use Rattle.rb_rules.specs.Book.{Each, of_kind};
 ghost use Rattle.rb_rules.specs.Lawful.{IsNodeOf};
-ghost use Rattle.rb_rules.specs.Links.{name_of};
+ghost use Rattle.rb_rules.specs.Links.{name_of, same_node};
 ghost use Rattle.rb_rules.specs.WorldStep.{Timed, World as RunWorld};
 ghost use Rattle.rb_book.specs.declared.turn.Turn.{Turn};
 ghost use Rattle.rb_site.specs.Sites.{KeptSite};
 ghost use Rattle.rb_world.specs.Observing.{AlongTold, ComesTold, ToldToRecord, WasTold, alone_for};
 ghost use Rattle.rb_world.specs.Trailing.{Along, BehindTick, Comes, ComesToRecord, GoesToTick, MayRun, MayTakeFirst, MayTickFirst, TakesFirst, TakesFirstAt, until_from};
+ghost use Rattle.rb_world.specs.Unstamped.{EndsExactly, MayTakeExactly};
 
 use crate::bus::Bus;
-use crate::observing::{Observer, tell_tick_for};
+use crate::observing::{Observer, is_observed, tell_tick_for};
 use crate::scene::Scene;
-use crate::sweeping::{catch_up, sweep_for};
+use crate::sweeping::{catch_up, sweep_for, take_in_all};
 use crate::taking::tick_at;
 use rb_base::{Biu, Kind, NodeName, Rmu};
 use rb_book::{Turn, Way};
 use rb_port::Apps;
 use rb_site::Site;
+
+// Whether the node, which is not the one that is observed, may take in unstamped what came to it before its next tick: that ends a window
+// of a slot before the sync slot, and gives the same for any stamps.
+#[inline(always)]
+fn needs_no_stamps<K: Kind>(node: NodeName, observed: Option<NodeName>, site: &Site<K>) -> bool
+    ensures other { IsTrue result → (name : NodeName) → observed ≡ Some name → same_node node name ≡ false }
+    ensures ends { IsTrue result → EndsExactly (side_of K.CODE) site.now.node }
+{
+    !is_observed(observed, node) && site.node().ends_exact_window()
+}
+
+// The node takes its tick, which comes at this time and needs no stamps. What came to it up to then is taken in first.
+#[inline(always)]
+fn take_exact_tick<K: Kind>(
+    bus: &Bus,
+    apps: &Apps,
+    node: NodeName,
+    i: u8,
+    time: u64,
+    site: &mut Site<K>,
+    scene: &mut Scene,
+)
+    requires name { node ≡ name_of (side_of K.CODE) i }
+    requires small { time < 18446744073709551615 }
+    requires may { (kept : Each KeptSite) × (until : Side → ℕ → ℕ) × (w : RunWorld) × (v : RunWorld) × (a : Timed) × (own : List KeptSite)
+        × MayTakeExactly bus.now kept scene.old until w v (side_of K.CODE) i a time own site.old }
+    ensures takes { (kept : Each KeptSite) (until : Side → ℕ → ℕ) (w v : RunWorld) (a : Timed) (own : List KeptSite)
+        → MayTakeExactly bus.now kept scene.old until w v (side_of K.CODE) i a time own site.old
+        → TakesFirst bus.now v (side_of K.CODE) i a (slice_set own i site.new) (of_kind (other (side_of K.CODE)) kept) scene.new }
+{
+    take_in_all(node, time + 1, site, &mut scene.agenda);
+    tick_at(bus, apps, node, i, site, scene);
+}
 
 // Node `i` of the kind is swept up to its tick, which comes at this time, and takes it. If it is the node that is observed, it is told first
 // what the node is given.
@@ -46,6 +80,10 @@ fn take_tick<K: Kind, T: Observer>(
         → WasTold T T.observes observer.old (alone_for bus.now v (side_of K.CODE) i a name) observer.new }
 {
     let site = &mut sites[usize::from(i)];
+    if needs_no_stamps(node, observed, site) {
+        take_exact_tick(bus, apps, node, i, time, site, scene);
+        return;
+    }
     sweep_for(
         bus,
         node,

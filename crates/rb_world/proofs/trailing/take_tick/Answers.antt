@@ -1,4 +1,4 @@
-use Rattle.std.proofs.Common.{◌≡◌, ◌+◌, Some, [], ◌∷◌, get_or, slice_get, sym, ap, subst, ◌∙◌, if◌then◌else◌}
+use Rattle.std.proofs.Common.{◌≡◌, ◌+◌, Some, false, [], ◌∷◌, ◌++◌, get_or, slice_get, refl, sym, ap, subst, ◌∙◌, if◌then◌else◌}
 use Rattle.std.specs.Prelude.{slice_set}
 use Rattle.rb_base.specs.Nodes.{other, side_of}
 use Rattle.rb_rules.specs.Book.{of_kind}
@@ -7,10 +7,11 @@ use Rattle.rb_rules.specs.WorldStep.Pending.{Tick}
 use Rattle.rb_agenda.specs.Holding.{without_waiting}
 use Rattle.rb_site.specs.Sites.{number_of}
 use Rattle.rb_sweep.specs.Told.{heard, telling}
-use Rattle.rb_world.specs.Observing.{WasTold}
+use Rattle.rb_world.specs.Observing.{WasTold, alone_for}
 use Rattle.rb_world.specs.Showing.{MayShowTick}
 use Rattle.rb_world.specs.Steps.{MayTick, Ticks, act_at, moved}
 use Rattle.rb_world.specs.Trailing.{MaySweep, Sweeps, TakesFirst, alone, bare}
+use Rattle.rb_world.specs.Unstamped.{MayTakeExactly}
 use Rattle.rb_world.proofs.Behind.{indexed, may-take, may-then, takes-first}
 use Rattle.rb_world.proofs.Observed.{was-both}
 use Rattle.rb_world.proofs.ToldOn.{alone-told, tick-shown}
@@ -155,3 +156,25 @@ returns-clause-told g c = λ name is kept until w v a m.
     subst (λ l. WasTold _ g.T.Observer.observes c.args.observer.now l c.tell_tick_for.new.observer)
     (alone-told sc v me c.args.i a m.at.first.node c.args.node name c.requires.name m.at.first.there)
     (was-both _ g.T.Observer.observes c.args.observer.now c.sweep_for.new.observer c.tell_tick_for.new.observer _ _ heard_it ticked)
+
+pub returns-then-needs_no_stamps-clause-takes : goal.returns-then-needs_no_stamps-clause-takes
+returns-then-needs_no_stamps-clause-takes g c = λ kept until w v a m.
+    let sc = c.args.bus.now in
+    let me = side_of g.K.Kind.CODE in
+    let sites = c.args.sites.now.items in
+    let site = c.index_mut-site.result.now in
+    let there : slice_get sites c.args.i ≡ Some site = indexed sites c.args.i site c.requires.within (c.index_mut-site.ensures.value ∙ ap (λ n. get_or sites n site) c.from.ensures) in
+    let may : MayTakeExactly sc kept c.args.scene.now until w v me c.args.i a c.args.time sites site = record { first = m; there = there; ends = c.if-needs_no_stamps.ensures.ends refl } in
+    subst (λ n. TakesFirst sc v me c.args.i a (slice_set sites n c.take_exact_tick.new.site) (of_kind (other me) kept) c.take_exact_tick.new.scene) (sym c.from.ensures)
+    (c.take_exact_tick.ensures.takes kept until w v a sites may)
+
+pub returns-then-needs_no_stamps-clause-told : goal.returns-then-needs_no_stamps-clause-told
+returns-then-needs_no_stamps-clause-told g c = λ name is kept until w v a m.
+    let sc = c.args.bus.now in
+    let me = side_of g.K.Kind.CODE in
+    let s = m.at.first.node in
+    let apart : same_node c.args.node name ≡ false = c.if-needs_no_stamps.ensures.other refl name is in
+    let nothing : alone_for sc v me c.args.i a name ≡ [] =
+    sym (alone-told sc v me c.args.i a s c.args.node name c.requires.name m.at.first.there)
+    ∙ ap (λ b. (if b then heard sc me c.args.i (a.time + 1) s else []) ++ (if b then telling sc v.ports me c.args.i (bare sc me c.args.i a s) (Tick a.tick) ∷ [] else [])) apart in
+    subst (λ l. WasTold _ g.T.Observer.observes c.args.observer.now l c.args.observer.now) (sym nothing) refl

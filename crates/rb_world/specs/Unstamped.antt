@@ -1,0 +1,45 @@
+-- A node before a tick that ends a window of a slot before the sync slot. What comes to it until then is taken in unstamped, in any order.
+use Rattle.std.specs.Prelude.{ℕ, ◌≡◌, ◌+◌, nat_lt, Some, List, [], ◌∷◌, filter, slice_get}
+use Rattle.rb_base.specs.Nodes.{Side}
+use Rattle.rb_rules.specs.Book.{Each}
+use Rattle.rb_rules.specs.Core.{Core}
+use Rattle.rb_rules.specs.Goodness.{Scenario}
+use Rattle.rb_rules.specs.Hearing.{Coming}
+use Rattle.rb_rules.specs.Links.{name_of}
+use Rattle.rb_rules.specs.WorldStep.{Site, Timed, World}
+use Rattle.rb_node.specs.Cores.{IsCore, Running, next_of}
+use Rattle.rb_node.specs.Ends.{EndsExactWindow}
+use Rattle.rb_queue.specs.Waiting.{Held, lane_of, with_lane, without_before, without_tick}
+use Rattle.rb_site.specs.Sites.{KeptSite, Stands as StandsFor, taken_in}
+use Rattle.rb_world.specs.Trailing.{MayTakeFirst, bare}
+use Rattle.rb_world.specs.declared.scene.Scene.{Scene}
+
+-- what comes before a time, in the order of the list
+abbrev pub due_before : ℕ → List Coming → List Coming
+due_before until cs = filter (λ c. nat_lt c.time until) cs
+
+-- the site after all of these were taken in
+abbrev pub taken_all : Scenario → Side → List Coming → Site → Site
+taken_all sc me [] s = s
+taken_all sc me (c ∷ cs) s = taken_all sc me cs (taken_in sc me c s)
+
+-- the site swept up to its tick and without it, but with this core
+abbrev pub bare_with : Scenario → Side → ℕ → Timed → Core → Site → Site
+bare_with sc me i a core s = record (bare sc me i a s) { core = core }
+
+-- Of a node, of which the one was kept, the other is kept now: all that came to it up to its tick was taken in, and nothing of it nor the tick
+-- is pending any more
+pub record TakenUp (sc : Scenario) (me : Side) (i : ℕ) (a : Timed) (held : Each Held) (before site : KeptSite) (lanes : Each Held) (s : Site) : Type 0 where
+  pub seat : site.node.seat ≡ before.node.seat
+  pub stands : StandsFor sc me site (taken_all sc me (due_before (a.time + 1) s.coming) s)
+  pub left : lanes ≡ with_lane (name_of me i) (without_tick (without_before (a.time + 1) (lane_of held (name_of me i)))) held
+
+-- whatever came to it, the next busy tick of the node ends a window of a slot before the sync slot
+abbrev pub EndsExactly : Side → Running → Type 0
+EndsExactly me n = (c : Core) (k : ℕ) → IsCore n c → next_of me n c ≡ Some k → EndsExactWindow n.seat.sizes n.seat.plan me c.state k
+
+-- the first tick of a world behind is the node's, and ends such a window
+pub record MayTakeExactly (sc : Scenario) (kept : Each KeptSite) (scene : Scene) (until : Side → ℕ → ℕ) (w v : World) (me : Side) (i : ℕ) (a : Timed) (time : ℕ) (own : List KeptSite) (site : KeptSite) : Type 0 where
+  pub first : MayTakeFirst sc kept scene until w v me i a time own
+  pub there : slice_get own i ≡ Some site
+  pub ends : EndsExactly me site.node
