@@ -4,6 +4,7 @@ pub mod Rows
 pub mod Sources
 pub mod Verdict
 pub mod Judged
+pub mod Steady
 pub mod Passing
 pub mod Due
 pub mod Noting

@@ -1,5 +1,5 @@
 -- What is kept of a run, and the world that it stands for.
-use Rattle.std.specs.Prelude.{ℕ, ◌≡◌, ◌-◌, ◌^◌, ◌<◌, ◌≤◌, ◌==◌, ◌&&◌, nat_lt, false, true, Option, Some, None, List, [], ◌∷◌, get_or, length, map, take, if◌then◌else◌}
+use Rattle.std.specs.Prelude.{ℕ, ◌≡◌, ◌+◌, ◌-◌, ◌^◌, ◌<◌, ◌≤◌, ◌==◌, ◌&&◌, nat_lt, false, true, Option, Some, None, List, [], ◌∷◌, get_or, length, map, take, if◌then◌else◌}
 use Rattle.rb_base.specs.Nodes.{Side, has, other}
 use Rattle.rb_base.specs.Nodes.Side.{Biu, Rmu}
 use Rattle.rb_base.specs.Sizes.{Sizes, IsShape, sync_slot_of}
@@ -9,7 +9,7 @@ use Rattle.rb_base.specs.declared.values.See.TheVariants.{Nothing}
 use Rattle.rb_rules.specs.declared.record.NodeLine.{NodeLine}
 use Rattle.rb_rules.specs.declared.record.PortLine.{PortLine}
 use Rattle.rb_rules.specs.declared.record.SlotLine.{SlotLine}
-use Rattle.rb_rules.specs.Book.{Each, Record, map_from, of_kind}
+use Rattle.rb_rules.specs.Book.{Each, Record, after_stage, map_from, of_kind}
 use Rattle.rb_rules.specs.Goodness.{Scenario, good_at, is_good}
 use Rattle.rb_rules.specs.Judging.{JudgedStage}
 use Rattle.rb_rules.specs.Slots.{count_of}
@@ -21,6 +21,7 @@ use Rattle.rb_book.specs.declared.ledger.Ledger.{Ledger}
 use Rattle.rb_book.specs.declared.milestone.Milestone.{Milestone}
 use Rattle.rb_book.specs.declared.milestone.Milestone.TheVariants.{Begin, Stage, End}
 use Rattle.rb_book.specs.declared.turn.Turn.{Turn}
+use Rattle.rb_book.specs.Grouping.{AwaitsGood}
 use Rattle.rb_book.specs.Records.{milestone_of, record_of}
 use Rattle.rb_book.specs.Telling.{begun_told, row_seeing, see_of, told_at}
 use Rattle.rb_book.specs.Waiting.{waiting_for}
@@ -126,8 +127,8 @@ pub record TurnsTo (before after : Ledger) (m : Milestone) : Type 0 where
   pub good_bius : (sc : Scenario) → before.onsets ≡ faults_of sc → after.bius.good ≡ good_for sc Biu m
   pub good_rmus : (sc : Scenario) → before.onsets ≡ faults_of sc → after.rmus.good ≡ good_for sc Rmu m
 
--- and the same nodes are good there
-pub record StaysUntil (before after : Ledger) (m : Milestone) : Type 0 where
+-- a stage is the upcoming one, and the same nodes are good there as at the one before
+pub record StaysUntil (before after : Ledger) (next : Place) : Type 0 where
   pub shape : after.shape ≡ before.shape
   pub frames : after.frames ≡ before.frames
   pub eps : after.eps ≡ before.eps
@@ -135,11 +136,27 @@ pub record StaysUntil (before after : Ledger) (m : Milestone) : Type 0 where
   pub lines : after.lines.items ≡ before.lines.items
   pub judge : after.judge ≡ before.judge
   pub ended : after.ended ≡ before.ended
-  pub upcoming : after.upcoming ≡ m
-  pub bius : TurnsKind Biu before.shape before.bius after.bius m
-  pub rmus : TurnsKind Rmu before.shape before.rmus after.rmus m
-  pub good_bius : after.bius.good ≡ before.bius.good
-  pub good_rmus : after.rmus.good ≡ before.rmus.good
+  pub upcoming : after.upcoming ≡ Stage next
+  pub bius : AwaitsGood before.bius after.bius
+  pub rmus : AwaitsGood before.rmus after.rmus
+
+-- all nodes that are good are good to the end of the frame
+pub record AllStay {B R : Type 0} (bs : Group B) (rs : Group R) : Type 0 where
+  pub bius : bs.good ≡ bs.lasting
+  pub rmus : rs.good ≡ rs.lasting
+
+-- the same nodes of a kind are good at the next stage
+abbrev pub GoodNext : Side → Sizes → ℕ → ℕ → Place → Place → Type 0
+GoodNext kind sizes good lasting place next =
+    (sc : Scenario) → sizes ≡ sc.sizes → place.slot ≤ sync_slot_of sc.sizes → good ≡ good_at sc kind place.frame place.slot
+    → lasting ≡ good_at sc kind place.frame (sync_slot_of sc.sizes) → good ≡ good_at sc kind next.frame next.slot
+
+-- this is the next stage, and the same nodes are good there
+pub record IsSteady (l : Ledger) (place next : Place) : Type 0 where
+  pub after : place.slot + 1 < 2 ^ 16 → milestone_of (Stage next) ≡ after_stage l.shape place
+  pub other : (place.stage == next.stage) ≡ false
+  pub bius : GoodNext Biu l.shape l.bius.good l.bius.lasting place next
+  pub rmus : GoodNext Rmu l.shape l.rmus.good l.rmus.lasting place next
 
 -- Records.
 

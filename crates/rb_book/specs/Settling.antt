@@ -1,25 +1,27 @@
 -- How milestones are settled.
-use Rattle.std.specs.Prelude.{ℕ, ◌≡◌, ◌+◌, ◌-◌, ◌^◌, ◌<◌, ◌==◌, ◌&&◌, ◌++◌, ◌∷◌, not, Bool, List, map, if◌then◌else◌}
-use Rattle.rb_base.specs.Nodes.{has}
+use Rattle.std.specs.Prelude.{ℕ, ◌≡◌, ◌+◌, ◌-◌, ◌^◌, ◌<◌, ◌≤◌, ◌==◌, ◌&&◌, ◌++◌, ◌∷◌, not, Bool, List, map, if◌then◌else◌}
+use Rattle.rb_base.specs.Nodes.{Side, has}
 use Rattle.rb_base.specs.Nodes.Side.{Biu, Rmu}
-use Rattle.rb_base.specs.Sizes.{Sizes}
+use Rattle.rb_base.specs.Sizes.{Sizes, sync_slot_of}
 use Rattle.rb_base.specs.declared.values.Place.{Place}
 use Rattle.rb_rules.specs.Book.{Each, Milestone, Row, after_stage, judged_of}
 use Rattle.rb_rules.specs.Book.Milestone.{End, Stage}
 use Rattle.rb_rules.specs.Goodness.{Scenario, good_at}
 use Rattle.rb_rules.specs.Judging.{JudgedStage}
+use Rattle.rb_rules.specs.Slots.{count_of}
 use Rattle.rb_rules.specs.WorldStep.{Site, Way, World, row_for, settle, told_by_good}
 use Rattle.rb_judge.specs.Stages.{KeptJudge, Knows}
-use Rattle.rb_onset.specs.Faults.{faults_of}
+use Rattle.rb_onset.specs.Faults.{Faults, faults_of}
 use Rattle.rb_book.specs.declared.group.Group.{Group}
 use Rattle.rb_book.specs.declared.ledger.Ledger.{Ledger}
+use Rattle.rb_book.specs.declared.milestone.Milestone.{Milestone as KeptMilestone}
 use Rattle.rb_book.specs.declared.milestone.Milestone.TheVariants as kept
 use Rattle.rb_book.specs.declared.milestone.Way.{Way as KeptWay}
 use Rattle.rb_book.specs.declared.milestone.Way.TheVariants as way
 use Rattle.rb_book.specs.declared.turn.Turn.{Turn}
 use Rattle.rb_book.specs.Holding.{Holds, HoldsKind, TurnsKind, good_for, slot_record, without_lasting}
 use Rattle.rb_book.specs.Records.{milestone_of, record_of}
-use Rattle.rb_book.specs.Waiting.{found_of, line_of, row_at}
+use Rattle.rb_book.specs.Waiting.{found_of, line_of, row_at, waiting_for}
 
 -- the rows of the good nodes that told of a stage, BIUs before RMUs
 abbrev pub rows_found : {B R : Type 0} → Sizes → Place → Group B → Group R → List Row
@@ -50,6 +52,13 @@ comes_when free way.ByItself = free
 abbrev pub is_due : KeptWay → Ledger → Bool
 is_due w l = (l.bius.waiting == 0) && ((l.rmus.waiting == 0) && (comes_when (is_free l) w && not l.ended))
 
+-- what the nodes of a kind told stays, and those are awaited that have not told of the upcoming milestone
+pub record GoesKind {K : Type 0} (kind : Side) (sizes : Sizes) (onsets : Faults) (place : Place) (before after : Group K) (m : KeptMilestone) : Type 0 where
+  pub turns : (sc : Scenario) → sizes ≡ sc.sizes → before.good ≡ good_at sc kind place.frame place.slot
+      → waiting_for (count_of kind sizes) before.good (kept.Stage place) before.told ≡ 0 → TurnsKind kind sizes before after m
+  pub good : (sc : Scenario) → sizes ≡ sc.sizes → onsets ≡ faults_of sc → place.slot ≤ sync_slot_of sc.sizes → before.good ≡ good_at sc kind place.frame place.slot
+      → before.lasting ≡ good_at sc kind place.frame (sync_slot_of sc.sizes) → after.good ≡ good_for sc kind m
+
 -- what follows a stage at which the premise holds is the upcoming milestone
 pub record GoesPast (before after : Ledger) (place : Place) (turn : Turn) : Type 0 where
   pub record_is : record_of turn ≡ slot_record before.shape place before.lines.items
@@ -62,10 +71,8 @@ pub record GoesPast (before after : Ledger) (place : Place) (turn : Turn) : Type
   pub lines : after.lines.items ≡ (if place.stage == 2
       then found_of (λ i t. line_of place (has before.bius.good i) t) before.shape.bius before.bius.told else before.lines.items)
   pub upcoming : place.frame + 1 < 2 ^ 32 → place.slot + 1 < 2 ^ 16 → milestone_of after.upcoming ≡ after_stage before.shape place
-  pub bius : TurnsKind Biu before.shape before.bius after.bius after.upcoming
-  pub rmus : TurnsKind Rmu before.shape before.rmus after.rmus after.upcoming
-  pub good_bius : (sc : Scenario) → before.onsets ≡ faults_of sc → before.bius.good ≡ good_at sc Biu place.frame place.slot → after.bius.good ≡ good_for sc Biu after.upcoming
-  pub good_rmus : (sc : Scenario) → before.onsets ≡ faults_of sc → before.rmus.good ≡ good_at sc Rmu place.frame place.slot → after.rmus.good ≡ good_for sc Rmu after.upcoming
+  pub bius : GoesKind Biu before.shape before.onsets place before.bius after.bius after.upcoming
+  pub rmus : GoesKind Rmu before.shape before.onsets place before.rmus after.rmus after.upcoming
 
 -- what is due in this way is settled, and this is the turn
 pub record Settles (sc : Scenario) (way : Way) (w : World) (after : Ledger) (turn : Turn) : Type 0 where

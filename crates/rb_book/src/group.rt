@@ -1,7 +1,7 @@
 //! What the nodes of one kind have told.
 ghost use Rattle.std.specs.Prelude.{◌≡◌, ◌<◌, ◌≤◌, ℕ, nat_lt, not, ◌&&◌, ◌==◌, replicate, if◌then◌else◌};
 ghost use Rattle.rb_base.specs.Nodes.{has, set_of};
-ghost use Rattle.rb_book.specs.Grouping.{IsNoted};
+ghost use Rattle.rb_book.specs.Grouping.{AwaitsGood, IsNoted};
 ghost use Rattle.rb_book.specs.Telling.{fresh_told, has_told, told_at, told_begun_frame, told_closed};
 ghost use Rattle.rb_book.specs.Waiting.{waiting_for, was_taken, was_unlike};
 
@@ -67,6 +67,13 @@ impl<K: Copy> Group<K> {
     {
         self.good = good;
         self.waiting = waiting_for(count, good, milestone, &self.told);
+    }
+
+    /// A stage is the upcoming one, after another of which all good nodes have told, and the same nodes are good there.
+    pub(crate) fn await_good(&mut self)
+        ensures { AwaitsGood self.old self.new }
+    {
+        self.waiting = self.good;
     }
 
     // The node has told something more.

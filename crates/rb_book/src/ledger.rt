@@ -1,5 +1,5 @@
 //! The book of a run, as it is kept.
-ghost use Rattle.std.specs.Prelude.{◌≡◌, nat_lt, true, ◌+◌, ◌-◌, ◌^◌, ◌<◌, ◌≤◌, ◌==◌, ◌++◌, ℕ, false, is_none, get_or, Some, None, if◌then◌else◌};
+ghost use Rattle.std.specs.Prelude.{◌≡◌, IfSome, nat_lt, true, ◌+◌, ◌-◌, ◌^◌, ◌<◌, ◌≤◌, ◌==◌, ◌++◌, ℕ, false, is_none, get_or, Some, None, if◌then◌else◌};
 ghost use Rattle.rb_base.specs.Nodes.{has, other};
 ghost use Rattle.rb_base.specs.declared.values.See.TheVariants.{Nothing};
 ghost use Rattle.rb_rules.specs.Slots.{count_of};
@@ -10,7 +10,7 @@ ghost use Rattle.rb_rules.specs.Goodness.{Scenario};
 ghost use Rattle.rb_rules.specs.WorldStep.{World, first_world};
 ghost use Rattle.rb_onset.specs.Faults.{faults_of};
 ghost use Rattle.rb_book.specs.Changing.{changed_at, count_for, line_from, number_in, row_shown, side_in, with_begun, with_row};
-ghost use Rattle.rb_book.specs.Holding.{AllLast, Holds, Passes, StaysUntil, TurnsTo, frame_record, good_for, slot_record};
+ghost use Rattle.rb_book.specs.Holding.{AllLast, Holds, Passes, StaysUntil, TurnsTo, AllStay, IsSteady, frame_record, good_for, slot_record};
 ghost use Rattle.rb_book.specs.Settling.{GoesPast, JudgesStage, Settles, after_begin, comes_when, is_due, is_free, rows_found};
 ghost use Rattle.rb_book.specs.declared.turn.Turn.{Turn};
 ghost use Rattle.rb_book.specs.declared.milestone.Milestone.TheVariants as coming;
@@ -163,6 +163,13 @@ fn comes_so(way: Way, is_free: bool) -> bool
     }
 }
 
+// Whether all nodes that are good are good to the end of the frame.
+fn all_stay(bius: &Group<Biu>, rmus: &Group<Rmu>) -> bool
+    ensures { result ≡ true → AllStay bius.now rmus.now }
+{
+    bius.good.bits() == bius.lasting.bits() && rmus.good.bits() == rmus.lasting.bits()
+}
+
 fn is_quiet(turn: &Turn) -> bool
     ensures { result ≡ is_none (record_of turn.now) }
 {
@@ -241,15 +248,34 @@ impl Ledger {
         self.upcoming = milestone;
     }
 
-    // A milestone is the upcoming one, and the same nodes are good there as at the one before.
-    fn stay_until(&mut self, milestone: Milestone)
-        ensures { StaysUntil self.old self.new milestone }
+    // The next stage, where the same nodes are known to be good as at this one: it is one of the same slot, or all of them are good to
+    // the end of the frame.
+    fn steady_next(&self, place: Place) -> Option<Place>
+        ensures { IfSome result (IsSteady self.now place) }
     {
-        let good = self.bius.good;
-        self.bius.await_all(self.shape.biu(), milestone, good);
-        let good = self.rmus.good;
-        self.rmus.await_all(self.shape.rmu(), milestone, good);
-        self.upcoming = milestone;
+        if place.stage < 3 {
+            return Some(Place {
+                stage: place.stage + 1,
+                ..place
+            });
+        }
+        if place.slot != self.shape.sync_slot() && all_stay(&self.bius, &self.rmus) {
+            return Some(Place {
+                frame: place.frame,
+                slot: place.slot.saturating_add(1),
+                stage: 1,
+            });
+        }
+        None
+    }
+
+    // A stage is the upcoming one, after another of which all good nodes have told, and the same nodes are good there.
+    fn stay_until(&mut self, next: Place)
+        ensures { StaysUntil self.old self.new next }
+    {
+        self.bius.await_good();
+        self.rmus.await_good();
+        self.upcoming = Milestone::Stage(next);
     }
 
     // The record of a frame. It is left out where no node began it.
@@ -334,11 +360,12 @@ impl Ledger {
     {
         self.slot_turn(place, turn);
         keep_lines(&mut self.lines, &self.shape, place, &self.bius);
-        let next = after_stage(&self.shape, place);
-        if place.stage < 3 {
-            self.stay_until(next);
-        } else {
-            self.turn_to(next);
+        match self.steady_next(place) {
+            Some(next) => self.stay_until(next),
+            None => {
+                let next = after_stage(&self.shape, place);
+                self.turn_to(next);
+            }
         }
     }
 

@@ -12,6 +12,8 @@ use Rattle.rb_rules.specs.Judging.{JudgedStage, verdict_of}
 use Rattle.rb_judge.specs.Stages.{Knows}
 use Rattle.rb_book.specs.Holding.{HoldsKind, IsComing, IsStageOf, without_lasting}
 use Rattle.rb_book.specs.Records.{milestone_of}
+use Rattle.rb_book.specs.Waiting.{waiting_for}
+use Rattle.rb_book.specs.declared.milestone.Milestone.TheVariants as kept
 use Rattle.rb_book.proofs.Judged.{rows_of}
 use Rattle.rb_book.proofs.Passing.{coming-after, few-slots, lines-after, passes-by, slot-record, stage-then, turns-holds}
 use Rattle.rb_book.proofs.Verdict.{verdict-is}
@@ -58,6 +60,10 @@ returns-in-None-clause-passes c = λ sc w h ended next none_bius none_rmus.
     let slots : place.slot + 1 < 2 ^ 16 = few-slots sc.sizes place.slot h.fits.is_shape stage.slot in
     let then_is : milestone_of c.pass_judged.new.self.upcoming ≡ after_stage sc.sizes place = past.upcoming few slots ∙ ap (λ (s : Sizes). after_stage s place) h.fits.sizes in
     let coming = coming-after sc place c.pass_judged.new.self.upcoming stage then_is in
+    let turns-bius = past.bius.turns sc h.fits.sizes bius.good
+    (ap (λ (s : Sizes). waiting_for s.bius c.args.self.now.bius.good (kept.Stage place) c.args.self.now.bius.told) h.fits.sizes ∙ sym bius.waiting ∙ none_bius) in
+    let turns-rmus = past.rmus.turns sc h.fits.sizes rmus.good
+    (ap (λ (s : Sizes). waiting_for s.rmus c.args.self.now.rmus.good (kept.Stage place) c.args.self.now.rmus.told) h.fits.sizes ∙ sym rmus.waiting ∙ none_rmus) in
     let b : Book = after_verdict sc.sizes place (rows_of sc place w.sites) all w.book None in
     passes-by sc w _ _ b (slot_records sc.sizes place w.book.lines)
     (stage-then sc w place None (h.upcoming ∙ ap milestone_of next) going verdict)
@@ -77,10 +83,12 @@ returns-in-None-clause-passes c = λ sc w h ended next none_bius none_rmus.
       ended = sym (past.ended ∙ ended);
       judged = λ e p is. subst (λ k. Knows k (map (without_lasting sc p.frame) all)) (sym past.judge)
           (subst (λ f. Knows c.judge_stage.new.judge (map (without_lasting sc f) all)) (sym (coming.1 p is)) known);
-      bius = turns-holds sc Biu _ _ c.args.self.now.bius _ c.args.self.now.shape w.sites h.fits.sizes bius past.bius (past.good_bius sc h.fits.onsets bius.good)
-          (λ p is. past.bius.lasting ∙ bius.lasting place refl ∙ ap (λ f. good_at sc Biu f (sync_slot_of sc.sizes)) (sym (coming.1 p is)));
-      rmus = turns-holds sc Rmu _ _ c.args.self.now.rmus _ c.args.self.now.shape w.sites h.fits.sizes rmus past.rmus (past.good_rmus sc h.fits.onsets rmus.good)
-          (λ p is. past.rmus.lasting ∙ rmus.lasting place refl ∙ ap (λ f. good_at sc Rmu f (sync_slot_of sc.sizes)) (sym (coming.1 p is)));
+      bius = turns-holds sc Biu _ _ c.args.self.now.bius _ c.args.self.now.shape w.sites h.fits.sizes bius turns-bius
+          (past.bius.good sc h.fits.sizes h.fits.onsets stage.slot bius.good (bius.lasting place refl))
+          (λ p is. turns-bius.lasting ∙ bius.lasting place refl ∙ ap (λ f. good_at sc Biu f (sync_slot_of sc.sizes)) (sym (coming.1 p is)));
+      rmus = turns-holds sc Rmu _ _ c.args.self.now.rmus _ c.args.self.now.shape w.sites h.fits.sizes rmus turns-rmus
+          (past.rmus.good sc h.fits.sizes h.fits.onsets stage.slot rmus.good (rmus.lasting place refl))
+          (λ p is. turns-rmus.lasting ∙ rmus.lasting place refl ∙ ap (λ f. good_at sc Rmu f (sync_slot_of sc.sizes)) (sym (coming.1 p is)));
     }) refl (past.record_is
     ∙ ap (λ (s : Sizes). slot_record s place c.args.self.now.lines.items) h.fits.sizes ∙ ap (slot_record sc.sizes place) (sym h.lines)
     ∙ slot-record sc.sizes place w.book.lines)
