@@ -2,6 +2,7 @@
 use Rattle.std.specs.Prelude.{ℕ, Bool, true, false, Option, Some, None, option_map, is_some, List, [], get_or, slice_index, replicate, if◌then◌else◌}
 use Rattle.rb_base.specs.Nodes.{Side}
 use Rattle.rb_base.specs.Nodes.Side.{Biu, Rmu}
+use Rattle.rb_base.specs.declared.values.Place.{Place}
 use Rattle.rb_base.specs.declared.values.See.{See}
 use Rattle.rb_base.specs.declared.values.See.TheVariants.{Nothing}
 use Rattle.rb_rules.specs.declared.closing.Closed.{Closed}
@@ -10,7 +11,7 @@ use Rattle.rb_rules.specs.declared.record.SlotLine.{SlotLine}
 use Rattle.rb_rules.specs.Book.{Begun, Row}
 use Rattle.rb_rules.specs.ExactStage.{each_node}
 use Rattle.rb_rules.specs.Hearing.{judged_see}
-use Rattle.rb_rules.specs.WorldStep.{begun_for, row_for}
+use Rattle.rb_rules.specs.WorldStep.{begun_for, row_for, same_place}
 use Rattle.rb_book.specs.declared.milestone.Milestone.{Milestone}
 use Rattle.rb_book.specs.declared.milestone.Milestone.TheVariants.{Begin, Stage, End}
 use Rattle.rb_book.specs.declared.told.Begin.{Begin as LatestBegin}
@@ -47,6 +48,12 @@ abbrev pub has_told : Milestone → Told → Bool
 has_told (Begin frame) t = is_some (begun_for frame (begun_told Biu t))
 has_told (Stage place) t = is_some (row_for place (row_told t))
 has_told End t = false
+
+-- a stage is the milestone
+abbrev pub is_at : Milestone → Place → Bool
+is_at (Begin frame) place = false
+is_at (Stage stage) place = same_place place stage
+is_at End place = false
 
 -- of a node that told nothing
 abbrev pub no_told : Told

@@ -1,8 +1,9 @@
 //! What the nodes of one kind have told.
-ghost use Rattle.std.specs.Prelude.{◌≡◌, ◌<◌, ◌≤◌, ℕ, nat_lt, not, ◌&&◌, ◌==◌, replicate, if◌then◌else◌};
+ghost use Rattle.std.specs.Prelude.{◌≡◌, ◌<◌, ◌≤◌, ℕ, true, false, nat_lt, not, ◌&&◌, ◌==◌, replicate, if◌then◌else◌};
 ghost use Rattle.rb_base.specs.Nodes.{has, set_of};
+ghost use Rattle.rb_book.specs.Changing.{line_from};
 ghost use Rattle.rb_book.specs.Grouping.{AwaitsGood, IsNoted};
-ghost use Rattle.rb_book.specs.Telling.{fresh_told, has_told, told_at, told_begun_frame, told_closed};
+ghost use Rattle.rb_book.specs.Telling.{fresh_told, has_told, is_at, told_at, told_begun_frame, told_closed};
 ghost use Rattle.rb_book.specs.Waiting.{waiting_for, was_taken, was_unlike};
 
 use crate::milestone::Milestone;
@@ -10,7 +11,7 @@ use crate::told::{Begin, Told};
 use crate::walks::{taken_among, unlike_among, waiting_for};
 use rb_base::{Biu, NodeId, NodeSet, Rmu};
 use rb_judge::StageSets;
-use rb_rules::{Closed, SlotLine};
+use rb_rules::Closed;
 
 /// What the nodes of one kind have told, and of whom more is to come.
 #[derive(Clone, Copy)]
@@ -77,6 +78,7 @@ impl<K: Copy> Group<K> {
     }
 
     // The node has told something more.
+    #[inline(never)]
     fn note(&mut self, node: u8, upcoming: Milestone)
         requires { node < 16 }
         ensures told { self.new.told ≡ self.old.told }
@@ -90,23 +92,37 @@ impl<K: Copy> Group<K> {
         self.waiting = with_or_without(self.waiting, node, is_awaited);
     }
 
-    /// A node closes a stage. What it saw is kept where that counts.
+    // The node has told of the upcoming milestone.
+    fn strike(&mut self, node: u8)
+        requires { node < 16 }
+        ensures { self.new ≡ record self.old { waiting = set_of (λ i. if i == node then false else has self.old.waiting i) } }
+    {
+        self.waiting = with_or_without(self.waiting, node, false);
+    }
+
+    /// A node closes a stage, which may be known to be the upcoming milestone. What it saw is kept where that counts.
     pub(crate) fn close(
         &mut self,
         node: u8,
         upcoming: Milestone,
+        is_upcoming: bool,
         closed: &Closed,
         times: &[u64; 16],
         counts: bool,
         biu: NodeSet<Biu>,
         rmu: NodeSet<Rmu>,
-        line: Option<SlotLine>,
     )
-        requires { node < 16 }
-        ensures { IsNoted self.old self.new node upcoming (told_closed counts closed.now times.now biu rmu line (told_at self.old.told node)) }
+        requires node { node < 16 }
+        requires upcoming { is_upcoming ≡ true → is_at upcoming closed.now.place ≡ true }
+        ensures { IsNoted self.old self.new node upcoming
+            (told_closed counts closed.now times.now biu rmu (line_from node closed.now.delivered) (told_at self.old.told node)) }
     {
-        self.told[usize::from(node)].close(closed, times, counts, biu, rmu, line);
-        self.note(node, upcoming);
+        self.told[usize::from(node)].close(node, closed, times, counts, biu, rmu);
+        if is_upcoming {
+            self.strike(node);
+        } else {
+            self.note(node, upcoming);
+        }
     }
 
     /// A node begins a frame.

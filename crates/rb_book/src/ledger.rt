@@ -9,21 +9,22 @@ ghost use Rattle.rb_rules.specs.Book.{after_stage, trusted_by};
 ghost use Rattle.rb_rules.specs.Goodness.{Scenario};
 ghost use Rattle.rb_rules.specs.WorldStep.{World, first_world};
 ghost use Rattle.rb_onset.specs.Faults.{faults_of};
-ghost use Rattle.rb_book.specs.Changing.{changed_at, count_for, line_from, number_in, row_shown, side_in, with_begun, with_row};
-ghost use Rattle.rb_book.specs.Holding.{AllLast, Holds, Passes, StaysUntil, TurnsTo, AllStay, IsSteady, frame_record, good_for, slot_record};
+ghost use Rattle.rb_book.specs.Changing.{changed_at, count_for, number_in, row_shown, side_in, with_begun, with_row};
+ghost use Rattle.rb_book.specs.Holding.{AllStay, Holds, IsSteady, Passes, StaysUntil, TurnsTo, frame_record, good_for, slot_record};
 ghost use Rattle.rb_book.specs.Settling.{GoesPast, JudgesStage, Settles, after_begin, comes_when, is_due, is_free, rows_found};
 ghost use Rattle.rb_book.specs.declared.turn.Turn.{Turn};
 ghost use Rattle.rb_book.specs.declared.milestone.Milestone.TheVariants as coming;
 ghost use Rattle.rb_book.specs.Records.{milestone_of, record_of, way_of};
+ghost use Rattle.rb_book.specs.Telling.{is_at};
 ghost use Rattle.rb_book.specs.Waiting.{found_of, line_of, node_line_of, port_line_of};
 
 use crate::group::Group;
 use crate::milestone::{Milestone, Way};
-use crate::told::Begin;
+use crate::told::{Begin, same_place};
 use crate::turn::{FrameRecord, SlotRecord, Turn};
 use crate::walks::{add_node_lines, first_trusted, port_lines, slot_lines};
 use arrayvec::ArrayVec;
-use rb_base::{Biu, Delivery, NodeName, NodeSet, Place, Rmu, Shape};
+use rb_base::{Biu, NodeName, NodeSet, Place, Rmu, Shape};
 use rb_judge::Judge;
 use rb_onset::Onsets;
 use rb_rules::{Closed, NodeLine, PortLine, SlotLine};
@@ -184,33 +185,27 @@ fn all_last<K: Copy>(count: u8, lasting: NodeSet<K>) -> bool
     NodeSet::first(count).difference(lasting).is_empty()
 }
 
-// Whether what is seen of so many nodes in a frame counts. It doesn't where all of them are known to be good to its end.
-fn counts<K: Copy>(upcoming: Milestone, frame: u32, count: u8, lasting: NodeSet<K>) -> bool
+// Whether what is seen of so many nodes counts. It doesn't in the upcoming stage where all of them are known to be good to the end of its
+// frame.
+fn counts<K: Copy>(is_upcoming: bool, count: u8, lasting: NodeSet<K>) -> bool
     requires { count ≤ 16 }
-    ensures { result ≡ false → AllLast upcoming frame count lasting }
+    ensures upcoming { result ≡ false → is_upcoming ≡ true }
+    ensures last { result ≡ false → (j : ℕ) → nat_lt j count ≡ true → has lasting j ≡ true }
 {
-    match upcoming {
-        Milestone::Stage(place) => {
-            if place.frame != frame {
-                return true;
-            }
-            !all_last(count, lasting)
-        }
-        _ => true,
+    if is_upcoming {
+        !all_last(count, lasting)
+    } else {
+        true
     }
 }
 
-// What a node delivers, as a line.
-fn slot_line_of(receiver: u8, delivered: Option<Delivery>) -> Option<SlotLine>
-    ensures { result ≡ line_from receiver delivered }
+// Whether a stage is the upcoming milestone.
+fn is_at(upcoming: Milestone, place: Place) -> bool
+    ensures { result ≡ is_at upcoming place }
 {
-    match delivered {
-        Some(delivery) => Some(SlotLine {
-            receiver,
-            sender: delivery.sender,
-            value: delivery.value,
-        }),
-        None => None,
+    match upcoming {
+        Milestone::Stage(stage) => same_place(place, stage),
+        _ => false,
     }
 }
 
@@ -423,22 +418,20 @@ impl Ledger {
         if closed.place.stage == 4 {
             return;
         }
+        let upcoming = self.upcoming;
+        let is_upcoming = is_at(upcoming, closed.place);
         match node {
             NodeName::Biu(i) => {
                 let _bius = self.shape.biu();
-                let line = slot_line_of(i, closed.delivered);
-                let frame = closed.place.frame;
-                let counts = counts(self.upcoming, frame, self.shape.rmu(), self.rmus.lasting);
+                let counts = counts(is_upcoming, self.shape.rmu(), self.rmus.lasting);
                 self.bius
-                    .close(i, self.upcoming, closed, times, counts, biu, rmu, line);
+                    .close(i, upcoming, is_upcoming, closed, times, counts, biu, rmu);
             }
             NodeName::Rmu(i) => {
                 let _rmus = self.shape.rmu();
-                let line = slot_line_of(i, closed.delivered);
-                let frame = closed.place.frame;
-                let counts = counts(self.upcoming, frame, self.shape.biu(), self.bius.lasting);
+                let counts = counts(is_upcoming, self.shape.biu(), self.bius.lasting);
                 self.rmus
-                    .close(i, self.upcoming, closed, times, counts, biu, rmu, line);
+                    .close(i, upcoming, is_upcoming, closed, times, counts, biu, rmu);
             }
         }
     }

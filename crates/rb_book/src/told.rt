@@ -3,10 +3,11 @@ ghost use Rattle.std.specs.Prelude.{◌≡◌, ◌<◌, if◌then◌else◌};
 ghost use Rattle.rb_rules.specs.Judging.{are_alike, is_something};
 ghost use Rattle.rb_rules.specs.Majority.{same_heard};
 ghost use Rattle.rb_rules.specs.WorldStep.{same_place};
+ghost use Rattle.rb_book.specs.Changing.{line_from};
 ghost use Rattle.rb_book.specs.Telling.{fresh_told, has_told, see_of, told_begun_frame, told_closed};
 
 use crate::milestone::Milestone;
-use rb_base::{Biu, Heard, NodeSet, Place, Rmu, See};
+use rb_base::{Biu, Delivery, Heard, NodeSet, Place, Rmu, See};
 use rb_rules::{Closed, NodeLine, PortLine, SlotLine};
 
 /// What a node told of a frame that it began.
@@ -35,7 +36,7 @@ pub struct Told {
     pub begun: Option<Begin>,
 }
 
-fn same_place(a: Place, b: Place) -> bool
+pub(crate) fn same_place(a: Place, b: Place) -> bool
     ensures { result ≡ same_place a b }
 {
     a == b
@@ -50,7 +51,23 @@ fn keep_sees(counts: bool, seen: &[See; 16], sees: &mut [See; 16])
     }
 }
 
-// The same with the reference times.
+// What was delivered is kept, as a line.
+fn keep_line(receiver: u8, delivered: Option<Delivery>, line: &mut Option<SlotLine>)
+    ensures { line.new ≡ line_from receiver delivered }
+{
+    match delivered {
+        Some(delivery) => {
+            *line = Some(SlotLine {
+                receiver,
+                sender: delivery.sender,
+                value: delivery.value,
+            });
+        }
+        None => *line = None,
+    }
+}
+
+// What was seen as reference times is kept, if it counts.
 fn keep_times(counts: bool, seen: &[u64; 16], times: &mut [u64; 16])
     ensures { times.new ≡ (if counts then seen.now else times.old) }
 {
@@ -79,18 +96,18 @@ impl Told {
         }
     }
 
-    /// It closes a stage, having seen this of each source, some at these reference times, and delivers the line. What was seen is
-    /// kept where it counts.
+    /// It, node `i`, closes a stage, having seen this of each source, some at these reference times. What was seen is kept where it
+    /// counts.
     pub(crate) fn close(
         &mut self,
+        i: u8,
         closed: &Closed,
         times: &[u64; 16],
         counts: bool,
         biu: NodeSet<Biu>,
         rmu: NodeSet<Rmu>,
-        line: Option<SlotLine>,
     )
-        ensures { self.new ≡ told_closed counts closed.now times.now biu rmu line self.old }
+        ensures { self.new ≡ told_closed counts closed.now times.now biu rmu (line_from i closed.now.delivered) self.old }
     {
         self.has_closed = true;
         self.place = closed.place;
@@ -98,7 +115,7 @@ impl Told {
         keep_times(counts, times, &mut self.times);
         self.biu = biu.bits();
         self.rmu = rmu.bits();
-        self.line = line;
+        keep_line(i, closed.delivered, &mut self.line);
     }
 
     /// It begins a frame.

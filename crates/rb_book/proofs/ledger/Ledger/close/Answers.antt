@@ -12,9 +12,40 @@ use Rattle.rb_rules.specs.Slots.{count_of}
 use Rattle.rb_rules.specs.WorldStep.{Site}
 use Rattle.rb_book.specs.Changing.{changed_at, count_for, number_in, row_shown, side_in, with_row}
 use Rattle.rb_book.specs.Holding.{AllLast, Holds}
-use Rattle.rb_book.specs.Telling.{row_seeing, told_at, told_closed}
+use Rattle.std.specs.Prelude.{Bool, ◌&&◌, nat_lt}
+use Rattle.std.proofs.Common.{arith}
+use Rattle.std.proofs.lemmas.Bool.Decides.{nat_tests}
+use Rattle.rb_base.specs.Nodes.{has}
+use Rattle.rb_base.specs.declared.values.Place.{Place}
+use Rattle.rb_book.specs.declared.milestone.Milestone.{Milestone}
+use Rattle.rb_book.specs.declared.milestone.Milestone.TheVariants.{Begin, Stage, End}
+use Rattle.rb_book.specs.Changing.{line_from}
+use Rattle.rb_book.specs.Telling.{is_at, told_at, told_closed}
 use Rattle.rb_book.proofs.Noting.{none-seen, other-kind, row-noted, same-shown, sees-kept, shows-same, with-bius, with-rmus}
 use Rattle.rb_book.proofs.ledger.Ledger.close.Goals as goal
+
+-- those that last are so in the frame of the upcoming stage
+last-there : (m : Milestone) (place : Place) (count lasting : ℕ) → is_at m place ≡ true → ((j : ℕ) → nat_lt j count ≡ true → has lasting j ≡ true) → AllLast m place.frame count lasting
+last-there (Begin f) place count lasting here lasts = absurd (cc)
+last-there End place count lasting here lasts = absurd (cc)
+last-there (Stage stage) place count lasting here lasts = record {
+  place = stage;
+  upcoming = refl;
+  of_frame = same-frame place.frame stage.frame (place.slot == stage.slot) (place.stage == stage.stage) here;
+  lasts = lasts;
+}
+  where
+    same-frame : (a b : ℕ) (q r : Bool) → ((a == b) && q && r) ≡ true → b ≡ a
+    same-frame a b q r e = equal (front (a == b) q r e)
+      where
+        front : (x y z : Bool) → (x && y && z) ≡ true → x ≡ true
+        front true y z e = refl
+        front false true true e = absurd (cc)
+        front false true false e = absurd (cc)
+        front false false z e = absurd (cc)
+
+        equal : (a == b) ≡ true → b ≡ a
+        equal e = grind (arith, nat_tests)
 
 -- of the tail nothing is told
 tail-same : (stage : ℕ) (row : Row) (s : Site) → (stage == 4) ≡ true → with_row stage row s ≡ s
@@ -48,14 +79,15 @@ returns-in-Biu-clause-noted c = λ sc w h.
     let none : (j : ℕ) → sc.sizes.rmus ≤ j → get_or told.sees j Nothing ≡ Nothing = λ j. h.bius.within i j in
     let saw : ℕ → See = λ j. judged_see (slice_index c.args.times.now j) (get_or closed.sees j Nothing) in
     let last : c.counts-counts.result ≡ false → AllLast c.args.self.now.upcoming closed.place.frame sc.sizes.rmus c.args.self.now.rmus.lasting =
-    λ e. subst (λ n. AllLast c.args.self.now.upcoming closed.place.frame n c.args.self.now.rmus.lasting) (c.rmu.ensures.value ∙ ap (λ (s : Sizes). s.rmus) h.fits.sizes) (c.counts-counts.ensures e) in
+    λ e. subst (λ n. AllLast c.args.self.now.upcoming closed.place.frame n c.args.self.now.rmus.lasting) (c.rmu.ensures.value ∙ ap (λ (s : Sizes). s.rmus) h.fits.sizes)
+    (last-there c.args.self.now.upcoming closed.place _ _ (sym c.is_at-is_upcoming.ensures ∙ c.counts-counts.ensures.upcoming e) (c.counts-counts.ensures.last e)) in
     let holds = row-noted sc Biu c.args.self.now.upcoming c.args.self.now.bius c.close.new.self i
-    (told_closed c.counts-counts.result closed c.args.times.now c.args.biu c.args.rmu c.slot_line_of-line.result told) row saw (with_row closed.place.stage row) w.sites
+    (told_closed c.counts-counts.result closed c.args.times.now c.args.biu c.args.rmu (line_from i closed.delivered) told) row saw (with_row closed.place.stage row) w.sites
     c.close.ensures inside shape.most_bius h.bius
     (λ s. ap (λ (x : Site). x.row) (stage-told closed.place.stage row s stage)) (λ s. ap (λ (x : Site). x.begun) (stage-told closed.place.stage row s stage))
-    (ap (λ l. row_seeing saw (told_closed c.counts-counts.result closed c.args.times.now c.args.biu c.args.rmu l told)) c.slot_line_of-line.ensures)
-    (sees-kept c.counts-counts.result sc Rmu c.args.self.now.upcoming c.args.self.now.rmus w.sites closed c.args.times.now c.args.biu c.args.rmu c.slot_line_of-line.result told shape.most_rmus h.rmus last nobody none)
-    refl (none-seen c.counts-counts.result closed c.args.times.now c.args.biu c.args.rmu c.slot_line_of-line.result told sc.sizes.rmus nobody none) in
+    refl
+    (sees-kept c.counts-counts.result sc Rmu c.args.self.now.upcoming c.args.self.now.rmus w.sites closed c.args.times.now c.args.biu c.args.rmu (line_from i closed.delivered) told shape.most_rmus h.rmus last nobody none)
+    refl (none-seen c.counts-counts.result closed c.args.times.now c.args.biu c.args.rmu (line_from i closed.delivered) told sc.sizes.rmus nobody none) in
     let others = other-kind sc Rmu Biu c.args.self.now.upcoming c.args.self.now.rmus i (with_row closed.place.stage row) w.sites refl h.rmus in
     subst (λ n. Holds sc (record c.args.self.now { bius = c.close.new.self })
     (changed_at n (with_row closed.place.stage (row_shown (number_in n) closed c.args.times.now c.args.biu c.args.rmu)) w)) (sym c.in-Biu.is)
@@ -77,14 +109,15 @@ returns-in-Rmu-clause-noted c = λ sc w h.
     let none : (j : ℕ) → sc.sizes.bius ≤ j → get_or told.sees j Nothing ≡ Nothing = λ j. h.rmus.within i j in
     let saw : ℕ → See = λ j. judged_see (slice_index c.args.times.now j) (get_or closed.sees j Nothing) in
     let last : c.counts-counts-in-Rmu.result ≡ false → AllLast c.args.self.now.upcoming closed.place.frame sc.sizes.bius c.args.self.now.bius.lasting =
-    λ e. subst (λ n. AllLast c.args.self.now.upcoming closed.place.frame n c.args.self.now.bius.lasting) (c.biu.ensures.value ∙ ap (λ (s : Sizes). s.bius) h.fits.sizes) (c.counts-counts-in-Rmu.ensures e) in
+    λ e. subst (λ n. AllLast c.args.self.now.upcoming closed.place.frame n c.args.self.now.bius.lasting) (c.biu.ensures.value ∙ ap (λ (s : Sizes). s.bius) h.fits.sizes)
+    (last-there c.args.self.now.upcoming closed.place _ _ (sym c.is_at-is_upcoming.ensures ∙ c.counts-counts-in-Rmu.ensures.upcoming e) (c.counts-counts-in-Rmu.ensures.last e)) in
     let holds = row-noted sc Rmu c.args.self.now.upcoming c.args.self.now.rmus c.close-in-Rmu.new.self i
-    (told_closed c.counts-counts-in-Rmu.result closed c.args.times.now c.args.biu c.args.rmu c.slot_line_of-line-in-Rmu.result told) row saw (with_row closed.place.stage row) w.sites
+    (told_closed c.counts-counts-in-Rmu.result closed c.args.times.now c.args.biu c.args.rmu (line_from i closed.delivered) told) row saw (with_row closed.place.stage row) w.sites
     c.close-in-Rmu.ensures inside shape.most_rmus h.rmus
     (λ s. ap (λ (x : Site). x.row) (stage-told closed.place.stage row s stage)) (λ s. ap (λ (x : Site). x.begun) (stage-told closed.place.stage row s stage))
-    (ap (λ l. row_seeing saw (told_closed c.counts-counts-in-Rmu.result closed c.args.times.now c.args.biu c.args.rmu l told)) c.slot_line_of-line-in-Rmu.ensures)
-    (sees-kept c.counts-counts-in-Rmu.result sc Biu c.args.self.now.upcoming c.args.self.now.bius w.sites closed c.args.times.now c.args.biu c.args.rmu c.slot_line_of-line-in-Rmu.result told shape.most_bius h.bius last nobody none)
-    refl (none-seen c.counts-counts-in-Rmu.result closed c.args.times.now c.args.biu c.args.rmu c.slot_line_of-line-in-Rmu.result told sc.sizes.bius nobody none) in
+    refl
+    (sees-kept c.counts-counts-in-Rmu.result sc Biu c.args.self.now.upcoming c.args.self.now.bius w.sites closed c.args.times.now c.args.biu c.args.rmu (line_from i closed.delivered) told shape.most_bius h.bius last nobody none)
+    refl (none-seen c.counts-counts-in-Rmu.result closed c.args.times.now c.args.biu c.args.rmu (line_from i closed.delivered) told sc.sizes.bius nobody none) in
     let others = other-kind sc Biu Rmu c.args.self.now.upcoming c.args.self.now.bius i (with_row closed.place.stage row) w.sites refl h.bius in
     subst (λ n. Holds sc (record c.args.self.now { rmus = c.close-in-Rmu.new.self })
     (changed_at n (with_row closed.place.stage (row_shown (number_in n) closed c.args.times.now c.args.biu c.args.rmu)) w)) (sym c.in-Rmu.is)
