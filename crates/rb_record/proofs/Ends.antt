@@ -1,5 +1,5 @@
 -- How a run ends in which each step takes the first due event.
-use Rattle.std.proofs.Common.{◌≡◌, ◌⊎◌, ℕ, zero, suc, ◌+◌, ◌^◌, ◌<◌, ◌≤◌, ◌||◌, Bool, true, false, Option, Some, None, List, [], ◌∷◌, ◌++◌, append_assoc, length, slice_get, refl, sym, ap, ◌∙◌, subst, arith, inl, inr}
+use Rattle.std.proofs.Common.{◌≡◌, ◌⊎◌, ℕ, zero, suc, ◌+◌, ◌-◌, ◌^◌, ◌<◌, ◌≤◌, ◌||◌, Bool, true, false, Option, Some, None, List, [], ◌∷◌, ◌++◌, append_assoc, length, slice_get, refl, sym, ap, ◌∙◌, subst, arith, inl, inr}
 use Rattle.std.specs.Prelude.{flat_map, option_and_then, option_map}
 use Rattle.std.specs.List.{last_or}
 use Rattle.std.proofs.lemmas.Bool.{cases_lt}
@@ -73,7 +73,7 @@ pub record EndsWith (w : World) : Type 0 where
 none-last : {P : Type 0} (o : Option Record) → o ≡ None → is_last o ≡ true → P
 none-last o none last = absurd (cc)
 
-first-going : (sc : Scenario) → (first_world sc).book.ended ≡ false
+pub first-going : (sc : Scenario) → (first_world sc).book.ended ≡ false
 unfolding first_world
 first-going sc = refl
 
@@ -211,13 +211,34 @@ given-more sc name n (suc k) =
     let next : List Event = given_next sc name (first_run sc (n + k)) in
     (rest.0 ++ next, ap (given_in sc name) s ∙ ap (λ (xs : List Event). xs ++ next) rest.1 ∙ append_assoc (given_in sc name n) rest.0 next)
 
+-- as long as the run has not ended, some event was due in each step
+going-busy : (sc : Scenario) (n : ℕ) → IsLawful sc → (first_run sc n).book.ended ≡ false → (m : ℕ) → m < n → 1 ≤ length (due_of sc (first_run sc m))
+going-busy sc n lawful going m lt = by (length (due_of sc (first_run sc m))) refl
+  where
+    by : (k : ℕ) → length (due_of sc (first_run sc m)) ≡ k → 1 ≤ length (due_of sc (first_run sc m))
+    by zero none =
+        let same : suc m + (n - suc m) ≡ n = omega (arith, lt) in
+        true-false (sym (subst (λ k. (first_run sc k).book.ended ≡ true) same (still-over sc (suc m) (n - suc m) (run-ends sc m lawful none))) ∙ going)
+    by (suc k) e = omega (arith, e)
+
+-- so there were few
+pub few-going : (sc : Scenario) (n : ℕ) → IsLawful sc → (first_run sc n).book.ended ≡ false → n < 2 ^ 63
+few-going sc n lawful going = few-steps sc n lawful (going-busy sc n lawful going)
+
 -- whatever was given so far, all that is given begins with it
-pub all-given : (sc : Scenario) (name : NodeName) (n : ℕ) → IsLawful sc → ((m : ℕ) → m < n → 1 ≤ length (due_of sc (first_run sc m)))
+going-given : (sc : Scenario) (name : NodeName) (n : ℕ) → IsLawful sc → ((m : ℕ) → m < n → 1 ≤ length (due_of sc (first_run sc m)))
     → (more : List Event) × AreGiven sc name (given_in sc name n ++ more)
-all-given sc name n lawful busy =
+going-given sc name n lawful busy =
     let long = is-long sc n lawful busy in
     let more = given-more sc name n long.more in
     (more.0, record { steps = n + long.more; over = long.over; all = sym more.1 })
+
+pub all-given : (sc : Scenario) (name : NodeName) (n : ℕ) → IsLawful sc → (more : List Event) × AreGiven sc name (given_in sc name n ++ more)
+all-given sc name n lawful = by (first_run sc n).book.ended refl
+  where
+    by : (b : Bool) → (first_run sc n).book.ended ≡ b → (more : List Event) × AreGiven sc name (given_in sc name n ++ more)
+    by true over = ([], record { steps = n; over = over; all = append-nil (given_in sc name n) })
+    by false going = going-given sc name n lawful (going-busy sc n lawful going)
 
 -- where nothing is due, nothing is given
 none-at : (sc : Scenario) (w : World) → length (due_of sc w) ≡ 0 → event_at sc w 0 ≡ None
@@ -231,11 +252,3 @@ none-at sc w = by (due_of sc w)
 pub none-given : (sc : Scenario) (name : NodeName) (w : World) → length (due_of sc w) ≡ 0 → given_next sc name w ≡ []
 unfolding given_next
 none-given sc name w none = ap (if_given sc name w) (none-at sc w none)
-
--- at the end all is given
-pub whole-given : (sc : Scenario) (name : NodeName) (n : ℕ) → IsLawful sc → length (due_of sc (first_run sc n)) ≡ 0 → AreGiven sc name (given_in sc name n)
-whole-given sc name n lawful none = record {
-  steps = suc n;
-  over = run-ends sc n lawful none;
-  all = sym (ap (λ (xs : List Event). given_in sc name n ++ xs) (none-given sc name (first_run sc n) none) ∙ append-nil (given_in sc name n));
-}

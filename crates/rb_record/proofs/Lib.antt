@@ -3,6 +3,8 @@ pub mod Alone
 pub mod Ends
 pub mod Comings
 pub mod Ticks
+pub mod ToldGiven
 pub mod Writing
 pub mod Finish
+pub mod Observed
 pub mod Logs

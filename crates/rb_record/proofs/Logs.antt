@@ -114,7 +114,7 @@ given-happen sc name (suc n) lawful = All-append (CanHappen sc name) (given_in s
 
 tell-fits : (ticks : ℕ) (events : List Event) → ticks ≤ 2147483648 → MayTell ticks events → ticks + ticks_in events ≤ 2147483648
 tell-fits ticks [] le may = omega (arith, le)
-tell-fits ticks (e ∷ events) le may = let rest = tell-fits (ticks + ticks_given e) events may.0 may.2 in omega (arith, rest)
+tell-fits ticks (e ∷ events) le may = let rest = tell-fits (ticks + ticks_given e) events may.0.0 may.1 in omega (arith, rest)
 
 given-fit : (sc : Scenario) (name : NodeName) (n : ℕ) → IsLawful sc → ticks_in (given_in sc name n) ≤ 2147483648
 given-fit sc name zero lawful = omega arith

@@ -9,6 +9,8 @@ use Rattle.rb_history.specs.Given.{first_run, first_step, step_with}
 use Rattle.rb_order.proofs.EventsHold.{ends-hold}
 use Rattle.rb_order.proofs.EveryWorld.{after-more}
 use Rattle.rb_order.specs.Laws.{most_at_once, most_takes, nodes_of, taken_by, takes_from}
+use Rattle.rb_world.specs.declared.ties.Ties.TheVariants.{First}
+use Rattle.rb_world.specs.Nexts.{Standing, after_steps, step, step_among}
 use Rattle.rb_world.specs.Worlds.{IsReached}
 
 -- One step.
@@ -28,6 +30,24 @@ run-idle sc w = by (due_of sc w)
     by : (ds : List Due) → length ds ≡ 0 → step_with sc w ds ≡ go_on sc w
     by [] none = refl
     by (d ∷ ds) none = absurd (omega (arith, none))
+
+-- Steps to the next record.
+
+among-first : (sc : Scenario) (due : ℕ) (s : Standing) → length (due_of sc s.world) ≡ due → (step_among sc First due s).world ≡ first_step sc s.world
+among-first sc zero s e = sym (run-idle sc s.world e)
+among-first sc (suc k) s e = sym (run-busy sc s.world (omega (arith, e)))
+
+step-first : (sc : Scenario) (s : Standing) → (step sc First s).world ≡ first_step sc s.world
+unfolding step
+step-first sc s = among-first sc (length (due_of sc s.world)) s refl
+
+-- so many steps by first choices, whatever the draws
+pub after-first : (sc : Scenario) (n k draws : ℕ) → (after_steps sc First k (record { world = first_run sc n; draws = draws })).world ≡ first_run sc (n + k)
+unfolding after_steps
+after-first sc n zero draws = let same : n ≡ n + 0 = omega arith in ap (first_run sc) same
+after-first sc n (suc k) draws =
+    let same : suc (n + k) ≡ n + suc k = omega arith in
+    step-first sc (after_steps sc First k (record { world = first_run sc n; draws = draws })) ∙ ap (first_step sc) (after-first sc n k draws) ∙ ap (first_run sc) same
 
 -- Choices.
 

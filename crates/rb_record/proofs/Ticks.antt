@@ -428,7 +428,7 @@ may-tell sc name n ticks lawful is = by (event_at sc w 0) refl
         let sound = run-sound sc n lawful in
         let before = ticks-had sc name n its.s lawful (at-site sc w e name its same) in
         let fits = event-fits sc w e lawful (run-reached sc n) sound its in
-        (omega (arith, is, before, fits), event-bytes sc w e (run-reached sc n) sound its, tt)
+        ((omega (arith, is, before, fits), event-bytes sc w e (run-reached sc n) sound its), tt)
     at e found true false same = tt
     at e found false b same = tt
 

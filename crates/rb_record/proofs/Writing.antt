@@ -1,93 +1,98 @@
 -- What is written of a log while a run goes on.
-use Rattle.std.proofs.Common.{◌≡◌, ℕ, zero, suc, ◌+◌, ◌<◌, ◌≤◌, ◌&&◌, Bool, true, false, IsTrue, ◌↔◌, Option, Some, List, [], ◌∷◌, ◌++◌, append_assoc, length, refl, sym, ap, ◌∙◌, subst, arith}
-use Rattle.std.specs.Prelude.{if◌then◌else◌, Result, Ok, Err, IsErr, MatchResult, OnErr, OnOk}
+use Rattle.std.proofs.Common.{◌≡◌, ℕ, ◌+◌, List, [], ◌++◌, append_assoc, Option, refl, sym, ap, ◌∙◌, subst, arith}
+use Rattle.std.specs.Prelude.{Result, Ok, Err, IsErr, MatchResult, OnErr}
 use Rattle.std.specs.Io.KnownBytes.{Appends}
 use Rattle.std.proofs.lemmas.List.{append-nil}
 use Rattle.rb_base.specs.declared.event.Event.{Event}
 use Rattle.rb_base.specs.declared.node.NodeName.{NodeName}
 use Rattle.rb_rules.specs.Goodness.{Scenario}
 use Rattle.rb_rules.specs.Lawful.{IsLawful}
-use Rattle.rb_rules.specs.Links.{same_node}
-use Rattle.rb_rules.specs.WorldStep.{World, due_of, event_at, first_world}
-use Rattle.rb_history.specs.Given.{first_run, given_in, given_next, is_before_end, site_of}
+use Rattle.rb_rules.specs.WorldStep.{first_world}
+use Rattle.rb_history.specs.Given.{first_run, given_in}
 use Rattle.rb_log.specs.Header.{header_of}
-use Rattle.rb_log.specs.Writing.{Tally, ticks_given, written}
+use Rattle.rb_log.specs.Laws.{ticks_in}
+use Rattle.rb_log.specs.Writing.{Tally, written}
 use Rattle.rb_outside.specs.Bytes.{AppendsPart}
 use Rattle.rb_outside.proofs.Known.{appends_join, appends_none, part_join, part_widens}
-use Rattle.rb_world.specs.Worlds.{KeptWorld, Stands, due_in}
-use Rattle.rb_record.specs.Recording.{HasDue, IsRecorded, IsRecordedWhole, IsTold, WritesAll, WritesNext, WritesPart, WritesPartOf, log_text}
-use Rattle.rb_record.proofs.Ends.{all-given, busy-more, whole-given}
-use Rattle.rb_record.proofs.Ticks.{next-is, ticks-append}
+use Rattle.rb_world.specs.Worlds.{KeptWorld, Stands}
+use Rattle.rb_record.specs.Recording.{IsRecorded, IsRecordedWhole, IsTold, WritesAll, WritesNext, WritesPart, WritesPartOf, log_text}
+use Rattle.rb_record.proofs.Ends.{all-given}
+use Rattle.rb_record.proofs.Ticks.{ticks-append}
 
--- One event.
+-- Some events.
 
 told-none : (log : Tally) → IsTold log log [] []
 told-none log = record { text = λ others. refl; ticks = let none : log.ticks ≡ log.ticks + 0 = omega arith in none }
 
-pub told-one : (before after : Tally) (e : Event) (bytes : List ℕ) → ((others : List Event) → written before.waiting (e ∷ others) ≡ bytes ++ written after.waiting others)
-    → after.ticks ≡ before.ticks + ticks_given e → IsTold before after (e ∷ []) bytes
-told-one before after e bytes text ticks = record { text = text; ticks = omega (arith, ticks) }
+-- where there is none, nothing is written
+pub writes-none : (log : Tally) (held : Option (List ℕ)) → WritesNext log log [] held held
+writes-none log held = record { bytes = []; told = told-none log; text = appends_none held }
 
--- what the node is given next, where this is due
-pub is-next : (sc : Scenario) (name : NodeName) (w : World) (e : Event) → event_at sc w 0 ≡ Some e → (same_node e.node name && is_before_end sc (site_of name w)) ≡ true
-    → given_next sc name w ≡ e ∷ []
-is-next sc name w e found test = next-is sc name w (Some e) found ∙ ap (λ b. if b then e ∷ [] else []) test
-
-pub none-next : (sc : Scenario) (name : NodeName) (w : World) (e : Event) → event_at sc w 0 ≡ Some e → (same_node e.node name && is_before_end sc (site_of name w)) ≡ false
-    → given_next sc name w ≡ []
-none-next sc name w e found test = next-is sc name w (Some e) found ∙ ap (λ b. if b then e ∷ [] else []) test
-
--- nothing is written where the node is given nothing
-pub writes-none : (log : Tally) (events : List Event) (held : Option (List ℕ)) → events ≡ [] → WritesNext log log events held held
-writes-none log events held none =
-    subst (λ es. WritesNext log log es held held) (sym none) (record { bytes = []; told = told-none log; text = appends_none held })
-
--- the same events by another name
-pub for-same : {T E : Type 0} (before after : Tally) (events others : List Event) (held since : Option (List ℕ)) (r : Result T E) → events ≡ others
-    → MatchResult r (λ _. WritesNext before after events held since) (λ _. WritesPartOf before events held since)
-    → MatchResult r (λ _. WritesNext before after others held since) (λ _. WritesPartOf before others held since)
-for-same before after events others held since r same =
-    subst (λ es. MatchResult r (λ _. WritesNext before after es held since) (λ _. WritesPartOf before es held since)) same
-
--- So far.
-
-text-more : (sc : Scenario) (name : NodeName) (n : ℕ) (log after : Tally) (bytes more : List ℕ)
-    → ((others : List Event) → log_text sc name (given_in sc name n ++ others) ≡ bytes ++ written log.waiting others) → IsTold log after (given_next sc name (first_run sc n)) more
-    → (others : List Event) → log_text sc name (given_in sc name (suc n) ++ others) ≡ (bytes ++ more) ++ written after.waiting others
-text-more sc name n log after bytes more text told others =
-    let next : List Event = given_next sc name (first_run sc n) in
-    ap (log_text sc name) (append_assoc (given_in sc name n) next others) ∙ text (next ++ others) ∙ ap (λ xs. bytes ++ xs) (told.text others)
+text-join : (before mid after : Tally) (xs ys : List Event) (bytes more : List ℕ) → IsTold before mid xs bytes → IsTold mid after ys more
+    → (others : List Event) → written before.waiting ((xs ++ ys) ++ others) ≡ (bytes ++ more) ++ written after.waiting others
+text-join before mid after xs ys bytes more a b others =
+    ap (written before.waiting) (append_assoc xs ys others) ∙ a.text (ys ++ others) ∙ ap (λ zs. bytes ++ zs) (b.text others)
     ∙ sym (append_assoc bytes more (written after.waiting others))
 
-pub recorded-more : (sc : Scenario) (name : NodeName) (n : ℕ) (k after : KeptWorld) (log later : Tally) (held mid since : Option (List ℕ)) → IsRecorded sc name n k log held mid
-    → WritesNext log later (given_next sc name (first_run sc n)) mid since → 1 ≤ length (due_of sc (first_run sc n)) → after.bus ≡ sc → Stands after (first_run sc (suc n))
-    → IsRecorded sc name (n + 1) after later held since
-recorded-more sc name n k after log later held mid since is next some bus stands =
-    let one : suc n ≡ n + 1 = omega arith in
-    let sum = ticks-append (given_in sc name n) (given_next sc name (first_run sc n)) in
-    let before = is.ticks in
-    let more = next.told.ticks in
-    subst (λ m. IsRecorded sc name m after later held since) one (record {
-      bus = bus;
-      stands = stands;
-      taken = busy-more sc n is.taken some;
-      bytes = is.bytes ++ next.bytes;
-      text = text-more sc name n log later is.bytes next.bytes is.text next.told;
-      ticks = omega (arith, sum, before, more);
-      appended = appends_join held mid since is.bytes next.bytes is.appended next.text;
-    })
+-- one after the other
+pub writes-join : (before mid after : Tally) (xs ys : List Event) (held between since : Option (List ℕ)) → WritesNext before mid xs held between → WritesNext mid after ys between since
+    → WritesNext before after (xs ++ ys) held since
+writes-join before mid after xs ys held between since a b = record {
+  bytes = a.bytes ++ b.bytes;
+  told = record {
+    text = text-join before mid after xs ys a.bytes b.bytes a.told b.told;
+    ticks = let first = a.told.ticks in let second = b.told.ticks in let sum = ticks-append xs ys in omega (arith, first, second, sum);
+  };
+  text = appends_join held between since a.bytes b.bytes a.text b.text;
+}
 
-pub recorded-part : (sc : Scenario) (name : NodeName) (n : ℕ) (k : KeptWorld) (log : Tally) (held mid since : Option (List ℕ)) → IsLawful sc → IsRecorded sc name n k log held mid
-    → WritesPartOf log (given_next sc name (first_run sc n)) mid since → 1 ≤ length (due_of sc (first_run sc n)) → WritesPart sc name held since
-recorded-part sc name n k log held mid since lawful is next some =
-    let all = all-given sc name (suc n) lawful (busy-more sc n is.taken some) in
-    let text : log_text sc name (given_in sc name (suc n) ++ all.0) ≡ (is.bytes ++ next.bytes) ++ written next.after.waiting all.0 =
-    text-more sc name n log next.after is.bytes next.bytes is.text next.told all.0 in
+-- a write failed at those that came later
+pub writes-then-part : (before mid : Tally) (xs ys : List Event) (held between since : Option (List ℕ)) → WritesNext before mid xs held between → WritesPartOf mid ys between since
+    → WritesPartOf before (xs ++ ys) held since
+writes-then-part before mid xs ys held between since a b others =
+    subst (AppendsPart held since) (sym (ap (written before.waiting) (append_assoc xs ys others) ∙ a.told.text (ys ++ others)))
+    (part_join held between since a.bytes (written mid.waiting (ys ++ others)) a.text (b others))
+
+-- or at those that came before
+pub part-then-none : (before : Tally) (xs ys : List Event) (held since : Option (List ℕ)) → WritesPartOf before xs held since → WritesPartOf before (xs ++ ys) held since
+part-then-none before xs ys held since a others =
+    subst (λ es. AppendsPart held since (written before.waiting es)) (sym (append_assoc xs ys others)) (a (ys ++ others))
+
+-- The log.
+
+text-more : (sc : Scenario) (name : NodeName) (n m : ℕ) (events : List Event) (log : Tally) (bytes : List ℕ)
+    → ((others : List Event) → log_text sc name (given_in sc name n ++ others) ≡ bytes ++ written log.waiting others) → given_in sc name m ≡ given_in sc name n ++ events
+    → (others : List Event) → log_text sc name (given_in sc name m ++ others) ≡ bytes ++ written log.waiting (events ++ others)
+text-more sc name n m events log bytes text more others =
+    ap (λ es. log_text sc name (es ++ others)) more ∙ ap (log_text sc name) (append_assoc (given_in sc name n) events others) ∙ text (events ++ others)
+
+pub recorded-more : (sc : Scenario) (name : NodeName) (n m : ℕ) (events : List Event) (k after : KeptWorld) (log later : Tally) (held mid since : Option (List ℕ))
+    → IsRecorded sc name n k log held mid → given_in sc name m ≡ given_in sc name n ++ events → WritesNext log later events mid since → after.bus ≡ sc → Stands after (first_run sc m)
+    → IsRecorded sc name m after later held since
+recorded-more sc name n m events k after log later held mid since is more next bus stands = record {
+  bus = bus;
+  stands = stands;
+  bytes = is.bytes ++ next.bytes;
+  text = λ others. text-more sc name n m events log is.bytes is.text more others ∙ ap (λ zs. is.bytes ++ zs) (next.told.text others)
+      ∙ sym (append_assoc is.bytes next.bytes (written later.waiting others));
+  ticks =
+      let sum = ticks-append (given_in sc name n) events in
+      let all : ticks_in (given_in sc name m) ≡ ticks_in (given_in sc name n ++ events) = ap ticks_in more in
+      let before = is.ticks in
+      let with = next.told.ticks in
+      omega (arith, sum, all, before, with);
+  appended = appends_join held mid since is.bytes next.bytes is.appended next.text;
+}
+
+pub recorded-part : (sc : Scenario) (name : NodeName) (n m : ℕ) (events : List Event) (k : KeptWorld) (log : Tally) (held mid since : Option (List ℕ)) → IsLawful sc
+    → IsRecorded sc name n k log held mid → given_in sc name m ≡ given_in sc name n ++ events → WritesPartOf log events mid since → WritesPart sc name held since
+recorded-part sc name n m events k log held mid since lawful is more part =
+    let all = all-given sc name m lawful in
     record {
-      events = given_in sc name (suc n) ++ all.0;
+      events = given_in sc name m ++ all.0;
       given = all.1;
-      text = subst (AppendsPart held since) (sym text)
-          (part_widens held since (is.bytes ++ next.bytes) (written next.after.waiting all.0) (part_join held mid since is.bytes next.bytes is.appended next.text));
+      text = subst (AppendsPart held since) (sym (text-more sc name n m events log is.bytes is.text more all.0))
+          (part_join held mid since is.bytes (written log.waiting (events ++ all.0)) is.appended (part all.0));
     }
 
 -- The begin.
@@ -97,7 +102,6 @@ pub recorded-none : (sc : Scenario) (name : NodeName) (k : KeptWorld) (header : 
 recorded-none sc name k header held since bus stands is text = record {
   bus = bus;
   stands = stands;
-  taken = λ m lt. absurd (omega (arith, lt));
   bytes = header;
   text = λ others. ap (λ h. h ++ written 0 others) (sym is);
   ticks = refl;
@@ -107,12 +111,17 @@ recorded-none sc name k header held since bus stands is text = record {
 pub begin-part : (sc : Scenario) (name : NodeName) (header : List ℕ) (held since : Option (List ℕ)) → IsLawful sc → header ≡ header_of (record { sizes = sc.sizes; plan = sc.plan }) name
     → AppendsPart held since header → WritesPart sc name held since
 begin-part sc name header held since lawful is text =
-    let all = all-given sc name 0 lawful (λ m lt. absurd (omega (arith, lt))) in
+    let all = all-given sc name 0 lawful in
     record {
       events = given_in sc name 0 ++ all.0;
       given = all.1;
       text = subst (λ h. AppendsPart held since (h ++ written 0 all.0)) is (part_widens held since header (written 0 all.0) text);
     }
+
+-- the same by other names
+pub recorded-as : (sc : Scenario) (name : NodeName) (n : ℕ) (k : KeptWorld) (log same : Tally) (held since mid : Option (List ℕ)) → same ≡ log → mid ≡ since
+    → IsRecorded sc name n k log held since → IsRecorded sc name n k same held mid
+recorded-as sc name n k log same held since mid logs sinks is = subst (λ m. IsRecorded sc name n k same held m) (sym sinks) (subst (λ l. IsRecorded sc name n k l held since) (sym logs) is)
 
 -- The end.
 
@@ -120,61 +129,34 @@ end-text : (sc : Scenario) (name : NodeName) (k : KeptWorld) (log : Tally) (held
     → log_text sc name (given_in sc name is.steps) ≡ is.recorded.bytes ++ written log.waiting []
 end-text sc name k log held mid is = ap (log_text sc name) (sym (append-nil (given_in sc name is.steps))) ∙ is.recorded.text []
 
-pub all-written : (sc : Scenario) (name : NodeName) (k : KeptWorld) (log : Tally) (bytes : List ℕ) (held mid since : Option (List ℕ)) → IsLawful sc → IsRecordedWhole sc name k log held mid
-    → bytes ≡ written log.waiting [] → Appends mid since bytes → WritesAll sc name held since
-all-written sc name k log bytes held mid since lawful is last text = record {
+pub all-written : (sc : Scenario) (name : NodeName) (k : KeptWorld) (log : Tally) (held mid since : Option (List ℕ)) → IsRecordedWhole sc name k log held mid
+    → Appends mid since (written log.waiting []) → WritesAll sc name held since
+all-written sc name k log held mid since is text = record {
   events = given_in sc name is.steps;
-  given = whole-given sc name is.steps lawful is.none;
-  text = subst (Appends held since) (ap (λ xs. is.recorded.bytes ++ xs) last ∙ sym (end-text sc name k log held mid is))
-      (appends_join held mid since is.recorded.bytes bytes is.recorded.appended text);
+  given = record { steps = is.steps; over = is.over; all = refl };
+  text = subst (Appends held since) (sym (end-text sc name k log held mid is))
+      (appends_join held mid since is.recorded.bytes (written log.waiting []) is.recorded.appended text);
 }
 
-pub end-part : (sc : Scenario) (name : NodeName) (k : KeptWorld) (log : Tally) (bytes : List ℕ) (held mid since : Option (List ℕ)) → IsLawful sc → IsRecordedWhole sc name k log held mid
-    → bytes ≡ written log.waiting [] → AppendsPart mid since bytes → WritesPart sc name held since
-end-part sc name k log bytes held mid since lawful is last text = record {
+pub end-part : (sc : Scenario) (name : NodeName) (k : KeptWorld) (log : Tally) (held mid since : Option (List ℕ)) → IsRecordedWhole sc name k log held mid
+    → AppendsPart mid since (written log.waiting []) → WritesPart sc name held since
+end-part sc name k log held mid since is text = record {
   events = given_in sc name is.steps;
-  given = whole-given sc name is.steps lawful is.none;
-  text = subst (AppendsPart held since) (ap (λ xs. is.recorded.bytes ++ xs) last ∙ sym (end-text sc name k log held mid is))
-      (part_join held mid since is.recorded.bytes bytes is.recorded.appended text);
+  given = record { steps = is.steps; over = is.over; all = refl };
+  text = subst (AppendsPart held since) (sym (end-text sc name k log held mid is))
+      (part_join held mid since is.recorded.bytes (written log.waiting []) is.recorded.appended text);
 }
 
 -- Answers.
 
-pub match-err : {T E : Type 0} (P : T → Type 0) {Q : Type 0} (r : Result T E) → IsErr r → Q → MatchResult r P (λ _. Q)
-match-err P (Ok x) is q = absurd (cc)
-match-err P (Err e) is q = q
-
-pub match-both : {T E A B C D : Type 0} (r : Result T E) → OnOk r A → OnErr r B → (A → C) → (B → D) → MatchResult r (λ _. C) (λ _. D)
-match-both (Ok x) a b f h = f a
-match-both (Err e) a b f h = h b
-
--- the same bus by another name
-pub recorded-for : (a b : Scenario) (name : NodeName) (n : ℕ) (k : KeptWorld) (log : Tally) (held since : Option (List ℕ)) → a ≡ b → IsRecorded a name n k log held since
-    → IsRecorded b name n k log held since
-recorded-for a b name n k log held since same = subst (λ sc. IsRecorded sc name n k log held since) same
-
-pub part-for : (a b : Scenario) (name : NodeName) (held since : Option (List ℕ)) → a ≡ b → WritesPart a name held since → WritesPart b name held since
-part-for a b name held since same = subst (λ sc. WritesPart sc name held since) same
+-- what holds of what a sink holds is so of the same sink by another name
+pub held-as : {K : Type 0} (held : K → Option (List ℕ)) (P : Option (List ℕ) → Type 0) (a b : K) → a ≡ b → P (held b) → P (held a)
+held-as held P a b same h = subst (λ k. P (held k)) (sym same) h
 
 pub on-err : {T E : Type 0} {Q : Type 0} (r : Result T E) → Q → OnErr r Q
 on-err (Ok x) q = tt
 on-err (Err e) q = q
 
-no-more : (n : ℕ) (due : Bool) → due ≡ false → IsTrue due ↔ 0 < n → n ≡ 0
-no-more zero due none is = refl
-no-more (suc n) due none is = (let some : 0 < suc n = omega arith in let yes : due ≡ true = is.1 some in absurd (cc))
-
--- where no event is due any more, all is recorded
-pub recorded-whole : (sc : Scenario) (name : NodeName) (n : ℕ) (due : Bool) (k : KeptWorld) (log : Tally) (held since : Option (List ℕ)) → IsRecorded sc name n k log held since
-    → ((w : World) → Stands k w → IsTrue due ↔ 0 < length (due_of k.bus w)) → due ≡ false → IsRecordedWhole sc name k log held since
-recorded-whole sc name n due k log held since is some none = record {
-  steps = n;
-  recorded = is;
-  none = ap (λ sc2. length (due_of sc2 (first_run sc n))) (sym is.bus) ∙ no-more (length (due_of k.bus (first_run sc n))) due none (some (first_run sc n) is.stands);
-}
-
-pub has-due : (k : KeptWorld) (due : Bool) → IsTrue due ↔ 0 < due_in k → ((w : World) → Stands k w → IsTrue due ↔ 0 < length (due_of k.bus w)) → due ≡ true → HasDue k
-has-due k due kept some holds = record {
-  kept = kept.0 holds;
-  world = λ w is. let more = (some w is).0 holds in omega (arith, more);
-}
+pub match-err : {T E : Type 0} (P : T → Type 0) {Q : Type 0} (r : Result T E) → IsErr r → Q → MatchResult r P (λ _. Q)
+match-err P (Ok x) is q = absurd (cc)
+match-err P (Err e) is q = q

@@ -1,16 +1,15 @@
 -- The log of what a node is given in a run, and how it is written while the run goes on.
-use Rattle.std.specs.Prelude.{⊤, ℕ, ◌≡◌, ◌+◌, ◌<◌, ◌≤◌, Option, Some, option_map, List, [], ◌∷◌, ◌++◌, length}
+use Rattle.std.specs.Prelude.{⊤, ℕ, ◌≡◌, ◌+◌, ◌≤◌, true, false, Option, List, [], ◌∷◌, ◌++◌}
 use Rattle.std.specs.Io.KnownBytes.{Appends}
 use Rattle.rb_base.specs.declared.event.Event.{Event}
 use Rattle.rb_base.specs.declared.node.NodeName.{NodeName}
 use Rattle.rb_rules.specs.Goodness.{Scenario}
-use Rattle.rb_rules.specs.WorldStep.{World, due_of, event_at}
 use Rattle.rb_history.specs.Given.{AreGiven, first_run, given_in}
 use Rattle.rb_log.specs.Header.{header_of}
 use Rattle.rb_log.specs.Laws.{ticks_in}
 use Rattle.rb_log.specs.Writing.{HasBytes, Tally, ticks_given, written}
 use Rattle.rb_outside.specs.Bytes.{AppendsPart}
-use Rattle.rb_world.specs.Worlds.{KeptWorld, Stands, due_in}
+use Rattle.rb_world.specs.Worlds.{KeptWorld, Stands}
 
 -- the log in which a node of the bus is given these events
 abbrev pub log_text : Scenario → NodeName → List Event → List ℕ
@@ -30,19 +29,14 @@ pub record WritesPart (sc : Scenario) (name : NodeName) (held since : Option (Li
 
 -- While the run goes on.
 
--- some event is due, by what is kept, and so in each world for which that stands
-pub record HasDue (k : KeptWorld) : Type 0 where
-  pub kept : 0 < due_in k
-  pub world : (w : World) → Stands k w → 1 ≤ length (due_of k.bus w)
+-- a log that has so many ticks has room for this event: a log has at most 2^31 ticks, and what arrives has bytes
+abbrev pub HasRoom : ℕ → Event → Type 0
+HasRoom ticks e = (ticks + ticks_given e ≤ 2147483648) × HasBytes e.kind
 
--- the first event that is due is of this node, in each world for which that stands
-abbrev pub IsFirstNode : KeptWorld → NodeName → Type 0
-IsFirstNode k first = (w : World) → Stands k w → option_map (λ (e : Event). e.node) (event_at k.bus w 0) ≡ Some first
-
--- a writer that was given so many ticks may be told these events: a log has at most 2^31 ticks, and what arrives has bytes
+-- so with these one after another
 abbrev pub MayTell : ℕ → List Event → Type 0
 MayTell ticks [] = ⊤
-MayTell ticks (e ∷ events) = (ticks + ticks_given e ≤ 2147483648) × HasBytes e.kind × MayTell (ticks + ticks_given e) events
+MayTell ticks (e ∷ events) = HasRoom ticks e × MayTell (ticks + ticks_given e) events
 
 -- the writer was told these events: these bytes are complete with them, whatever follows
 pub record IsTold (before after : Tally) (events : List Event) (bytes : List ℕ) : Type 0 where
@@ -55,32 +49,28 @@ pub record WritesNext (before after : Tally) (events : List Event) (held since :
   pub told : IsTold before after events bytes
   pub text : Appends held since bytes
 
--- or a first part of them
-pub record WritesPartOf (before : Tally) (events : List Event) (held since : Option (List ℕ)) : Type 0 where
-  pub after : Tally
-  pub bytes : List ℕ
-  pub told : IsTold before after events bytes
-  pub text : AppendsPart held since bytes
+-- or a first part of what is written where these events come next, whatever follows
+abbrev pub WritesPartOf : Tally → List Event → Option (List ℕ) → Option (List ℕ) → Type 0
+WritesPartOf before events held since = (others : List Event) → AppendsPart held since (written before.waiting (events ++ others))
 
--- the world has had so many events, the first of those due each time, and of the node's log all was written that is complete with them
+-- the world has had so many steps, the first due event taken each time, and of the node's log all was written that is complete with them
 pub record IsRecorded (sc : Scenario) (name : NodeName) (n : ℕ) (k : KeptWorld) (log : Tally) (held since : Option (List ℕ)) : Type 0 where
   pub bus : k.bus ≡ sc
   pub stands : Stands k (first_run sc n)
-  pub taken : (m : ℕ) → m < n → 1 ≤ length (due_of sc (first_run sc m))
   pub bytes : List ℕ
   pub text : (others : List Event) → log_text sc name (given_in sc name n ++ others) ≡ bytes ++ written log.waiting others
   pub ticks : log.ticks ≡ ticks_in (given_in sc name n)
   pub appended : Appends held since bytes
 
--- no event is due any more
-pub record IsOver (sc : Scenario) (n : ℕ) (k : KeptWorld) : Type 0 where
-  pub bus : k.bus ≡ sc
-  pub stands : Stands k (first_run sc n)
-  pub taken : (m : ℕ) → m < n → 1 ≤ length (due_of sc (first_run sc m))
-  pub none : length (due_of sc (first_run sc n)) ≡ 0
+-- so it is after so many records or more steps, and the run goes on
+pub record IsRecordedSoFar (sc : Scenario) (name : NodeName) (records : ℕ) (k : KeptWorld) (log : Tally) (held since : Option (List ℕ)) : Type 0 where
+  pub steps : ℕ
+  pub many : records ≤ steps
+  pub going : (first_run sc steps).book.ended ≡ false
+  pub recorded : IsRecorded sc name steps k log held since
 
--- so it is, and the log is written but for its end
+-- the run has ended, and the log is written but for its end
 pub record IsRecordedWhole (sc : Scenario) (name : NodeName) (k : KeptWorld) (log : Tally) (held since : Option (List ℕ)) : Type 0 where
   pub steps : ℕ
+  pub over : (first_run sc steps).book.ended ≡ true
   pub recorded : IsRecorded sc name steps k log held since
-  pub none : length (due_of sc (first_run sc steps)) ≡ 0

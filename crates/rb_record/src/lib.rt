@@ -1,7 +1,9 @@
 //! What one node is given in a run, written as a log.
 #![tactic(auto)]
 
+mod counted;
 mod laws;
+mod recorder;
 mod recording;
 
 pub use laws::{one_log, recorded_is_read};
