@@ -5,10 +5,10 @@ use Rattle.rb_base.specs.declared.event.Event.{Event}
 use Rattle.rb_base.specs.declared.node.NodeName.{NodeName}
 use Rattle.rb_rules.specs.Goodness.{Scenario}
 use Rattle.rb_rules.specs.Lawful.{IsLawful}
-use Rattle.rb_rules.specs.WorldStep.{World}
+use Rattle.rb_rules.specs.WorldStep.{World, first_world}
 use Rattle.rb_book.specs.Records.{record_of}
 use Rattle.rb_book.specs.declared.turn.Turn.{Turn}
-use Rattle.rb_history.specs.Given.{first_run}
+use Rattle.rb_history.specs.Given.{first_run, given_in}
 use Rattle.rb_log.specs.Laws.{ticks_in}
 use Rattle.rb_log.specs.Writing.{Tally, ticks_given}
 use Rattle.rb_outside.specs.Causes.{HasCause, Rose}
@@ -20,12 +20,12 @@ use Rattle.rb_world.specs.Observing.{TellsToNext, WasTold, told_to}
 use Rattle.rb_world.specs.Worlds.{KeptWorld, Stands}
 use Rattle.rb_record.specs.declared.recorder.Recorder.{Recorder}
 use Rattle.rb_record.specs.Observing.{Records, RecordsNext, all_of_log, of_log}
-use Rattle.rb_record.specs.Recording.{IsRecorded, IsRecordedSoFar, IsRecordedWhole, MayTell, WritesNext, WritesPart, WritesPartOf}
+use Rattle.rb_record.specs.Recording.{IsRecorded, IsRecordedInPart, IsRecordedSoFar, IsRecordedWhole, MayTell, WritesNext, WritesPartOf, fresh_log}
 use Rattle.rb_record.proofs.Ends.{first-going}
 use Rattle.rb_record.proofs.Finish.{ends-so, turn-ends, turn-goes}
 use Rattle.rb_record.proofs.Runs.{after-first}
 use Rattle.rb_record.proofs.ToldGiven.{given-told, may-tell-more, standing, told_more}
-use Rattle.rb_record.proofs.Writing.{match-err, part-then-none, recorded-more, recorded-part, writes-join, writes-none, writes-then-part}
+use Rattle.rb_record.proofs.Writing.{match-err, none-recorded, part-then-none, recorded-more, recorded-part, writes-join, writes-none, writes-then-part}
 
 -- Events of which the writer may be told.
 
@@ -165,7 +165,7 @@ module _ {K : Type 0} (held : K → Option (List ℕ)) (faults : K → ℕ) wher
     pub frames : b.frames ≡ sc.frames
     pub same_output : b.output.ghost_name ≡ a.output.ghost_name
     pub cause : HasCause (faults a.output.now) (faults b.output.now) b.written
-    pub written : MatchResult b.written (λ _. IsRecorded sc name steps after b.log start (held b.output.now)) (λ _. WritesPart sc name start (held b.output.now))
+    pub written : MatchResult b.written (λ _. IsRecorded sc name steps after b.log start (held b.output.now)) (λ _. IsRecordedInPart sc name start (held b.output.now))
 
   comes : (name : NodeName) (records : ℕ) (a b : Recorder K) (k after : KeptWorld) (turn : Turn) (start : Option (List ℕ))
       → (is : IsRecordedSoFar k.bus name records k a.log start (held a.output.now)) → a.frames ≡ k.bus.frames → IsOk a.written → after.bus ≡ k.bus
@@ -182,6 +182,7 @@ module _ {K : Type 0} (held : K → Option (List ℕ)) (faults : K → ℕ) wher
       subst (λ frames. Records held faults a (all_of_log frames (told_to sc name more (standing sc n draws))) b) frames (all-told a b (told_to sc name more (standing sc n draws)) tells.told) in
       let stands : Stands after (first_run sc (n + more)) = subst (Stands after) next tells.goes.gives.stands in
       let many = is.many in
+      let ticks : a.log.ticks ≡ ticks_in (given_in sc name n) = (let sum = is.recorded.written.told.ticks in omega (arith, sum)) in
       record {
         steps = n + more;
         many = omega (arith, many);
@@ -191,7 +192,7 @@ module _ {K : Type 0} (held : K → Option (List ℕ)) (faults : K → ℕ) wher
         same_output = told.same_output;
         cause = told.cause ok;
         written = match-map (WritesNext a.log b.log events (held a.output.now) (held b.output.now)) (WritesPartOf a.log events (held a.output.now) (held b.output.now))
-            (IsRecorded sc name (n + more) after b.log start (held b.output.now)) (WritesPart sc name start (held b.output.now)) b.written (told.next ok (may-tell-more sc name n more draws a.log.ticks lawful is.recorded.ticks))
+            (IsRecorded sc name (n + more) after b.log start (held b.output.now)) (IsRecordedInPart sc name start (held b.output.now)) b.written (told.next ok (may-tell-more sc name n more draws a.log.ticks lawful ticks))
             (λ all. recorded-more sc name n (n + more) events k after a.log b.log start (held a.output.now) (held b.output.now) is.recorded (given-told sc name n more draws) all bus stands)
             (λ part. recorded-part sc name n (n + more) events k a.log start (held a.output.now) (held b.output.now) lawful is.recorded (given-told sc name n more draws) part);
       }
@@ -207,13 +208,15 @@ module _ {K : Type 0} (held : K → Option (List ℕ)) (faults : K → ℕ) wher
   recorded-then : (sc : Scenario) (name : NodeName) (records : ℕ) (a b : Recorder K) (after : KeptWorld) (turn : Turn) (start : Option (List ℕ))
       → (is : ComesToNext sc name records a b after turn start) → IsOk b.written → IsRecorded sc name is.steps after b.log start (held b.output.now)
   recorded-then sc name records a b after turn start is ok =
-      ok-of (IsRecorded sc name is.steps after b.log start (held b.output.now)) (WritesPart sc name start (held b.output.now)) b.written ok is.written
+      ok-of (IsRecorded sc name is.steps after b.log start (held b.output.now)) (IsRecordedInPart sc name start (held b.output.now)) b.written ok is.written
 
   -- a write failed
-  pub part-then : (sc : Scenario) (name : NodeName) (records : ℕ) (a b : Recorder K) (after : KeptWorld) (turn : Turn) (start : Option (List ℕ))
-      → ComesToNext sc name records a b after turn start → IsErr b.written → WritesPart sc name start (held b.output.now)
-  part-then sc name records a b after turn start is err =
-      err-of (IsRecorded sc name is.steps after b.log start (held b.output.now)) (WritesPart sc name start (held b.output.now)) b.written err is.written
+  pub part-then : {U E : Type 0} (sc : Scenario) (name : NodeName) (records : ℕ) (a b : Recorder K) (after : KeptWorld) (turn : Turn) (start : Option (List ℕ)) (r : Result U E)
+      → ComesToNext sc name records a b after turn start → IsErr b.written → IsErr r
+      → MatchResult r (λ _. IsRecordedWhole sc name after b.log start (held b.output.now)) (λ _. IsRecordedInPart sc name start (held b.output.now))
+  part-then sc name records a b after turn start r is err same =
+      match-err (λ _. IsRecordedWhole sc name after b.log start (held b.output.now)) r same
+      (err-of (IsRecorded sc name is.steps after b.log start (held b.output.now)) (IsRecordedInPart sc name start (held b.output.now)) b.written err is.written)
 
   -- the run goes on
   pub goes-further : (sc : Scenario) (name : NodeName) (records : ℕ) (a b : Recorder K) (after : KeptWorld) (turn : Turn) (start : Option (List ℕ))
@@ -234,5 +237,6 @@ module _ {K : Type 0} (held : K → Option (List ℕ)) (faults : K → ℕ) wher
   ends-with sc name records a b after turn e start is some = ends-so sc is.steps turn e is.lawful is.turn_is some
 
 -- At first.
-pub none-yet : (sc : Scenario) (name : NodeName) (k : KeptWorld) (log : Tally) (held since : Option (List ℕ)) → IsRecorded sc name 0 k log held since → IsRecordedSoFar sc name 0 k log held since
-none-yet sc name k log held since is = record { steps = 0; many = omega arith; going = first-going sc; recorded = is }
+pub none-yet : (sc : Scenario) (name : NodeName) (k : KeptWorld) (log : Tally) (held : Option (List ℕ)) → k.bus ≡ sc → Stands k (first_world sc) → log ≡ fresh_log
+    → IsRecordedSoFar sc name 0 k log held held
+none-yet sc name k log held bus stands fresh = record { steps = 0; many = omega arith; going = first-going sc; recorded = none-recorded sc name k log held bus stands fresh }

@@ -1,6 +1,6 @@
 -- What is written of a log while a run goes on.
 use Rattle.std.proofs.Common.{◌≡◌, ℕ, ◌+◌, List, [], ◌++◌, append_assoc, Option, refl, sym, ap, ◌∙◌, subst, arith}
-use Rattle.std.specs.Prelude.{Result, Ok, Err, IsErr, MatchResult, OnErr}
+use Rattle.std.specs.Prelude.{IfOk, Result, Ok, Err, IsErr, MatchResult, OnErr}
 use Rattle.std.specs.Io.KnownBytes.{Appends}
 use Rattle.std.proofs.lemmas.List.{append-nil}
 use Rattle.rb_base.specs.declared.event.Event.{Event}
@@ -10,12 +10,11 @@ use Rattle.rb_rules.specs.Lawful.{IsLawful}
 use Rattle.rb_rules.specs.WorldStep.{first_world}
 use Rattle.rb_history.specs.Given.{first_run, given_in}
 use Rattle.rb_log.specs.Header.{header_of}
-use Rattle.rb_log.specs.Laws.{ticks_in}
 use Rattle.rb_log.specs.Writing.{Tally, written}
 use Rattle.rb_outside.specs.Bytes.{AppendsPart}
 use Rattle.rb_outside.proofs.Known.{appends_join, appends_none, part_join, part_widens}
 use Rattle.rb_world.specs.Worlds.{KeptWorld, Stands}
-use Rattle.rb_record.specs.Recording.{IsRecorded, IsRecordedWhole, IsTold, WritesAll, WritesNext, WritesPart, WritesPartOf, log_text}
+use Rattle.rb_record.specs.Recording.{IsRecorded, IsRecordedInPart, IsRecordedWhole, IsTold, WritesAll, WritesNext, WritesPart, WritesPartOf, fresh_log, timetable_of}
 use Rattle.rb_record.proofs.Ends.{all-given}
 use Rattle.rb_record.proofs.Ticks.{ticks-append}
 
@@ -58,13 +57,12 @@ pub part-then-none : (before : Tally) (xs ys : List Event) (held since : Option 
 part-then-none before xs ys held since a others =
     subst (λ es. AppendsPart held since (written before.waiting es)) (sym (append_assoc xs ys others)) (a (ys ++ others))
 
--- The log.
+-- The run.
 
-text-more : (sc : Scenario) (name : NodeName) (n m : ℕ) (events : List Event) (log : Tally) (bytes : List ℕ)
-    → ((others : List Event) → log_text sc name (given_in sc name n ++ others) ≡ bytes ++ written log.waiting others) → given_in sc name m ≡ given_in sc name n ++ events
-    → (others : List Event) → log_text sc name (given_in sc name m ++ others) ≡ bytes ++ written log.waiting (events ++ others)
-text-more sc name n m events log bytes text more others =
-    ap (λ es. log_text sc name (es ++ others)) more ∙ ap (log_text sc name) (append_assoc (given_in sc name n) events others) ∙ text (events ++ others)
+pub none-recorded : (sc : Scenario) (name : NodeName) (k : KeptWorld) (log : Tally) (held : Option (List ℕ)) → k.bus ≡ sc → Stands k (first_world sc) → log ≡ fresh_log
+    → IsRecorded sc name 0 k log held held
+none-recorded sc name k log held bus stands fresh =
+    record { bus = bus; stands = stands; written = subst (λ log. WritesNext fresh_log log [] held held) (sym fresh) (writes-none fresh_log held) }
 
 pub recorded-more : (sc : Scenario) (name : NodeName) (n m : ℕ) (events : List Event) (k after : KeptWorld) (log later : Tally) (held mid since : Option (List ℕ))
     → IsRecorded sc name n k log held mid → given_in sc name m ≡ given_in sc name n ++ events → WritesNext log later events mid since → after.bus ≡ sc → Stands after (first_run sc m)
@@ -72,80 +70,66 @@ pub recorded-more : (sc : Scenario) (name : NodeName) (n m : ℕ) (events : List
 recorded-more sc name n m events k after log later held mid since is more next bus stands = record {
   bus = bus;
   stands = stands;
-  bytes = is.bytes ++ next.bytes;
-  text = λ others. text-more sc name n m events log is.bytes is.text more others ∙ ap (λ zs. is.bytes ++ zs) (next.told.text others)
-      ∙ sym (append_assoc is.bytes next.bytes (written later.waiting others));
-  ticks =
-      let sum = ticks-append (given_in sc name n) events in
-      let all : ticks_in (given_in sc name m) ≡ ticks_in (given_in sc name n ++ events) = ap ticks_in more in
-      let before = is.ticks in
-      let with = next.told.ticks in
-      omega (arith, sum, all, before, with);
-  appended = appends_join held mid since is.bytes next.bytes is.appended next.text;
+  written =
+      subst (λ given. WritesNext fresh_log later given held since) (sym more) (writes-join fresh_log log later (given_in sc name n) events held mid since is.written next);
 }
 
 pub recorded-part : (sc : Scenario) (name : NodeName) (n m : ℕ) (events : List Event) (k : KeptWorld) (log : Tally) (held mid since : Option (List ℕ)) → IsLawful sc
-    → IsRecorded sc name n k log held mid → given_in sc name m ≡ given_in sc name n ++ events → WritesPartOf log events mid since → WritesPart sc name held since
+    → IsRecorded sc name n k log held mid → given_in sc name m ≡ given_in sc name n ++ events → WritesPartOf log events mid since → IsRecordedInPart sc name held since
 recorded-part sc name n m events k log held mid since lawful is more part =
     let all = all-given sc name m lawful in
-    record {
-      events = given_in sc name m ++ all.0;
-      given = all.1;
-      text = subst (AppendsPart held since) (sym (text-more sc name n m events log is.bytes is.text more all.0))
-          (part_join held mid since is.bytes (written log.waiting (events ++ all.0)) is.appended (part all.0));
-    }
+    let written : WritesPartOf fresh_log (given_in sc name m) held since =
+    subst (λ given. WritesPartOf fresh_log given held since) (sym more) (writes-then-part fresh_log log (given_in sc name n) events held mid since is.written part) in
+    record { events = given_in sc name m ++ all.0; given = all.1; text = written all.0 }
 
--- The begin.
+-- The log.
 
-pub recorded-none : (sc : Scenario) (name : NodeName) (k : KeptWorld) (header : List ℕ) (held since : Option (List ℕ)) → k.bus ≡ sc → Stands k (first_world sc)
-    → header ≡ header_of (record { sizes = sc.sizes; plan = sc.plan }) name → Appends held since header → IsRecorded sc name 0 k (record { ticks = 0; waiting = 0 }) held since
-recorded-none sc name k header held since bus stands is text = record {
-  bus = bus;
-  stands = stands;
-  bytes = header;
-  text = λ others. ap (λ h. h ++ written 0 others) (sym is);
-  ticks = refl;
-  appended = text;
-}
-
-pub begin-part : (sc : Scenario) (name : NodeName) (header : List ℕ) (held since : Option (List ℕ)) → IsLawful sc → header ≡ header_of (record { sizes = sc.sizes; plan = sc.plan }) name
-    → AppendsPart held since header → WritesPart sc name held since
-begin-part sc name header held since lawful is text =
+-- a write of the header failed
+pub header-part : (sc : Scenario) (name : NodeName) (held since : Option (List ℕ)) → IsLawful sc
+    → AppendsPart held since (header_of (timetable_of sc) name) → WritesPart sc name held since
+header-part sc name held since lawful text =
     let all = all-given sc name 0 lawful in
+    record { events = all.0; given = all.1; text = part_widens held since (header_of (timetable_of sc) name) (written 0 all.0) text }
+
+-- or one of a record
+pub records-part : (sc : Scenario) (name : NodeName) (held mid since : Option (List ℕ)) → Appends held mid (header_of (timetable_of sc) name)
+    → IsRecordedInPart sc name mid since → WritesPart sc name held since
+records-part sc name held mid since header part = record {
+  events = part.events;
+  given = part.given;
+  text = part_join held mid since (header_of (timetable_of sc) name) (written 0 part.events) header part.text;
+}
+
+-- what is written with the end
+end-text : (log : Tally) (events : List Event) (bytes : List ℕ) → IsTold fresh_log log events bytes → written 0 events ≡ bytes ++ written log.waiting []
+end-text log events bytes told = ap (written 0) (sym (append-nil events)) ∙ told.text []
+
+-- or one of the end
+pub end-part : (sc : Scenario) (name : NodeName) (k : KeptWorld) (log : Tally) (held mid later since : Option (List ℕ))
+    → Appends held mid (header_of (timetable_of sc) name) → IsRecordedWhole sc name k log mid later → AppendsPart later since (written log.waiting [])
+    → WritesPart sc name held since
+end-part sc name k log held mid later since header is end =
+    let told = is.recorded.written in
+    records-part sc name held mid since header
+    (record {
+      events = given_in sc name is.steps;
+      given = record { steps = is.steps; over = is.over; all = refl };
+      text = subst (AppendsPart mid since) (sym (end-text log (given_in sc name is.steps) told.bytes told.told))
+          (part_join mid later since told.bytes (written log.waiting []) told.text end);
+    })
+
+pub all-written : (sc : Scenario) (name : NodeName) (k : KeptWorld) (log : Tally) (held mid later since : Option (List ℕ))
+    → Appends held mid (header_of (timetable_of sc) name) → IsRecordedWhole sc name k log mid later → Appends later since (written log.waiting [])
+    → WritesAll sc name held since
+all-written sc name k log held mid later since header is end =
+    let told = is.recorded.written in
     record {
-      events = given_in sc name 0 ++ all.0;
-      given = all.1;
-      text = subst (λ h. AppendsPart held since (h ++ written 0 all.0)) is (part_widens held since header (written 0 all.0) text);
+      events = given_in sc name is.steps;
+      given = record { steps = is.steps; over = is.over; all = refl };
+      text = appends_join held mid since (header_of (timetable_of sc) name) (written 0 (given_in sc name is.steps)) header
+          (subst (Appends mid since) (sym (end-text log (given_in sc name is.steps) told.bytes told.told))
+          (appends_join mid later since told.bytes (written log.waiting []) told.text end));
     }
-
--- the same by other names
-pub recorded-as : (sc : Scenario) (name : NodeName) (n : ℕ) (k : KeptWorld) (log same : Tally) (held since mid : Option (List ℕ)) → same ≡ log → mid ≡ since
-    → IsRecorded sc name n k log held since → IsRecorded sc name n k same held mid
-recorded-as sc name n k log same held since mid logs sinks is = subst (λ m. IsRecorded sc name n k same held m) (sym sinks) (subst (λ l. IsRecorded sc name n k l held since) (sym logs) is)
-
--- The end.
-
-end-text : (sc : Scenario) (name : NodeName) (k : KeptWorld) (log : Tally) (held mid : Option (List ℕ)) → (is : IsRecordedWhole sc name k log held mid)
-    → log_text sc name (given_in sc name is.steps) ≡ is.recorded.bytes ++ written log.waiting []
-end-text sc name k log held mid is = ap (log_text sc name) (sym (append-nil (given_in sc name is.steps))) ∙ is.recorded.text []
-
-pub all-written : (sc : Scenario) (name : NodeName) (k : KeptWorld) (log : Tally) (held mid since : Option (List ℕ)) → IsRecordedWhole sc name k log held mid
-    → Appends mid since (written log.waiting []) → WritesAll sc name held since
-all-written sc name k log held mid since is text = record {
-  events = given_in sc name is.steps;
-  given = record { steps = is.steps; over = is.over; all = refl };
-  text = subst (Appends held since) (sym (end-text sc name k log held mid is))
-      (appends_join held mid since is.recorded.bytes (written log.waiting []) is.recorded.appended text);
-}
-
-pub end-part : (sc : Scenario) (name : NodeName) (k : KeptWorld) (log : Tally) (held mid since : Option (List ℕ)) → IsRecordedWhole sc name k log held mid
-    → AppendsPart mid since (written log.waiting []) → WritesPart sc name held since
-end-part sc name k log held mid since is text = record {
-  events = given_in sc name is.steps;
-  given = record { steps = is.steps; over = is.over; all = refl };
-  text = subst (AppendsPart held since) (sym (end-text sc name k log held mid is))
-      (part_join held mid since is.recorded.bytes (written log.waiting []) is.recorded.appended text);
-}
 
 -- Answers.
 
@@ -156,6 +140,10 @@ held-as held P a b same h = subst (λ k. P (held k)) (sym same) h
 pub on-err : {T E : Type 0} {Q : Type 0} (r : Result T E) → Q → OnErr r Q
 on-err (Ok x) q = tt
 on-err (Err e) q = q
+
+pub if-err : {T E : Type 0} (P : T → Type 0) (r : Result T E) → IsErr r → IfOk r P
+if-err P (Ok x) is = absurd (cc)
+if-err P (Err e) is = tt
 
 pub match-err : {T E : Type 0} (P : T → Type 0) {Q : Type 0} (r : Result T E) → IsErr r → Q → MatchResult r P (λ _. Q)
 match-err P (Ok x) is q = absurd (cc)

@@ -8,12 +8,17 @@ use Rattle.rb_history.specs.Given.{AreGiven, first_run, given_in}
 use Rattle.rb_log.specs.Header.{header_of}
 use Rattle.rb_log.specs.Laws.{ticks_in}
 use Rattle.rb_log.specs.Writing.{HasBytes, Tally, ticks_given, written}
+use Rattle.rb_plan.specs.Timetable.{Timetable}
 use Rattle.rb_outside.specs.Bytes.{AppendsPart}
 use Rattle.rb_world.specs.Worlds.{KeptWorld, Stands}
 
+-- the numbers of a bus
+abbrev pub timetable_of : Scenario → Timetable
+timetable_of sc = record { sizes = sc.sizes; plan = sc.plan }
+
 -- the log in which a node of the bus is given these events
 abbrev pub log_text : Scenario → NodeName → List Event → List ℕ
-log_text sc name events = header_of (record { sizes = sc.sizes; plan = sc.plan }) name ++ written 0 events
+log_text sc name events = header_of (timetable_of sc) name ++ written 0 events
 
 -- the log of all that the node is given in the run was written
 pub record WritesAll (sc : Scenario) (name : NodeName) (held since : Option (List ℕ)) : Type 0 where
@@ -53,24 +58,34 @@ pub record WritesNext (before after : Tally) (events : List Event) (held since :
 abbrev pub WritesPartOf : Tally → List Event → Option (List ℕ) → Option (List ℕ) → Type 0
 WritesPartOf before events held since = (others : List Event) → AppendsPart held since (written before.waiting (events ++ others))
 
--- the world has had so many steps, the first due event taken each time, and of the node's log all was written that is complete with them
+-- From the begin of the run.
+
+-- a writer that was given nothing yet
+abbrev pub fresh_log : Tally
+fresh_log = record { ticks = 0; waiting = 0 }
+
+-- the world has had so many steps, the first due event taken each time, and of the log's records all was written that is complete with
+-- what the node was given
 pub record IsRecorded (sc : Scenario) (name : NodeName) (n : ℕ) (k : KeptWorld) (log : Tally) (held since : Option (List ℕ)) : Type 0 where
   pub bus : k.bus ≡ sc
   pub stands : Stands k (first_run sc n)
-  pub bytes : List ℕ
-  pub text : (others : List Event) → log_text sc name (given_in sc name n ++ others) ≡ bytes ++ written log.waiting others
-  pub ticks : log.ticks ≡ ticks_in (given_in sc name n)
-  pub appended : Appends held since bytes
+  pub written : WritesNext fresh_log log (given_in sc name n) held since
 
--- so it is after so many records or more steps, and the run goes on
+-- so it is after so many records and at least as many steps, and the run goes on
 pub record IsRecordedSoFar (sc : Scenario) (name : NodeName) (records : ℕ) (k : KeptWorld) (log : Tally) (held since : Option (List ℕ)) : Type 0 where
   pub steps : ℕ
   pub many : records ≤ steps
   pub going : (first_run sc steps).book.ended ≡ false
   pub recorded : IsRecorded sc name steps k log held since
 
--- the run has ended, and the log is written but for its end
+-- the run has ended, and all is written but the log's end
 pub record IsRecordedWhole (sc : Scenario) (name : NodeName) (k : KeptWorld) (log : Tally) (held since : Option (List ℕ)) : Type 0 where
   pub steps : ℕ
   pub over : (first_run sc steps).book.ended ≡ true
   pub recorded : IsRecorded sc name steps k log held since
+
+-- a first part was written of the records of all that the node is given
+pub record IsRecordedInPart (sc : Scenario) (name : NodeName) (held since : Option (List ℕ)) : Type 0 where
+  pub events : List Event
+  pub given : AreGiven sc name events
+  pub text : AppendsPart held since (written 0 events)

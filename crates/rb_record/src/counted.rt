@@ -2,7 +2,7 @@
 ghost use Rattle.std.specs.Prelude.{◌≡◌, ◌+◌, ◌++◌, ◌∷◌, ◌↔◌, [], List, IsTrue};
 ghost use Rattle.rb_base.specs.declared.event.Event.{Event as Given};
 ghost use Rattle.rb_log.specs.Writing.{HasBytes, ticks_given, written};
-ghost use Rattle.rb_record.specs.Recording.{HasRoom};
+ghost use Rattle.rb_record.specs.Recording.{HasRoom, fresh_log};
 
 use arrayvec::ArrayVec;
 use rb_base::{Event, EventKind};
@@ -54,7 +54,7 @@ impl Model for CountedLog {
 impl CountedLog {
     /// One that was given nothing yet.
     pub(crate) fn new() -> CountedLog
-        ensures { result ≡ record { ticks = 0; waiting = 0 } }
+        ensures { result ≡ fresh_log }
     {
         CountedLog {
             writer: LogWriter::new(),

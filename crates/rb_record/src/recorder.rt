@@ -5,7 +5,7 @@ ghost use Rattle.rb_log.specs.Writing.{written};
 ghost use Rattle.rb_outside.specs.Bytes.{AppendsPart};
 ghost use Rattle.rb_outside.specs.Causes.{HasCause};
 ghost use Rattle.rb_record.specs.Observing.{RecordsNext};
-ghost use Rattle.rb_record.specs.Recording.{MayTell, WritesNext, WritesPartOf};
+ghost use Rattle.rb_record.specs.Recording.{MayTell, WritesNext, WritesPartOf, fresh_log};
 
 use crate::counted::CountedLog;
 use rb_base::Event;
@@ -38,17 +38,17 @@ pub(crate) struct Recorder<'a, K> {
 }
 
 impl<'a, K: Sink> Recorder<'a, K> {
-    /// One that goes on with this log, of a run of so many frames.
-    pub(crate) fn new(output: &'a mut K, log: CountedLog, frames: u32) -> Recorder<'a, K>
+    /// One that has been told nothing, for a run of so many frames.
+    pub(crate) fn new(output: &'a mut K, frames: u32) -> Recorder<'a, K>
         ensures same_output { result.output.ghost_name ≡ output.entry.ghost_name }
         ensures output { result.output.now ≡ output.old }
-        ensures log { result.log ≡ log }
+        ensures log { result.log ≡ fresh_log }
         ensures frames { result.frames ≡ frames }
         ensures written { IsOk result.written }
     {
         Recorder {
             output,
-            log,
+            log: CountedLog::new(),
             frames,
             written: Ok(()),
         }

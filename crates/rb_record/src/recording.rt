@@ -1,14 +1,16 @@
 //! Taking a run to its end, and writing what one node is given in it.
-ghost use Rattle.std.specs.Prelude.{◌≡◌, Option, List, ℕ, IfOk, IsOk, MatchResult, OnErr, OnOk, Some};
+ghost use Rattle.std.specs.Prelude.{◌≡◌, Option, Some, IfOk, IsOk, MatchResult, OnErr, OnOk};
+ghost use Rattle.std.specs.Io.KnownBytes.{Appends};
 ghost use Rattle.rb_book.specs.Records.{record_of};
+ghost use Rattle.rb_log.specs.Header.{header_of};
+ghost use Rattle.rb_outside.specs.Bytes.{AppendsPart};
 ghost use Rattle.rb_outside.specs.Causes.{HasCause};
-ghost use Rattle.rb_record.specs.Recording.{IsRecorded, IsRecordedSoFar, IsRecordedWhole, WritesAll, WritesPart};
+ghost use Rattle.rb_record.specs.Recording.{IsRecordedInPart, IsRecordedWhole, WritesAll, WritesPart, fresh_log, timetable_of};
 ghost use Rattle.rb_rules.specs.Lawful.{IsNodeOf};
 ghost use Rattle.rb_rules.specs.WorldStep.{first_world};
 ghost use Rattle.rb_run.specs.Runs.{EndsWith, end_at};
 ghost use Rattle.rb_world.specs.Worlds.{Stands};
 
-use crate::counted::CountedLog;
 use crate::recorder::Recorder;
 use rb_base::NodeName;
 use rb_log::header;
@@ -17,18 +19,15 @@ use rb_port::Apps;
 use rb_run::Ending;
 use rb_world::{Turn, World};
 
-// Writes the header, and gives a writer of what follows it.
-fn begin<K: Sink>(world: &World, node: NodeName, output: &mut K) -> Result<CountedLog, Failed>
-    requires begin { Stands world.now (first_world world.now.bus) }
-    requires node { IsNodeOf world.now.bus.sizes node }
-    ensures recorded { MatchResult result
-        (λ log. IsRecorded world.now.bus node 0 world.now log (K.held output.old) (K.held output.new))
-        (λ _. WritesPart world.now.bus node (K.held output.old) (K.held output.new)) }
+// Writes the header.
+fn write_header<K: Sink>(world: &World, node: NodeName, output: &mut K) -> Result<(), Failed>
+    requires { IsNodeOf world.now.bus.sizes node }
+    ensures all { OnOk result (Appends (K.held output.old) (K.held output.new) (header_of (timetable_of world.now.bus) node)) }
+    ensures part { OnErr result (AppendsPart (K.held output.old) (K.held output.new) (header_of (timetable_of world.now.bus) node)) }
     ensures cause { HasCause (K.faults output.old) (K.faults output.new) result }
 {
     let header = header(world.plan(), node);
-    write_all(output, header.as_slice())?;
-    Ok(CountedLog::new())
+    write_all(output, header.as_slice())
 }
 
 // How the run ends with this turn, if it does.
@@ -49,14 +48,14 @@ fn record_run<K: Sink>(
     node: NodeName,
     recorder: &mut Recorder<'_, K>,
 ) -> Result<Ending, Failed>
+    requires begin { Stands world.old (first_world world.old.bus) }
     requires node { IsNodeOf world.old.bus.sizes node }
+    requires log { recorder.old.log ≡ fresh_log }
     requires frames { recorder.old.frames ≡ world.old.bus.frames }
     requires written { IsOk recorder.old.written }
-    requires recorded { (held : Option (List ℕ)) × IsRecorded world.old.bus node 0 world.old recorder.old.log held (K.held recorder.old.output.now) }
-    ensures recorded { (held : Option (List ℕ)) → IsRecorded world.old.bus node 0 world.old recorder.old.log held (K.held recorder.old.output.now)
-        → MatchResult result
-        (λ _. IsRecordedWhole world.old.bus node world.new recorder.new.log held (K.held recorder.new.output.now))
-        (λ _. WritesPart world.old.bus node held (K.held recorder.new.output.now)) }
+    ensures recorded { MatchResult result
+        (λ _. IsRecordedWhole world.old.bus node world.new recorder.new.log (K.held recorder.old.output.now) (K.held recorder.new.output.now))
+        (λ _. IsRecordedInPart world.old.bus node (K.held recorder.old.output.now) (K.held recorder.new.output.now)) }
     ensures ending { IfOk result (EndsWith world.old.bus) }
     ensures cause { HasCause (K.faults recorder.old.output.now) (K.faults recorder.new.output.now) result }
     ensures same_output { recorder.new.output.ghost_name ≡ recorder.old.output.ghost_name }
@@ -91,8 +90,8 @@ pub fn record<K: Sink>(
     ensures cause { HasCause (K.faults output.old) (K.faults output.new) result }
     ensures bus { world.new.bus ≡ world.old.bus }
 {
-    let log = begin(world, node, output)?;
-    let mut recorder = Recorder::new(output, log, world.frames());
+    write_header(world, node, output)?;
+    let mut recorder = Recorder::new(output, world.frames());
     let ending = record_run(world, apps, node, &mut recorder)?;
     recorder.end()?;
     Ok(ending)
