@@ -71,7 +71,7 @@ is-ok (Err f) x is = absurd (cc)
 
 -- Causes.
 
-pub cause-join : {T E : Type 0} (a b c : ℕ) (r : Result T E) → a ≤ b → HasCause b c r → HasCause a c r
+cause-join : {T E : Type 0} (a b c : ℕ) (r : Result T E) → a ≤ b → HasCause b c r → HasCause a c r
 cause-join {T} {E} a b c r le is = record { later = let later = is.later in omega (arith, le, later); rose = by r is.rose }
   where
     by : (r : Result T E) → OnErr r (Rose b c) → OnErr r (Rose a c)
@@ -99,13 +99,20 @@ pub cause-ok : {T U E : Type 0} (a b c : ℕ) (r : Result T E) (x : U) → a ≤
 cause-ok a b c r x le is = record { later = (cause-join a b c r le is).later; rose = tt }
 
 module _ {K : Type 0} (held : K → Option (List ℕ)) (faults : K → ℕ) where
+  -- these were written up to there, or a first part of them
+  abbrev All : Recorder K → Recorder K → List Event → Type 0
+  All x y events = WritesNext x.log y.log events (held x.output.now) (held y.output.now)
+
+  abbrev Part : Recorder K → Recorder K → List Event → Type 0
+  Part x y events = WritesPartOf x.log events (held x.output.now) (held y.output.now)
+
   records-none : (a : Recorder K) → Records held faults a [] a
   records-none a = record {
     same_output = refl;
     frames = refl;
     failed = λ err. refl;
     cause = λ ok. cause-none (faults a.output.now) a.written ok;
-    next = λ ok may. match-ok (WritesNext a.log a.log [] (held a.output.now) (held a.output.now)) (WritesPartOf a.log [] (held a.output.now) (held a.output.now)) a.written ok (writes-none a.log (held a.output.now));
+    next = λ ok may. match-ok (All a a []) (Part a a []) a.written ok (writes-none a.log (held a.output.now));
   }
 
   -- some events, and then others
@@ -124,19 +131,12 @@ module _ {K : Type 0} (held : K → Option (List ℕ)) (faults : K → ℕ) wher
     ];
   }
     where
-      -- these were written up to there, or a first part of them
-      All : (x y : Recorder K) → List Event → Type 0
-      All x y events = WritesNext x.log y.log events (held x.output.now) (held y.output.now)
-
-      Part : (x y : Recorder K) → List Event → Type 0
-      Part x y events = WritesPartOf x.log events (held x.output.now) (held y.output.now)
-
       Writes : Recorder K → Type 0
       Writes x = MatchResult x.written (λ _. All a x (xs ++ ys)) (λ _. Part a x (xs ++ ys))
 
       went : IsOk a.written → MayTell a.log.ticks (xs ++ ys) → IsOk b.written → Writes c
       went ok may well =
-          let before : WritesNext a.log b.log xs (held a.output.now) (held b.output.now) = ok-of (All a b xs) (Part a b xs) b.written well (first.next ok (may-first a.log.ticks xs ys may)) in
+          let before : All a b xs = ok-of (All a b xs) (Part a b xs) b.written well (first.next ok (may-first a.log.ticks xs ys may)) in
           let rest : MayTell b.log.ticks ys = subst (λ n. MayTell n ys) (sym before.told.ticks) (may-rest a.log.ticks xs ys may) in
           match-map (All b c ys) (Part b c ys) (All a c (xs ++ ys)) (Part a c (xs ++ ys)) c.written (second.next well rest)
           (λ all. writes-join a.log b.log c.log xs ys (held a.output.now) (held b.output.now) (held c.output.now) before all)
@@ -191,8 +191,8 @@ module _ {K : Type 0} (held : K → Option (List ℕ)) (faults : K → ℕ) wher
         frames = told.frames ∙ frames;
         same_output = told.same_output;
         cause = told.cause ok;
-        written = match-map (WritesNext a.log b.log events (held a.output.now) (held b.output.now)) (WritesPartOf a.log events (held a.output.now) (held b.output.now))
-            (IsRecorded sc name (n + more) after b.log start (held b.output.now)) (IsRecordedInPart sc name start (held b.output.now)) b.written (told.next ok (may-tell-more sc name n more draws a.log.ticks lawful ticks))
+        written = match-map (All a b events) (Part a b events) (IsRecorded sc name (n + more) after b.log start (held b.output.now)) (IsRecordedInPart sc name start (held b.output.now)) b.written
+            (told.next ok (may-tell-more sc name n more draws a.log.ticks lawful ticks))
             (λ all. recorded-more sc name n (n + more) events k after a.log b.log start (held a.output.now) (held b.output.now) is.recorded (given-told sc name n more draws) all bus stands)
             (λ part. recorded-part sc name n (n + more) events k a.log start (held a.output.now) (held b.output.now) lawful is.recorded (given-told sc name n more draws) part);
       }

@@ -24,7 +24,8 @@ returns-in_err-written g c =
     c.loop-passed.invariant.frames c.loop-passed.invariant.written c.next_observed-turn.ensures.bus c.next_observed-turn.ensures.told in
     let failed : IsErr c.next_observed-turn.new.observer.written = is-err c.next_observed-turn.new.observer.written _ c.in_err-written.ensures in
     record {
-      recorded = part-then g.K.Sink.held g.K.Sink.faults c.args.world.now.bus c.args.node c.loop-passed.passed c.loop-passed.recorder c.next_observed-turn.new.observer c.next_observed-turn.new.self c.next_observed-turn.result (g.K.Sink.held c.args.recorder.now.output.now) c.from_residual.result next failed c.from_residual.ensures.0;
+      recorded = part-then g.K.Sink.held g.K.Sink.faults c.args.world.now.bus c.args.node c.loop-passed.passed c.loop-passed.recorder c.next_observed-turn.new.observer
+          c.next_observed-turn.new.self c.next_observed-turn.result (g.K.Sink.held c.args.recorder.now.output.now) c.from_residual.result next failed c.from_residual.ensures.0;
       ending = if-err (EndsWith c.args.world.now.bus) c.from_residual.result c.from_residual.ensures.0;
       cause = cause-err (g.K.Sink.faults c.args.recorder.now.output.now) (g.K.Sink.faults c.loop-passed.recorder.output.now) (g.K.Sink.faults c.next_observed-turn.new.observer.output.now)
           c.next_observed-turn.new.observer.written c.from_residual.result c.loop-passed.invariant.later failed next.cause;
@@ -39,8 +40,10 @@ returns-in-Some g c =
     c.next_observed-turn.new.self c.next_observed-turn.result (g.K.Sink.held c.args.recorder.now.output.now) c.loop-passed.invariant.bus c.loop-passed.invariant.recorded
     c.loop-passed.invariant.frames c.loop-passed.invariant.written c.next_observed-turn.ensures.bus c.next_observed-turn.ensures.told in
     record {
-      recorded = comes-to-end g.K.Sink.held g.K.Sink.faults c.args.world.now.bus c.args.node c.loop-passed.passed c.loop-passed.recorder c.next_observed-turn.new.observer c.next_observed-turn.new.self c.next_observed-turn.result c.in-Some.ending (g.K.Sink.held c.args.recorder.now.output.now) next (is-ok c.next_observed-turn.new.observer.written _ c.in_ok-written.ensures) (sym c.ending_at.ensures ∙ c.in-Some.is);
-      ending = ends-with g.K.Sink.held g.K.Sink.faults c.args.world.now.bus c.args.node c.loop-passed.passed c.loop-passed.recorder c.next_observed-turn.new.observer c.next_observed-turn.new.self c.next_observed-turn.result c.in-Some.ending (g.K.Sink.held c.args.recorder.now.output.now) next (sym c.ending_at.ensures ∙ c.in-Some.is);
+      recorded = comes-to-end g.K.Sink.held g.K.Sink.faults c.args.world.now.bus c.args.node c.loop-passed.passed c.loop-passed.recorder c.next_observed-turn.new.observer
+          c.next_observed-turn.new.self c.next_observed-turn.result c.in-Some.ending (g.K.Sink.held c.args.recorder.now.output.now) next (is-ok c.next_observed-turn.new.observer.written _ c.in_ok-written.ensures) (sym c.ending_at.ensures ∙ c.in-Some.is);
+      ending = ends-with g.K.Sink.held g.K.Sink.faults c.args.world.now.bus c.args.node c.loop-passed.passed c.loop-passed.recorder c.next_observed-turn.new.observer
+          c.next_observed-turn.new.self c.next_observed-turn.result c.in-Some.ending (g.K.Sink.held c.args.recorder.now.output.now) next (sym c.ending_at.ensures ∙ c.in-Some.is);
       cause = cause-ok (g.K.Sink.faults c.args.recorder.now.output.now) (g.K.Sink.faults c.loop-passed.recorder.output.now) (g.K.Sink.faults c.next_observed-turn.new.observer.output.now)
           c.next_observed-turn.new.observer.written c.in-Some.ending c.loop-passed.invariant.later next.cause;
       same_output = next.same_output ∙ c.loop-passed.invariant.same_output;
@@ -57,7 +60,8 @@ loop-passed-preserved g c =
     let before = c.loop-passed.invariant.later in
     let more = next.cause.later in
     record {
-      recorded = goes-further g.K.Sink.held g.K.Sink.faults c.args.world.now.bus c.args.node c.loop-passed.passed c.loop-passed.recorder c.next_observed-turn.new.observer c.next_observed-turn.new.self c.next_observed-turn.result (g.K.Sink.held c.args.recorder.now.output.now) next well (sym c.ending_at.ensures ∙ c.in_default.is);
+      recorded = goes-further g.K.Sink.held g.K.Sink.faults c.args.world.now.bus c.args.node c.loop-passed.passed c.loop-passed.recorder c.next_observed-turn.new.observer
+          c.next_observed-turn.new.self c.next_observed-turn.result (g.K.Sink.held c.args.recorder.now.output.now) next well (sym c.ending_at.ensures ∙ c.in_default.is);
       written = well;
       frames = next.frames;
       later = omega (arith, before, more);
