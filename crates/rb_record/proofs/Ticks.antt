@@ -100,10 +100,6 @@ pub record WasBefore (sites : Each Site) (me : Side) (i more : ℕ) (z : Site) :
   pub there : slice_get (of_kind me sites) i ≡ Some s
   pub had : z.core.had ≡ s.core.had + more
 
--- the ticks that an event gives a node
-abbrev pub ticks_at : Due → ℕ → Side → ℕ → ℕ
-ticks_at d many me i = elim (is_node d.side d.node me i) [ true ↦ many | false ↦ 0 ]
-
 message-before : (sc : Scenario) (me : Side) (j frame tick : ℕ) (m : Option Message) (sites : Each Site) (side : Side) (i : ℕ) (z : Site)
     → slice_get (of_kind side (with_message sc me j frame tick m sites)) i ≡ Some z → (s : Site) × ((slice_get (of_kind side sites) i ≡ Some s) × (z.core ≡ s.core))
 message-before sc me j frame tick None sites side i z e = (z, (e, refl))
