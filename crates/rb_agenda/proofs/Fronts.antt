@@ -80,6 +80,14 @@ front-key keys i key front next h at small is after =
     subst (IsFrontOf keys (i + 1)) (sym (after ∙ ap (λ k. if nat_lt k front.least then record { first = i; least = k } else front) (sym at)))
     (front-more keys i front h (omega (arith, at, small)) is)
 
+pub first-few : (i key : ℕ) (front next : Front) → next ≡ (if nat_lt key front.least then record { first = i; least = key } else front) → i < 32 → front.first < 32
+    → next.first < 32
+first-few i key front next after new old = subst (λ (f : Front). f.first < 32) (sym after) (go (nat_lt key front.least))
+  where
+    go : (b : Bool) → (if b then record { first = i; least = key } else front).first < 32
+    go true = new
+    go false = old
+
 pub front-all : (keys : List ℕ) (i : ℕ) (front : Front) → take i keys ≡ keys → IsFrontOf keys i front → IsFront keys front
 front-all keys i front all is = record {
   least_is = is.least_is ∙ ap least_key all;
@@ -167,7 +175,7 @@ least-most [] = omega arith
 least-most (x ∷ xs) = omega (arith, least-most xs)
 
 -- what is no greater than each is no greater than the least
-least-above : (keys : List ℕ) (m : ℕ) → m ≤ 18446744073709551615 → ((k : ℕ) → k < length keys → m ≤ get_or keys k 0) → m ≤ least_key keys
+pub least-above : (keys : List ℕ) (m : ℕ) → m ≤ 18446744073709551615 → ((k : ℕ) → k < length keys → m ≤ get_or keys k 0) → m ≤ least_key keys
 unfolding least_key
 least-above [] m small above = small
 least-above (x ∷ xs) m small above =

@@ -8,6 +8,7 @@ pub mod Fronts
 pub mod Places
 pub mod Changes
 pub mod Taking
+pub mod Marks
 pub mod Ticks
 pub mod Known
 mod Bare

@@ -4,7 +4,7 @@ use Rattle.std.specs.Prelude.{option_map, slice_set, unwrap_or}
 use Rattle.std.proofs.Math.ListN.{replicate}
 use Rattle.std.proofs.lemmas.Bool.{cases_lt}
 use Rattle.std.proofs.lemmas.Bool.Decides.{nat_tests}
-use Rattle.std.proofs.lemmas.List.{get_or-map, length-map, map-append, map-set, set-get_or}
+use Rattle.std.proofs.lemmas.List.{get_or-map, get_or_append_left, length-map, length-replicate, map-append, map-set, replicate-append-replicate, set-get_or}
 use Rattle.std.proofs.lemmas.List.FromFn.{length-range_with_len}
 use Rattle.std.proofs.lemmas.Option.{unwrap_or-slice_get}
 use Rattle.rb_base.specs.Counting.{numbers}
@@ -21,23 +21,16 @@ use Rattle.rb_queue.specs.Waiting.{HasLane, Held, Ready, empty_lane, event_with,
 use Rattle.rb_queue.specs.Waiting.Ready.{Comes, Ticks}
 use Rattle.rb_queue.proofs.Sources.{get-left, get-right, is_within}
 use Rattle.rb_agenda.specs.declared.scan.Front.{Front}
-use Rattle.rb_agenda.specs.Agenda.{AreFew, AreTicks, IsFirstAhead, key_of, keys_of, node_at, position_of, ticks_after}
+use Rattle.rb_agenda.specs.Agenda.{AreFew, AreTicks, IsFirstAhead, filled, key_of, keys_of, mark_of, marks_from, node_at, position_of, tick_times, ticks_after}
 use Rattle.rb_agenda.specs.Fronts.{IsFront}
 use Rattle.rb_agenda.specs.Holding.{HoldsAll, HoldsSite, HoldsSites}
 use Rattle.rb_agenda.proofs.Fronts.{least-low}
 use Rattle.rb_agenda.proofs.Keeping.{map-const, with-in-order}
-use Rattle.rb_agenda.proofs.Scans.{many-few}
+use Rattle.rb_agenda.proofs.Marks.{fill-set, length-filled, length-marks, mark-at, marks-none, set-mark}
+use Rattle.rb_agenda.proofs.Scans.{few-here, many-few}
 use Rattle.rb_agenda.proofs.Which.{has-item}
 
 -- A lane changes.
-
-pub ticks-with : (lanes new : Each Held) (ticks : List ℕ) (bius place : ℕ) (name : NodeName) (lane : Held) (tick : ℕ) → bius ≡ length lanes.bius → place ≡ position_of bius name
-    → AreTicks lanes ticks → HasLane lanes name → new ≡ with_lane name lane lanes → tick ≡ tick_time_of lane → AreTicks new (slice_set ticks place tick)
-ticks-with lanes new ticks bius place name lane tick split at kept h after is =
-    let order : in_order new ≡ slice_set (in_order lanes) place lane =
-    ap in_order after ∙ with-in-order lanes name lane h ∙ ap (λ b. slice_set (in_order lanes) (position_of b name) lane) (sym split)
-    ∙ ap (λ p. slice_set (in_order lanes) p lane) (sym at) in
-    ap (slice_set ticks place) is ∙ ap (λ ts. slice_set ts place (tick_time_of lane)) kept ∙ sym (map-set tick_time_of (in_order lanes) place lane) ∙ ap (map tick_time_of) (sym order)
 
 -- the lane at the position of a node
 name-lane : (lanes : Each Held) (name : NodeName) → HasLane lanes name
@@ -53,16 +46,37 @@ name-lane lanes (node.Rmu i) h =
       sym (unwrap_or-slice_get (in_order lanes) (length lanes.bius + i) (empty_lane 0)) ∙ ap (λ o. unwrap_or o (empty_lane 0)) (get-right lanes.bius lanes.rmus i),
     )
 
+pub ticks-with : (lanes new : Each Held) (ticks : List ℕ) (bius place : ℕ) (name : NodeName) (lane : Held) (tick : ℕ) → bius ≡ length lanes.bius → place ≡ position_of bius name
+    → AreTicks lanes ticks → HasLane lanes name → new ≡ with_lane name lane lanes → tick ≡ tick_time_of lane
+    → AreTicks new (slice_set ticks place (mark_of place tick))
+ticks-with lanes new ticks bius place name lane tick split at kept h after is =
+    let order : in_order new ≡ slice_set (in_order lanes) place lane =
+    ap in_order after ∙ with-in-order lanes name lane h ∙ ap (λ b. slice_set (in_order lanes) (position_of b name) lane) (sym split)
+    ∙ ap (λ p. slice_set (in_order lanes) p lane) (sym at) in
+    let ms : List ℕ = marks_from 0 (tick_times lanes) in
+    let within : place < length ms =
+    omega (arith, (name-lane lanes name h).0, ap (λ b. position_of b name) split, at, length-marks 0 (tick_times lanes), length-map (in_order lanes) tick_time_of) in
+    ap (λ t. slice_set ticks place (mark_of place t)) is ∙ ap (λ ts. slice_set ts place (mark_of place (tick_time_of lane))) kept
+    ∙ sym (fill-set ms place (mark_of place (tick_time_of lane)) within)
+    ∙ ap filled
+    (sym (set-mark (tick_times lanes) place (tick_time_of lane)) ∙ ap (marks_from 0) (sym (map-set tick_time_of (in_order lanes) place lane) ∙ ap (map tick_time_of) (sym order)))
+
 pub tick-place : (lanes : Each Held) (ticks : List ℕ) (bius place : ℕ) (name : NodeName) → bius ≡ length lanes.bius → place ≡ position_of bius name → AreTicks lanes ticks → HasLane lanes name
-    → (place < length ticks) × (get_or ticks place 0 ≡ tick_time_of (lane_of lanes name))
+    → (place < length ticks) × (get_or ticks place 0 ≡ mark_of place (tick_time_of (lane_of lanes name)))
 tick-place lanes ticks bius place name split at kept h =
     let here = name-lane lanes name h in
     let p : ℕ = position_of (length lanes.bius) name in
     let same : place ≡ p = at ∙ ap (λ b. position_of b name) split in
-    let many : length ticks ≡ length (in_order lanes) = ap length kept ∙ length-map (in_order lanes) tick_time_of in
-    let within = here.0 in (
-      omega (arith, within, many, same),
-      ap (λ k. get_or ticks k 0) same ∙ ap (λ ts. get_or ts p 0) kept ∙ get_or-map tick_time_of (in_order lanes) p (empty_lane 0) 0 within ∙ ap tick_time_of here.1,
+    let ms : List ℕ = marks_from 0 (tick_times lanes) in
+    let rest : List ℕ = replicate (32 - length ms) 18446744073709551615 in
+    let marks : length ms ≡ length (tick_times lanes) = length-marks 0 (tick_times lanes) in
+    let many : length ticks ≡ length ms + length rest = ap length kept ∙ length-append ms rest in
+    let long : length (tick_times lanes) ≡ length (in_order lanes) = length-map (in_order lanes) tick_time_of in
+    let within = here.0 in
+    let time : get_or (tick_times lanes) place 0 ≡ tick_time_of (lane_of lanes name) =
+    ap (λ k. get_or (tick_times lanes) k 0) same ∙ get_or-map tick_time_of (in_order lanes) p (empty_lane 0) 0 within ∙ ap tick_time_of here.1 in (
+      omega (arith, within, many, marks, long, same),
+      ap (λ ts. get_or ts place 0) kept ∙ get_or_append_left ms rest 0 place (omega (arith, within, marks, long, same)) ∙ mark-at (tick_times lanes) place (omega (arith, within, long, same)) ∙ ap (mark_of place) time,
     )
 
 pub place-within : (lanes : Each Held) (keys : List ℕ) (bius : ℕ) (name : NodeName) → AreFew lanes bius → length keys ≡ length (keys_of lanes) → HasLane lanes name
@@ -79,7 +93,9 @@ pub ticks-same : (lanes new : Each Held) (ticks : List ℕ) (bius : ℕ) (name :
 ticks-same lanes new ticks bius name lane split kept h after same =
     let place : ℕ = position_of bius name in
     subst (AreTicks new) (set-get_or ticks place 0)
-    (ticks-with lanes new ticks bius place name lane (get_or ticks place 0) split refl kept h after ((tick-place lanes ticks bius place name split refl kept h).1 ∙ sym same))
+    (subst (λ m. AreTicks new (slice_set ticks place m))
+    (ap (mark_of place) same ∙ sym (tick-place lanes ticks bius place name split refl kept h).1)
+    (ticks-with lanes new ticks bius place name lane (tick_time_of lane) split refl kept h after refl))
 
 some-same : {X : Type 0} (a b : X) → Some a ≡ Some b → a ≡ b
 some-same a b e = ap (λ o. unwrap_or o a) e
@@ -111,15 +127,19 @@ ticks-dropped lanes new ticks bius place name split at kept h after =
     ticks-with lanes new ticks bius place name (without_events (lane_of lanes name)) 18446744073709551615 split at kept h after refl
 
 -- at first
-pub ticks-empty : (sizes : Sizes) (lanes : Each Held) (ticks : List ℕ) (room bius n : ℕ) → bius ≡ sizes.bius → n ≡ bius + sizes.rmus → ticks ≡ replicate n 18446744073709551615
+pub ticks-empty : (sizes : Sizes) (lanes : Each Held) (ticks : List ℕ) (room bius n : ℕ) → bius ≡ sizes.bius → n ≡ bius + sizes.rmus → n ≤ 32 → ticks ≡ replicate 32 18446744073709551615
     → lanes ≡ each_of sizes (λ side i. empty_lane room) → AreTicks lanes ticks
-ticks-empty sizes lanes ticks room bius n split all are is =
+ticks-empty sizes lanes ticks room bius n split all few are is =
     let l : Held = empty_lane room in
     let ns : List ℕ = numbers sizes.bius ++ numbers sizes.rmus in
     let order : in_order lanes ≡ map (λ _. l) ns = ap in_order is ∙ sym (map-append (λ _. l) (numbers sizes.bius) (numbers sizes.rmus)) in
     let long : length ns ≡ n =
     length-append (numbers sizes.bius) (numbers sizes.rmus) ∙ omega (arith, length-range_with_len 0 sizes.bius, length-range_with_len 0 sizes.rmus, split, all) in
-    are ∙ ap (λ n. replicate n 18446744073709551615) (sym long) ∙ sym (map-const tick_time_of l 18446744073709551615 ns refl) ∙ ap (map tick_time_of) (sym order)
+    are ∙ ap (λ k. replicate k 18446744073709551615) (let e : 32 ≡ n + (32 - n) = omega (arith, few) in e)
+    ∙ sym (replicate-append-replicate {A = ℕ} n (32 - n) 18446744073709551615)
+    ∙ ap (λ k. replicate n 18446744073709551615 ++ replicate (32 - k) 18446744073709551615) (sym (length-replicate {A = ℕ} n 18446744073709551615))
+    ∙ ap filled (sym (marks-none n 0)
+    ∙ ap (marks_from 0) (ap (λ n. replicate n 18446744073709551615) (sym long) ∙ sym (map-const tick_time_of l 18446744073709551615 ns refl) ∙ ap (map tick_time_of) (sym order)))
 
 -- Which is the first.
 
@@ -146,7 +166,7 @@ ticks-sites sizes me (l ∷ ls) (s ∷ ss) h =
       ap (λ t. t ∷ map tick_time_of ls) (tick-site sizes me l s h.0) ∙ ap (λ ts. ahead_key s.ahead ∷ ts) rest.1,
     )
 
-pub first-is : (sizes : Sizes) (lanes : Each Held) (sites : Each Site) (ticks : List ℕ) (bius : ℕ) (front : Front) → HoldsSites sizes lanes sites → AreTicks lanes ticks → bius ≡ length lanes.bius
+pub first-is : (sizes : Sizes) (lanes : Each Held) (sites : Each Site) (ticks : List ℕ) (bius : ℕ) (front : Front) → HoldsSites sizes lanes sites → ticks ≡ tick_times lanes → bius ≡ length lanes.bius
     → IsFront ticks front → (me : Side) (i time : ℕ) → IsFirstAhead sites me i time
     → (front.first < length ticks) × ((front.first ≡ position_of bius (name_of me i)) × (front.least ≡ time))
 first-is sizes lanes sites ticks bius front holds kept split is me i time first =
@@ -245,13 +265,43 @@ first-is sizes lanes sites ticks bius front holds kept split is me i time first 
           ]
         ]
 
+-- what is known at a position: its node has a lane, and this is the time of its tick
+pub record IsTimeHere (lanes : Each Held) (bius position : ℕ) : Type 0 where
+  pub lane : HasLane lanes (node_at bius position)
+  pub time : get_or (tick_times lanes) position 0 ≡ tick_time_of (lane_of lanes (node_at bius position))
+  pub few : position < 32
+
+pub time-here : (lanes : Each Held) (bius position : ℕ) → AreFew lanes bius → position < length (tick_times lanes) → IsTimeHere lanes bius position
+time-here lanes bius position few h =
+    let many = many-few lanes bius few in
+    let long : length (tick_times lanes) ≡ length (in_order lanes) = length-map (in_order lanes) tick_time_of in
+    let here = few-here lanes bius position few (omega (arith, h, long, many.0)) in
+    let there : get_or (in_order lanes) position (empty_lane 0) ≡ lane_of lanes (node_at bius position) =
+    sym (unwrap_or-slice_get (in_order lanes) position (empty_lane 0)) ∙ ap (λ o. unwrap_or o (empty_lane 0)) here.at in
+    record {
+      lane = here.lane;
+      time = get_or-map tick_time_of (in_order lanes) position (empty_lane 0) 0 here.within ∙ ap tick_time_of there;
+      few = here.few;
+    }
+
 -- Names.
 
-pub few-ticks : (lanes : Each Held) (ticks : List ℕ) (bius : ℕ) → AreFew lanes bius → AreTicks lanes ticks → length ticks ≤ 32
+pub few-ticks : (lanes : Each Held) (ticks : List ℕ) (bius : ℕ) → AreFew lanes bius → AreTicks lanes ticks → length ticks ≡ 32
 few-ticks lanes ticks bius few are =
     let many = many-few lanes bius few in
-    let all : length ticks ≡ length (in_order lanes) = ap length are ∙ length-map (in_order lanes) tick_time_of in
-    omega (arith, many.0, many.1, all)
+    let long : length (tick_times lanes) ≡ length (in_order lanes) = length-map (in_order lanes) tick_time_of in
+    let marks = length-marks 0 (tick_times lanes) in
+    let all : length ticks ≡ 32 = ap length are ∙ length-filled (marks_from 0 (tick_times lanes)) (omega (arith, many.0, many.1, long, marks)) in
+    all
+
+pub few-times : (lanes : Each Held) (bius : ℕ) → AreFew lanes bius → length (tick_times lanes) ≤ 32
+few-times lanes bius few =
+    let many = many-few lanes bius few in
+    let long : length (tick_times lanes) ≡ length (in_order lanes) = length-map (in_order lanes) tick_time_of in
+    omega (arith, many.0, many.1, long)
+
+pub place-few : (lanes : Each Held) (ticks : List ℕ) (bius place : ℕ) → AreFew lanes bius → AreTicks lanes ticks → place < length ticks → place < 32
+place-few lanes ticks bius place few are h = let most = few-ticks lanes ticks bius few are in omega (arith, most, h)
 
 -- the node at a position that is its own
 pub name-there : (sizes : Sizes) (lanes : Each Held) (sites : Each Site) (bius position : ℕ) → HoldsSites sizes lanes sites → bius ≡ length lanes.bius → (me : Side) (i time : ℕ)

@@ -1,5 +1,6 @@
 -- What is due among all lanes: the events of the least time, node by node.
-use Rattle.std.specs.Prelude.{⊤, ◌≡◌, ℕ, Option, None, option_map, ◌+◌, ◌-◌, ◌<◌, ◌≤◌, ◌==◌, nat_lt, min, true, false, if◌then◌else◌, unwrap_or, Bool, Some, List, [], ◌∷◌, All, flat_map, length, map, slice_get, slice_set, take}
+use Rattle.std.specs.Prelude.{⊤, ◌≡◌, ℕ, suc, ◌*◌, Option, None, option_map, ◌+◌, ◌-◌, ◌<◌, ◌≤◌, ◌==◌, nat_lt, min, true, false, if◌then◌else◌, unwrap_or, Bool, Some, List, [], ◌∷◌, ◌++◌, All, flat_map, length, map, slice_get, slice_set, take}
+use Rattle.std.proofs.Math.ListN.{replicate}
 use Rattle.rb_base.specs.declared.event.Event.{Event}
 use Rattle.rb_base.specs.declared.node.NodeName.{NodeName}
 use Rattle.rb_base.specs.declared.node.NodeName.TheVariants as node
@@ -143,20 +144,38 @@ AreKnown lanes = All IsKnown (in_order lanes)
 
 -- Ticks.
 
--- beside the lanes the times of their ticks are kept
-abbrev pub AreTicks : Each Held → List ℕ → Type 0
-AreTicks lanes ticks = ticks ≡ map tick_time_of (in_order lanes)
+-- the times of the ticks of all nodes
+abbrev pub tick_times : Each Held → List ℕ
+tick_times lanes = map tick_time_of (in_order lanes)
 
 -- the time of the first tick of all, and where none is pending the last time that there is
 abbrev pub first_tick_time : Each Held → ℕ
-first_tick_time lanes = least_key (map tick_time_of (in_order lanes))
+first_tick_time lanes = least_key (tick_times lanes)
+
+-- The mark of a tick at this position: marks are in the order of time, and at one time in that of nodes. From 2^59 on all times have one
+-- mark
+abbrev pub mark_of : ℕ → ℕ → ℕ
+mark_of position time = if nat_lt time 576460752303423488 then time * 32 + position else 18446744073709551615
+
+-- the marks of ticks at these times, of which the first stands at this position
+unfoldable pub marks_from : ℕ → List ℕ → List ℕ
+marks_from position [] = []
+marks_from position (t ∷ ts) = mark_of position t ∷ marks_from (suc position) ts
+
+-- 32 marks in all, those behind being of no tick
+abbrev pub filled : List ℕ → List ℕ
+filled marks = marks ++ replicate (32 - length marks) 18446744073709551615
+
+-- beside the lanes the marks of their ticks are kept, in front of others that make 32 in all
+abbrev pub AreTicks : Each Held → List ℕ → Type 0
+AreTicks lanes ticks = ticks ≡ filled (marks_from 0 (tick_times lanes))
 
 -- a tick
 abbrev pub is_tick : EventKind → Bool
 is_tick (kind.Arrive from bytes) = false
 is_tick (kind.Tick word wanted) = true
 
--- the times of the ticks after an event was taken at this place: an arrival leaves them
+-- the marks of the ticks after an event was taken at this place: an arrival leaves them
 abbrev pub ticks_after : EventKind → ℕ → List ℕ → List ℕ
 ticks_after event place ticks = if is_tick event then slice_set ticks place 18446744073709551615 else ticks
 

@@ -14,7 +14,7 @@ ghost use Rattle.rb_agenda.specs.Holding.{HoldsSites};
 use crate::run_lanes::RunLanes;
 use crate::scan::{
     Front, after_event, due_count, first_node, front_now, front_of, keep_key, locate, node_at,
-    position_of, put_tick,
+    position_of, put_tick, tick_front,
 };
 use arrayvec::ArrayVec;
 use rb_base::{Event, NodeName, OutOfMemory, Shape};
@@ -64,7 +64,7 @@ impl Agenda {
         let lanes = RunLanes::new(alloc, shape, room)?;
         let bius = usize::from(shape.biu());
         let keys = no_times(alloc, bius + usize::from(shape.rmu()))?;
-        let ticks = no_times(alloc, bius + usize::from(shape.rmu()))?;
+        let ticks = no_times(alloc, 32)?;
         let front = front_of(&keys);
         Ok(Agenda {
             lanes,
@@ -198,10 +198,7 @@ impl Agenda {
             → (result.0 ≡ name_of me i) × (result.1 ≡ time) }
         ensures time { result.1 ≡ first_tick_time self.now }
     {
-        let front = front_of(&self.ticks);
-        if front.first >= self.ticks.len() {
-            return (NodeName::Biu(0), front.least);
-        }
+        let front = tick_front(&self.lanes, &self.ticks, self.bius, self.keys.len());
         (node_at(self.bius, front.first), front.least)
     }
 

@@ -1,8 +1,8 @@
 //! What is looked up among the least times of all nodes.
-ghost use Rattle.std.specs.Prelude.{◌≡◌, ℕ, ◌<◌, ◌≤◌, false, length, nat_lt, slice_set, if◌then◌else◌, IsTrue, ◌↔◌};
+ghost use Rattle.std.specs.Prelude.{◌≡◌, ℕ, ◌+◌, ◌<◌, ◌≤◌, false, length, nat_lt, slice_set, take, if◌then◌else◌, IsTrue, ◌↔◌};
 ghost use Rattle.rb_rules.specs.Book.{Each, in_order};
-ghost use Rattle.rb_queue.specs.Waiting.{HasLane, Held, lane_of, with_lane};
-ghost use Rattle.rb_agenda.specs.Agenda.{AreFew, AreKept, AreKeptUnless, AreKnown, IsFirstAt, StandsAt, due_count, due_in, is_tick, key_of, keys_of, node_at, position_of, ticks_after};
+ghost use Rattle.rb_queue.specs.Waiting.{HasLane, Held, lane_of, tick_time_of, with_lane};
+ghost use Rattle.rb_agenda.specs.Agenda.{AreFew, AreKept, AreKeptUnless, AreKnown, AreTicks, IsFirstAt, StandsAt, due_count, due_in, is_tick, key_of, keys_of, least_key, mark_of, node_at, position_of, tick_times, ticks_after};
 ghost use Rattle.rb_agenda.specs.Fronts.{IsFront, lowered};
 
 use crate::run_lanes::RunLanes;
@@ -185,18 +185,119 @@ pub(crate) fn is_tick(kind: &EventKind) -> bool
     }
 }
 
-// The time of the tick at a place.
+// The mark of a tick: its time, and then the position of its node.
+#[inline(always)]
+fn mark_of(position: usize, time: u64) -> u64
+    requires { position < 32 }
+    ensures { result ≡ mark_of position time }
+{
+    if time < 576460752303423488 {
+        time * 32 + position as u64
+    } else {
+        u64::MAX
+    }
+}
+
+// The tick at a place is due at this time.
 #[inline(always)]
 pub(crate) fn put_tick(ticks: &mut Vec<u64>, place: usize, time: u64)
-    requires { place < length ticks.old.items }
-    ensures { ticks.new.items ≡ slice_set ticks.old.items place time }
+    requires within { place < length ticks.old.items }
+    requires few { place < 32 }
+    ensures { ticks.new.items ≡ slice_set ticks.old.items place (mark_of place time) }
 {
-    ticks[place] = time;
+    ticks[place] = mark_of(place, time);
+}
+
+// The time of a node's tick, or the last time that there is.
+fn tick_time_of(lanes: &RunLanes, node: NodeName) -> u64
+    requires { HasLane lanes.now node }
+    ensures value { result ≡ tick_time_of (lane_of lanes.now node) }
+    ensures small { result ≤ 18446744073709551615 }
+{
+    lanes.tick(node).unwrap_or(u64::MAX)
+}
+
+// The front of the ticks, node by node.
+#[inline(never)]
+fn late_front(lanes: &RunLanes, bius: usize, count: usize) -> Front
+    requires few { AreFew lanes.now bius }
+    requires many { count ≡ length (tick_times lanes.now) }
+    ensures front { IsFront (tick_times lanes.now) result }
+    ensures few { result.first < 32 }
+{
+    let mut front = Front {
+        first: 0,
+        least: u64::MAX,
+    };
+    for position in 0..count {
+        let key = tick_time_of(lanes, node_at(bius, position));
+        front = with_key(front, position, key);
+    }
+    front
+}
+
+// The least of the keys up to four places on, where the least of those before is known.
+#[inline(always)]
+fn with_four(keys: &[u64], place: usize, least: u64) -> u64
+    requires within { place + 4 ≤ length keys.now }
+    requires least { least ≡ least_key (take place keys.now) }
+    ensures { result ≡ least_key (take (place + 4) keys.now) }
+{
+    let least = least.min(keys[place]).min(keys[place + 1]);
+    least.min(keys[place + 2]).min(keys[place + 3])
+}
+
+// The least of the keys up to 16 places on.
+#[inline(always)]
+fn with_sixteen(keys: &[u64], place: usize, least: u64) -> u64
+    requires within { place + 16 ≤ length keys.now }
+    requires least { least ≡ least_key (take place keys.now) }
+    ensures { result ≡ least_key (take (place + 16) keys.now) }
+{
+    let four = with_four(keys, place, least);
+    let eight = with_four(keys, place + 4, four);
+    let twelve = with_four(keys, place + 8, eight);
+    with_four(keys, place + 12, twelve)
+}
+
+// The least of 32 keys, of which mostly the first 16 suffice. Written out they cost less than a loop over those
+// that are there.
+#[inline(always)]
+fn least_of(keys: &[u64], count: usize) -> u64
+    requires many { length keys.now ≡ 32 }
+    requires rest { count ≤ 16 → least_key (take 16 keys.now) ≡ least_key keys.now }
+    ensures { result ≡ least_key keys.now }
+{
+    let least = with_sixteen(keys, 0, u64::MAX);
+    if count <= 16 {
+        return least;
+    }
+    with_sixteen(keys, 16, least)
+}
+
+// The front of the ticks: mostly it is read off the least of the marks.
+#[inline(always)]
+pub(crate) fn tick_front(lanes: &RunLanes, ticks: &[u64], bius: usize, count: usize) -> Front
+    requires few { AreFew lanes.now bius }
+    requires many { count ≡ length (tick_times lanes.now) }
+    requires ticks { AreTicks lanes.now ticks.now }
+    ensures front { IsFront (tick_times lanes.now) result }
+    ensures few { result.first < 32 }
+{
+    let least = least_of(ticks, count);
+    if least == u64::MAX {
+        return late_front(lanes, bius, count);
+    }
+    Front {
+        first: (least % 32) as usize,
+        least: least / 32,
+    }
 }
 
 // An event of the node whose place this is was taken.
 pub(crate) fn after_event(ticks: &mut Vec<u64>, place: usize, kind: &EventKind)
-    requires { place < length ticks.old.items }
+    requires within { place < length ticks.old.items }
+    requires few { place < 32 }
     ensures { ticks.new.items ≡ ticks_after kind.now place ticks.old.items }
 {
     if is_tick(kind) {

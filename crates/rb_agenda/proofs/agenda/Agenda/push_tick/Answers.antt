@@ -2,7 +2,7 @@ use Rattle.std.proofs.Common.{refl, sym, subst, arith}
 use Rattle.rb_queue.specs.Waiting.{HasLane, Held, lane_of, with_tick}
 use Rattle.rb_agenda.specs.Agenda.{AreTicks}
 use Rattle.rb_agenda.proofs.Keeping.{has-with, room-of}
-use Rattle.rb_agenda.proofs.Ticks.{place-within, tick-place, ticks-with}
+use Rattle.rb_agenda.proofs.Ticks.{place-few, place-within, tick-place, ticks-with}
 use Rattle.rb_agenda.proofs.Known.{known-of, known-with}
 use Rattle.rb_agenda.proofs.agenda.Agenda.push_tick.Goals as goal
 
@@ -36,8 +36,14 @@ keep_key-self-inside-requires-clause-within c =
     place-within c.self.inside.lanes c.self.inside.keys.items c.self.inside.bius c.args.node c.self.invariant.0.few c.self.invariant.0.many
     (subst (λ x. HasLane x c.args.node) (sym c.self.view_is) c.requires.in_shape)
 
-pub put_tick-requires : goal.put_tick-requires
-put_tick-requires c =
+pub put_tick-requires-clause-within : goal.put_tick-requires-clause-within
+put_tick-requires-clause-within c =
     let h : HasLane c.self.inside.lanes c.args.node = subst (λ x. HasLane x c.args.node) (sym c.self.view_is) c.requires.in_shape in
     (tick-place c.self.inside.lanes c.self.inside.ticks.items c.self.inside.bius c.position_of-place.result c.args.node c.self.invariant.0.few.split c.position_of-place.ensures
     c.self.invariant.2 h).0
+
+pub put_tick-requires-clause-few : goal.put_tick-requires-clause-few
+put_tick-requires-clause-few c =
+    let h : HasLane c.self.inside.lanes c.args.node = subst (λ x. HasLane x c.args.node) (sym c.self.view_is) c.requires.in_shape in
+    place-few c.self.inside.lanes c.self.inside.ticks.items c.self.inside.bius c.position_of-place.result c.self.invariant.0.few c.self.invariant.2
+    ((tick-place c.self.inside.lanes c.self.inside.ticks.items c.self.inside.bius c.position_of-place.result c.args.node c.self.invariant.0.few.split c.position_of-place.ensures c.self.invariant.2 h).0)

@@ -4,7 +4,7 @@ use Rattle.rb_agenda.specs.Agenda.{AreTicks, StandsAt, TakesDue, first_time, key
 use Rattle.rb_agenda.specs.Holding.{HoldsSites}
 use Rattle.rb_agenda.proofs.Keeping.{has-with, kept-times, room-of, room-without}
 use Rattle.rb_agenda.proofs.Taking.{takes-due}
-use Rattle.rb_agenda.proofs.Ticks.{place-within, tick-place, ticks-taken}
+use Rattle.rb_agenda.proofs.Ticks.{place-few, place-within, tick-place, ticks-taken}
 use Rattle.rb_agenda.proofs.Known.{known-less, known-of, known-with}
 use Rattle.rb_agenda.proofs.agenda.Agenda.take.Goals as goal
 
@@ -37,10 +37,15 @@ pub keep_key-self-inside-requires-clause-within : goal.keep_key-self-inside-requ
 keep_key-self-inside-requires-clause-within c =
     place-within c.self.inside.lanes c.self.inside.keys.items c.self.inside.bius c.locate-node.result.0 c.self.invariant.0.few c.self.invariant.0.many c.locate-node.ensures.lane
 
-pub after_event-requires : goal.after_event-requires
-after_event-requires c =
+pub after_event-requires-clause-within : goal.after_event-requires-clause-within
+after_event-requires-clause-within c =
     (tick-place c.self.inside.lanes c.self.inside.ticks.items c.self.inside.bius c.position_of-place.result c.locate-node.result.0 c.self.invariant.0.few.split c.position_of-place.ensures
     c.self.invariant.2 c.locate-node.ensures.lane).0
+
+pub after_event-requires-clause-few : goal.after_event-requires-clause-few
+after_event-requires-clause-few c =
+    place-few c.self.inside.lanes c.self.inside.ticks.items c.self.inside.bius c.position_of-place.result c.self.invariant.0.few c.self.invariant.2
+    ((tick-place c.self.inside.lanes c.self.inside.ticks.items c.self.inside.bius c.position_of-place.result c.locate-node.result.0 c.self.invariant.0.few.split c.position_of-place.ensures c.self.invariant.2 c.locate-node.ensures.lane).0)
 
 pub returns-clause-world : goal.returns-clause-world
 returns-clause-world c =
