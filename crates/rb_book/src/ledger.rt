@@ -95,9 +95,10 @@ fn trusted(shape: &Shape, place: Place, bius: &Group<Biu>, rmus: &Group<Rmu>) ->
     ensures biu { result.0 ≡ trusted_by biu (rows_found shape.now place bius.now rmus.now) }
     ensures rmu { result.1 ≡ trusted_by rmu (rows_found shape.now place bius.now rmus.now) }
 {
-    let of_bius = first_trusted(shape.biu(), bius.good, place, &bius.told);
-    let of_rmus = first_trusted(shape.rmu(), rmus.good, place, &rmus.told);
-    of_bius.or(of_rmus).unwrap_or((0, 0))
+    match first_trusted(shape.biu(), bius.good, place, &bius.told) {
+        Some(trusted) => trusted,
+        None => first_trusted(shape.rmu(), rmus.good, place, &rmus.told).unwrap_or((0, 0)),
+    }
 }
 
 // The judge is told a stage of which all good nodes have told.
@@ -135,7 +136,7 @@ fn keep_lines(lines: &mut ArrayVec<SlotLine, 16>, shape: &Shape, place: Place, b
         then found_of (λ i t. line_of place (has bius.now.good i) t) shape.now.bius bius.now.told else lines.old.items) }
 {
     if place.stage == 2 {
-        *lines = slot_lines(shape.biu(), bius.good, place, &bius.told);
+        slot_lines(lines, shape.biu(), bius.good, place, &bius.told);
     }
 }
 

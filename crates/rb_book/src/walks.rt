@@ -67,10 +67,9 @@ fn port_line(is_good: bool, told: &Told, frame: u32) -> Option<PortLine>
 fn slot_line(is_good: bool, told: &Told, place: Place) -> Option<SlotLine>
     ensures { result ≡ line_of place is_good told.now }
 {
-    if is_good && told.has_told(Milestone::Stage(place)) {
-        told.line
-    } else {
-        None
+    match told.line {
+        Some(line) if is_good && told.has_told(Milestone::Stage(place)) => Some(line),
+        _ => None,
     }
 }
 
@@ -111,22 +110,22 @@ pub(crate) fn port_lines<K: Copy>(
     lines
 }
 
-/// What the good ones, of so many BIUs, delivered in a stage.
+/// What the good ones, of so many BIUs, delivered in a stage, in place of the lines so far.
 pub(crate) fn slot_lines<K: Copy>(
+    lines: &mut ArrayVec<SlotLine, 16>,
     count: u8,
     good: NodeSet<K>,
     place: Place,
     told: &[Told; 16],
-) -> ArrayVec<SlotLine, 16>
+)
     requires { count ≤ 16 }
-    ensures { result.items ≡ found_of (λ i t. line_of place (has good i) t) count told.now }
+    ensures { lines.new.items ≡ found_of (λ i t. line_of place (has good i) t) count told.now }
 {
-    let mut lines = ArrayVec::new();
+    lines.clear();
     for i in 0..count {
         let line = slot_line(good.has(i), &told[usize::from(i)], place);
-        add(&mut lines, line);
+        add(lines, line);
     }
-    lines
 }
 
 fn trusted_in(is_good: bool, told: &Told, place: Place) -> Option<(u16, u16)>

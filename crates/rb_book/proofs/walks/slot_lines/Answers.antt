@@ -8,8 +8,8 @@ use Rattle.rb_book.proofs.Found.{line_added}
 
 pub loop-i-init : goal.loop-i-init
 loop-i-init g c = record {
-  is = c.new-lines.ensures ∙ sym (found_none (λ i t. line_of c.args.place (has c.args.good i) t) c.args.told.now);
-  most = omega (arith, ap length c.new-lines.ensures);
+  is = c.clear.ensures ∙ sym (found_none (λ i t. line_of c.args.place (has c.args.good i) t) c.args.told.now);
+  most = omega (arith, ap length c.clear.ensures);
 }
 
 pub loop-i-preserved : goal.loop-i-preserved
