@@ -1,5 +1,5 @@
 -- A node that has taken in unstamped what came to it up to its tick may take that tick.
-use Rattle.std.proofs.Common.{◌≡◌, ℕ, true, ◌+◌, ◌^◌, ◌<◌, ◌≤◌, ◌++◌, Some, None, Option, List, [], ◌∷◌, filter, map, slice_get, refl, sym, ap, ◌∙◌, subst, arith}
+use Rattle.std.proofs.Common.{◌≡◌, ℕ, true, ◌+◌, ◌^◌, ◌<◌, ◌≤◌, ◌++◌, Some, List, [], ◌∷◌, filter, map, slice_get, refl, sym, ap, ◌∙◌, subst, arith}
 use Rattle.std.specs.Prelude.{All, nat_le, nat_lt, slice_set, unwrap_or}
 use Rattle.std.proofs.lemmas.List.Elements.{All-append, All-cons, All-nil}
 use Rattle.rb_base.specs.Nodes.{Side, other}
@@ -33,7 +33,7 @@ use Rattle.rb_site.specs.Sites.AreAlike.{Nothing, Several, Single}
 use Rattle.rb_site.proofs.Alike.{heard-alike}
 use Rattle.rb_sweep.specs.Brought.{Brings, CameTogether, IsHeardIfDue, due_from}
 use Rattle.rb_sweep.specs.Stamps.{stamped_anew}
-use Rattle.rb_sweep.specs.Sweeping.{Placed, first_of, swept}
+use Rattle.rb_sweep.specs.Sweeping.{swept}
 use Rattle.rb_sweep.proofs.Bringing.{sweeps-bring}
 use Rattle.rb_sweep.proofs.Firsts.{every-so, every-stands, every-without, first-stands}
 use Rattle.rb_sweep.proofs.SentLater.{node-moves}
@@ -149,12 +149,14 @@ readied sc kept scene until w v me i a before site lanes h there up ends =
     let coming : Every (Known sc me) s.coming = all-every (Known sc me) s.coming known.0 in
     let may : All (IsHeardIfDue sc me i (a.time + 1)) s.coming =
     every-all (IsHeardIfDue sc me i (a.time + 1)) s.coming (every-so (Known sc me) (IsHeardIfDue sc me i (a.time + 1))
-    (λ c from due. (from,
+    (λ c from due. (
+      from,
       let time = its.time in
-      let at : c.time ≤ time_of (clock_of sc me i) a.tick = omega (arith, due, time) in
-      let stamp = stamp_to (clock_of sc me i) (node-moves sc h.trails.lawful me i n.within) c.time a.tick at in
-      let tick = its.small in
-      omega (arith, stamp, tick))) s.coming coming) in
+          let at : c.time ≤ time_of (clock_of sc me i) a.tick = omega (arith, due, time) in
+          let stamp = stamp_to (clock_of sc me i) (node-moves sc h.trails.lawful me i n.within) c.time a.tick at in
+          let tick = its.small in
+          omega (arith, stamp, tick),
+    )) s.coming coming) in
     let brings = sweeps-bring sc me i (a.time + 1) s small may in
     let was = taken sc me (due_before (a.time + 1) s.coming) s small (every-filter (Known sc me) (λ (c : Coming). nat_lt c.time (a.time + 1)) s.coming coming) in
     let name = name_of me i in

@@ -1,5 +1,5 @@
 -- What a node has taken in unstamped shows the same, source by source, as what a sweep brings to it.
-use Rattle.std.proofs.Common.{◌≡◌, ℕ, zero, suc, ◌+◌, ◌^◌, ◌<◌, ◌≤◌, ◌==◌, ◌&&◌, Bool, true, false, cond, not, List, [], ◌∷◌, ◌++◌, filter, get_or, length, map, take, refl, sym, ap, ◌∙◌, subst, arith}
+use Rattle.std.proofs.Common.{◌≡◌, ℕ, zero, suc, ◌+◌, ◌^◌, ◌<◌, ◌==◌, ◌&&◌, Bool, true, false, cond, not, List, [], ◌∷◌, ◌++◌, filter, get_or, length, map, take, refl, sym, ap, ◌∙◌, subst, arith}
 use Rattle.std.specs.Prelude.{nat_le, nat_lt}
 use Rattle.std.proofs.lemmas.Bool.Decides.{nat_tests}
 use Rattle.std.proofs.lemmas.List.{append-nil, map-append, take_more}
@@ -10,7 +10,7 @@ use Rattle.rb_rules.specs.Goodness.{Scenario}
 use Rattle.rb_rules.specs.Hearing.{Coming}
 use Rattle.rb_rules.specs.Sense.{Arrival}
 use Rattle.rb_rules.specs.Slots.{count_of}
-use Rattle.rb_rules.specs.WorldStep.{Site, Timed, coming_from}
+use Rattle.rb_rules.specs.WorldStep.{Site, coming_from}
 use Rattle.rb_order.proofs.SameHeard.{Every}
 use Rattle.rb_site.specs.Sites.{taken_in}
 use Rattle.rb_sweep.specs.Brought.{BringsArrivals, BringsComings, due_from}
@@ -70,7 +70,9 @@ taken-one sc me c s known small = ap (λ core. record s { core = core; got = s.g
 -- and all are
 pub taken : (sc : Scenario) (me : Side) (cs : List Coming) (s : Site) → s.core.had < 2 ^ 31 → Every (λ (c : Coming). c.from < count_of (other me) sc.sizes) cs → Taken s (taken_all sc me cs s) cs
 taken sc me [] s small known = record {
-  state = refl; had = refl; runs = refl;
+  state = refl;
+  had = refl;
+  runs = refl;
   inbox = λ j. sym (append-nil (of_source s.core.inbox j));
   got = λ j. sym (append-nil (coming_from s.got j));
 }

@@ -1,5 +1,5 @@
 -- A node takes a tick that ends a window of a slot before the sync slot, and has taken in what came to it unstamped.
-use Rattle.std.proofs.Common.{◌≡◌, ℕ, ◌+◌, ◌-◌, ◌^◌, ◌<◌, ◌≤◌, Bool, true, false, Some, None, Option, List, [], ◌∷◌, slice_get, refl, sym, ap, ◌∙◌, subst, arith}
+use Rattle.std.proofs.Common.{◌≡◌, ℕ, ◌+◌, ◌-◌, ◌^◌, ◌<◌, ◌≤◌, true, false, Some, None, Option, List, slice_get, refl, sym, ap, ◌∙◌, subst, arith}
 use Rattle.std.specs.Prelude.{All, length, slice_set}
 use Rattle.rb_base.specs.Nodes.{Side, other}
 use Rattle.rb_rules.specs.declared.closing.Closed.{Closed}
@@ -14,7 +14,7 @@ use Rattle.rb_rules.specs.Slots.{count_of}
 use Rattle.rb_rules.specs.WorldStep.{Due, Site, Timed, World, after_act, at_node, happens, pass_and_tick, proceed, times_of, with_act, with_close, with_epoch, with_message}
 use Rattle.rb_rules.specs.WorldStep.Pending.{Tick}
 use Rattle.rb_queue.specs.Waiting.{HasLane, Held, lane_of, spare_of}
-use Rattle.rb_agenda.specs.Holding.{HoldsSites, without_waiting}
+use Rattle.rb_agenda.specs.Holding.{HoldsSites}
 use Rattle.rb_agenda.proofs.Which.{has-item}
 use Rattle.rb_order.specs.PendingEvents.{most_pending}
 use Rattle.rb_order.proofs.WorldStands.{not-other}
@@ -25,13 +25,13 @@ use Rattle.rb_sweep.proofs.Sweeps.{sweeps-keep}
 use Rattle.rb_world.specs.declared.scene.Scene.{Scene}
 use Rattle.rb_world.specs.Buses.{HaveRooms}
 use Rattle.rb_world.specs.Steps.{MayTick, SpansFit, Ticks, moved}
-use Rattle.rb_world.specs.Trailing.{BehindTick, MayTakeFirst, TakesFirst, alone, bare}
+use Rattle.rb_world.specs.Trailing.{BehindTick, alone, bare}
 use Rattle.rb_world.specs.Unstamped.{bare_with}
 use Rattle.rb_world.specs.Worlds.{AreNodes, IsNode, Surrounds}
 use Rattle.rb_world.proofs.Around.{Pends, pends-more}
 use Rattle.rb_world.proofs.Behind.{bare-few, bare-pends, few, node-of, ticks-there}
 use Rattle.rb_world.proofs.Entering.{changed-there}
-use Rattle.rb_world.proofs.Happening.{Acts, after-act-same, after_tick-nodes, happens-tick, nodes-other, nodes-own, sent-nodes}
+use Rattle.rb_world.proofs.Happening.{Acts, after-act-same, happens-tick, nodes-other, nodes-own, sent-nodes}
 use Rattle.rb_world.proofs.Lanes.{has-lane, node-named, spare-at}
 use Rattle.rb_world.proofs.Ready.{next-due}
 use Rattle.rb_world.proofs.Sites.{at-same, at-twice, holds-one, was-there}

@@ -51,7 +51,7 @@ fn take_exact_tick<K: Kind>(
         → TakesFirst bus.now v (side_of K.CODE) i a (slice_set own i site.new) (of_kind (other (side_of K.CODE)) kept) scene.new }
 {
     take_in_all(node, time + 1, site, &mut scene.agenda);
-    tick_at(bus, apps, node, i, site, scene);
+    tick_at(bus, apps, node, i, site, scene)
 }
 
 // Node `i` of the kind is swept up to its tick, which comes at this time, and takes it. If it is the node that is observed, it is told first

@@ -1,7 +1,6 @@
-use Rattle.std.proofs.Common.{◌≡◌, ◌+◌, sym, ap, subst, ◌∙◌}
+use Rattle.std.proofs.Common.{◌+◌, sym, ap, ◌∙◌}
 use Rattle.rb_base.specs.Nodes.{side_of}
 use Rattle.rb_rules.specs.Links.{name_of}
-use Rattle.rb_site.specs.Sites.{number_of}
 use Rattle.rb_slot.specs.Engines.{Seated}
 use Rattle.rb_world.specs.Steps.{moved}
 use Rattle.rb_world.specs.Unstamped.{bare_with}
