@@ -1,4 +1,5 @@
 pub mod Found
+pub mod Alike
 pub mod Counted
 pub mod Rows
 pub mod Sources

@@ -1,14 +1,14 @@
 //! Walks over what the nodes of a kind have told.
-ghost use Rattle.std.specs.Prelude.{◌≡◌, ℕ, ◌+◌, ◌<◌, ◌≤◌, ◌++◌, [], not, ◌&&◌, nat_lt, option_to_list, length};
+ghost use Rattle.std.specs.Prelude.{◌≡◌, ℕ, ◌+◌, ◌<◌, ◌≤◌, ◌++◌, [], not, ◌&&◌, true, IfSome, nat_lt, option_to_list, length};
 ghost use Rattle.rb_base.specs.Nodes.{has, set_of};
 ghost use Rattle.rb_rules.specs.Judging.{are_alike, is_something};
 ghost use Rattle.rb_book.specs.Telling.{has_told, see_of, told_at};
-ghost use Rattle.rb_book.specs.Waiting.{differs, first_trusted, found_of, line_of, node_line_of, port_line_of, row_at, row_if, waiting_for, was_taken, was_unlike};
+ghost use Rattle.rb_book.specs.Waiting.{differs, first_trusted, found_of, is_time, line_of, node_line_of, port_line_of, row_at, row_if, waiting_for, was_taken, was_unlike};
 
 use crate::milestone::Milestone;
 use crate::told::{Told, are_alike, is_something};
 use arrayvec::ArrayVec;
-use rb_base::{NodeId, NodeSet, Place};
+use rb_base::{NodeId, NodeSet, Place, See};
 use rb_rules::{NodeLine, PortLine, SlotLine};
 
 fn is_awaited(is_good: bool, told: &Told, milestone: Milestone) -> bool
@@ -208,8 +208,49 @@ fn differs<K: Copy>(
     false
 }
 
-/// Whether two good ones, of so many receivers, saw a source unlike.
+// The first good one of so many receivers.
+fn first_good<K: Copy>(count: u8, good: NodeSet<K>) -> Option<u8>
+    ensures { IfSome result (λ i. (i < count) × (has good i ≡ true)) }
+{
+    for i in 0..count {
+        if good.has(i) {
+            return Some(i);
+        }
+    }
+    None
+}
+
+// Whether a source was seen with a time.
+fn is_time(see: See) -> bool
+    ensures { result ≡ is_time see }
+{
+    matches!(see, See::Time(_))
+}
+
+/// Whether two good ones, of so many receivers, saw a source unlike. Where the first of them saw no time, each is compared with that one
+/// alone: of what has no time, two that are like a third are alike.
 pub(crate) fn was_unlike<K: Copy>(
+    eps: u32,
+    count: u8,
+    good: NodeSet<K>,
+    told: &[Told; 16],
+    source: u8,
+) -> bool
+    requires count { count ≤ 16 }
+    requires source { source < 16 }
+    ensures { result ≡ was_unlike eps count good told.now source }
+{
+    if let Some(first) = first_good(count, good) {
+        if !is_time(told[usize::from(first)].see(source)) {
+            return differs(eps, count, good, told, source, first);
+        }
+    }
+    some_differ(eps, count, good, told, source)
+}
+
+// The same, where each is compared with each.
+#[inline(never)]
+fn some_differ<K: Copy>(
     eps: u32,
     count: u8,
     good: NodeSet<K>,

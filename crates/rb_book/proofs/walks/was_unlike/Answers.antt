@@ -1,15 +1,11 @@
-use Rattle.std.proofs.Common.{◌≡◌, ◌&&◌, true, sym, ◌∙◌, arith}
-use Rattle.rb_base.specs.Nodes.{has}
-use Rattle.rb_book.specs.Waiting.{differs}
-use Rattle.rb_book.proofs.Found.{some_good_found, some_good_none}
+use Rattle.std.proofs.Common.{◌≡◌, ◌<◌, false, sym, ◌∙◌, ap, arith}
+use Rattle.rb_book.specs.Telling.{see_of, told_at}
+use Rattle.rb_book.specs.Waiting.{is_time}
+use Rattle.rb_book.proofs.Alike.{by_one}
 use Rattle.rb_book.proofs.walks.was_unlike.Goals as goal
 
-pub returns-then-differs : goal.returns-then-differs
-returns-then-differs g c =
-    let both : (has c.args.good c.loop-i.i && differs c.args.eps c.args.count c.args.good c.args.told.now c.args.source c.loop-i.i) ≡ true =
-    rw (sym c.has.ensures ∙ c.if-has.true) (sym c.differs.ensures ∙ c.if-differs.true) in
-    sym (some_good_found c.args.count c.args.good (differs c.args.eps c.args.count c.args.good c.args.told.now c.args.source) c.loop-i.i (omega arith) (omega arith) both)
-
-pub returns : goal.returns
-returns g c =
-    sym (some_good_none c.args.count c.args.good (differs c.args.eps c.args.count c.args.good c.args.told.now c.args.source) (λ i h. c.loop-i.invariant i (omega arith)))
+pub returns-then-not-is_time : goal.returns-then-not-is_time
+returns-then-not-is_time g c =
+    let seen : is_time (see_of (told_at c.args.told.now c.in-Some.first) c.args.source) ≡ false =
+    ap (λ n. is_time (see_of (told_at c.args.told.now n) c.args.source)) (sym c.from.ensures) ∙ ap is_time (sym c.see.ensures) ∙ sym c.is_time.ensures ∙ c.if-not-is_time.true in
+    c.differs.ensures ∙ by_one c.args.eps c.args.count c.args.good c.args.told.now c.args.source c.in-Some.first (omega arith) c.in-Some.ensures.0 c.in-Some.ensures.1 seen
