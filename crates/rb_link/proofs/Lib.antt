@@ -1,3 +1,4 @@
 pub mod LastRules
 pub mod PairIndex
 pub mod Latest
+pub mod NodeRows

@@ -48,8 +48,3 @@ IsLatest base rules from to latest =
 -- each pair has its latest rule at its number
 pub record AreLatest (base : ℕ) (rules latest : List Rule) : Type 0 where
   pub each : (pair : ℕ) → (rule : Rule) → slice_get latest pair ≡ Some rule → IsLatest base rules (sender_of pair) (receiver_of pair) rule
-
--- what is kept beside the rules fits them
-pub record ArePrepared (base : ℕ) (rules latest : List Rule) (starts places : List ℕ) : Type 0 where
-  pub latest_are : AreLatest base rules latest
-  pub index_is : IsIndex rules starts places

@@ -6,7 +6,11 @@ ghost use Rattle.rb_rules.specs.declared.link.Rule.{Rule as KeptRule};
 ghost use Rattle.std.specs.List.{filter_map, find};
 ghost use Rattle.rb_rules.specs.Links.{applies, covers, delay_after, delay_of, is_in_range, same_node, stands_for};
 ghost use Rattle.rb_link.specs.Pairs.{AreLatest, IsIndex, IsLatest, delay_or, is_between, places_from, places_of, receiver_of, sender_of};
+ghost use Rattle.rb_link.specs.Rows.{IsRow};
 
+mod rows;
+
+use crate::rows::{Ranges, flat_delays, row_at, sender_number, shared_ranges};
 use rb_base::{NodeName, OutOfMemory, Place};
 pub use rb_rules::{Pattern, Rule};
 use std::alloc::Global;
@@ -19,13 +23,16 @@ const PAIRS: u16 = 512;
 const NUMBERED: usize = 65536;
 
 /// The delays of a bus, in reference units: the one of a message for which there is no rule, and the rules. Beside them it is
-/// kept which rules are for each pair of nodes, and which is the latest of these, since each message is looked up.
+/// kept which rules are for each pair of nodes, and which is the latest of these, since each message is looked up, and for each
+/// sender which places its latest rules all have, and the delays of these.
 #[derive(Drop)]
 pub struct Delays {
     base: u32,
     rules: Vec<Rule>,
     latest: Vec<Rule>,
     index: Index,
+    shared: Vec<Ranges>,
+    flat: Vec<u32>,
 }
 
 impl Model for Delays {
@@ -33,11 +40,11 @@ impl Model for Delays {
 
     ghost Value = { DelayRules };
 
-    ghost use Rattle.rb_link.specs.Pairs.{ArePrepared};
+    ghost use Rattle.rb_link.specs.Prepared.{ArePrepared};
 
     ghost view = { λ d. record { base = d.base; rules = d.rules.items } };
 
-    ghost invariant = { λ d. ArePrepared d.base d.rules.items d.latest.items d.index.starts.items d.index.places.items };
+    ghost invariant = { λ d. ArePrepared d.base d.rules.items d.latest.items d.index.starts.items d.index.places.items d.shared.items d.flat.items };
 }
 
 /// Which rules are for each pair of nodes: `places` holds the numbers of the rules, pair by pair, and `starts` where those of
@@ -141,12 +148,16 @@ impl Delays {
     {
         let index = Index::new(alloc, rules)?;
         let latest = latest_rules(alloc, base, rules)?;
+        let shared = shared_ranges(alloc, &latest)?;
+        let flat = flat_delays(alloc, &latest)?;
         let rules = Vec::from_slice(alloc, rules)?;
         Ok(Delays {
             base,
             rules,
             latest,
             index,
+            shared,
+            flat,
         })
     }
 
@@ -165,6 +176,19 @@ impl Delays {
         match latest_delay(&self.latest, pair, place) {
             Some(delay) => delay,
             None => self.looked_up(from, to, place),
+        }
+    }
+
+    /// The delays, in reference units, of a message of this place from the node to the nodes of the other kind, at their numbers.
+    /// Empty where they are not kept for this place: where the latest rules for messages from the node don't all have it, and
+    /// for a number that no node has.
+    #[inline]
+    pub fn row(&self, from: NodeName, place: Place) -> &[u32]
+        ensures { IsRow self.now from place result.now }
+    {
+        match sender_number(from) {
+            Some(sender) => row_at(&self.shared, &self.flat, sender, place),
+            None => &[],
         }
     }
 
