@@ -1,5 +1,5 @@
 //! An arrival that is pending.
-ghost use Rattle.std.specs.Prelude.{◌≡◌, ◌≤◌};
+ghost use Rattle.std.specs.Prelude.{◌≡◌, ◌≤◌, length, take};
 ghost use Rattle.rb_queue.specs.Waiting.{comes, event_with};
 ghost use Rattle.rb_queue.specs.Waiting.Ready.{Comes};
 ghost use Rattle.rb_queue.specs.Scanning.{comes_before};
@@ -13,15 +13,70 @@ use std::marker::Model;
 pub struct Arrival {
     time: u64,
     from: u8,
-    bytes: ArrayVec<u8, 32>,
+    len: u8,
+    bytes: [u8; 32],
 }
 
 impl Model for Arrival {
+    ghost use Rattle.std.specs.Prelude.{take, length, ◌≡◌, ◌≤◌};
     ghost use Rattle.rb_rules.specs.Hearing.{Coming};
 
     ghost Value = { Coming };
 
-    ghost view = { λ a. record { time = a.time; from = a.from; bytes = a.bytes.items } };
+    ghost view = { λ a. record { time = a.time; from = a.from; bytes = take a.len a.bytes } };
+
+    ghost invariant = { λ a. a.len ≤ 32 × length a.bytes ≡ 32 };
+}
+
+// The bytes, and zeros behind them.
+fn padded(bytes: &[u8]) -> [u8; 32]
+    requires { length bytes.now ≤ 32 }
+    ensures front { take (length bytes.now) result ≡ bytes.now }
+    ensures whole { length result ≡ 32 }
+{
+    let mut all = [0u8; 32];
+    all[..bytes.len()].copy_from_slice(bytes);
+    all
+}
+
+// The same where they are eleven.
+#[inline(always)]
+fn padded_eleven(bytes: &[u8]) -> [u8; 32]
+    requires { length bytes.now ≡ 11 }
+    ensures front { take (length bytes.now) result ≡ bytes.now }
+    ensures whole { length result ≡ 32 }
+{
+    let mut all = [0u8; 32];
+    all[..11].copy_from_slice(&bytes[..11]);
+    all
+}
+
+// The same where they are twelve.
+#[inline(always)]
+fn padded_twelve(bytes: &[u8]) -> [u8; 32]
+    requires { length bytes.now ≡ 12 }
+    ensures front { take (length bytes.now) result ≡ bytes.now }
+    ensures whole { length result ≡ 32 }
+{
+    let mut all = [0u8; 32];
+    all[..12].copy_from_slice(&bytes[..12]);
+    all
+}
+
+// The same. Those of a message are copied with a length that is known.
+#[inline(always)]
+fn padded_at_once(bytes: &[u8]) -> [u8; 32]
+    requires { length bytes.now ≤ 32 }
+    ensures front { take (length bytes.now) result ≡ bytes.now }
+    ensures whole { length result ≡ 32 }
+{
+    if bytes.len() == 11 {
+        return padded_eleven(bytes);
+    }
+    if bytes.len() == 12 {
+        return padded_twelve(bytes);
+    }
+    padded(bytes)
 }
 
 impl Arrival {
@@ -29,7 +84,36 @@ impl Arrival {
     pub(crate) fn new(time: u64, from: u8, bytes: ArrayVec<u8, 32>) -> Arrival
         ensures { result ≡ record { time = time; from = from; bytes = bytes.items } }
     {
-        Arrival { time, from, bytes }
+        Arrival::of(time, from, bytes.as_slice())
+    }
+
+    /// What comes at this time, in reference units, from the sender of this number, as its bytes.
+    #[inline(always)]
+    pub fn of(time: u64, from: u8, bytes: &[u8]) -> Arrival
+        requires few { length bytes.now ≤ 32 }
+        ensures { result ≡ record { time = time; from = from; bytes = bytes.now } }
+    {
+        let len = bytes.len() as u8;
+        let bytes = padded_at_once(bytes);
+        Arrival {
+            time,
+            from,
+            len,
+            bytes,
+        }
+    }
+
+    // The same at another time.
+    #[inline(always)]
+    pub(crate) fn at(&self, time: u64) -> Arrival
+        ensures { result ≡ record self.now { time = time } }
+    {
+        Arrival {
+            time,
+            from: self.from,
+            len: self.len,
+            bytes: self.bytes,
+        }
     }
 
     /// The time at which it is due, in reference units.
@@ -50,10 +134,19 @@ impl Arrival {
 
     /// Its bytes.
     #[inline(always)]
-    pub fn bytes(&self) -> &ArrayVec<u8, 32>
-        ensures { result.now.items ≡ self.now.bytes }
+    pub fn bytes(&self) -> &[u8]
+        ensures { result.now ≡ self.now.bytes }
     {
-        &self.bytes
+        &self.bytes[..usize::from(self.len)]
+    }
+
+    /// Its bytes, in the form in which an event holds them.
+    pub fn held(&self) -> ArrayVec<u8, 32>
+        ensures { result.items ≡ self.now.bytes }
+    {
+        let mut held = ArrayVec::new();
+        let _ = held.try_extend_from_slice(&self.bytes[..usize::from(self.len)]);
+        held
     }
 
     // It, as an event of the node.
@@ -62,7 +155,7 @@ impl Arrival {
     {
         let kind = EventKind::Arrive {
             from: self.from,
-            bytes: self.bytes.clone().unwrap(),
+            bytes: self.held(),
         };
         Event {
             node,

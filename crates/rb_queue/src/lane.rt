@@ -50,11 +50,12 @@ fn make_room(kept: &mut Vec<Arrival>, start: usize, room: usize) -> usize
     if kept.len() < room {
         return start;
     }
-    kept.drain(..start);
+    drop_gone(kept, start);
     0
 }
 
 // Those before the start are taken out.
+#[inline(never)]
 fn drop_gone(kept: &mut Vec<Arrival>, start: usize)
     requires { start ≤ length kept.old.items }
     ensures left { kept.new.items ≡ drop start kept.old.items }

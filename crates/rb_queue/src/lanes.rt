@@ -108,6 +108,23 @@ impl Lanes {
         }
     }
 
+    /// Adds what comes to a node, due at this time in reference units, with the sender and the bytes of another arrival, to its lane: for a
+    /// message that comes to many. There is room for it. It comes before what `push` kept beside the lane of that sender and that time.
+    #[inline(always)]
+    pub fn push_like(&mut self, node: NodeName, time: u64, like: &Arrival)
+        requires in_shape { HasQueue self.old node }
+        requires spare { 1 ≤ room_left (queue_of self.old node) }
+        ensures after { self.new ≡ with_lane_at node
+            (with_arrival (record like.now { time = time }) (queue_of self.old node).lane)
+            self.old }
+    {
+        let arrival = like.at(time);
+        match node {
+            NodeName::Biu(i) => self.bius[usize::from(i)].push_arrival(arrival),
+            NodeName::Rmu(i) => self.rmus[usize::from(i)].push_arrival(arrival),
+        }
+    }
+
     /// The tick of the node's lane is pending, due at this time in reference units, in place of the one that was. A tick that `push` kept
     /// beside the lane stays.
     #[inline(always)]
