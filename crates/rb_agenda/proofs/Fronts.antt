@@ -1,14 +1,13 @@
 -- The place of the least of the keys.
-use Rattle.std.proofs.Common.{◌≡◌, ◌≢◌, ℕ, zero, suc, ◌+◌, ◌<◌, ◌≤◌, ◌==◌, ◌&&◌, ◌⊎◌, nat_lt, min, Bool, true, false, List, [], ◌∷◌, length, take, drop, set, get_or, if◌then◌else◌, refl, sym, ap, ◌∙◌, subst, arith, inl, inr}
+use Rattle.std.proofs.Common.{◌≡◌, ◌≢◌, ℕ, zero, suc, ◌+◌, ◌<◌, ◌≤◌, ◌==◌, ◌&&◌, ◌⊎◌, nat_lt, min, Bool, true, false, List, [], ◌∷◌, length, take, set, get_or, if◌then◌else◌, refl, sym, ap, ◌∙◌, subst, arith, inl, inr}
 use Rattle.std.proofs.lemmas.Bool.{cases_lt}
 use Rattle.std.proofs.lemmas.Bool.Decides.{nat_tests}
-use Rattle.std.proofs.lemmas.List.{get_or-set_other, get_or-set_same, length-set, take-append-drop}
+use Rattle.std.proofs.lemmas.List.{get_or-set_other, get_or-set_same, length-set}
 use Rattle.rb_rules.specs.Book.{Each, in_order}
 use Rattle.rb_queue.specs.Waiting.{Held, Ready, lane_of, ready_of}
 use Rattle.rb_agenda.specs.declared.scan.Front.{Front}
 use Rattle.rb_agenda.specs.Agenda.{AreKept, StandsAt, due_count, due_in, key_of, least_key, node_at}
 use Rattle.rb_agenda.specs.Fronts.{IsFront, lowered}
-use Rattle.rb_agenda.proofs.Dues.{count-append}
 use Rattle.rb_agenda.proofs.Scans.{count-more, is-here, least-more}
 
 same-or-not : (k n : ℕ) → (k ≡ n) ⊎ (k ≢ n)
@@ -45,9 +44,9 @@ pub front-none : (keys : List ℕ) → IsFrontOf keys 0 (record { first = 0; lea
 unfolding least_key
 front-none keys = record { within = omega arith; least_is = refl; there = λ h. absurd (omega (arith, h)); low = λ k h. absurd (omega arith); before = λ k h. absurd (omega arith) }
 
-pub front-more : (keys : List ℕ) (i : ℕ) (front : Front) → i < length keys → get_or keys i 0 ≤ 18446744073709551615 → IsFrontOf keys i front
+pub front-more : (keys : List ℕ) (i : ℕ) (front : Front) → i < length keys → IsFrontOf keys i front
     → IsFrontOf keys (i + 1) (if nat_lt (get_or keys i 0) front.least then record { first = i; least = get_or keys i 0 } else front)
-front-more keys i front h small is = go (nat_lt (get_or keys i 0) front.least) refl
+front-more keys i front h is = go (nat_lt (get_or keys i 0) front.least) refl
   where
     at : (k : ℕ) → k < i + 1 → (P : ℕ → Type 0) → ((j : ℕ) → j < i → P j) → P i → P k
     at k below P old new = elim (cases_lt k i) [ inl less ↦ old k less | inr ge ↦ subst P (let e : i ≡ k = omega (arith, below, ge) in e) new ]
@@ -58,7 +57,7 @@ front-more keys i front h small is = go (nat_lt (get_or keys i 0) front.least) r
         let less : get_or keys i 0 < front.least = grind (arith, nat_tests) in
         record {
           within = omega (arith, h);
-          least_is = omega (arith, less, is.least_is, least-more keys i h small);
+          least_is = omega (arith, less, is.least_is, least-more keys i h);
           there = λ some. (omega arith, refl);
           low = λ k below. at k below (λ k. get_or keys i 0 ≤ get_or keys k 0) (λ j before. omega (arith, less, is.low j before)) (omega arith);
           before = λ k below. omega (arith, less, is.low k below);
@@ -67,18 +66,18 @@ front-more keys i front h small is = go (nat_lt (get_or keys i 0) front.least) r
         let most : front.least ≤ get_or keys i 0 = grind (arith, nat_tests) in
         record {
           within = omega (arith, h);
-          least_is = omega (arith, most, is.least_is, least-more keys i h small);
+          least_is = omega (arith, most, is.least_is, least-more keys i h);
           there = λ some. let at = is.there some in let first = at.0 in (omega (arith, first), at.1);
           low = λ k below. at k below (λ k. front.least ≤ get_or keys k 0) is.low most;
           before = is.before;
         }
 
 -- one key more
-pub front-key : (keys : List ℕ) (i key : ℕ) (front next : Front) → i < length keys → get_or keys i 0 ≡ key → key ≤ 18446744073709551615 → IsFrontOf keys i front
+pub front-key : (keys : List ℕ) (i key : ℕ) (front next : Front) → i < length keys → get_or keys i 0 ≡ key → IsFrontOf keys i front
     → next ≡ (if nat_lt key front.least then record { first = i; least = key } else front) → IsFrontOf keys (i + 1) next
-front-key keys i key front next h at small is after =
+front-key keys i key front next h at is after =
     subst (IsFrontOf keys (i + 1)) (sym (after ∙ ap (λ k. if nat_lt k front.least then record { first = i; least = k } else front) (sym at)))
-    (front-more keys i front h (omega (arith, at, small)) is)
+    (front-more keys i front h is)
 
 pub first-few : (i key : ℕ) (front next : Front) → next ≡ (if nat_lt key front.least then record { first = i; least = key } else front) → i < 32 → front.first < 32
     → next.first < 32
@@ -238,9 +237,6 @@ front-raised keys place key front h up apart is = record {
 not-due : (t : ℕ) (l : Held) → (key_of l == t) ≡ false → length (due_in t l) ≡ 0
 not-due t l e = ap (λ b. length (elim b as (λ _. List Ready) [ true ↦ ready_of l | false ↦ [] ])) e
 
-its-due : (t : ℕ) (l : Held) → (key_of l == t) ≡ true → length (due_in t l) ≡ length (ready_of l)
-its-due t l e = ap (λ b. length (elim b as (λ _. List Ready) [ true ↦ ready_of l | false ↦ [] ])) e
-
 -- nothing is due before the front
 none-before : (lanes : Each Held) (keys : List ℕ) (bius : ℕ) (front : Front) → AreKept lanes keys bius → IsFront keys front → front.first ≤ length keys
     → (p : ℕ) → p ≤ front.first → due_count front.least (take p (in_order lanes)) ≡ 0
@@ -274,17 +270,3 @@ stands-first lanes keys bius front kept is within least ready =
       ready = ready;
       before = omega (arith, none-before lanes keys bius front kept is (omega (arith, within)) front.first (omega arith));
     }
-
--- then something is due
-pub some-due : (lanes : Each Held) (keys : List ℕ) (bius : ℕ) (front : Front) → AreKept lanes keys bius → front.first < length keys
-    → get_or keys front.first 0 ≡ front.least → 0 < length (ready_of (lane_of lanes (node_at bius front.first)))
-    → 0 < due_count front.least (in_order lanes)
-some-due lanes keys bius front kept within least ready =
-    let here = is-here lanes keys bius front.first kept within in
-    let l : Held = lane_of lanes (node_at bius front.first) in
-    let key : get_or keys front.first 0 ≡ key_of l = here.key in
-    let now : (key_of l == front.least) ≡ true = grind (arith, nat_tests) in
-    let more = count-more lanes bius front.first (get_or keys front.first 0) front.least here in
-    let parts = sym (ap (due_count front.least) (take-append-drop (front.first + 1) (in_order lanes)))
-    ∙ count-append front.least (take (front.first + 1) (in_order lanes)) (drop (front.first + 1) (in_order lanes)) in
-    omega (arith, parts, more, its-due front.least l now, ready)

@@ -1,5 +1,5 @@
 -- Where all senders are known, something is ready at each node at which anything is pending.
-use Rattle.std.proofs.Common.{◌≡◌, ℕ, ◌<◌, ◌≤◌, ◌==◌, ◌&&◌, min, nat_le, nat_lt, Bool, true, false, Option, Some, None, List, [], ◌∷◌, ◌++◌, length, map, filter, cond, take, slice_get, refl, sym, ap, IsTrue, ◌↔◌, ◌+◌, ◌∙◌, subst, arith, inl, inr}
+use Rattle.std.proofs.Common.{◌≡◌, ℕ, ◌<◌, ◌≤◌, ◌==◌, ◌&&◌, min, nat_le, nat_lt, Bool, true, false, Option, Some, None, List, [], ◌∷◌, ◌++◌, length, map, filter, cond, slice_get, refl, sym, ap, ◌∙◌, subst, arith, inl, inr}
 use Rattle.std.specs.Prelude.{All, option_to_list, unwrap_or}
 use Rattle.std.proofs.lemmas.Bool.{cases_lt}
 use Rattle.std.proofs.lemmas.Bool.Decides.{nat_tests}
@@ -8,24 +8,19 @@ use Rattle.rb_base.specs.Counting.{count_if, numbers}
 use Rattle.rb_base.specs.Sizes.{Sizes}
 use Rattle.rb_base.specs.declared.node.NodeName.{NodeName}
 use Rattle.rb_rules.specs.Book.{Each, each_of, in_order}
-use Rattle.rb_rules.specs.Goodness.{Scenario}
 use Rattle.rb_rules.specs.Hearing.{Coming}
-use Rattle.rb_rules.specs.WorldStep.{World, least}
+use Rattle.rb_rules.specs.WorldStep.{least}
 use Rattle.rb_queue.specs.Scanning.{is_between}
 use Rattle.rb_queue.specs.Waiting.{HasLane, Held, Ready, arrivals_at, empty_lane, head_of, lane_of, ready_from, ready_of, tick_at, unless_any, with_arrival, with_lane, without_before, without_found, without_ready}
 use Rattle.rb_queue.specs.Waiting.Ready.{Comes, Ticks}
 use Rattle.rb_queue.proofs.Sources.{count_arrivals}
 use Rattle.rb_agenda.specs.declared.scan.Front.{Front}
-use Rattle.rb_agenda.specs.Agenda.{AreKept, AreKnown, IsFirstAt, IsFirstDue, IsKnown, StandsAt, due_count, first_time, key_of, node_at, position_of}
+use Rattle.rb_agenda.specs.Agenda.{AreKept, AreKnown, IsKnown, StandsAt, key_of, node_at, position_of}
 use Rattle.rb_agenda.specs.Fronts.{IsFront}
-use Rattle.rb_agenda.specs.Holding.{HoldsSites}
-use Rattle.rb_agenda.proofs.Dues.{many-due}
-use Rattle.rb_agenda.proofs.Fronts.{some-due, stands-first}
-use Rattle.rb_agenda.proofs.Heads.{AreTimes}
+use Rattle.rb_agenda.proofs.Fronts.{stands-first}
 use Rattle.rb_agenda.proofs.Keeping.{holds-of, order-with}
 use Rattle.rb_agenda.proofs.Places.{all-others}
 use Rattle.rb_agenda.proofs.Scans.{is-here}
-use Rattle.rb_agenda.proofs.Which.{is-due}
 
 -- A lane changes.
 
@@ -167,35 +162,3 @@ pub front-stands : (lanes : Each Held) (keys : List ℕ) (bius : ℕ) (front : F
 front-stands lanes keys bius front kept known is small =
     let at = is.there small in
     stands-first lanes keys bius front kept is at.0 at.1 (front-ready lanes keys bius front kept known is small)
-
--- so some event is due
-pub front-due : (lanes : Each Held) (keys : List ℕ) (bius : ℕ) (front : Front) → AreKept lanes keys bius → AreKnown lanes → IsFront keys front
-    → front.least < 18446744073709551615 → 0 < due_count front.least (in_order lanes)
-front-due lanes keys bius front kept known is small =
-    let at = is.there small in
-    some-due lanes keys bius front kept at.0 at.1 (front-ready lanes keys bius front kept known is small)
-
--- The node of the first event.
-
--- the first that is due is the first that is ready at its node
-place-none : (lanes : Each Held) (time place : ℕ) (name : NodeName) → StandsAt lanes time 0 name place → StandsAt lanes time 0 name 0
-place-none lanes time place name at =
-    let before : 0 ≡ due_count time (take at.position (in_order lanes)) + place = at.before in
-    let e : place ≡ 0 = omega (arith, before) in
-    subst (StandsAt lanes time 0 name) e at
-
-pub none-first : (lanes : Each Held) (time : ℕ) (b : Bool) → b ≡ false → IsTrue b ↔ 0 < due_count time (in_order lanes) → IsFirstAt lanes time None
-none-first lanes time b none is = elim (cases_lt 0 (due_count time (in_order lanes))) [
-  | inl some ↦ let yes : b ≡ true = is.1 some in absurd (let never : false ≡ true = sym none ∙ yes in cc)
-  | inr most ↦ omega (arith, most)
-]
-
-pub some-first : (lanes : Each Held) (time place : ℕ) (name : NodeName) → 0 < due_count time (in_order lanes) → StandsAt lanes time 0 name place
-    → IsFirstAt lanes time (Some name)
-some-first lanes time place name some at = (some, place-none lanes time place name at)
-
--- so it is in the world
-pub first-due : (sc : Scenario) (w : World) (lanes : Each Held) (o : Option NodeName) → HoldsSites sc.sizes lanes w.sites → AreTimes (in_order lanes)
-    → IsFirstAt lanes (first_time lanes) o → IsFirstDue sc w lanes o
-first-due sc w lanes None holds times none = many-due sc w lanes holds times ∙ none
-first-due sc w lanes (Some name) holds times some = is-due sc w lanes 0 name 0 holds times some.1

@@ -72,13 +72,13 @@ least-filled : (ms : List ℕ) → length ms ≤ 32 → least_key (filled ms) �
 least-filled ms few = ap least_key (sym (take_all 32 (filled ms) (omega (arith, length-filled ms few)))) ∙ least-front ms 32 (32 - length ms) few
 
 -- four keys more
-pub four-more : (keys : List ℕ) (i least : ℕ) → i + 4 ≤ length keys → ((k : ℕ) → get_or keys k 0 ≤ 18446744073709551615) → least ≡ least_key (take i keys)
+pub four-more : (keys : List ℕ) (i least : ℕ) → i + 4 ≤ length keys → least ≡ least_key (take i keys)
     → min (min (min (min least (get_or keys i 0)) (get_or keys (i + 1) 0)) (get_or keys (i + 2) 0)) (get_or keys (i + 3) 0) ≡ least_key (take (i + 4) keys)
-four-more keys i least h small is =
-    let one = least-more keys i (omega (arith, h)) (small i) in
-    let two = least-more keys (i + 1) (omega (arith, h)) (small (i + 1)) in
-    let three = least-more keys (i + 2) (omega (arith, h)) (small (i + 2)) in
-    let four = least-more keys (i + 3) (omega (arith, h)) (small (i + 3)) in
+four-more keys i least h is =
+    let one = least-more keys i (omega (arith, h)) in
+    let two = least-more keys (i + 1) (omega (arith, h)) in
+    let three = least-more keys (i + 2) (omega (arith, h)) in
+    let four = least-more keys (i + 3) (omega (arith, h)) in
     let a : i + 1 + 1 ≡ i + 2 = omega arith in
     let b : i + 2 + 1 ≡ i + 3 = omega arith in
     let c : i + 3 + 1 ≡ i + 4 = omega arith in

@@ -11,15 +11,14 @@ use Rattle.rb_agenda.proofs.Dues.{count-append}
 use Rattle.rb_agenda.proofs.Keeping.{lane-at, room-of}
 
 -- The least.
-least-push : (ks : List ℕ) (k : ℕ) → k ≤ 18446744073709551615 → least_key (ks ++ k ∷ []) ≡ min (least_key ks) k
+least-push : (ks : List ℕ) (k : ℕ) → least_key (ks ++ k ∷ []) ≡ min (least_key ks) k
 unfolding least_key
-least-push [] k h = omega arith
-least-push (x ∷ ks) k h = ap (min x) (least-push ks k h) ∙ omega arith
+least-push [] k = omega arith
+least-push (x ∷ ks) k = ap (min x) (least-push ks k) ∙ omega arith
 
 -- one key more
-pub least-more : (keys : List ℕ) (i : ℕ) → i < length keys → get_or keys i 0 ≤ 18446744073709551615
-    → least_key (take (i + 1) keys) ≡ min (least_key (take i keys)) (get_or keys i 0)
-least-more keys i h small = ap least_key (take_more keys i 0 h) ∙ least-push (take i keys) (get_or keys i 0) small
+pub least-more : (keys : List ℕ) (i : ℕ) → i < length keys → least_key (take (i + 1) keys) ≡ min (least_key (take i keys)) (get_or keys i 0)
+least-more keys i h = ap least_key (take_more keys i 0 h) ∙ least-push (take i keys) (get_or keys i 0)
 
 -- Counts.
 

@@ -26,7 +26,7 @@ use Rattle.rb_agenda.specs.Fronts.{IsFront}
 use Rattle.rb_agenda.specs.Holding.{HoldsAll, HoldsSite, HoldsSites}
 use Rattle.rb_agenda.proofs.Fronts.{least-low}
 use Rattle.rb_agenda.proofs.Keeping.{map-const, with-in-order}
-use Rattle.rb_agenda.proofs.Marks.{fill-set, length-filled, length-marks, mark-at, marks-none, set-mark}
+use Rattle.rb_agenda.proofs.Marks.{fill-set, length-marks, mark-at, marks-none, set-mark}
 use Rattle.rb_agenda.proofs.Scans.{few-here, many-few}
 use Rattle.rb_agenda.proofs.Which.{has-item}
 
@@ -61,23 +61,22 @@ ticks-with lanes new ticks bius place name lane tick split at kept h after is =
     ∙ ap filled
     (sym (set-mark (tick_times lanes) place (tick_time_of lane)) ∙ ap (marks_from 0) (sym (map-set tick_time_of (in_order lanes) place lane) ∙ ap (map tick_time_of) (sym order)))
 
-pub tick-place : (lanes : Each Held) (ticks : List ℕ) (bius place : ℕ) (name : NodeName) → bius ≡ length lanes.bius → place ≡ position_of bius name → AreTicks lanes ticks → HasLane lanes name
-    → (place < length ticks) × (get_or ticks place 0 ≡ mark_of place (tick_time_of (lane_of lanes name)))
-tick-place lanes ticks bius place name split at kept h =
+tick-place : (lanes : Each Held) (ticks : List ℕ) (bius : ℕ) (name : NodeName) → bius ≡ length lanes.bius → AreTicks lanes ticks → HasLane lanes name
+    → get_or ticks (position_of bius name) 0 ≡ mark_of (position_of bius name) (tick_time_of (lane_of lanes name))
+tick-place lanes ticks bius name split kept h =
     let here = name-lane lanes name h in
     let p : ℕ = position_of (length lanes.bius) name in
-    let same : place ≡ p = at ∙ ap (λ b. position_of b name) split in
+    let place : ℕ = position_of bius name in
+    let same : place ≡ p = ap (λ b. position_of b name) split in
     let ms : List ℕ = marks_from 0 (tick_times lanes) in
     let rest : List ℕ = replicate (32 - length ms) 18446744073709551615 in
     let marks : length ms ≡ length (tick_times lanes) = length-marks 0 (tick_times lanes) in
-    let many : length ticks ≡ length ms + length rest = ap length kept ∙ length-append ms rest in
     let long : length (tick_times lanes) ≡ length (in_order lanes) = length-map (in_order lanes) tick_time_of in
     let within = here.0 in
     let time : get_or (tick_times lanes) place 0 ≡ tick_time_of (lane_of lanes name) =
-    ap (λ k. get_or (tick_times lanes) k 0) same ∙ get_or-map tick_time_of (in_order lanes) p (empty_lane 0) 0 within ∙ ap tick_time_of here.1 in (
-      omega (arith, within, many, marks, long, same),
-      ap (λ ts. get_or ts place 0) kept ∙ get_or_append_left ms rest 0 place (omega (arith, within, marks, long, same)) ∙ mark-at (tick_times lanes) place (omega (arith, within, long, same)) ∙ ap (mark_of place) time,
-    )
+    ap (λ k. get_or (tick_times lanes) k 0) same ∙ get_or-map tick_time_of (in_order lanes) p (empty_lane 0) 0 within ∙ ap tick_time_of here.1 in
+    ap (λ ts. get_or ts place 0) kept ∙ get_or_append_left ms rest 0 place (omega (arith, within, marks, long, same))
+    ∙ mark-at (tick_times lanes) place (omega (arith, within, long, same)) ∙ ap (mark_of place) time
 
 pub place-within : (lanes : Each Held) (keys : List ℕ) (bius : ℕ) (name : NodeName) → AreFew lanes bius → length keys ≡ length (keys_of lanes) → HasLane lanes name
     → position_of bius name < length keys
@@ -94,7 +93,7 @@ ticks-same lanes new ticks bius name lane split kept h after same =
     let place : ℕ = position_of bius name in
     subst (AreTicks new) (set-get_or ticks place 0)
     (subst (λ m. AreTicks new (slice_set ticks place m))
-    (ap (mark_of place) same ∙ sym (tick-place lanes ticks bius place name split refl kept h).1)
+    (ap (mark_of place) same ∙ sym (tick-place lanes ticks bius name split kept h))
     (ticks-with lanes new ticks bius place name lane (tick_time_of lane) split refl kept h after refl))
 
 some-same : {X : Type 0} (a b : X) → Some a ≡ Some b → a ≡ b
@@ -127,15 +126,15 @@ ticks-dropped lanes new ticks bius place name split at kept h after =
     ticks-with lanes new ticks bius place name (without_events (lane_of lanes name)) 18446744073709551615 split at kept h after refl
 
 -- at first
-pub ticks-empty : (sizes : Sizes) (lanes : Each Held) (ticks : List ℕ) (room bius n : ℕ) → bius ≡ sizes.bius → n ≡ bius + sizes.rmus → n ≤ 32 → ticks ≡ replicate 32 18446744073709551615
-    → lanes ≡ each_of sizes (λ side i. empty_lane room) → AreTicks lanes ticks
-ticks-empty sizes lanes ticks room bius n split all few are is =
+pub ticks-empty : (sizes : Sizes) (lanes : Each Held) (room bius n : ℕ) → bius ≡ sizes.bius → n ≡ bius + sizes.rmus → n ≤ 32
+    → lanes ≡ each_of sizes (λ side i. empty_lane room) → AreTicks lanes (replicate 32 18446744073709551615)
+ticks-empty sizes lanes room bius n split all few is =
     let l : Held = empty_lane room in
     let ns : List ℕ = numbers sizes.bius ++ numbers sizes.rmus in
     let order : in_order lanes ≡ map (λ _. l) ns = ap in_order is ∙ sym (map-append (λ _. l) (numbers sizes.bius) (numbers sizes.rmus)) in
     let long : length ns ≡ n =
     length-append (numbers sizes.bius) (numbers sizes.rmus) ∙ omega (arith, length-range_with_len 0 sizes.bius, length-range_with_len 0 sizes.rmus, split, all) in
-    are ∙ ap (λ k. replicate k 18446744073709551615) (let e : 32 ≡ n + (32 - n) = omega (arith, few) in e)
+    ap (λ k. replicate k 18446744073709551615) (let e : 32 ≡ n + (32 - n) = omega (arith, few) in e)
     ∙ sym (replicate-append-replicate {A = ℕ} n (32 - n) 18446744073709551615)
     ∙ ap (λ k. replicate n 18446744073709551615 ++ replicate (32 - k) 18446744073709551615) (sym (length-replicate {A = ℕ} n 18446744073709551615))
     ∙ ap filled (sym (marks-none n 0)
@@ -286,22 +285,17 @@ time-here lanes bius position few h =
 
 -- Names.
 
-pub few-ticks : (lanes : Each Held) (ticks : List ℕ) (bius : ℕ) → AreFew lanes bius → AreTicks lanes ticks → length ticks ≡ 32
-few-ticks lanes ticks bius few are =
-    let many = many-few lanes bius few in
-    let long : length (tick_times lanes) ≡ length (in_order lanes) = length-map (in_order lanes) tick_time_of in
-    let marks = length-marks 0 (tick_times lanes) in
-    let all : length ticks ≡ 32 = ap length are ∙ length-filled (marks_from 0 (tick_times lanes)) (omega (arith, many.0, many.1, long, marks)) in
-    all
-
 pub few-times : (lanes : Each Held) (bius : ℕ) → AreFew lanes bius → length (tick_times lanes) ≤ 32
 few-times lanes bius few =
     let many = many-few lanes bius few in
     let long : length (tick_times lanes) ≡ length (in_order lanes) = length-map (in_order lanes) tick_time_of in
     omega (arith, many.0, many.1, long)
 
-pub place-few : (lanes : Each Held) (ticks : List ℕ) (bius place : ℕ) → AreFew lanes bius → AreTicks lanes ticks → place < length ticks → place < 32
-place-few lanes ticks bius place few are h = let most = few-ticks lanes ticks bius few are in omega (arith, most, h)
+pub place-few : (lanes : Each Held) (bius place : ℕ) (name : NodeName) → AreFew lanes bius → place ≡ position_of bius name → HasLane lanes name → place < 32
+place-few lanes bius place name few at h =
+    let within = (name-lane lanes name h).0 in
+    let many = many-few lanes bius few in
+    omega (arith, within, many.0, many.1, at, ap (λ b. position_of b name) few.split)
 
 -- the node at a position that is its own
 pub name-there : (sizes : Sizes) (lanes : Each Held) (sites : Each Site) (bius position : ℕ) → HoldsSites sizes lanes sites → bius ≡ length lanes.bius → (me : Side) (i time : ℕ)

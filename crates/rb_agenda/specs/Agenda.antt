@@ -1,5 +1,5 @@
 -- What is due among all lanes: the events of the least time, node by node.
-use Rattle.std.specs.Prelude.{⊤, ◌≡◌, ℕ, suc, ◌*◌, Option, None, option_map, ◌+◌, ◌-◌, ◌<◌, ◌≤◌, ◌==◌, nat_lt, min, true, false, if◌then◌else◌, unwrap_or, Bool, Some, List, [], ◌∷◌, ◌++◌, All, flat_map, length, map, slice_get, slice_set, take}
+use Rattle.std.specs.Prelude.{⊤, ◌≡◌, ℕ, suc, ◌*◌, option_map, ◌+◌, ◌-◌, ◌<◌, ◌≤◌, ◌==◌, nat_lt, min, true, false, if◌then◌else◌, unwrap_or, Bool, Some, List, [], ◌∷◌, ◌++◌, All, flat_map, length, map, slice_get, slice_set, take}
 use Rattle.std.proofs.Math.ListN.{replicate}
 use Rattle.rb_base.specs.declared.event.Event.{Event}
 use Rattle.rb_base.specs.declared.node.NodeName.{NodeName}
@@ -122,17 +122,6 @@ pub record AreKeptUnless (stale : Bool) (lanes : Each Held) (keys : List ℕ) (b
   pub few : AreFew lanes bius
   pub many : length keys ≡ length (keys_of lanes)
   pub kept : stale ≡ false → AreKept lanes keys bius
-
--- the node at which the first of the events that are due at this time happens. The event is the first of those that are ready there.
--- There is no such node where none is due
-abbrev pub IsFirstAt : Each Held → ℕ → Option NodeName → Type 0
-IsFirstAt lanes time None = due_count time (in_order lanes) ≡ 0
-IsFirstAt lanes time (Some name) = (0 < due_count time (in_order lanes)) × StandsAt lanes time 0 name 0
-
--- so in a world
-abbrev pub IsFirstDue : Scenario → World → Each Held → Option NodeName → Type 0
-IsFirstDue sc w lanes None = length (due_now sc w) ≡ 0
-IsFirstDue sc w lanes (Some name) = IsDue sc w lanes 0 name 0
 
 -- what comes to a node is from senders with numbers of eight bits. Others are never ready
 abbrev pub IsKnown : Held → Type 0

@@ -8,13 +8,13 @@ ghost use Rattle.rb_rules.specs.Goodness.{Scenario};
 ghost use Rattle.rb_rules.specs.Links.{name_of};
 ghost use Rattle.rb_rules.specs.WorldStep.{Site, World};
 ghost use Rattle.rb_queue.specs.Waiting.{HasLane, IsFirstBefore, empty_lane, lane_of, ready_event, ready_of, spare_of, with_arrival, with_lane, with_tick, without_before, without_events, without_place, without_tick};
-ghost use Rattle.rb_agenda.specs.Agenda.{IsDue, IsFirstAhead, IsFirstAt, IsFirstDue, StandsAt, Takes, TakesDue, due_now, first_tick_time, first_time, how_many};
+ghost use Rattle.rb_agenda.specs.Agenda.{IsDue, IsFirstAhead, StandsAt, Takes, TakesDue, due_now, first_tick_time, first_time, how_many};
 ghost use Rattle.rb_agenda.specs.Holding.{HoldsSites};
 
 use crate::run_lanes::RunLanes;
 use crate::scan::{
-    Front, after_event, due_count, first_node, front_now, front_of, keep_key, locate, node_at,
-    position_of, put_tick, tick_front,
+    Front, after_event, due_count, front_now, front_of, keep_key, locate, node_at, position_of,
+    put_tick, tick_front,
 };
 use arrayvec::ArrayVec;
 use rb_base::{Event, NodeName, OutOfMemory, Shape};
@@ -27,7 +27,9 @@ use std::marker::Model;
 pub struct Agenda {
     lanes: RunLanes,
     keys: Vec<u64>,
-    ticks: Vec<u64>,
+    // For each node, by its position, the mark of its tick: the time times 32 and the position, below 2^64 - 1 where the
+    // time is below 2^59. All 32 are there, also of positions without a node.
+    ticks: [u64; 32],
     bius: usize,
     // Where the least of the keys stands. Neither is kept once they are stale.
     front: Front,
@@ -45,7 +47,7 @@ impl Model for Agenda {
 
     ghost view = { λ a. a.lanes };
 
-    ghost invariant = { λ a. AreKeptUnless a.stale a.lanes a.keys.items a.bius × (a.stale ≡ false → IsFront a.keys.items a.front) × AreTicks a.lanes a.ticks.items × AreKnown a.lanes };
+    ghost invariant = { λ a. AreKeptUnless a.stale a.lanes a.keys.items a.bius × (a.stale ≡ false → IsFront a.keys.items a.front) × AreTicks a.lanes a.ticks × AreKnown a.lanes };
 }
 
 // So many least times of nodes at which nothing is pending.
@@ -64,12 +66,11 @@ impl Agenda {
         let lanes = RunLanes::new(alloc, shape, room)?;
         let bius = usize::from(shape.biu());
         let keys = no_times(alloc, bius + usize::from(shape.rmu()))?;
-        let ticks = no_times(alloc, 32)?;
         let front = front_of(&keys);
         Ok(Agenda {
             lanes,
             keys,
-            ticks,
+            ticks: [u64::MAX; 32],
             bius,
             front,
             stale: false,
@@ -94,6 +95,28 @@ impl Agenda {
             self.old }
     {
         self.lanes.push_arrival(node, time, from, bytes);
+        self.front = keep_key(
+            &mut self.keys,
+            self.front,
+            self.stale,
+            self.bius,
+            &self.lanes,
+            node,
+        );
+    }
+
+    /// Adds what comes to a node, due at this time in reference units, with the sender and the bytes of another arrival: for a message that
+    /// comes to many. There is room for it.
+    #[inline(always)]
+    pub fn push_like(&mut self, node: NodeName, time: u64, like: &Arrival)
+        requires in_shape { HasLane self.old node }
+        requires spare { 1 ≤ spare_of (lane_of self.old node) }
+        ensures after { self.new ≡ with_lane node
+            (with_arrival (record like.now { time = time }) (lane_of self.old node))
+            self.old }
+    {
+        let _from = like.from();
+        self.lanes.push_like(node, time, like);
         self.front = keep_key(
             &mut self.keys,
             self.front,
@@ -137,16 +160,6 @@ impl Agenda {
     {
         let front = front_now(&self.lanes, &self.keys, self.bius, self.front, self.stale);
         due_count(&self.lanes, &self.keys, self.bius, self.stale, front.least)
-    }
-
-    /// The node at which the first due event waits: the first of those that are ready there. None exactly where no event is due.
-    #[inline(always)]
-    pub fn first_node(&self) -> Option<NodeName>
-        ensures first { IsFirstAt self.now (first_time self.now) result }
-        ensures world { (sc : Scenario) → (w : World) → HoldsSites sc.sizes self.now w.sites → IsFirstDue sc w self.now result }
-    {
-        let front = front_now(&self.lanes, &self.keys, self.bius, self.front, self.stale);
-        first_node(&self.lanes, &self.keys, self.bius, self.stale, front)
     }
 
     /// The node at which the i-th due event waits, counted from 0, and the event's place among those that are ready there.
@@ -193,6 +206,7 @@ impl Agenda {
 
     /// The node whose tick is the first of all, in time and then in the order of nodes, and the tick's time in reference units. Where no
     /// tick is pending the time is 2^64 - 1.
+    #[inline(always)]
     pub fn first_tick(&self) -> (NodeName, u64)
         ensures world { (sizes : Sizes) (sites : Each Site) → HoldsSites sizes self.now sites → (me : Side) (i time : ℕ) → IsFirstAhead sites me i time
             → (result.0 ≡ name_of me i) × (result.1 ≡ time) }
@@ -231,25 +245,6 @@ impl Agenda {
     {
         self.lanes.drop_at(node, place);
         self.stale = true;
-    }
-
-    /// Drops the arrival at this place among those of the node, in the order of pushing, and nothing else. The node's least time is kept
-    /// beside, for a run that asks after each event which is due first. Where many are dropped at once `drop_at` costs less.
-    pub fn take_at(&mut self, node: NodeName, place: usize)
-        requires in_shape { HasLane self.old node }
-        requires below { place < length (lane_of self.old node).arrivals }
-        ensures after { self.new ≡ with_lane node (without_place place (lane_of self.old node)) self.old }
-    {
-        let lanes = &mut self.lanes;
-        lanes.drop_at(node, place);
-        self.front = keep_key(
-            &mut self.keys,
-            self.front,
-            self.stale,
-            self.bius,
-            &self.lanes,
-            node,
-        );
     }
 
     /// The arrivals of the node, in the order of pushing.

@@ -62,6 +62,17 @@ impl RunLanes {
     }
 
     #[inline(always)]
+    pub(crate) fn push_like(&mut self, node: NodeName, time: u64, like: &Arrival)
+        requires in_shape { HasLane self.old node }
+        requires spare { 1 ≤ spare_of (lane_of self.old node) }
+        ensures after { self.new ≡ with_lane node
+            (with_arrival (record like.now { time = time }) (lane_of self.old node))
+            self.old }
+    {
+        self.all.push_like(node, time, like);
+    }
+
+    #[inline(always)]
     pub(crate) fn push_tick(&mut self, node: NodeName, time: u64)
         requires in_shape { HasLane self.old node }
         ensures after { self.new ≡ with_lane node (with_tick time (lane_of self.old node)) self.old }

@@ -2,7 +2,7 @@
 ghost use Rattle.std.specs.Prelude.{◌≡◌, ℕ, ◌+◌, ◌<◌, ◌≤◌, false, length, nat_lt, slice_set, take, if◌then◌else◌, IsTrue, ◌↔◌};
 ghost use Rattle.rb_rules.specs.Book.{Each, in_order};
 ghost use Rattle.rb_queue.specs.Waiting.{HasLane, Held, lane_of, tick_time_of, with_lane};
-ghost use Rattle.rb_agenda.specs.Agenda.{AreFew, AreKept, AreKeptUnless, AreKnown, AreTicks, IsFirstAt, StandsAt, due_count, due_in, is_tick, key_of, keys_of, least_key, mark_of, node_at, position_of, tick_times, ticks_after};
+ghost use Rattle.rb_agenda.specs.Agenda.{AreFew, AreKept, AreKeptUnless, AreKnown, AreTicks, StandsAt, due_count, due_in, is_tick, key_of, keys_of, least_key, mark_of, node_at, position_of, tick_times, ticks_after};
 ghost use Rattle.rb_agenda.specs.Fronts.{IsFront, lowered};
 
 use crate::run_lanes::RunLanes;
@@ -200,10 +200,9 @@ fn mark_of(position: usize, time: u64) -> u64
 
 // The tick at a place is due at this time.
 #[inline(always)]
-pub(crate) fn put_tick(ticks: &mut Vec<u64>, place: usize, time: u64)
-    requires within { place < length ticks.old.items }
-    requires few { place < 32 }
-    ensures { ticks.new.items ≡ slice_set ticks.old.items place (mark_of place time) }
+pub(crate) fn put_tick(ticks: &mut [u64; 32], place: usize, time: u64)
+    requires { place < 32 }
+    ensures { ticks.new ≡ slice_set ticks.old place (mark_of place time) }
 {
     ticks[place] = mark_of(place, time);
 }
@@ -211,8 +210,7 @@ pub(crate) fn put_tick(ticks: &mut Vec<u64>, place: usize, time: u64)
 // The time of a node's tick, or the last time that there is.
 fn tick_time_of(lanes: &RunLanes, node: NodeName) -> u64
     requires { HasLane lanes.now node }
-    ensures value { result ≡ tick_time_of (lane_of lanes.now node) }
-    ensures small { result ≤ 18446744073709551615 }
+    ensures { result ≡ tick_time_of (lane_of lanes.now node) }
 {
     lanes.tick(node).unwrap_or(u64::MAX)
 }
@@ -238,8 +236,8 @@ fn late_front(lanes: &RunLanes, bius: usize, count: usize) -> Front
 
 // The least of the keys up to four places on, where the least of those before is known.
 #[inline(always)]
-fn with_four(keys: &[u64], place: usize, least: u64) -> u64
-    requires within { place + 4 ≤ length keys.now }
+fn with_four(keys: &[u64; 32], place: usize, least: u64) -> u64
+    requires within { place + 4 ≤ 32 }
     requires least { least ≡ least_key (take place keys.now) }
     ensures { result ≡ least_key (take (place + 4) keys.now) }
 {
@@ -249,8 +247,8 @@ fn with_four(keys: &[u64], place: usize, least: u64) -> u64
 
 // The least of the keys up to 16 places on.
 #[inline(always)]
-fn with_sixteen(keys: &[u64], place: usize, least: u64) -> u64
-    requires within { place + 16 ≤ length keys.now }
+fn with_sixteen(keys: &[u64; 32], place: usize, least: u64) -> u64
+    requires within { place + 16 ≤ 32 }
     requires least { least ≡ least_key (take place keys.now) }
     ensures { result ≡ least_key (take (place + 16) keys.now) }
 {
@@ -263,9 +261,8 @@ fn with_sixteen(keys: &[u64], place: usize, least: u64) -> u64
 // The least of 32 keys, of which mostly the first 16 suffice. Written out they cost less than a loop over those
 // that are there.
 #[inline(always)]
-fn least_of(keys: &[u64], count: usize) -> u64
-    requires many { length keys.now ≡ 32 }
-    requires rest { count ≤ 16 → least_key (take 16 keys.now) ≡ least_key keys.now }
+fn least_of(keys: &[u64; 32], count: usize) -> u64
+    requires { count ≤ 16 → least_key (take 16 keys.now) ≡ least_key keys.now }
     ensures { result ≡ least_key keys.now }
 {
     let least = with_sixteen(keys, 0, u64::MAX);
@@ -277,7 +274,7 @@ fn least_of(keys: &[u64], count: usize) -> u64
 
 // The front of the ticks: mostly it is read off the least of the marks.
 #[inline(always)]
-pub(crate) fn tick_front(lanes: &RunLanes, ticks: &[u64], bius: usize, count: usize) -> Front
+pub(crate) fn tick_front(lanes: &RunLanes, ticks: &[u64; 32], bius: usize, count: usize) -> Front
     requires few { AreFew lanes.now bius }
     requires many { count ≡ length (tick_times lanes.now) }
     requires ticks { AreTicks lanes.now ticks.now }
@@ -295,10 +292,9 @@ pub(crate) fn tick_front(lanes: &RunLanes, ticks: &[u64], bius: usize, count: us
 }
 
 // An event of the node whose place this is was taken.
-pub(crate) fn after_event(ticks: &mut Vec<u64>, place: usize, kind: &EventKind)
-    requires within { place < length ticks.old.items }
-    requires few { place < 32 }
-    ensures { ticks.new.items ≡ ticks_after kind.now place ticks.old.items }
+pub(crate) fn after_event(ticks: &mut [u64; 32], place: usize, kind: &EventKind)
+    requires { place < 32 }
+    ensures { ticks.new ≡ ticks_after kind.now place ticks.old }
 {
     if is_tick(kind) {
         put_tick(ticks, place, u64::MAX);
@@ -329,13 +325,6 @@ fn due_in(lanes: &RunLanes, node: NodeName, kept: u64, stale: bool, time: u64) -
     if key == time { lanes.ready(node) } else { 0 }
 }
 
-// Whether there are any.
-pub(crate) fn are_some(count: usize) -> bool
-    ensures { IsTrue result ↔ 0 < count }
-{
-    count > 0
-}
-
 // How many events are due at a time.
 pub(crate) fn due_count(
     lanes: &RunLanes,
@@ -353,43 +342,6 @@ pub(crate) fn due_count(
         count += due_in(lanes, node_at(bius, position), *key, stale, time);
     }
     count
-}
-
-// Whether any event is due. At each time but the last that there is, the front is the time of one.
-#[inline(always)]
-fn is_any_due(lanes: &RunLanes, keys: &[u64], bius: usize, stale: bool, front: Front) -> bool
-    requires unless { AreKeptUnless stale lanes.now keys.now bius }
-    requires kept { AreKept lanes.now (keys_of lanes.now) bius }
-    requires front { IsFront (keys_of lanes.now) front }
-    requires known { AreKnown lanes.now }
-    ensures { IsTrue result ↔ 0 < due_count front.least (in_order lanes.now) }
-{
-    if front.least < u64::MAX {
-        return true;
-    }
-    are_some(due_count(lanes, keys, bius, stale, front.least))
-}
-
-// The node of the first event that is due.
-#[inline(always)]
-pub(crate) fn first_node(
-    lanes: &RunLanes,
-    keys: &[u64],
-    bius: usize,
-    stale: bool,
-    front: Front,
-) -> Option<NodeName>
-    requires unless { AreKeptUnless stale lanes.now keys.now bius }
-    requires kept { AreKept lanes.now (keys_of lanes.now) bius }
-    requires front { IsFront (keys_of lanes.now) front }
-    requires known { AreKnown lanes.now }
-    ensures { IsFirstAt lanes.now front.least result }
-{
-    if !is_any_due(lanes, keys, bius, stale, front) {
-        return None;
-    }
-    let (node, _) = locate(lanes, keys, bius, stale, front, 0);
-    Some(node)
 }
 
 // The node of the i-th event that is due, and the event's place among those that are ready there. The first is mostly looked for.

@@ -33,7 +33,7 @@ loop-position-preserved c =
     let key : get_or keys i 0 ≡ c.key_of-key.result =
     here.key ∙ ap (λ n. key_of (lane_of lanes n)) (sym c.node_at.ensures) ∙ sym c.key_of-key.ensures.value in
     record {
-      front = front-key keys i c.key_of-key.result c.loop-position.front c.with_key-front.result within key c.key_of-key.ensures.small c.loop-position.invariant.front c.with_key-front.ensures;
+      front = front-key keys i c.key_of-key.result c.loop-position.front c.with_key-front.result within key c.loop-position.invariant.front c.with_key-front.ensures;
       small = subst (All (λ k. k ≤ 18446744073709551615)) (sym (take_more keys i 0 within))
           (All-push (λ k. k ≤ 18446744073709551615) (take i keys) (get_or keys i 0) c.loop-position.invariant.small (omega (arith, key, c.key_of-key.ensures.small)));
     }

@@ -1,4 +1,4 @@
-use Rattle.std.proofs.Common.{◌≤◌, ◌+◌, get_or, arith, sym, subst}
+use Rattle.std.proofs.Common.{◌+◌, arith, sym, subst}
 use Rattle.std.proofs.lemmas.List.{take_all}
 use Rattle.rb_agenda.proofs.Fronts.{IsFrontOf, front-all, front-more, front-none}
 use Rattle.rb_agenda.proofs.scan.front_of.Goals as goal
@@ -10,8 +10,7 @@ pub loop-place-preserved : goal.loop-place-preserved
 loop-place-preserved c =
     let keys = c.args.keys.now in
     let i = c.loop-place.place in
-    let small : get_or keys i 0 ≤ 18446744073709551615 = omega (arith, c.type_inv.keys i) in
-    subst (IsFrontOf keys (i + 1)) (sym c.with_key-front.ensures) (front-more keys i c.loop-place.front c.loop-place-test.true small c.loop-place.invariant)
+    subst (IsFrontOf keys (i + 1)) (sym c.with_key-front.ensures) (front-more keys i c.loop-place.front c.loop-place-test.true c.loop-place.invariant)
 
 pub returns : goal.returns
 returns c = front-all c.args.keys.now c.loop-place.place c.loop-place.front (take_all c.loop-place.place c.args.keys.now (omega (arith, c.loop-place-test.false))) c.loop-place.invariant

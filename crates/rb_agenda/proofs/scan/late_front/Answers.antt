@@ -30,9 +30,9 @@ loop-position-preserved c =
     let within : i < length times = omega (arith, c.loop-position-test.true, c.requires.many) in
     let here = time-here lanes c.args.bius i c.requires.few within in
     let key : get_or times i 0 ≡ c.tick_time_of-key.result =
-    here.time ∙ ap (λ n. tick_time_of (lane_of lanes n)) (sym c.node_at.ensures) ∙ sym c.tick_time_of-key.ensures.value in
+    here.time ∙ ap (λ n. tick_time_of (lane_of lanes n)) (sym c.node_at.ensures) ∙ sym c.tick_time_of-key.ensures in
     record {
-      front = front-key times i c.tick_time_of-key.result c.loop-position.front c.with_key-front.result within key c.tick_time_of-key.ensures.small c.loop-position.invariant.front c.with_key-front.ensures;
+      front = front-key times i c.tick_time_of-key.result c.loop-position.front c.with_key-front.result within key c.loop-position.invariant.front c.with_key-front.ensures;
       few = first-few i c.tick_time_of-key.result c.loop-position.front c.with_key-front.result c.with_key-front.ensures here.few c.loop-position.invariant.few;
     }
 

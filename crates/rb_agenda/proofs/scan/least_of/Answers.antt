@@ -8,4 +8,4 @@ pub with_sixteen-least-requires-clause-least : goal.with_sixteen-least-requires-
 with_sixteen-least-requires-clause-least c = least-none c.args.keys.now
 
 pub returns : goal.returns
-returns c = c.with_sixteen.ensures ∙ ap least_key (take_all 32 c.args.keys.now (omega (arith, c.requires.many)))
+returns c = c.with_sixteen.ensures ∙ ap least_key (take_all 32 c.args.keys.now (omega (arith, c.told-keys)))

@@ -9,4 +9,4 @@ returns c =
     c.min-3.ensures
     ∙ ap (λ n. min n (get_or keys (i + 3) 0))
     (c.min-2.ensures ∙ ap (λ n. min n (get_or keys (i + 2) 0)) (c.min-least.ensures ∙ ap (λ n. min n (get_or keys (i + 1) 0)) c.min.ensures))
-    ∙ four-more keys i c.args.least c.requires.within (λ k. omega (arith, c.type_inv.keys k)) c.requires.least
+    ∙ four-more keys i c.args.least (omega (arith, c.requires.within, c.told-keys)) c.requires.least

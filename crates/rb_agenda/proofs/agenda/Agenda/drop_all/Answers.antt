@@ -4,7 +4,7 @@ use Rattle.rb_rules.specs.Hearing.{Coming}
 use Rattle.rb_queue.specs.Waiting.{HasLane, lane_of, without_events}
 use Rattle.rb_agenda.specs.Agenda.{AreTicks}
 use Rattle.rb_agenda.proofs.Keeping.{has-with, room-of}
-use Rattle.rb_agenda.proofs.Ticks.{place-few, place-within, tick-place, ticks-dropped}
+use Rattle.rb_agenda.proofs.Ticks.{place-few, place-within, ticks-dropped}
 use Rattle.rb_agenda.proofs.Known.{known-with}
 use Rattle.rb_agenda.proofs.agenda.Agenda.drop_all.Goals as goal
 
@@ -18,7 +18,7 @@ invariant_of-self c =
           (room-of lanes bius name c.self.invariant.0.few h),
       c.keep_key-self-inside.ensures.front,
       subst (AreTicks c.drop_all.new.self) (sym c.put_tick.ensures)
-          (ticks-dropped lanes c.drop_all.new.self c.self.inside.ticks.items bius c.position_of-place.result name c.self.invariant.0.few.split c.position_of-place.ensures
+          (ticks-dropped lanes c.drop_all.new.self c.self.inside.ticks bius c.position_of-place.result name c.self.invariant.0.few.split c.position_of-place.ensures
           c.self.invariant.2 h c.drop_all.ensures.after),
       known-with lanes c.drop_all.new.self bius name (without_events (lane_of lanes name)) c.self.invariant.0.few.split h c.drop_all.ensures.after c.self.invariant.3
           (All-nil (λ (c : Coming). c.from ≤ 255)),
@@ -39,14 +39,7 @@ keep_key-self-inside-requires-clause-within c =
     place-within c.self.inside.lanes c.self.inside.keys.items c.self.inside.bius c.args.node c.self.invariant.0.few c.self.invariant.0.many
     (subst (λ x. HasLane x c.args.node) (sym c.self.view_is) c.requires.in_shape)
 
-pub put_tick-requires-clause-within : goal.put_tick-requires-clause-within
-put_tick-requires-clause-within c =
-    let h : HasLane c.self.inside.lanes c.args.node = subst (λ x. HasLane x c.args.node) (sym c.self.view_is) c.requires.in_shape in
-    (tick-place c.self.inside.lanes c.self.inside.ticks.items c.self.inside.bius c.position_of-place.result c.args.node c.self.invariant.0.few.split c.position_of-place.ensures
-    c.self.invariant.2 h).0
-
-pub put_tick-requires-clause-few : goal.put_tick-requires-clause-few
-put_tick-requires-clause-few c =
-    let h : HasLane c.self.inside.lanes c.args.node = subst (λ x. HasLane x c.args.node) (sym c.self.view_is) c.requires.in_shape in
-    place-few c.self.inside.lanes c.self.inside.ticks.items c.self.inside.bius c.position_of-place.result c.self.invariant.0.few c.self.invariant.2
-    ((tick-place c.self.inside.lanes c.self.inside.ticks.items c.self.inside.bius c.position_of-place.result c.args.node c.self.invariant.0.few.split c.position_of-place.ensures c.self.invariant.2 h).0)
+pub put_tick-requires : goal.put_tick-requires
+put_tick-requires c =
+    place-few c.self.inside.lanes c.self.inside.bius c.position_of-place.result c.args.node c.self.invariant.0.few c.position_of-place.ensures
+    (subst (λ x. HasLane x c.args.node) (sym c.self.view_is) c.requires.in_shape)

@@ -1,11 +1,8 @@
 use Rattle.std.proofs.Common.{refl, sym, ap, subst, ◌∙◌, arith}
-use Rattle.rb_agenda.specs.Agenda.{AreTicks, first_tick_time, tick_times}
+use Rattle.rb_agenda.specs.Agenda.{first_tick_time, tick_times}
 use Rattle.rb_agenda.specs.Holding.{HoldsSites}
 use Rattle.rb_agenda.proofs.Ticks.{first-is, name-there}
 use Rattle.rb_agenda.proofs.agenda.Agenda.first_tick.Goals as goal
-
-pub tick_front-front-requires-clause-ticks : goal.tick_front-front-requires-clause-ticks
-tick_front-front-requires-clause-ticks c = subst (AreTicks c.self.inside.lanes) (sym c.deref.ensures.value) c.self.invariant.2
 
 pub returns-clause-world : goal.returns-clause-world
 returns-clause-world c = λ sizes sites holds me i time first.

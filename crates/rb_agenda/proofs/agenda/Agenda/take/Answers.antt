@@ -4,7 +4,7 @@ use Rattle.rb_agenda.specs.Agenda.{AreTicks, StandsAt, TakesDue, first_time, key
 use Rattle.rb_agenda.specs.Holding.{HoldsSites}
 use Rattle.rb_agenda.proofs.Keeping.{has-with, kept-times, room-of, room-without}
 use Rattle.rb_agenda.proofs.Taking.{takes-due}
-use Rattle.rb_agenda.proofs.Ticks.{place-few, place-within, tick-place, ticks-taken}
+use Rattle.rb_agenda.proofs.Ticks.{place-few, place-within, ticks-taken}
 use Rattle.rb_agenda.proofs.Known.{known-less, known-of, known-with}
 use Rattle.rb_agenda.proofs.agenda.Agenda.take.Goals as goal
 
@@ -18,7 +18,7 @@ invariant_of-self c =
           (room-without place (lane_of lanes name) (room-of lanes bius name c.self.invariant.0.few c.locate-node.ensures.lane)),
       c.keep_key-self-inside.ensures.front,
       subst (AreTicks c.take-event.new.self) (sym c.after_event.ensures)
-          (ticks-taken lanes c.take-event.new.self c.self.inside.ticks.items bius c.position_of-place.result name place c.take-event.result c.self.invariant.0.few.split
+          (ticks-taken lanes c.take-event.new.self c.self.inside.ticks bius c.position_of-place.result name place c.take-event.result c.self.invariant.0.few.split
           c.position_of-place.ensures c.self.invariant.2 c.locate-node.ensures.lane c.take-event.ensures.value c.take-event.ensures.after),
       known-with lanes c.take-event.new.self bius name (without_ready place (lane_of lanes name)) c.self.invariant.0.few.split c.locate-node.ensures.lane c.take-event.ensures.after c.self.invariant.3
           (known-less (lane_of lanes name) place (known-of lanes name c.self.invariant.3 c.locate-node.ensures.lane)),
@@ -37,15 +37,10 @@ pub keep_key-self-inside-requires-clause-within : goal.keep_key-self-inside-requ
 keep_key-self-inside-requires-clause-within c =
     place-within c.self.inside.lanes c.self.inside.keys.items c.self.inside.bius c.locate-node.result.0 c.self.invariant.0.few c.self.invariant.0.many c.locate-node.ensures.lane
 
-pub after_event-requires-clause-within : goal.after_event-requires-clause-within
-after_event-requires-clause-within c =
-    (tick-place c.self.inside.lanes c.self.inside.ticks.items c.self.inside.bius c.position_of-place.result c.locate-node.result.0 c.self.invariant.0.few.split c.position_of-place.ensures
-    c.self.invariant.2 c.locate-node.ensures.lane).0
-
-pub after_event-requires-clause-few : goal.after_event-requires-clause-few
-after_event-requires-clause-few c =
-    place-few c.self.inside.lanes c.self.inside.ticks.items c.self.inside.bius c.position_of-place.result c.self.invariant.0.few c.self.invariant.2
-    ((tick-place c.self.inside.lanes c.self.inside.ticks.items c.self.inside.bius c.position_of-place.result c.locate-node.result.0 c.self.invariant.0.few.split c.position_of-place.ensures c.self.invariant.2 c.locate-node.ensures.lane).0)
+pub after_event-requires : goal.after_event-requires
+after_event-requires c =
+    place-few c.self.inside.lanes c.self.inside.bius c.position_of-place.result c.locate-node.result.0 c.self.invariant.0.few c.position_of-place.ensures
+    c.locate-node.ensures.lane
 
 pub returns-clause-world : goal.returns-clause-world
 returns-clause-world c =

@@ -2,7 +2,7 @@ use Rattle.std.proofs.Common.{◌≡◌, true, false, refl, sym, subst}
 use Rattle.rb_queue.specs.Waiting.{HasLane, Held, lane_of, without_tick}
 use Rattle.rb_agenda.specs.Agenda.{AreTicks}
 use Rattle.rb_agenda.proofs.Keeping.{room-of, stale-with}
-use Rattle.rb_agenda.proofs.Ticks.{place-few, tick-place, ticks-with}
+use Rattle.rb_agenda.proofs.Ticks.{place-few, ticks-with}
 use Rattle.rb_agenda.proofs.Known.{known-of, known-with}
 use Rattle.rb_agenda.proofs.agenda.Agenda.take_tick.Goals as goal
 
@@ -17,19 +17,12 @@ invariant_of-self c =
           (room-of lanes bius name c.self.invariant.0.few h),
       λ fresh. absurd (let never : true ≡ false = fresh in cc),
       subst (AreTicks c.take_tick.new.self) (sym c.put_tick.ensures)
-          (ticks-with lanes c.take_tick.new.self c.self.inside.ticks.items bius c.position_of-place.result name lane 18446744073709551615 c.self.invariant.0.few.split
+          (ticks-with lanes c.take_tick.new.self c.self.inside.ticks bius c.position_of-place.result name lane 18446744073709551615 c.self.invariant.0.few.split
           c.position_of-place.ensures c.self.invariant.2 h c.take_tick.ensures.after refl),
       known-with lanes c.take_tick.new.self bius name lane c.self.invariant.0.few.split h c.take_tick.ensures.after c.self.invariant.3 (known-of lanes name c.self.invariant.3 h),
     )
 
-pub put_tick-requires-clause-within : goal.put_tick-requires-clause-within
-put_tick-requires-clause-within c =
-    let h : HasLane c.self.inside.lanes c.args.node = subst (λ x. HasLane x c.args.node) (sym c.self.view_is) c.requires.in_shape in
-    (tick-place c.self.inside.lanes c.self.inside.ticks.items c.self.inside.bius c.position_of-place.result c.args.node c.self.invariant.0.few.split c.position_of-place.ensures
-    c.self.invariant.2 h).0
-
-pub put_tick-requires-clause-few : goal.put_tick-requires-clause-few
-put_tick-requires-clause-few c =
-    let h : HasLane c.self.inside.lanes c.args.node = subst (λ x. HasLane x c.args.node) (sym c.self.view_is) c.requires.in_shape in
-    place-few c.self.inside.lanes c.self.inside.ticks.items c.self.inside.bius c.position_of-place.result c.self.invariant.0.few c.self.invariant.2
-    ((tick-place c.self.inside.lanes c.self.inside.ticks.items c.self.inside.bius c.position_of-place.result c.args.node c.self.invariant.0.few.split c.position_of-place.ensures c.self.invariant.2 h).0)
+pub put_tick-requires : goal.put_tick-requires
+put_tick-requires c =
+    place-few c.self.inside.lanes c.self.inside.bius c.position_of-place.result c.args.node c.self.invariant.0.few c.position_of-place.ensures
+    (subst (λ x. HasLane x c.args.node) (sym c.self.view_is) c.requires.in_shape)

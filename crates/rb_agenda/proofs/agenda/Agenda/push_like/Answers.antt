@@ -1,24 +1,22 @@
-use Rattle.std.proofs.Common.{◌≤◌, refl, sym, subst, arith}
-use Rattle.rb_rules.specs.Hearing.{Coming}
-use Rattle.rb_queue.specs.Waiting.{HasLane, Held, lane_of, without_place}
+use Rattle.std.proofs.Common.{refl, sym, subst, arith}
+use Rattle.rb_queue.specs.Waiting.{HasLane, Held, lane_of, with_arrival}
 use Rattle.rb_agenda.proofs.Keeping.{has-with, room-of}
 use Rattle.rb_agenda.proofs.Ticks.{place-within, ticks-same}
-use Rattle.rb_agenda.proofs.Known.{known-of, known-with}
-use Rattle.rb_agenda.proofs.Places.{all-others}
-use Rattle.rb_agenda.proofs.agenda.Agenda.take_at.Goals as goal
+use Rattle.rb_agenda.proofs.Known.{known-more, known-of, known-with}
+use Rattle.rb_agenda.proofs.agenda.Agenda.push_like.Goals as goal
 
 pub invariant_of-self : goal.invariant_of-self
 invariant_of-self c =
     let lanes = c.self.inside.lanes in
     let bius = c.self.inside.bius in
     let name = c.args.node in
-    let lane : Held = without_place c.args.place (lane_of lanes name) in
+    let lane : Held = with_arrival (record c.args.like.now { time = c.args.time }) (lane_of lanes name) in
     let h : HasLane lanes name = subst (λ x. HasLane x name) (sym c.self.view_is) c.requires.in_shape in (
-      c.keep_key-self-inside.ensures.kept lanes lane c.self.invariant.0 h c.drop_at.ensures.after (room-of lanes bius name c.self.invariant.0.few h),
+      c.keep_key-self-inside.ensures.kept lanes lane c.self.invariant.0 h c.push_like.ensures.after (room-of lanes bius name c.self.invariant.0.few h),
       c.keep_key-self-inside.ensures.front,
-      ticks-same lanes c.drop_at.new.self c.self.inside.ticks.items bius name lane c.self.invariant.0.few.split c.self.invariant.2 h c.drop_at.ensures.after refl,
-      known-with lanes c.drop_at.new.self bius name lane c.self.invariant.0.few.split h c.drop_at.ensures.after c.self.invariant.3
-          (all-others (λ (c : Coming). c.from ≤ 255) (lane_of lanes name).arrivals c.args.place (known-of lanes name c.self.invariant.3 h)),
+      ticks-same lanes c.push_like.new.self c.self.inside.ticks bius name lane c.self.invariant.0.few.split c.self.invariant.2 h c.push_like.ensures.after refl,
+      known-with lanes c.push_like.new.self bius name lane c.self.invariant.0.few.split h c.push_like.ensures.after c.self.invariant.3
+          (known-more (lane_of lanes name) (record c.args.like.now { time = c.args.time }) (omega (arith, c.from-from.ensures, c.from-from.type_inv)) (known-of lanes name c.self.invariant.3 h)),
     )
 
 pub keep_key-self-inside-requires-clause-bius : goal.keep_key-self-inside-requires-clause-bius
@@ -29,7 +27,8 @@ keep_key-self-inside-requires-clause-lane c =
     let lanes = c.self.inside.lanes in
     let name = c.args.node in
     let h : HasLane lanes name = subst (λ x. HasLane x name) (sym c.self.view_is) c.requires.in_shape in
-    subst (λ x. HasLane x name) (sym c.drop_at.ensures.after) (has-with lanes name name (without_place c.args.place (lane_of lanes name)) h)
+    subst (λ x. HasLane x name) (sym c.push_like.ensures.after)
+    (has-with lanes name name (with_arrival (record c.args.like.now { time = c.args.time }) (lane_of lanes name)) h)
 
 pub keep_key-self-inside-requires-clause-within : goal.keep_key-self-inside-requires-clause-within
 keep_key-self-inside-requires-clause-within c =
