@@ -4,7 +4,7 @@ ghost use Rattle.rb_base.specs.Nodes.{other};
 ghost use Rattle.rb_rules.specs.Lawful.{kind_of};
 ghost use Rattle.rb_rules.specs.Links.{name_of};
 ghost use Rattle.rb_queue.specs.Waiting.{HasLane, lane_of, spare_of, with_arrival, with_lane};
-ghost use Rattle.rb_traffic.specs.Arriving.{IsLong, number_of};
+ghost use Rattle.rb_traffic.specs.Arriving.{number_of};
 
 use arrayvec::ArrayVec;
 use rb_agenda::Agenda;
@@ -41,32 +41,6 @@ fn copied(bytes: &[u8]) -> ArrayVec<u8, 32>
     let mut copy = ArrayVec::new();
     let _ = copy.try_extend_from_slice(bytes);
     copy
-}
-
-// The bytes of a message with room for as many as an arrival may have. Where their number is known they are copied in place.
-#[inline(always)]
-#[tactic(auto, using(crate::proofs::Copies::copying))]
-fn copied_message(bytes: &[u8]) -> ArrayVec<u8, 32>
-    requires { IsLong bytes.now }
-    ensures { result.items ≡ bytes.now }
-{
-    if bytes.len() == 11 {
-        copied(&bytes[..11])
-    } else {
-        copied(&bytes[..12])
-    }
-}
-
-// A message comes to a node at a time: it is put into its lane.
-#[inline(always)]
-pub(crate) fn arrive_message(agenda: &mut Agenda, node: NodeName, time: u64, from: u8, bytes: &[u8])
-    requires in_shape { HasLane agenda.old node }
-    requires spare { 1 ≤ spare_of (lane_of agenda.old node) }
-    requires long { IsLong bytes.now }
-    ensures { agenda.new
-        ≡ with_lane node (with_arrival (record { time = time; from = from; bytes = bytes.now }) (lane_of agenda.old node)) agenda.old }
-{
-    agenda.push_arrival(node, time, from, copied_message(bytes));
 }
 
 // What comes to a node at a time is put into its lane.

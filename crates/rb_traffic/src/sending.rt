@@ -1,10 +1,11 @@
 //! Messages on their way.
-ghost use Rattle.std.specs.Prelude.{◌≡◌, ℕ, ◌+◌, ◌<◌, ◌≤◌, ◌^◌, ◌&&◌, true, nat_lt, length};
+ghost use Rattle.std.specs.Prelude.{◌≡◌, ℕ, ◌+◌, ◌<◌, ◌≤◌, ◌^◌, ◌&&◌, true, nat_lt, length, slice_get};
 ghost use Rattle.rb_base.specs.Nodes.{has, other};
 ghost use Rattle.rb_rules.specs.Book.{of_kind};
 ghost use Rattle.rb_rules.specs.Clock.{time_of};
 ghost use Rattle.rb_rules.specs.Lawful.{kind_of};
-ghost use Rattle.rb_rules.specs.Links.{name_of};
+ghost use Rattle.rb_rules.specs.Links.{delay_of, name_of};
+ghost use Rattle.rb_link.specs.Rows.{IsRow};
 ghost use Rattle.rb_queue.specs.Waiting.{HasLane, lane_of, spare_of, with_arrival, with_lane};
 ghost use Rattle.rb_rules.specs.Book.{Each};
 ghost use Rattle.rb_rules.specs.Goodness.{Scenario};
@@ -14,12 +15,13 @@ ghost use Rattle.rb_agenda.specs.Holding.{HoldsSites};
 ghost use Rattle.rb_traffic.specs.Arriving.{AreRunning, HaveRoom, IsLong, coming_to, lanes_with, number_of};
 ghost use Rattle.rb_traffic.specs.Departing.{IsOfScenario, with_departure, with_sent};
 
-use crate::arriving::{arrive_message, number_of, receiver};
+use crate::arriving::{number_of, receiver};
 use rb_agenda::Agenda;
 use rb_base::{NodeName, NodeSet, Place, Rmu};
 use rb_clock::Clock;
 use rb_frame::encode;
 use rb_link::Delays;
+use rb_queue::Arrival;
 use rb_rules::{Message, Version};
 
 /// A message that a node sends at a tick of its own, in the frame that it is in.
@@ -31,7 +33,28 @@ pub struct Departure {
     pub message: Message,
 }
 
+// The delay that stands in the row for the node with this number, if one does.
+#[inline(always)]
+fn delay_at(row: &[u32], i: u8) -> Option<u32>
+    ensures { result ≡ slice_get row.now i }
+{
+    row.get(usize::from(i)).copied()
+}
+
+// The delay to the node of the other kind with this number. It is looked up where the row has none.
+#[inline(always)]
+fn delay_in(row: &[u32], delays: &Delays, from: NodeName, i: u8, place: Place) -> u32
+    requires { IsRow delays.now from place row.now }
+    ensures { result ≡ delay_of delays.now from (name_of (other (kind_of from)) i) place }
+{
+    match delay_at(row, i) {
+        Some(delay) => delay,
+        None => delays.delay(from, receiver(from, i), place),
+    }
+}
+
 // What a node sends at a time comes to each of these nodes of the other kind, later by its delay.
+#[inline(never)]
 fn spread(
     agenda: &mut Agenda,
     delays: &Delays,
@@ -46,12 +69,14 @@ fn spread(
     requires time { time < 2 ^ 53 }
     ensures { agenda.new ≡ lanes_with (other (kind_of from)) (coming_to delays.now from time place bytes.now) (has running) agenda.old }
 {
-    let sender = number_of(from);
+    let row = delays.row(from, place);
+    let message = Arrival::of(0, number_of(from), bytes);
     let mut left = NodeSet::<Rmu>::from_bits(running);
     while let Some(id) = left.pop_first() {
-        let node = receiver(from, id.index());
-        let delay = delays.delay(from, node, place);
-        arrive_message(agenda, node, time + u64::from(delay), sender, bytes);
+        let i = id.index();
+        let node = receiver(from, i);
+        let delay = delay_in(row, delays, from, i, place);
+        agenda.push_like(node, time + u64::from(delay), &message);
     }
 }
 
