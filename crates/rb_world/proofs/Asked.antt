@@ -1,5 +1,5 @@
 -- What is asked of a run.
-use Rattle.std.proofs.Common.{◌≡◌, ℕ, ◌<◌, ◌||◌, false, List, Option, Some, None, length, slice_get, get_or, refl, sym, ap, ◌∙◌, subst, arith}
+use Rattle.std.proofs.Common.{◌≡◌, ℕ, ◌<◌, List, Some, length, slice_get, get_or, refl, sym, ap, ◌∙◌, subst, arith}
 use Rattle.std.specs.Prelude.{option_and_then, option_map}
 use Rattle.rb_base.specs.Nodes.{Side}
 use Rattle.rb_base.specs.Nodes.Side.{Biu, Rmu}
@@ -12,16 +12,15 @@ use Rattle.rb_rules.specs.Lawful.{IsNodeOf, kind_of}
 use Rattle.rb_rules.specs.Links.{name_of}
 use Rattle.rb_rules.specs.Ports.{PortState}
 use Rattle.rb_rules.specs.Slots.{count_of}
-use Rattle.rb_rules.specs.WorldStep.{Due, Pending, Site, World, due_of, event_at, event_of, needs_no_event}
+use Rattle.rb_rules.specs.WorldStep.{Due, Pending, Site, World, due_of, event_at, event_of}
 use Rattle.rb_rules.specs.WorldStep.Pending.{Tick, Arrival}
-use Rattle.rb_agenda.specs.Agenda.{IsDue, IsFirstAt, IsFirstDue, first_time}
+use Rattle.rb_agenda.specs.Agenda.{IsDue}
 use Rattle.rb_agenda.specs.Holding.{due_with}
 use Rattle.rb_agenda.proofs.Which.{has-item}
 use Rattle.rb_site.specs.Sites.{KeptSite}
 use Rattle.rb_traffic.specs.Arriving.{number_of}
 use Rattle.rb_world.specs.Worlds.{KeptWorld, Stands, due_in}
-use Rattle.rb_queue.proofs.Sources.{no_items}
-use Rattle.rb_world.proofs.Idle.{due-busy, first-kept}
+use Rattle.rb_world.proofs.Idle.{due-busy}
 use Rattle.rb_world.proofs.Told.{got-is}
 use Rattle.rb_world.proofs.Turns.{due-is-now}
 
@@ -67,16 +66,3 @@ frame-named k w name me i frame site s is node named got frame_is there =
     by : (me : Side) → slice_get (of_kind (kind_of (name_of me i)) w.sites) (number_of (name_of me i)) ≡ slice_get (of_kind me w.sites) i
     by Biu = refl
     by Rmu = refl
-
--- no event stands where none is due
-pub no-event : (sc : Scenario) (w : World) → length (due_of sc w) ≡ 0 → option_map (λ (e : Event). e.node) (event_at sc w 0) ≡ None
-unfolding event_at
-no-event sc w none =
-    ap (λ (l : List Due). option_map (λ (e : Event). e.node) (option_and_then (λ (d : Due). option_map (λ (s : Site). event_of sc w.ports d.side d.node s.core d.pending) (slice_get (of_kind d.side w.sites) d.node)) (slice_get l 0)))
-    (no_items (due_of sc w) none)
-
--- the node of the first event, if one is due
-pub first-node-at : (k : KeptWorld) (w : World) (o : Option NodeName) → Stands k w → (w.book.ended || needs_no_event k.bus w.book.upcoming) ≡ false
-    → IsFirstAt k.scene.agenda (first_time k.scene.agenda) o → IsFirstDue k.bus w k.scene.agenda o → option_map (λ (e : Event). e.node) (event_at k.bus w 0) ≡ o
-first-node-at k w None is e kept none = no-event k.bus w (ap length (due-is-now k.bus w e) ∙ none)
-first-node-at k w (Some name) is e kept some = node-at k w 0 0 name is ((first-kept k w (Some name) is e kept).0 refl) some

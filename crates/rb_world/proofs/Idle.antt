@@ -1,11 +1,8 @@
 -- When nothing may be taken.
-use Rattle.std.proofs.Common.{◌≡◌, ℕ, ◌<◌, ◌||◌, Option, Some, None, Bool, true, false, List, [], length, refl, sym, ap, ◌∙◌, subst, arith, inl, inr, IsTrue, ◌↔◌}
+use Rattle.std.proofs.Common.{◌≡◌, ℕ, ◌<◌, ◌||◌, Bool, true, false, List, [], length, refl, sym, ap, ◌∙◌, arith, inl, inr, IsTrue, ◌↔◌}
 use Rattle.std.proofs.lemmas.Bool.{cases_lt}
 use Rattle.rb_rules.specs.WorldStep.{Due, World, due_of, needs_no_event}
-use Rattle.std.specs.Prelude.{IsSome}
-use Rattle.rb_base.specs.declared.node.NodeName.{NodeName}
-use Rattle.rb_queue.proofs.Sources.{is_within}
-use Rattle.rb_agenda.specs.Agenda.{IsFirstAt, IsFirstDue, due_now, first_time, how_many}
+use Rattle.rb_agenda.specs.Agenda.{due_now, how_many}
 use Rattle.rb_book.specs.Settling.{is_free}
 use Rattle.rb_book.proofs.Due.{free-is}
 use Rattle.rb_world.specs.Worlds.{KeptWorld, Stands, due_in}
@@ -61,20 +58,3 @@ due-busy k w i is lt = by (w.book.ended || needs_no_event k.bus w.book.upcoming)
     by : (b : Bool) → (w.book.ended || needs_no_event k.bus w.book.upcoming) ≡ b → b ≡ false
     by true e = absurd (let none = none-due k w is e in omega (arith, none, lt))
     by false e = refl
-
--- The node of the first event.
-
--- some event may be taken where its node is found
-pub first-kept : (k : KeptWorld) (w : World) (o : Option NodeName) → Stands k w → (w.book.ended || needs_no_event k.bus w.book.upcoming) ≡ false
-    → IsFirstAt k.scene.agenda (first_time k.scene.agenda) o → IsSome o ↔ 0 < due_in k
-first-kept k w None is e none = none-some (sym (all-due k w (how_many k.scene.agenda) is e refl) ∙ none)
-first-kept k w (Some name) is e some = (λ yes. subst (λ n. 0 < n) (all-due k w (how_many k.scene.agenda) is e refl) some.0, λ more. refl)
-
--- and is due in the world
-pub first-world : (k : KeptWorld) (w : World) (o : Option NodeName) → (w.book.ended || needs_no_event k.bus w.book.upcoming) ≡ false
-    → IsFirstDue k.bus w k.scene.agenda o → IsSome o ↔ 0 < length (due_of k.bus w)
-first-world k w None e none = none-some (ap length (due-is-now k.bus w e) ∙ none)
-first-world k w (Some name) e some = (
-  λ yes. subst (λ l. 0 < length l) (sym (due-is-now k.bus w e)) (is_within (due_now k.bus w) 0 _ some.due),
-  λ more. refl,
-)

@@ -31,7 +31,6 @@ pub mod Showing
 pub mod InTime
 pub mod Arrivals
 pub mod Asked
-pub mod Heard
 pub mod Soonest
 pub mod Taken
 pub mod Passed

@@ -22,8 +22,7 @@ use Rattle.rb_node.specs.Cores.{IsCore, passing_end}
 use Rattle.rb_node.specs.declared.act.Want.{Want}
 use Rattle.rb_node.specs.declared.act.Want.TheVariants as want
 use Rattle.rb_book.specs.Changing.{with_row}
-use Rattle.rb_queue.specs.Waiting.{HasLane, Held, event_with, lane_of, spare_of, with_lane, without_place}
-use Rattle.rb_queue.specs.Waiting.Ready.{Comes}
+use Rattle.rb_queue.specs.Waiting.{HasLane, Held, lane_of, spare_of}
 use Rattle.rb_site.specs.Sites.{KeptSite, Stands as StandsFor, number_of}
 use Rattle.rb_traffic.specs.Arriving.{number_of as number_in}
 use Rattle.rb_world.specs.declared.scene.Scene.{Scene}
@@ -164,9 +163,3 @@ pub record CanHear (sc : Scenario) (me : Side) (i : ℕ) (name : NodeName) (plac
   pub stands : slice_get (lane_of lanes name).arrivals place ≡ Some c
   pub in_time : ComesBy (passing_end me site.node) (clock_of sc me i) c.time
   pub sender : c.from < count_of (other me) site.node.seat.sizes
-
--- the first event that is due is that arrival, and it is still pending
-pub record MayHear (sc : Scenario) (kept : Each KeptSite) (scene : Scene) (name : NodeName) (place : ℕ) (w : World) (d : Due) (c : Coming) : Type 0 where
-  pub lane : HasLane scene.agenda name
-  pub stands : slice_get (lane_of scene.agenda name).arrivals place ≡ Some c
-  pub may : MayHappen sc kept (record scene { agenda = with_lane name (without_place place (lane_of scene.agenda name)) scene.agenda }) c.time name (event_with name (Comes place c)) w 0 d

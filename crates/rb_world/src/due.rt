@@ -132,19 +132,6 @@ impl World {
         self.scene.agenda.due()
     }
 
-    /// The node at which the first of the events that are due happens. None exactly where no event may be taken: where `due` is 0. The
-    /// events are not counted for it.
-    pub fn first_node(&self) -> Option<NodeName>
-        ensures value { IsSome result ↔ 0 < due_in self.now }
-        ensures world { (w : RunWorld) → Stands self.now w → IsSome result ↔ 0 < length (due_of self.now.bus w) }
-        ensures node { (w : RunWorld) → Stands self.now w → option_map (λ (e : Happening). e.node) (event_at self.now.bus w 0) ≡ result }
-    {
-        if self.scene.book.has_ended() || self.scene.book.needs_no_event() {
-            return None;
-        }
-        self.scene.agenda.first_node()
-    }
-
     /// The i-th of the events that are due, counted from 0: how many quiet ticks its node has before it, and the arrival, or the tick
     /// with the word that it takes. `wanted` says whether the node asks for a word: its request, or what its port offers now.
     pub fn event(&self, apps: &Apps, i: usize) -> Event

@@ -78,7 +78,8 @@ pub(crate) fn tell_arrival<K: Kind, T: Observer>(
     let arrival = agenda.arrival(node, place);
     let time = arrival.time();
     let from = arrival.from();
-    let event = show_arrival(bus, site, time, node, from, arrival.bytes());
+    let bytes = arrival.held();
+    let event = show_arrival(bus, site, time, node, from, &bytes);
     observer.observe(frame_of(site), &event);
 }
 

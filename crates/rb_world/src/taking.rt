@@ -7,7 +7,7 @@ ghost use Rattle.rb_rules.specs.Hearing.{Coming};
 ghost use Rattle.rb_rules.specs.WorldStep.{Due, Site as WorldSite, World as RunWorld, after_arrival, take};
 ghost use Rattle.rb_queue.specs.Waiting.{lane_of, with_lane, without_place};
 ghost use Rattle.rb_world.specs.Numbering.{TakesInRounds};
-ghost use Rattle.rb_world.specs.Steps.{CanHear, Happens, MayHappen, MayHear, MayTick, Ticks, act_at};
+ghost use Rattle.rb_world.specs.Steps.{CanHear, Happens, MayHappen, MayTick, Ticks, act_at};
 ghost use Rattle.rb_world.specs.Turning.{Gives};
 ghost use Rattle.rb_world.specs.Worlds.{Stands, due_in, last_of};
 ghost use Rattle.rb_book.specs.declared.turn.Turn.{Turn};
@@ -114,28 +114,6 @@ pub(crate) fn hear_at<K: Kind>(
     agenda.drop_at(node, place);
 }
 
-// The first event that is due is this arrival of the node, and happens.
-fn hear(
-    bus: &Bus,
-    bius: &mut Vec<Site<Biu>>,
-    rmus: &mut Vec<Site<Rmu>>,
-    scene: &mut Scene,
-    node: NodeName,
-    place: usize,
-)
-    requires { (w : RunWorld) × (d : Due) × (c : Coming)
-        × MayHear bus.now (record { bius = bius.old.items; rmus = rmus.old.items }) scene.old node place w d c }
-    ensures { (w : RunWorld) (d : Due) (c : Coming)
-        → MayHear bus.now (record { bius = bius.old.items; rmus = rmus.old.items }) scene.old node place w d c
-        → Happens bus.now (record { bius = bius.new.items; rmus = rmus.new.items }) scene.new w d }
-{
-    let agenda = &mut scene.agenda;
-    match node {
-        NodeName::Biu(i) => hear_at(bus, node, place, &mut bius[usize::from(i)], agenda),
-        NodeName::Rmu(i) => hear_at(bus, node, place, &mut rmus[usize::from(i)], agenda),
-    }
-}
-
 impl World {
     // Takes an event, as `take` does. The turn is `Quiet` before, and is written over where a record comes with the event.
     pub(crate) fn take_into(&mut self, apps: &Apps, i: usize, turn: &mut Turn)
@@ -174,40 +152,5 @@ impl World {
         let mut turn = Turn::Quiet;
         self.take_into(apps, i, &mut turn);
         turn
-    }
-
-    /// Takes the first of the events that are due, as `take` does with 0, and gives no turn.
-    pub fn pass(&mut self, apps: &Apps)
-        requires below { 0 < due_in self.old }
-        ensures world { (w : RunWorld) → Stands self.old w → Stands self.new (take self.old.bus w 0) }
-        ensures bus { self.new.bus ≡ self.old.bus }
-        ensures seeding { self.new.seeding ≡ self.old.seeding }
-    {
-        let (node, _) = self.scene.agenda.locate(0);
-        if let Some(place) = self.scene.agenda.first_before(node, u64::MAX) {
-            hear(
-                &self.bus,
-                &mut self.bius,
-                &mut self.rmus,
-                &mut self.scene,
-                node,
-                place,
-            );
-            self.last = Last::Quiet;
-            return;
-        }
-        self.pass_tick(apps);
-    }
-
-    // Takes the first of the events, where it may complete something.
-    #[inline(never)]
-    fn pass_tick(&mut self, apps: &Apps)
-        requires below { 0 < due_in self.old }
-        ensures world { (w : RunWorld) → Stands self.old w → Stands self.new (take self.old.bus w 0) }
-        ensures bus { self.new.bus ≡ self.old.bus }
-        ensures seeding { self.new.seeding ≡ self.old.seeding }
-    {
-        let mut turn = Turn::Quiet;
-        self.take_into(apps, 0, &mut turn);
     }
 }

@@ -34,4 +34,4 @@ returns g c = λ x at s can stands.
     c.observe.ensures (c.frame_of.ensures sc s stands)
     (c.show_arrival-event.ensures [] at s
     (arrival-shown sc me c.args.place c.time-time.result c.args.node site c.args.agenda.now x s c.requires.name can stands (c.time-time.ensures ∙ ap (λ (y : Coming). y.time) (sym same)))
-    ∙ ap (λ y. event_of sc [] me (number_of site) s.core (Arrival at y)) (coming-is p c.time-time.result c.from-from.result c.bytes.result.now.items c.time-time.ensures c.from-from.ensures c.bytes.ensures ∙ sym same))
+    ∙ ap (λ y. event_of sc [] me (number_of site) s.core (Arrival at y)) (coming-is p c.time-time.result c.from-from.result c.held-bytes.result.items c.time-time.ensures c.from-from.ensures c.held-bytes.ensures ∙ sym same))
