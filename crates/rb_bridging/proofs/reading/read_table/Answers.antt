@@ -1,4 +1,4 @@
-use Rattle.std.proofs.Common.{◌≡◌, true, sym, ◌∙◌, subst}
+use Rattle.std.proofs.Common.{◌≡◌, true, sym, ◌∙◌, subst, inr, refl}
 use Rattle.toml.specs.View.{table_view}
 use Rattle.toml.specs.Data.{Members}
 use Rattle.rb_scenario.specs.Acceptance.{as_scenario}
@@ -14,3 +14,20 @@ returns-in-Some-clause-bridge c =
     let few = few-pairs t form in
     subst IsBridge (sym c.in-Some.ensures.fits.1)
     (says-bridge (as_scenario c.in-Ok.left) (as_scenario c.in-Ok-bus_at.right) t c.in-Ok.ensures.lawful c.in-Ok-bus_at.ensures.lawful few.0 few.1 c.in-Some.ensures.fits.0)
+
+pub returns-in-None-clause-refused : goal.returns-in-None-clause-refused
+returns-in-None-clause-refused c =
+    inr (
+      c.in-Ok.left,
+      (
+        c.in-Ok-bus_at.right,
+        (
+          record {
+            form = sym c.has_bridge_form.ensures ∙ c.if-not-has_bridge_form.false;
+            left_text = c.in-Ok.ensures.accepted;
+            right_text = c.in-Ok-bus_at.ensures.accepted;
+          },
+          c.in-None.ensures.none refl,
+        ),
+      ),
+    )
