@@ -71,21 +71,24 @@ least-front (x ∷ ms) (suc n) r h = ap (min x) (least-front ms n r (omega (arit
 least-filled : (ms : List ℕ) → length ms ≤ 32 → least_key (filled ms) ≡ least_key ms
 least-filled ms few = ap least_key (sym (take_all 32 (filled ms) (omega (arith, length-filled ms few)))) ∙ least-front ms 32 (32 - length ms) few
 
--- four keys more
-pub four-more : (keys : List ℕ) (i least : ℕ) → i + 4 ≤ length keys → least ≡ least_key (take i keys)
-    → min (min (min (min least (get_or keys i 0)) (get_or keys (i + 1) 0)) (get_or keys (i + 2) 0)) (get_or keys (i + 3) 0) ≡ least_key (take (i + 4) keys)
-four-more keys i least h is =
+-- four keys more, in pairs
+two-more : (keys : List ℕ) (i : ℕ) → i + 2 ≤ length keys
+    → min (least_key (take i keys)) (min (get_or keys i 0) (get_or keys (i + 1) 0)) ≡ least_key (take (i + 2) keys)
+two-more keys i h =
     let one = least-more keys i (omega (arith, h)) in
     let two = least-more keys (i + 1) (omega (arith, h)) in
-    let three = least-more keys (i + 2) (omega (arith, h)) in
-    let four = least-more keys (i + 3) (omega (arith, h)) in
-    let a : i + 1 + 1 ≡ i + 2 = omega arith in
-    let b : i + 2 + 1 ≡ i + 3 = omega arith in
-    let c : i + 3 + 1 ≡ i + 4 = omega arith in
-    ap (λ n. min (min (min (min n (get_or keys i 0)) (get_or keys (i + 1) 0)) (get_or keys (i + 2) 0)) (get_or keys (i + 3) 0)) is
-    ∙ ap (λ n. min (min (min n (get_or keys (i + 1) 0)) (get_or keys (i + 2) 0)) (get_or keys (i + 3) 0)) (sym one)
-    ∙ ap (λ n. min (min n (get_or keys (i + 2) 0)) (get_or keys (i + 3) 0)) (sym two ∙ ap (λ k. least_key (take k keys)) a)
-    ∙ ap (λ n. min n (get_or keys (i + 3) 0)) (sym three ∙ ap (λ k. least_key (take k keys)) b) ∙ sym four ∙ ap (λ k. least_key (take k keys)) c
+    let both : i + 1 + 1 ≡ i + 2 = omega arith in
+    omega (arith, one, two) ∙ ap (λ k. least_key (take k keys)) both
+
+pub four-more : (keys : List ℕ) (i least : ℕ) → i + 4 ≤ length keys → least ≡ least_key (take i keys)
+    → min least (min (min (get_or keys i 0) (get_or keys (i + 1) 0)) (min (get_or keys (i + 2) 0) (get_or keys (i + 3) 0))) ≡ least_key (take (i + 4) keys)
+four-more keys i least h is =
+    let first = min (get_or keys i 0) (get_or keys (i + 1) 0) in
+    let one = two-more keys i (omega (arith, h)) in
+    let two = two-more keys (i + 2) (omega (arith, h)) in
+    let next : i + 2 + 1 ≡ i + 3 = omega arith in
+    let all : i + 2 + 2 ≡ i + 4 = omega arith in
+    ap (λ k. min least (min first (min (get_or keys (i + 2) 0) (get_or keys k 0)))) (sym next) ∙ omega (arith, is, one, two) ∙ ap (λ k. least_key (take k keys)) all
 
 -- The least mark.
 

@@ -27,8 +27,8 @@ use std::marker::Model;
 pub struct Agenda {
     lanes: RunLanes,
     keys: Vec<u64>,
-    // For each node, by its position, the mark of its tick: the time times 32 and the position, below 2^64 - 1 where the
-    // time is below 2^59. All 32 are there, also of positions without a node.
+    // For each node, by its position, the mark of its tick: the time times 32 and the position where the time is below 2^59,
+    // else 2^64 - 1. All 32 are there, also of positions without a node.
     ticks: [u64; 32],
     bius: usize,
     // Where the least of the keys stands. Neither is kept once they are stale.
@@ -95,9 +95,9 @@ impl Agenda {
             self.old }
     {
         self.lanes.push_arrival(node, time, from, bytes);
-        self.front = keep_key(
+        keep_key(
             &mut self.keys,
-            self.front,
+            &mut self.front,
             self.stale,
             self.bius,
             &self.lanes,
@@ -117,9 +117,9 @@ impl Agenda {
     {
         let _from = like.from();
         self.lanes.push_like(node, time, like);
-        self.front = keep_key(
+        keep_key(
             &mut self.keys,
-            self.front,
+            &mut self.front,
             self.stale,
             self.bius,
             &self.lanes,
@@ -134,9 +134,9 @@ impl Agenda {
         ensures after { self.new ≡ with_lane node (with_tick time (lane_of self.old node)) self.old }
     {
         self.lanes.push_tick(node, time);
-        self.front = keep_key(
+        keep_key(
             &mut self.keys,
-            self.front,
+            &mut self.front,
             self.stale,
             self.bius,
             &self.lanes,
@@ -191,9 +191,9 @@ impl Agenda {
         let front = front_now(&self.lanes, &self.keys, self.bius, self.front, self.stale);
         let (node, place) = locate(&self.lanes, &self.keys, self.bius, self.stale, front, i);
         let event = self.lanes.take(node, place);
-        self.front = keep_key(
+        keep_key(
             &mut self.keys,
-            self.front,
+            &mut self.front,
             self.stale,
             self.bius,
             &self.lanes,
@@ -293,9 +293,9 @@ impl Agenda {
         ensures after { self.new ≡ with_lane node (without_events (lane_of self.old node)) self.old }
     {
         self.lanes.drop_all(node);
-        self.front = keep_key(
+        keep_key(
             &mut self.keys,
-            self.front,
+            &mut self.front,
             self.stale,
             self.bius,
             &self.lanes,

@@ -153,26 +153,26 @@ pub(crate) fn front_now(
 #[inline(always)]
 pub(crate) fn keep_key(
     keys: &mut Vec<u64>,
-    front: Front,
+    front: &mut Front,
     stale: bool,
     bius: usize,
     lanes: &RunLanes,
     node: NodeName,
-) -> Front
+)
     requires bius { bius ≤ 16 }
     requires lane { HasLane lanes.now node }
     requires within { position_of bius node < length keys.old.items }
-    requires front { stale ≡ false → IsFront keys.old.items front }
+    requires front { stale ≡ false → IsFront keys.old.items front.old }
     ensures kept { (before : Each Held) (lane : Held) → AreKeptUnless stale before keys.old.items bius → HasLane before node
         → lanes.now ≡ with_lane node lane before → lane.room ≤ 65536 → AreKeptUnless stale lanes.now keys.new.items bius }
-    ensures front { stale ≡ false → IsFront keys.new.items result }
+    ensures front { stale ≡ false → IsFront keys.new.items front.new }
 {
     if stale {
-        return front;
+        return;
     }
     let key = key_of(lanes, node);
     let place = position_of(bius, node);
-    put_key(keys, front, place, key)
+    *front = put_key(keys, *front, place, key);
 }
 
 #[inline(always)]
@@ -234,15 +234,17 @@ fn late_front(lanes: &RunLanes, bius: usize, count: usize) -> Front
     front
 }
 
-// The least of the keys up to four places on, where the least of those before is known.
+// The least of the keys up to four places on, where the least of those before is known. The four are compared in
+// pairs, so that only one comparison waits for the least of those before.
 #[inline(always)]
 fn with_four(keys: &[u64; 32], place: usize, least: u64) -> u64
     requires within { place + 4 ≤ 32 }
     requires least { least ≡ least_key (take place keys.now) }
     ensures { result ≡ least_key (take (place + 4) keys.now) }
 {
-    let least = least.min(keys[place]).min(keys[place + 1]);
-    least.min(keys[place + 2]).min(keys[place + 3])
+    let first = keys[place].min(keys[place + 1]);
+    let second = keys[place + 2].min(keys[place + 3]);
+    least.min(first.min(second))
 }
 
 // The least of the keys up to 16 places on.

@@ -35,16 +35,18 @@ counted_none count lasting first counted p first_is is none =
     drop_last true false c e = refl
     drop_last true true c e = absurd (cc)
 
--- where none is left that doesn't last, all last
-pub all_counted : (count lasting first rest : ℕ) → count ≤ 16 → first ≡ set_of (λ i. nat_lt i count) → rest ≡ set_of (λ i. has first i && not (has lasting i)) → rest ≡ 0
-    → (j : ℕ) → nat_lt j count ≡ true → has lasting j ≡ true
-all_counted count lasting first rest few is_first is_rest none j e =
+-- who is not counted lasts
+pub not_counted : (count lasting first counted : ℕ) → count ≤ 16 → first ≡ set_of (λ i. nat_lt i count) → counted ≡ set_of (λ i. has first i && not (has lasting i))
+    → (j : ℕ) → nat_lt j count ≡ true → has counted j ≡ false → has lasting j ≡ true
+not_counted count lasting first counted few is_first is j e out =
     let below : j < count = ltb-true j count e in
-    let h : j < 16 = omega arith in
-    by (has first j) (has lasting j) (has-is first j (λ i. nat_lt i count) is_first h ∙ e)
-    (sym (has-is rest j (λ i. has first i && not (has lasting i)) is_rest h) ∙ ap (λ s. has s j) none ∙ has_none j)
+    by (nat_lt j count) (has lasting j) e (sym (has_counted count lasting first counted is_first is j (omega arith)) ∙ out)
   where
     by : (a b : Bool) → a ≡ true → (a && not b) ≡ false → b ≡ true
     by true true ha o = refl
     by true false ha o = absurd (cc)
     by false b ha o = absurd (cc)
+
+-- without those that last all are counted
+pub first_counted : (count first : ℕ) → count ≤ 16 → first ≡ set_of (λ i. nat_lt i count) → (j : ℕ) → nat_lt j count ≡ true → has first j ≡ true
+first_counted count first few is j e = let below : j < count = ltb-true j count e in has-is first j (λ i. nat_lt i count) is (omega arith) ∙ e

@@ -1,5 +1,5 @@
 -- What is found of the first nodes, node by node.
-use Rattle.std.proofs.Common.{◌≡◌, ℕ, zero, suc, ◌+◌, ◌<◌, ◌≤◌, ◌&&◌, not, nat_lt, Bool, true, false, List, [], ◌∷◌, ◌++◌, length, take, drop, Option, Some, None, refl, sym, ◌∙◌, ap, arith}
+use Rattle.std.proofs.Common.{◌≡◌, ℕ, zero, suc, ◌+◌, ◌<◌, ◌≤◌, ◌&&◌, nat_lt, Bool, true, false, List, [], ◌∷◌, ◌++◌, length, take, drop, Option, Some, None, refl, sym, ◌∙◌, ap, arith}
 use Rattle.std.specs.Prelude.{is_some, option_to_list}
 use Rattle.std.proofs.lemmas.Bool.Decides.{nat_tests}
 use Rattle.std.proofs.lemmas.List.{append_assoc, take_more, length-append, length-take, take-append-drop}
@@ -8,12 +8,10 @@ use Rattle.rb_base.specs.Nodes.{has}
 use Rattle.rb_rules.specs.Book.{Row, map_from}
 use Rattle.rb_rules.specs.ExactStage.{present}
 use Rattle.rb_judge.proofs.SomeNode.{some_is, some_none, and_both}
-use Rattle.rb_base.proofs.SetLoops.{passing_below}
 use Rattle.rb_base.proofs.Sets.{lt_true}
-use Rattle.rb_book.specs.declared.milestone.Milestone.{Milestone}
 use Rattle.rb_book.specs.declared.told.Told.{Told}
-use Rattle.rb_book.specs.Telling.{has_told, no_told, told_at}
-use Rattle.rb_book.specs.Waiting.{first_trusted, found_of, some_good, waiting_for}
+use Rattle.rb_book.specs.Telling.{no_told, told_at}
+use Rattle.rb_book.specs.Waiting.{first_trusted, found_of, some_good}
 
 pub map_from-append : {X Y : Type 0} (k : ℕ) (f : ℕ → X → Y) (xs ys : List X) → map_from k f (xs ++ ys) ≡ map_from k f xs ++ map_from (k + length xs) f ys
 map_from-append k f [] ys = let e : k + 0 ≡ k = omega arith in rw e refl
@@ -83,11 +81,6 @@ some_good_none count good passes none =
     go i true e = none i (grind (arith, nat_tests))
     go i false e = refl
 
-pub waiting_is : (count good : ℕ) (m : Milestone) (told : List Told) (waiting k : ℕ) → waiting ≡ passing_below k (λ i. has good i && not (has_told m (told_at told i)))
-    → k ≡ count → waiting ≡ waiting_for count good m told
-unfolding waiting_for
-waiting_is count good m told waiting k so_far same = so_far ∙ ap (λ n. passing_below n (λ i. has good i && not (has_told m (told_at told i)))) same
-
 -- a list that has grown by what is found of one node more
 pub record HasAdded {X : Type 0} (find : ℕ → Told → Option X) (told : List Told) (k : ℕ) (before now : List X) : Type 0 where
   pub is : now ≡ before ++ found_of find k told
@@ -105,16 +98,6 @@ line_added find told i before now after o h so_far is added most = record {
     one_at_most None = omega arith
     one_at_most (Some x) = omega arith
 
-pub all_sources : (sources set k : ℕ) (p : ℕ → Bool) → set ≡ passing_below k p → k ≡ sources → set ≡ passing_below sources p
-all_sources sources set k p so_far same = so_far ∙ ap (λ n. passing_below n p) same
-
-pub first_false : (a b : Bool) → a ≡ false → (a && b) ≡ false
-first_false a b h = rw h refl
-
-pub second_false : (a b : Bool) → b ≡ false → (a && b) ≡ false
-second_false true b h = h
-second_false false b h = refl
-
 -- The first of what is found.
 
 pub found_first : (find : ℕ → Told → Option Row) (told : List Told) (i n : ℕ) (trusted : Option (ℕ × ℕ)) → i < n → i < length told → found_of find i told ≡ []
@@ -126,12 +109,3 @@ found_first find told i n trusted h within none is some =
     first_front : (xs ys : List Row) → is_some (first_trusted xs) ≡ true → first_trusted (xs ++ ys) ≡ first_trusted xs
     first_front [] ys e = absurd (cc)
     first_front (x ∷ xs) ys e = refl
-
-pub found_not : (find : ℕ → Told → Option Row) (told : List Told) (i : ℕ) (trusted : Option (ℕ × ℕ)) → i < length told → found_of find i told ≡ []
-    → trusted ≡ first_trusted (option_to_list (find i (told_at told i))) → is_some trusted ≡ false → found_of find (i + 1) told ≡ []
-found_not find told i trusted within none is some =
-    found_more find told i within ∙ ap (λ l. l ++ option_to_list (find i (told_at told i))) none ∙ no_first (find i (told_at told i)) (sym (ap is_some is) ∙ some)
-  where
-    no_first : (o : Option Row) → is_some (first_trusted (option_to_list o)) ≡ false → option_to_list o ≡ []
-    no_first None e = refl
-    no_first (Some r) e = absurd (cc)

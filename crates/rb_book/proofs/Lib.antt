@@ -1,4 +1,5 @@
 pub mod Found
+pub mod Popped
 pub mod Alike
 pub mod Counted
 pub mod Rows
@@ -11,3 +12,4 @@ pub mod Due
 pub mod Noting
 pub mod First
 pub mod Worlds
+pub mod Kept

@@ -2,7 +2,7 @@
 use Rattle.std.proofs.Common.{◌≡◌, ◌≢◌, ℕ, zero, suc, ◌+◌, ◌<◌, ◌≤◌, ◌==◌, ◌&&◌, not, nat_lt, Bool, true, false, List, [], ◌∷◌, length, map, take, get_or, set, Some, refl, sym, ◌∙◌, ap, subst, arith, if◌then◌else◌, get_or-set_same, get_or-set_other}
 use Rattle.std.specs.Prelude.{Option, option_map, slice_index}
 use Rattle.std.proofs.lemmas.Bool.Decides.{nat_tests}
-use Rattle.std.proofs.lemmas.List.{get_or-take, length-set, length-take, map-set}
+use Rattle.std.proofs.lemmas.List.{get_or_past, get_or-take, length-set, length-take, map-set}
 use Rattle.std.proofs.Math.Seq.{map-set_same, take-set-lt}
 use Rattle.rb_base.specs.Nodes.{Side, has, other, set_of}
 use Rattle.rb_base.specs.Nodes.Side.{Biu, Rmu}
@@ -21,11 +21,12 @@ use Rattle.rb_book.specs.declared.group.Group.{Group}
 use Rattle.rb_book.specs.declared.milestone.Milestone.{Milestone}
 use Rattle.rb_book.specs.declared.told.Told.{Told}
 use Rattle.rb_book.specs.Grouping.{IsNoted}
-use Rattle.rb_book.specs.Holding.{AllLast, HoldsKind}
+use Rattle.rb_book.specs.Holding.{OthersLast, HoldsKind}
 use Rattle.rb_base.specs.Sizes.{sync_slot_of}
 use Rattle.rb_base.specs.declared.values.Place.{Place}
 use Rattle.rb_base.specs.declared.values.See.{See}
-use Rattle.rb_book.specs.Telling.{begun_in, begun_told, has_told, no_told, row_seeing, see_of, told_at, told_closed}
+use Rattle.rb_book.specs.Telling.{begun_in, begun_told, has_told, kept_of, no_told, row_seeing, see_of, told_at, told_closed}
+use Rattle.rb_book.proofs.Kept.{kept-at, length-kept}
 use Rattle.rb_rules.specs.declared.closing.Closed.{Closed}
 use Rattle.rb_rules.specs.declared.record.SlotLine.{SlotLine}
 use Rattle.rb_rules.specs.Hearing.{judged_see}
@@ -254,35 +255,48 @@ begun-noted sc kind m g h node t b change sites is inside most holds rows begins
         ap (λ n. holds.saw n j) same ∙ holds.sights node j (ap (λ (p : Place). is_good sc (other kind) j p.frame (sync_slot_of sc.sizes)) (sym place) ∙ bad) ∙ sym (see j)
     one i j false e bad = holds.sights i j bad
 
+-- what a node has told of sources that are not there, after a close
+pub none-seen : (counted : ℕ) (c : Closed) (times : List ℕ) (biu rmu : ℕ) (line : Option SlotLine) (t : Told) (n : ℕ)
+    → ((j : ℕ) → n ≤ j → get_or c.sees j Nothing ≡ Nothing) → ((j : ℕ) → n ≤ j → get_or t.sees j Nothing ≡ Nothing)
+    → (j : ℕ) → n ≤ j → get_or (told_closed counted c times biu rmu line t).sees j Nothing ≡ Nothing
+none-seen counted c times biu rmu line t n nobody none j past = by (nat_lt j 16) refl
+  where
+    either : (b : Bool) → (if b then get_or c.sees j Nothing else get_or t.sees j Nothing) ≡ Nothing
+    either true = nobody j past
+    either false = none j past
+
+    by : (b : Bool) → nat_lt j 16 ≡ b → get_or (kept_of counted Nothing c.sees t.sees) j Nothing ≡ Nothing
+    by true e = kept-at counted Nothing c.sees t.sees j (grind (arith, nat_tests)) ∙ either (has counted j)
+    by false e =
+        let long : length (kept_of counted Nothing c.sees t.sees) ≡ 16 = length-kept counted Nothing c.sees t.sees in
+        let most : length (kept_of counted Nothing c.sees t.sees) ≤ j = grind (arith, nat_tests) in
+        get_or_past (kept_of counted Nothing c.sees t.sees) j Nothing most
+
 -- what is kept at a close of sources that are not good to the end of its frame
-pub sees-kept : {K : Type 0} (counts : Bool) (sc : Scenario) (source : Side) (m : Milestone) (o : Group K) (sites : Each Site) (c : Closed) (times : List ℕ) (biu rmu : ℕ) (line : Option SlotLine) (t : Told)
-    → count_of source sc.sizes ≤ 16 → HoldsKind sc source m o sites → (counts ≡ false → AllLast m c.place.frame (count_of source sc.sizes) o.lasting)
+pub sees-kept : {K : Type 0} (counted : ℕ) (sc : Scenario) (source : Side) (m : Milestone) (o : Group K) (sites : Each Site) (c : Closed) (times : List ℕ) (biu rmu : ℕ) (line : Option SlotLine) (t : Told)
+    → count_of source sc.sizes ≤ 16 → HoldsKind sc source m o sites → OthersLast m c.place.frame (count_of source sc.sizes) o.lasting counted
     → ((j : ℕ) → count_of source sc.sizes ≤ j → get_or c.sees j Nothing ≡ Nothing) → ((j : ℕ) → count_of source sc.sizes ≤ j → get_or t.sees j Nothing ≡ Nothing)
     → (j : ℕ) → is_good sc source j c.place.frame (sync_slot_of sc.sizes) ≡ false
-    → judged_see (slice_index times j) (get_or c.sees j Nothing) ≡ see_of (told_closed counts c times biu rmu line t) j
-sees-kept true sc source m o sites c times biu rmu line t most holds last nobody none j bad = refl
-sees-kept false sc source m o sites c times biu rmu line t most holds last nobody none j bad = by (nat_lt j (count_of source sc.sizes)) refl
+    → judged_see (slice_index times j) (get_or c.sees j Nothing) ≡ see_of (told_closed counted c times biu rmu line t) j
+sees-kept counted sc source m o sites c times biu rmu line t most holds last nobody none j bad = by (nat_lt j (count_of source sc.sizes)) refl (has counted j) refl
   where
-    all : AllLast m c.place.frame (count_of source sc.sizes) o.lasting
-    all = last refl
-
-    by : (b : Bool) → nat_lt j (count_of source sc.sizes) ≡ b
-        → judged_see (slice_index times j) (get_or c.sees j Nothing) ≡ judged_see (slice_index t.times j) (get_or t.sees j Nothing)
-    by true e =
+    by : (b : Bool) → nat_lt j (count_of source sc.sizes) ≡ b → (k : Bool) → has counted j ≡ k
+        → judged_see (slice_index times j) (get_or c.sees j Nothing) ≡ see_of (told_closed counted c times biu rmu line t) j
+    by true e true there =
+        let small : j < 16 = grind (arith, nat_tests) in
+        let seen : get_or (kept_of counted Nothing c.sees t.sees) j Nothing ≡ get_or c.sees j Nothing = kept-at counted Nothing c.sees t.sees j small ∙ ap (λ b. if b then get_or c.sees j Nothing else get_or t.sees j Nothing) there in
+        let timed : slice_index (kept_of counted 0 times t.times) j ≡ slice_index times j = kept-at counted 0 times t.times j small ∙ ap (λ b. if b then get_or times j 0 else get_or t.times j 0) there in
+        ap (λ s. judged_see s (get_or c.sees j Nothing)) (sym timed) ∙ ap (judged_see (slice_index (kept_of counted 0 times t.times) j)) (sym seen)
+    by true e false out =
+        let lasts = last j e out in
         let good : is_good sc source j c.place.frame (sync_slot_of sc.sizes) ≡ true =
-        ap (λ f. is_good sc source j f (sync_slot_of sc.sizes)) (sym all.of_frame)
-        ∙ sym (ap (λ s. has s j) (holds.lasting all.place all.upcoming) ∙ good-is sc source all.place.frame (sync_slot_of sc.sizes) j most) ∙ all.lasts j e in
+        ap (λ f. is_good sc source j f (sync_slot_of sc.sizes)) (sym lasts.of_frame)
+        ∙ sym (ap (λ s. has s j) (holds.lasting lasts.place lasts.upcoming) ∙ good-is sc source lasts.place.frame (sync_slot_of sc.sizes) j most) ∙ lasts.member in
         absurd (cc)
-    by false e =
+    by false e k is =
         let past : count_of source sc.sizes ≤ j = grind (arith, nat_tests) in
-        ap (judged_see (slice_index times j)) (nobody j past) ∙ sym (ap (judged_see (slice_index t.times j)) (none j past))
-
--- what a node has told of sources that are not there, after a close
-pub none-seen : (counts : Bool) (c : Closed) (times : List ℕ) (biu rmu : ℕ) (line : Option SlotLine) (t : Told) (n : ℕ)
-    → ((j : ℕ) → n ≤ j → get_or c.sees j Nothing ≡ Nothing) → ((j : ℕ) → n ≤ j → get_or t.sees j Nothing ≡ Nothing)
-    → (j : ℕ) → n ≤ j → get_or (told_closed counts c times biu rmu line t).sees j Nothing ≡ Nothing
-none-seen true c times biu rmu line t n nobody none j past = nobody j past
-none-seen false c times biu rmu line t n nobody none j past = none j past
+        ap (judged_see (slice_index times j)) (nobody j past)
+        ∙ sym (ap (judged_see (slice_index (kept_of counted 0 times t.times) j)) (none-seen counted c times biu rmu line t (count_of source sc.sizes) nobody none j past))
 
 -- The world.
 

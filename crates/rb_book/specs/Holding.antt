@@ -52,12 +52,16 @@ IsComing sc (Begin frame) = frame ≤ sc.frames
 IsComing sc (Stage place) = IsStageOf sc place
 IsComing sc End = Unit {0}
 
--- all of so many nodes are good to the end of a frame, these being the nodes that are, where the upcoming milestone is a stage of it
-pub record AllLast (m : Milestone) (frame count lasting : ℕ) : Type 0 where
+-- a node is good to the end of a frame, these being the nodes that are, where the upcoming milestone is a stage of it
+pub record Lasts (m : Milestone) (frame lasting j : ℕ) : Type 0 where
   pub place : Place
   pub upcoming : m ≡ Stage place
   pub of_frame : place.frame ≡ frame
-  pub lasts : (j : ℕ) → nat_lt j count ≡ true → has lasting j ≡ true
+  pub member : has lasting j ≡ true
+
+-- of so many nodes those that are not counted are so
+abbrev pub OthersLast : Milestone → ℕ → ℕ → ℕ → ℕ → Type 0
+OthersLast m frame count lasting counted = (j : ℕ) → nat_lt j count ≡ true → has counted j ≡ false → Lasts m frame lasting j
 
 -- What the nodes of a kind told.
 

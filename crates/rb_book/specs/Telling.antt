@@ -1,6 +1,6 @@
 -- What a node has told last.
 use Rattle.std.specs.Prelude.{ℕ, Bool, true, false, Option, Some, None, option_map, is_some, List, [], get_or, slice_index, replicate, if◌then◌else◌}
-use Rattle.rb_base.specs.Nodes.{Side}
+use Rattle.rb_base.specs.Nodes.{Side, has}
 use Rattle.rb_base.specs.Nodes.Side.{Biu, Rmu}
 use Rattle.rb_base.specs.declared.values.Place.{Place}
 use Rattle.rb_base.specs.declared.values.See.{See}
@@ -81,14 +81,18 @@ fresh_told = record {
   begun = None;
 }
 
--- a node that told this has closed a stage. What it saw is kept where that counts
-abbrev pub told_closed : Bool → Closed → List ℕ → ℕ → ℕ → Option SlotLine → Told → Told
-told_closed counts c times biu rmu line t =
+-- of each of these sources what is new, and of the others what was kept before
+unfoldable pub kept_of : {X : Type 0} → ℕ → X → List X → List X → List X
+kept_of counted d new before = each_node (λ j. if has counted j then get_or new j d else get_or before j d)
+
+-- a node that told this has closed a stage. What it saw of a source is kept where that counts
+abbrev pub told_closed : ℕ → Closed → List ℕ → ℕ → ℕ → Option SlotLine → Told → Told
+told_closed counted c times biu rmu line t =
     record t {
       has_closed = true;
       place = c.place;
-      sees = if counts then c.sees else t.sees;
-      times = if counts then times else t.times;
+      sees = kept_of counted Nothing c.sees t.sees;
+      times = kept_of counted 0 times t.times;
       biu = biu;
       rmu = rmu;
       line = line;

@@ -100,24 +100,25 @@ impl<K: Copy> Group<K> {
         self.waiting = with_or_without(self.waiting, node, false);
     }
 
-    /// A node closes a stage, which may be known to be the upcoming milestone. What it saw is kept where that counts.
-    pub(crate) fn close(
+    /// A node closes a stage, which may be known to be the upcoming milestone. What it saw is kept of the sources of which
+    /// that counts.
+    pub(crate) fn close<S: Copy>(
         &mut self,
         node: u8,
         upcoming: Milestone,
         is_upcoming: bool,
         closed: &Closed,
         times: &[u64; 16],
-        counts: bool,
+        counted: NodeSet<S>,
         biu: NodeSet<Biu>,
         rmu: NodeSet<Rmu>,
     )
         requires node { node < 16 }
         requires upcoming { is_upcoming ≡ true → is_at upcoming closed.now.place ≡ true }
         ensures { IsNoted self.old self.new node upcoming
-            (told_closed counts closed.now times.now biu rmu (line_from node closed.now.delivered) (told_at self.old.told node)) }
+            (told_closed counted closed.now times.now biu rmu (line_from node closed.now.delivered) (told_at self.old.told node)) }
     {
-        self.told[usize::from(node)].close(node, closed, times, counts, biu, rmu);
+        self.told[usize::from(node)].close(node, closed, times, counted, biu, rmu);
         if is_upcoming {
             self.strike(node);
         } else {

@@ -1,5 +1,5 @@
 //! The book of a run, as it is kept.
-ghost use Rattle.std.specs.Prelude.{◌≡◌, IfSome, nat_lt, true, ◌+◌, ◌-◌, ◌^◌, ◌<◌, ◌≤◌, ◌==◌, ◌++◌, ℕ, false, is_none, get_or, Some, None, if◌then◌else◌};
+ghost use Rattle.std.specs.Prelude.{◌≡◌, IfSome, nat_lt, true, ◌+◌, ◌-◌, ◌^◌, ◌<◌, ◌≤◌, ◌==◌, ◌&&◌, ◌++◌, ℕ, false, is_none, get_or, Some, None, if◌then◌else◌};
 ghost use Rattle.rb_base.specs.Nodes.{has, other};
 ghost use Rattle.rb_base.specs.declared.values.See.TheVariants.{Nothing};
 ghost use Rattle.rb_rules.specs.Slots.{count_of};
@@ -178,25 +178,17 @@ fn is_quiet(turn: &Turn) -> bool
     matches!(turn, Turn::Quiet)
 }
 
-// Whether all of so many nodes are good to the end of the frame, these being the nodes that are.
-fn all_last<K: Copy>(count: u8, lasting: NodeSet<K>) -> bool
+// The sources, of so many, of which it counts what is seen. In the upcoming stage it doesn't of those that are known to be good to the end
+// of its frame.
+fn counted<K: Copy>(is_upcoming: bool, count: u8, lasting: NodeSet<K>) -> NodeSet<K>
     requires { count ≤ 16 }
-    ensures { result ≡ true → (j : ℕ) → nat_lt j count ≡ true → has lasting j ≡ true }
+    ensures { (j : ℕ) → nat_lt j count ≡ true → has result j ≡ false → (is_upcoming ≡ true) × (has lasting j ≡ true) }
 {
-    NodeSet::first(count).difference(lasting).is_empty()
-}
-
-// Whether what is seen of so many nodes counts. It doesn't in the upcoming stage where all of them are known to be good to the end of its
-// frame.
-fn counts<K: Copy>(is_upcoming: bool, count: u8, lasting: NodeSet<K>) -> bool
-    requires { count ≤ 16 }
-    ensures upcoming { result ≡ false → is_upcoming ≡ true }
-    ensures last { result ≡ false → (j : ℕ) → nat_lt j count ≡ true → has lasting j ≡ true }
-{
+    let all = NodeSet::first(count);
     if is_upcoming {
-        !all_last(count, lasting)
+        all.difference(lasting)
     } else {
-        true
+        all
     }
 }
 
@@ -389,14 +381,19 @@ impl Ledger {
         self.bius.good.is_empty() && self.rmus.good.is_empty()
     }
 
+    // Whether all good nodes have told of the upcoming milestone. Both kinds are one branch: a processor guesses badly which of them it
+    // still waits for.
+    fn all_have_told(&self) -> bool
+        ensures { result ≡ ((self.now.bius.waiting == 0) && (self.now.rmus.waiting == 0)) }
+    {
+        self.bius.waiting.is_empty() & self.rmus.waiting.is_empty()
+    }
+
     // Whether the upcoming milestone may be settled in this way, and all good nodes have told of it.
     fn is_due(&self, way: Way) -> bool
         ensures { result ≡ is_due way self.now }
     {
-        self.bius.waiting.is_empty()
-            && self.rmus.waiting.is_empty()
-            && comes_so(way, self.is_free())
-            && !self.ended
+        self.all_have_told() && comes_so(way, self.is_free()) && !self.ended
     }
 
     /// A node closes a window. What it saw of a source with a stamp is noted with the reference time of that source, and nothing of
@@ -424,15 +421,15 @@ impl Ledger {
         match node {
             NodeName::Biu(i) => {
                 let _bius = self.shape.biu();
-                let counts = counts(is_upcoming, self.shape.rmu(), self.rmus.lasting);
+                let counted = counted(is_upcoming, self.shape.rmu(), self.rmus.lasting);
                 self.bius
-                    .close(i, upcoming, is_upcoming, closed, times, counts, biu, rmu);
+                    .close(i, upcoming, is_upcoming, closed, times, counted, biu, rmu);
             }
             NodeName::Rmu(i) => {
                 let _rmus = self.shape.rmu();
-                let counts = counts(is_upcoming, self.shape.biu(), self.bius.lasting);
+                let counted = counted(is_upcoming, self.shape.biu(), self.bius.lasting);
                 self.rmus
-                    .close(i, upcoming, is_upcoming, closed, times, counts, biu, rmu);
+                    .close(i, upcoming, is_upcoming, closed, times, counted, biu, rmu);
             }
         }
     }

@@ -1,10 +1,11 @@
 //! What a node has told last.
 ghost use Rattle.std.specs.Prelude.{◌≡◌, ◌<◌, if◌then◌else◌};
+ghost use Rattle.rb_base.specs.declared.values.See.TheVariants.{Nothing};
 ghost use Rattle.rb_rules.specs.Judging.{are_alike, is_something};
 ghost use Rattle.rb_rules.specs.Majority.{same_heard};
 ghost use Rattle.rb_rules.specs.WorldStep.{same_place};
 ghost use Rattle.rb_book.specs.Changing.{line_from};
-ghost use Rattle.rb_book.specs.Telling.{fresh_told, has_told, see_of, told_begun_frame, told_closed};
+ghost use Rattle.rb_book.specs.Telling.{fresh_told, has_told, kept_of, see_of, told_begun_frame, told_closed};
 
 use crate::milestone::Milestone;
 use rb_base::{Biu, Delivery, Heard, NodeSet, Place, Rmu, See};
@@ -25,8 +26,8 @@ pub struct Told {
     /// Whether it has closed a stage. If so, the next are of the last one.
     pub has_closed: bool,
     pub place: Place,
-    /// What it saw of each source. Where that is a stamp, the reference time is beside it. Where all sources were good to the end
-    /// of the frame it is of an earlier stage.
+    /// What it saw of each source. Where that is a stamp, the reference time is beside it. Of sources that are good to the end of the
+    /// frame it is of an earlier stage.
     pub sees: [See; 16],
     pub times: [u64; 16],
     /// The trusted nodes of both kinds, as masks.
@@ -42,12 +43,22 @@ pub(crate) fn same_place(a: Place, b: Place) -> bool
     a == b
 }
 
-// What was seen is kept, if it counts.
-fn keep_sees(counts: bool, seen: &[See; 16], sees: &mut [See; 16])
-    ensures { sees.new ≡ (if counts then seen.now else sees.old) }
+// What was seen of each of these sources is kept, with its reference time. Of the others what was kept stays.
+fn keep_seen<S: Copy>(
+    counted: NodeSet<S>,
+    seen: &[See; 16],
+    seen_at: &[u64; 16],
+    sees: &mut [See; 16],
+    times: &mut [u64; 16],
+)
+    ensures sees { sees.new ≡ kept_of counted Nothing seen.now sees.old }
+    ensures times { times.new ≡ kept_of counted 0 seen_at.now times.old }
 {
-    if counts {
-        *sees = *seen;
+    let mut left = counted;
+    while let Some(source) = left.pop_first() {
+        let at = usize::from(source.index());
+        sees[at] = seen[at];
+        times[at] = seen_at[at];
     }
 }
 
@@ -64,15 +75,6 @@ fn keep_line(receiver: u8, delivered: Option<Delivery>, line: &mut Option<SlotLi
             });
         }
         None => *line = None,
-    }
-}
-
-// What was seen as reference times is kept, if it counts.
-fn keep_times(counts: bool, seen: &[u64; 16], times: &mut [u64; 16])
-    ensures { times.new ≡ (if counts then seen.now else times.old) }
-{
-    if counts {
-        *times = *seen;
     }
 }
 
@@ -96,23 +98,28 @@ impl Told {
         }
     }
 
-    /// It, node `i`, closes a stage, having seen this of each source, some at these reference times. What was seen is kept where it
-    /// counts.
-    pub(crate) fn close(
+    /// It, node `i`, closes a stage, having seen this of each source, some at these reference times. What was seen is kept of the sources
+    /// of which it counts.
+    pub(crate) fn close<S: Copy>(
         &mut self,
         i: u8,
         closed: &Closed,
         times: &[u64; 16],
-        counts: bool,
+        counted: NodeSet<S>,
         biu: NodeSet<Biu>,
         rmu: NodeSet<Rmu>,
     )
-        ensures { self.new ≡ told_closed counts closed.now times.now biu rmu (line_from i closed.now.delivered) self.old }
+        ensures { self.new ≡ told_closed counted closed.now times.now biu rmu (line_from i closed.now.delivered) self.old }
     {
         self.has_closed = true;
         self.place = closed.place;
-        keep_sees(counts, &closed.sees, &mut self.sees);
-        keep_times(counts, times, &mut self.times);
+        keep_seen(
+            counted,
+            &closed.sees,
+            times,
+            &mut self.sees,
+            &mut self.times,
+        );
         self.biu = biu.bits();
         self.rmu = rmu.bits();
         keep_line(i, closed.delivered, &mut self.line);

@@ -2,19 +2,28 @@
 ghost use Rattle.std.specs.Prelude.{◌≡◌, ℕ, ◌+◌, ◌<◌, ◌≤◌, ◌++◌, [], not, ◌&&◌, true, IfSome, nat_lt, option_to_list, length};
 ghost use Rattle.rb_base.specs.Nodes.{has, set_of};
 ghost use Rattle.rb_rules.specs.Judging.{are_alike, is_something};
-ghost use Rattle.rb_book.specs.Telling.{has_told, see_of, told_at};
-ghost use Rattle.rb_book.specs.Waiting.{differs, first_trusted, found_of, is_time, line_of, node_line_of, port_line_of, row_at, row_if, waiting_for, was_taken, was_unlike};
+ghost use Rattle.rb_rules.specs.WorldStep.{row_for};
+ghost use Rattle.rb_book.specs.Telling.{has_told, row_told, see_of, told_at};
+ghost use Rattle.rb_book.specs.Waiting.{differs, first_trusted, found_of, is_time, line_of, node_line_of, port_line_of, row_at, waiting_for, was_taken, was_unlike};
 
 use crate::milestone::Milestone;
 use crate::told::{Told, are_alike, is_something};
 use arrayvec::ArrayVec;
-use rb_base::{NodeId, NodeSet, Place, See};
+use rb_base::{NodeSet, Place, See};
 use rb_rules::{NodeLine, PortLine, SlotLine};
 
-fn is_awaited(is_good: bool, told: &Told, milestone: Milestone) -> bool
-    ensures { result ≡ (is_good && not (has_told milestone told.now)) }
+// Those of a set that are among so many nodes.
+fn those_below<K: Copy>(count: u8, set: NodeSet<K>) -> NodeSet<K>
+    requires { count ≤ 16 }
+    ensures { result ≡ set_of (λ i. nat_lt i count && has set i) }
 {
-    is_good && !told.has_told(milestone)
+    NodeSet::first(count).intersection(set)
+}
+
+fn is_awaited(told: &Told, milestone: Milestone) -> bool
+    ensures { result ≡ not (has_told milestone told.now) }
+{
+    !told.has_told(milestone)
 }
 
 /// The good ones, of so many nodes, that have not told of the milestone.
@@ -28,9 +37,10 @@ pub(crate) fn waiting_for<K: Copy>(
     ensures { result ≡ waiting_for count good milestone told.now }
 {
     let mut waiting = NodeSet::empty();
-    for i in 0..count {
-        if is_awaited(good.has(i), &told[usize::from(i)], milestone) {
-            waiting.insert(NodeId::of(i));
+    let mut left = those_below(count, good);
+    while let Some(id) = left.pop_first() {
+        if is_awaited(&told[usize::from(id.index())], milestone) {
+            waiting.insert(id);
         }
     }
     waiting
@@ -46,29 +56,29 @@ fn add<T: Drop, const N: usize>(items: &mut ArrayVec<T, N>, item: Option<T>)
     }
 }
 
-fn node_line(is_good: bool, told: &Told, frame: u32) -> Option<NodeLine>
-    ensures { result ≡ node_line_of frame is_good told.now }
+fn node_line(told: &Told, frame: u32) -> Option<NodeLine>
+    ensures { result ≡ node_line_of frame true told.now }
 {
     match told.begun {
-        Some(begun) if is_good && begun.frame == frame => Some(begun.line),
+        Some(begun) if begun.frame == frame => Some(begun.line),
         _ => None,
     }
 }
 
-fn port_line(is_good: bool, told: &Told, frame: u32) -> Option<PortLine>
-    ensures { result ≡ port_line_of frame is_good told.now }
+fn port_line(told: &Told, frame: u32) -> Option<PortLine>
+    ensures { result ≡ port_line_of frame true told.now }
 {
     match told.begun {
-        Some(begun) if is_good && begun.frame == frame => Some(begun.port),
+        Some(begun) if begun.frame == frame => Some(begun.port),
         _ => None,
     }
 }
 
-fn slot_line(is_good: bool, told: &Told, place: Place) -> Option<SlotLine>
-    ensures { result ≡ line_of place is_good told.now }
+fn slot_line(told: &Told, place: Place) -> Option<SlotLine>
+    ensures { result ≡ line_of place true told.now }
 {
     match told.line {
-        Some(line) if is_good && told.has_told(Milestone::Stage(place)) => Some(line),
+        Some(line) if told.has_told(Milestone::Stage(place)) => Some(line),
         _ => None,
     }
 }
@@ -86,8 +96,9 @@ pub(crate) fn add_node_lines<K: Copy>(
     ensures lines { lines.new.items ≡ lines.old.items ++ found_of (λ i t. node_line_of frame (has good i) t) count told.now }
     ensures most { length lines.new.items ≤ length lines.old.items + count }
 {
-    for i in 0..count {
-        let line = node_line(good.has(i), &told[usize::from(i)], frame);
+    let mut left = those_below(count, good);
+    while let Some(id) = left.pop_first() {
+        let line = node_line(&told[usize::from(id.index())], frame);
         add(lines, line);
     }
 }
@@ -103,8 +114,9 @@ pub(crate) fn port_lines<K: Copy>(
     ensures { result.items ≡ found_of (λ i t. port_line_of frame (has good i) t) count told.now }
 {
     let mut lines = ArrayVec::new();
-    for i in 0..count {
-        let line = port_line(good.has(i), &told[usize::from(i)], frame);
+    let mut left = those_below(count, good);
+    while let Some(id) = left.pop_first() {
+        let line = port_line(&told[usize::from(id.index())], frame);
         add(&mut lines, line);
     }
     lines
@@ -122,16 +134,17 @@ pub(crate) fn slot_lines<K: Copy>(
     ensures { lines.new.items ≡ found_of (λ i t. line_of place (has good i) t) count told.now }
 {
     lines.clear();
-    for i in 0..count {
-        let line = slot_line(good.has(i), &told[usize::from(i)], place);
+    let mut left = those_below(count, good);
+    while let Some(id) = left.pop_first() {
+        let line = slot_line(&told[usize::from(id.index())], place);
         add(lines, line);
     }
 }
 
-fn trusted_in(is_good: bool, told: &Told, place: Place) -> Option<(u16, u16)>
-    ensures { result ≡ first_trusted (option_to_list (row_if place is_good told.now)) }
+fn trusted_in(told: &Told, place: Place) -> Option<(u16, u16)>
+    ensures { result ≡ first_trusted (option_to_list (row_for place (row_told told.now))) }
 {
-    if is_good && told.has_told(Milestone::Stage(place)) {
+    if told.has_told(Milestone::Stage(place)) {
         Some((told.biu, told.rmu))
     } else {
         None
@@ -148,8 +161,9 @@ pub(crate) fn first_trusted<K: Copy>(
     requires { count ≤ 16 }
     ensures { result ≡ first_trusted (found_of (row_at good place) count told.now) }
 {
-    for i in 0..count {
-        let trusted = trusted_in(good.has(i), &told[usize::from(i)], place);
+    let mut left = those_below(count, good);
+    while let Some(id) = left.pop_first() {
+        let trusted = trusted_in(&told[usize::from(id.index())], place);
         if trusted.is_some() {
             return trusted;
         }
@@ -157,18 +171,18 @@ pub(crate) fn first_trusted<K: Copy>(
     None
 }
 
-fn takes(is_good: bool, told: &Told, source: u8) -> bool
+fn takes(told: &Told, source: u8) -> bool
     requires { source < 16 }
-    ensures { result ≡ (is_good && is_something (see_of told.now source)) }
+    ensures { result ≡ is_something (see_of told.now source) }
 {
-    is_good && is_something(told.see(source))
+    is_something(told.see(source))
 }
 
-fn is_other(is_good: bool, a: &Told, b: &Told, eps: u32, source: u8) -> bool
+fn is_other(seen: See, told: &Told, eps: u32, source: u8) -> bool
     requires { source < 16 }
-    ensures { result ≡ (is_good && not (are_alike eps (see_of a.now source) (see_of b.now source))) }
+    ensures { result ≡ not (are_alike eps seen (see_of told.now source)) }
 {
-    is_good && !are_alike(eps, a.see(source), b.see(source))
+    !are_alike(eps, seen, told.see(source))
 }
 
 /// Whether a good one, of so many receivers, took something of a source.
@@ -177,8 +191,9 @@ pub(crate) fn was_taken<K: Copy>(count: u8, good: NodeSet<K>, told: &[Told; 16],
     requires source { source < 16 }
     ensures { result ≡ was_taken count good told.now source }
 {
-    for i in 0..count {
-        if takes(good.has(i), &told[usize::from(i)], source) {
+    let mut left = those_below(count, good);
+    while let Some(receiver) = left.pop_first() {
+        if takes(&told[usize::from(receiver.index())], source) {
             return true;
         }
     }
@@ -199,9 +214,10 @@ fn differs<K: Copy>(
     requires receiver { receiver < 16 }
     ensures { result ≡ differs eps count good told.now source receiver }
 {
-    let seen = &told[usize::from(receiver)];
-    for i in 0..count {
-        if is_other(good.has(i), seen, &told[usize::from(i)], eps, source) {
+    let seen = told[usize::from(receiver)].see(source);
+    let mut left = those_below(count, good);
+    while let Some(other) = left.pop_first() {
+        if is_other(seen, &told[usize::from(other.index())], eps, source) {
             return true;
         }
     }
@@ -212,12 +228,11 @@ fn differs<K: Copy>(
 fn first_good<K: Copy>(count: u8, good: NodeSet<K>) -> Option<u8>
     ensures { IfSome result (λ i. (i < count) × (has good i ≡ true)) }
 {
-    for i in 0..count {
-        if good.has(i) {
-            return Some(i);
-        }
+    let mut left = good;
+    match left.pop_first() {
+        Some(first) if first.index() < count => Some(first.index()),
+        _ => None,
     }
-    None
 }
 
 // Whether a source was seen with a time.
@@ -261,8 +276,9 @@ fn some_differ<K: Copy>(
     requires source { source < 16 }
     ensures { result ≡ was_unlike eps count good told.now source }
 {
-    for i in 0..count {
-        if good.has(i) && differs(eps, count, good, told, source, i) {
+    let mut left = those_below(count, good);
+    while let Some(receiver) = left.pop_first() {
+        if differs(eps, count, good, told, source, receiver.index()) {
             return true;
         }
     }
@@ -282,9 +298,10 @@ pub(crate) fn taken_among<K: Copy, R: Copy>(
     ensures { result ≡ set_of (λ j. nat_lt j sources && (has among j && was_taken count good told.now j)) }
 {
     let mut taken = NodeSet::empty();
-    for source in 0..sources {
-        if among.has(source) && was_taken(count, good, told, source) {
-            taken.insert(NodeId::of(source));
+    let mut left = those_below(sources, among);
+    while let Some(source) = left.pop_first() {
+        if was_taken(count, good, told, source.index()) {
+            taken.insert(source);
         }
     }
     taken
@@ -304,9 +321,10 @@ pub(crate) fn unlike_among<K: Copy, R: Copy>(
     ensures { result ≡ set_of (λ j. nat_lt j sources && (has among j && was_unlike eps count good told.now j)) }
 {
     let mut unlike = NodeSet::empty();
-    for source in 0..sources {
-        if among.has(source) && was_unlike(eps, count, good, told, source) {
-            unlike.insert(NodeId::of(source));
+    let mut left = those_below(sources, among);
+    while let Some(source) = left.pop_first() {
+        if was_unlike(eps, count, good, told, source.index()) {
+            unlike.insert(source);
         }
     }
     unlike

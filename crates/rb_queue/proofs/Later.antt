@@ -1,10 +1,9 @@
 -- What is left of a lane where all that comes before a time is dropped.
-use Rattle.std.proofs.Common.{◌≡◌, ℕ, zero, suc, ◌+◌, ◌-◌, ◌≤◌, nat_le, nat_lt, Bool, true, false, ◌&&◌, Option, Some, None, slice_get, List, [], ◌∷◌, length, drop, filter, cond, refl, sym, ap, ◌∙◌, subst, arith}
-use Rattle.std.specs.List.{list_all}
+use Rattle.std.proofs.Common.{◌≡◌, ℕ, zero, suc, ◌+◌, ◌-◌, ◌<◌, ◌≤◌, nat_le, Bool, true, false, Option, Some, None, slice_get, List, [], ◌∷◌, length, drop, filter, cond, refl, sym, ap, ◌∙◌, subst, arith}
 use Rattle.std.proofs.lemmas.Bool.Decides.{nat_tests}
 use Rattle.std.proofs.lemmas.List.{length-drop}
 use Rattle.rb_rules.specs.Hearing.{Coming}
-use Rattle.rb_queue.specs.Scanning.{AreSorted}
+use Rattle.rb_queue.specs.Scanning.{AreBy, AreSorted}
 use Rattle.rb_queue.specs.Keeping.{IsLane}
 use Rattle.rb_queue.specs.Queued.{IsQueue}
 use Rattle.rb_queue.specs.Waiting.{Held, without_before}
@@ -56,9 +55,9 @@ fewer p (x ∷ xs) = go (fewer p xs) (p x)
     go rest true = omega (arith, rest)
 
 -- the lane is kept
-pub lane_left : (p : Coming → Bool) (kept new : List Coming) (start room capacity reserved : ℕ) (sorted : Bool) → IsLane kept start room capacity sorted
-    → new ≡ filter p (drop start kept) → reserved ≡ capacity → IsLane new 0 room reserved sorted
-lane_left p kept new start room capacity reserved sorted is left same =
+pub lane_left : (p : Coming → Bool) (kept new : List Coming) (start room capacity reserved : ℕ) (sorted : Bool) (latest : ℕ)
+    → IsLane kept start room capacity sorted latest → new ≡ filter p (drop start kept) → reserved ≡ capacity → IsLane new 0 room reserved sorted latest
+lane_left p kept new start room capacity reserved sorted latest is left same =
     let fits : length kept - start ≤ room = is.fits in
     let few : length new ≤ length (drop start kept) = subst (λ l. length l ≤ length (drop start kept)) (sym left) (fewer p (drop start kept)) in
     let behind : length (drop start kept) ≡ length kept - start = length-drop start kept in
@@ -68,6 +67,7 @@ lane_left p kept new start room capacity reserved sorted is left same =
       fits = omega (arith, fits, few, behind);
       reserved = omega (arith, full, same);
       in_order = λ e. subst AreSorted (sym left) (sorted_left p (drop start kept) (is.in_order e));
+      by = subst (AreBy latest) (sym left) (λ k c e. let w = among p (drop start kept) k c e in is.by w.0 c w.1);
     }
 
 -- so is what stands beside it
@@ -79,14 +79,10 @@ queue_left until lane new more capacity is left =
     subst (λ l. IsQueue l more capacity) (sym left) (record { fits = omega (arith, few, fits); reserved = is.reserved })
 
 -- nothing is left where all come before
-pub none_left : (until : ℕ) (xs : List Coming) → list_all (λ c. nat_lt c.time until) xs ≡ true → filter (λ c. nat_le until c.time) xs ≡ []
-none_left until [] h = refl
-none_left until (x ∷ xs) h = go (none_left until xs) (nat_lt x.time until) refl h
-  where
-    later : Coming → Bool
-    later c = nat_le until c.time
-
-    go : (list_all (λ c. nat_lt c.time until) xs ≡ true → filter later xs ≡ []) → (b : Bool) → nat_lt x.time until ≡ b
-        → b && list_all (λ c. nat_lt c.time until) xs ≡ true → cond (later x) (x ∷ filter later xs) (filter later xs) ≡ []
-    go rest false e h = absurd (let no : false ≡ true = h in cc)
-    go rest true e h = let early : nat_le until x.time ≡ false = grind (arith, nat_tests) in ap (λ b. cond b (x ∷ filter later xs) (filter later xs)) early ∙ rest h
+pub none_left : (until latest : ℕ) (xs : List Coming) → AreBy latest xs → latest < until → filter (λ c. nat_le until c.time) xs ≡ []
+none_left until latest [] by later = refl
+none_left until latest (x ∷ xs) by later =
+    let due : x.time ≤ latest = by 0 x refl in
+    let early : nat_le until x.time ≡ false = grind (arith, nat_tests) in
+    ap (λ b. cond b (x ∷ filter (λ c. nat_le until c.time) xs) (filter (λ c. nat_le until c.time) xs)) early
+    ∙ none_left until latest xs (λ k c e. by (suc k) c e) later

@@ -1,13 +1,12 @@
 -- Arrivals that are sorted, and those that are left of a list.
-use Rattle.std.proofs.Common.{◌≡◌, ℕ, zero, suc, ◌+◌, ◌-◌, ◌<◌, ◌≤◌, Bool, false, Option, Some, None, slice_get, List, [], ◌∷◌, ◌++◌, length, drop, get_or, refl, sym, ap, ◌∙◌, subst, arith, inl, inr}
-use Rattle.std.specs.Prelude.{remove}
+use Rattle.std.proofs.Common.{◌≡◌, ℕ, zero, suc, ◌+◌, ◌-◌, ◌<◌, ◌≤◌, Bool, Option, Some, slice_get, List, [], ◌∷◌, ◌++◌, length, drop, get_or, refl, sym, ap, ◌∙◌, subst, arith, inl, inr}
+use Rattle.std.specs.Prelude.{max, remove}
 use Rattle.std.proofs.lemmas.List.{drop_more, length-drop}
-use Rattle.std.proofs.lemmas.Option.{slice_get-get_or}
 use Rattle.rb_rules.specs.Hearing.{Coming}
 use Rattle.rb_queue.specs.Waiting.{Held, without_place}
-use Rattle.rb_queue.specs.Scanning.{AreSorted, HasFirst, comes_before}
+use Rattle.rb_queue.specs.Scanning.{AreBy, AreSorted, HasFirst}
 use Rattle.rb_queue.specs.Keeping.{IsLane}
-use Rattle.rb_queue.proofs.First.{is_last, not_before}
+use Rattle.rb_queue.proofs.First.{is_last}
 use Rattle.rb_queue.proofs.Sources.{is_within}
 
 -- the first of them stands in front
@@ -41,30 +40,17 @@ sorted_more xs x s above =
       ]
     ]
 
-pub sorted_alone : (xs : List Coming) (x : Coming) → length xs ≡ 0 → AreSorted (xs ++ x ∷ [])
-sorted_alone [] x none =
-    sorted_more [] x (λ j k c d le aj ak. absurd (let no : ◌≡◌ {A = Option Coming} None (Some c) = aj in cc))
-    (λ k c aj. absurd (let no : ◌≡◌ {A = Option Coming} None (Some c) = aj in cc))
-sorted_alone (y ∷ ys) x none = absurd (omega arith)
+-- one more that comes later than all
+pub sorted_later_than : (xs : List Coming) (x : Coming) (latest : ℕ) → AreSorted xs → AreBy latest xs → latest < x.time → AreSorted (xs ++ x ∷ [])
+sorted_later_than xs x latest s by later =
+    sorted_more xs x s (λ k c e. let early : c.time ≤ latest = by k c e in (omega (arith, early, later), λ same. absurd (omega (arith, early, later, same))))
 
--- one more that comes no sooner than the last
-pub sorted_behind : (xs : List Coming) (x l : Coming) → AreSorted xs → 0 < length xs → l ≡ get_or xs (length xs - 1) l → comes_before x l ≡ false
-    → AreSorted (xs ++ x ∷ [])
-sorted_behind xs x l s some at after =
-    let so = not_before x.time l.time x.from l.from after in
-    let late : l.time ≤ x.time = so.0 in
-    let within : length xs - 1 < length xs = omega (arith, some) in
-    let there : slice_get xs (length xs - 1) ≡ Some l = slice_get-get_or xs (length xs - 1) l within ∙ ap (λ y. Some y) (sym at) in
-    sorted_more xs x s (λ k c e.
-    let inside : k < length xs = is_within xs k c e in
-    let up = s k (length xs - 1) c l (omega (arith, inside)) e there in
-    let early : c.time ≤ l.time = up.0 in (
-      omega (arith, early, late),
-      λ same.
-          let a : c.time ≡ l.time = omega (arith, early, late, same) in
-          let b : x.time ≡ l.time = omega (arith, early, late, same) in
-          omega (arith, up.1 a, so.1 b),
-    ))
+-- one more is due by the later of two times
+pub by_more : (xs : List Coming) (x : Coming) (latest : ℕ) → AreBy latest xs → AreBy (max latest x.time) (xs ++ x ∷ [])
+by_more xs x latest by = λ k c e. elim (is_last xs x c k e) [
+  | inl old ↦ let early : c.time ≤ latest = by k c old in omega (arith, early)
+  | inr new ↦ subst (λ (r : Coming). r.time ≤ max latest x.time) (sym new.1) (omega arith)
+]
 
 sorted_tail : (x : Coming) (xs : List Coming) → AreSorted (x ∷ xs) → AreSorted xs
 sorted_tail x xs s = λ j k c d le aj ak. s (suc j) (suc k) c d (omega (arith, le)) aj ak
@@ -75,16 +61,20 @@ nothing = record { time = 0; from = 0; bytes = [] }
 sorted_later : (xs : List Coming) (n : ℕ) → n < length xs → AreSorted (drop n xs) → AreSorted (drop (n + 1) xs)
 sorted_later xs n h s = sorted_tail (get_or xs n nothing) (drop (n + 1) xs) (subst AreSorted (drop_more xs n nothing h) s)
 
+by_later : (xs : List Coming) (n latest : ℕ) → n < length xs → AreBy latest (drop n xs) → AreBy latest (drop (n + 1) xs)
+by_later xs n latest h by = λ k c e. by (suc k) c (subst (λ l. slice_get l (suc k) ≡ Some c) (sym (drop_more xs n nothing h)) e)
+
 -- the start moves on
-pub lane_later : (kept : List Coming) (start room capacity : ℕ) (sorted : Bool) → IsLane kept start room capacity sorted → start + 1 < length kept
-    → IsLane kept (start + 1) room capacity sorted
-lane_later kept start room capacity sorted is more =
+pub lane_later : (kept : List Coming) (start room capacity : ℕ) (sorted : Bool) (latest : ℕ) → IsLane kept start room capacity sorted latest → start + 1 < length kept
+    → IsLane kept (start + 1) room capacity sorted latest
+lane_later kept start room capacity sorted latest is more =
     let fits : length kept - start ≤ room = is.fits in
     record {
       begins = omega (arith, more);
       fits = omega (arith, fits);
       reserved = is.reserved;
       in_order = λ e. sorted_later kept start (omega (arith, more)) (is.in_order e);
+      by = by_later kept start latest (omega (arith, more)) is.by;
     }
 
 front_gone : (kept : List Coming) (start : ℕ) → start < length kept → drop (start + 1) kept ≡ remove (drop start kept) 0
@@ -110,6 +100,22 @@ lane_without kept new start place room tick lane h gone is =
     ap (λ l. record { arrivals = l; tick = tick; room = room })
     (ap (drop start) gone ∙ drop-remove kept start place (omega (arith, h, length-drop start kept)))
     ∙ ap (without_place place) is
+
+by_left : (xs : List Coming) (p latest : ℕ) → AreBy latest xs → AreBy latest (remove xs p)
+by_left [] zero latest by = by
+by_left [] (suc p) latest by = by
+by_left (x ∷ xs) zero latest by = λ k c e. by (suc k) c e
+by_left (x ∷ xs) (suc p) latest by = go (by_left xs p latest (λ k c e. by (suc k) c e))
+  where
+    go : AreBy latest (remove xs p) → (k : ℕ) (c : Coming) → slice_get (x ∷ remove xs p) k ≡ Some c → c.time ≤ latest
+    go rest zero c e = by 0 c e
+    go rest (suc k) c e = rest k c e
+
+-- one of them is gone
+pub by_without : (kept new : List Coming) (start place latest : ℕ) → place < length (drop start kept) → new ≡ remove kept (start + place)
+    → AreBy latest (drop start kept) → AreBy latest (drop start new)
+by_without kept new start place latest h gone by =
+    subst (AreBy latest) (sym (ap (drop start) gone ∙ drop-remove kept start place (omega (arith, h, length-drop start kept)))) (by_left (drop start kept) place latest by)
 
 pub drop-push : {X : Type 0} (xs : List X) (s : ℕ) (x : X) → s ≤ length xs → drop s (xs ++ x ∷ []) ≡ drop s xs ++ x ∷ []
 drop-push xs zero x h = refl

@@ -37,6 +37,10 @@ abbrev pub AreSorted : List Coming → Type 0
 AreSorted arrivals = (j k : ℕ) (c d : Coming) → j ≤ k → slice_get arrivals j ≡ Some c → slice_get arrivals k ≡ Some d
     → (c.time ≤ d.time) × (c.time ≡ d.time → c.from ≤ d.from)
 
+-- each is due by this time
+abbrev pub AreBy : ℕ → List Coming → Type 0
+AreBy latest arrivals = (k : ℕ) (c : Coming) → slice_get arrivals k ≡ Some c → c.time ≤ latest
+
 -- the tick comes before this time
 abbrev pub is_sooner : Option ℕ → ℕ → Bool
 is_sooner None time = false

@@ -1,12 +1,12 @@
 //! The pending events of one node.
-ghost use Rattle.std.specs.Prelude.{◌≡◌, ◌+◌, ◌-◌, ◌<◌, ◌≤◌, drop, filter, length, nat_le, Some, IfOk, slice_get, IsNone, IsTrue, ◌↔◌, vec_capacity};
+ghost use Rattle.std.specs.Prelude.{◌≡◌, [], ◌+◌, ◌-◌, ◌<◌, ◌≤◌, drop, filter, length, nat_le, Some, IfOk, slice_get, IsNone, IsTrue, ◌↔◌, vec_capacity};
 ghost use Rattle.rb_queue.specs.Waiting.{IsFirstBefore, IsIdle, empty_lane, event_with, head_of, ready_event, ready_of, spare_of, with_arrival, with_tick, without_before, without_events, without_place, without_ready, without_tick};
 ghost use Rattle.rb_queue.specs.Waiting.Ready.{Comes, Ticks};
 ghost use Rattle.rb_queue.specs.Scanning.{HasFirst, IsReadyAt};
 
 use crate::arrival::Arrival;
 use crate::scan::{
-    are_before, count, count_ready, first_of, first_sorted, is_sooner, is_sorted_with, least_time,
+    count, count_ready, first_of, first_sorted, is_sooner, is_sorted_with, latest_with, least_time,
     place_of,
 };
 use rb_base::{Event, EventKind, NodeName, OutOfMemory};
@@ -21,6 +21,8 @@ pub(crate) struct Lane {
     start: usize,
     // If so, each arrival comes no sooner than those before it.
     sorted: bool,
+    // All arrivals are due by this time.
+    latest: u64,
     tick: Option<u64>,
     room: usize,
 }
@@ -34,7 +36,7 @@ impl Model for Lane {
 
     ghost view = { λ l. record { arrivals = drop l.start l.kept.items; tick = l.tick; room = l.room } };
 
-    ghost invariant = { λ l. IsLane l.kept.items l.start l.room (vec_capacity l.kept) l.sorted };
+    ghost invariant = { λ l. IsLane l.kept.items l.start l.room (vec_capacity l.kept) l.sorted l.latest };
 }
 
 // Where those before the start are gone, and there is no room behind, the others move to the front. Returns the new start.
@@ -99,6 +101,7 @@ impl Lane {
             kept,
             start: 0,
             sorted: true,
+            latest: 0,
             tick: None,
             room,
         })
@@ -124,7 +127,9 @@ impl Lane {
         ensures { self.new ≡ with_arrival arrival self.old }
     {
         self.start = make_room(&mut self.kept, self.start, self.room);
-        self.sorted = is_sorted_with(&self.kept[self.start..], self.sorted, &arrival);
+        let waiting = &self.kept[self.start..];
+        self.sorted = is_sorted_with(waiting, self.sorted, self.latest, &arrival);
+        self.latest = latest_with(waiting, self.latest, &arrival);
         self.kept.push_reserved(arrival);
     }
 
@@ -258,6 +263,17 @@ impl Lane {
         &self.waiting()[place]
     }
 
+    // Drops all arrivals.
+    #[inline(always)]
+    fn drop_waiting(&mut self)
+        ensures { self.new ≡ record self.old { arrivals = [] } }
+    {
+        self.kept.clear();
+        self.start = 0;
+        self.sorted = true;
+        self.latest = 0;
+    }
+
     // Drops the first in the order of pushing.
     #[inline(always)]
     fn drop_front(&mut self)
@@ -268,9 +284,7 @@ impl Lane {
             self.start += 1;
             return;
         }
-        self.kept.clear();
-        self.start = 0;
-        self.sorted = true;
+        self.drop_waiting();
     }
 
     #[inline(always)]
@@ -291,10 +305,8 @@ impl Lane {
     pub(crate) fn drop_before(&mut self, until: u64)
         ensures { self.new ≡ without_before until self.old }
     {
-        if are_before(self.waiting(), until) {
-            self.kept.clear();
-            self.start = 0;
-            self.sorted = true;
+        if self.latest < until {
+            self.drop_waiting();
             return;
         }
         keep_later(&mut self.kept, self.start, until);
@@ -318,9 +330,7 @@ impl Lane {
     pub(crate) fn clear(&mut self)
         ensures { self.new ≡ without_events self.old }
     {
-        self.kept.clear();
-        self.start = 0;
-        self.sorted = true;
+        self.drop_waiting();
         self.tick = None;
     }
 }

@@ -1,10 +1,9 @@
 //! What is looked up among the arrivals of one lane.
 ghost use Rattle.std.specs.Prelude.{◌≡◌, ℕ, ◌+◌, ◌<◌, ◌≤◌, ◌++◌, ◌∷◌, [], length, map, nat_lt, true, MatchResult, Option, option_to_list};
-ghost use Rattle.std.specs.List.{list_all};
 ghost use Rattle.rb_base.specs.Counting.{count_if};
 ghost use Rattle.rb_rules.specs.WorldStep.{least};
 ghost use Rattle.rb_queue.specs.Waiting.{arrivals_at, coming_at, comes, tick_at, unless_any};
-ghost use Rattle.rb_queue.specs.Scanning.{AreSorted, HasFirst, StandsAt, is_between, is_sooner};
+ghost use Rattle.rb_queue.specs.Scanning.{AreBy, AreSorted, HasFirst, StandsAt, is_between, is_sooner};
 
 use crate::arrival::Arrival;
 
@@ -50,27 +49,28 @@ pub(crate) fn first_sorted(arrivals: &[Arrival]) -> usize
     0
 }
 
-// Whether all of them come before this time.
+// Whether they are known to be sorted with one more behind them.
 #[inline(always)]
-pub(crate) fn are_before(arrivals: &[Arrival], until: u64) -> bool
-    ensures { result ≡ list_all (λ c. nat_lt c.time until) arrivals.now }
-{
-    arrivals.iter().all(|arrival| arrival.time() < until)
-}
-
-// Whether they are sorted with one more behind them.
-#[inline(always)]
-pub(crate) fn is_sorted_with(arrivals: &[Arrival], sorted: bool, arrival: &Arrival) -> bool
-    requires { sorted ≡ true → AreSorted arrivals.now }
+pub(crate) fn is_sorted_with(
+    arrivals: &[Arrival],
+    sorted: bool,
+    latest: u64,
+    arrival: &Arrival,
+) -> bool
+    requires sorted { sorted ≡ true → AreSorted arrivals.now }
+    requires by { AreBy latest arrivals.now }
     ensures { result ≡ true → AreSorted (arrivals.now ++ arrival.now ∷ []) }
 {
-    if arrivals.len() == 0 {
-        return true;
-    }
-    if !sorted {
-        return false;
-    }
-    !arrival.comes_before(&arrivals[arrivals.len() - 1])
+    sorted & (latest < arrival.time())
+}
+
+// A time by which they all are due, with one more behind them.
+#[inline(always)]
+pub(crate) fn latest_with(arrivals: &[Arrival], latest: u64, arrival: &Arrival) -> u64
+    requires { AreBy latest arrivals.now }
+    ensures { AreBy result (arrivals.now ++ arrival.now ∷ []) }
+{
+    latest.max(arrival.time())
 }
 
 // Whether the tick comes before a time.

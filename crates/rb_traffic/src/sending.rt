@@ -71,12 +71,43 @@ fn spread(
 {
     let row = delays.row(from, place);
     let message = Arrival::of(0, number_of(from), bytes);
+    match from {
+        NodeName::Biu(i) => {
+            let biu = NodeName::Biu(i);
+            spread_from(agenda, delays, biu, time, place, row, &message, running);
+        }
+        NodeName::Rmu(i) => {
+            let rmu = NodeName::Rmu(i);
+            spread_from(agenda, delays, rmu, time, place, row, &message, running);
+        }
+    }
+}
+
+// The same, by the row of delays and the message as all get it. Where it is called for a BIU or an RMU alone, the kind of the receivers
+// is known when it is compiled.
+#[inline(always)]
+fn spread_from(
+    agenda: &mut Agenda,
+    delays: &Delays,
+    from: NodeName,
+    time: u64,
+    place: Place,
+    row: &[u32],
+    message: &Arrival,
+    running: u16,
+)
+    requires row { IsRow delays.now from place row.now }
+    requires sender { message.now.from ≡ number_of from }
+    requires room { HaveRoom (other (kind_of from)) running agenda.old }
+    requires time { time < 2 ^ 53 }
+    ensures { agenda.new ≡ lanes_with (other (kind_of from)) (coming_to delays.now from time place message.now.bytes) (has running) agenda.old }
+{
     let mut left = NodeSet::<Rmu>::from_bits(running);
     while let Some(id) = left.pop_first() {
         let i = id.index();
         let node = receiver(from, i);
         let delay = delay_in(row, delays, from, i, place);
-        agenda.push_like(node, time + u64::from(delay), &message);
+        agenda.push_like(node, time + u64::from(delay), message);
     }
 }
 

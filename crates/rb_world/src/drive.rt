@@ -50,6 +50,7 @@ impl Drive for FirstDrive {
 
     ghost told = { λ _. None };
 
+    #[inline(always)]
     fn next(&mut self, world: &mut World, apps: &Apps) -> Turn {
         world.next(apps, Ties::First)
     }

@@ -83,7 +83,9 @@ impl World {
         unreachable!()
     }
 
-    // The same by first choices: from tick to tick. What the node that is observed is given up to there is told.
+    // The same by first choices: from tick to tick. What the node that is observed is given up to there is told. It is a call of its own, so
+    // that the turn which `next` gives is made where it is wanted, and not copied.
+    #[inline(never)]
     fn run_first<T: Observer>(
         &mut self,
         apps: &Apps,
@@ -116,6 +118,7 @@ impl World {
     }
 
     // The same for any choices.
+    #[inline(always)]
     fn run_on(&mut self, apps: &Apps, ties: Ties, draws: &mut Draws, turn: &mut Turn)
         requires stands { (w : RunWorld) × Stands self.old w }
         requires quiet { turn.old ≡ Turn.Quiet }
@@ -130,6 +133,7 @@ impl World {
 
     /// The next record: a record that needs no event is given by itself, else events that are due are taken, chosen by `ties`, until
     /// a record comes with one. After the last record, `Ended` or a breach, it is that record again. The turn is never `Quiet`.
+    #[inline(always)]
     pub fn next(&mut self, apps: &Apps, ties: Ties) -> Turn
         ensures world { (w : RunWorld) → Stands self.old w → GoesToNext ties self.old self.new result w }
         ensures record { is_some (record_of result) ≡ true }

@@ -1,29 +1,37 @@
-use Rattle.std.proofs.Common.{◌≡◌, sym, ◌∙◌, ap, arith}
-use Rattle.rb_book.specs.Telling.{told_at}
-use Rattle.rb_book.specs.Waiting.{found_of}
-use Rattle.rb_book.proofs.Found.{found_none}
-use Rattle.rb_book.proofs.walks.first_trusted.Goals as goal
+use Rattle.std.proofs.Common.{◌≡◌, refl, sym, ◌∙◌, ap, arith}
 use Rattle.std.specs.Prelude.{option_to_list}
-use Rattle.rb_book.specs.Waiting.{first_trusted, row_at, row_if}
-use Rattle.rb_book.proofs.Found.{found_first, found_not}
+use Rattle.rb_base.specs.Nodes.{TakesFirst}
+use Rattle.rb_rules.specs.WorldStep.{row_for}
+use Rattle.rb_book.specs.declared.milestone.Milestone.TheVariants.{Stage}
+use Rattle.rb_book.specs.Telling.{has_told, row_told, told_at}
+use Rattle.rb_book.specs.Waiting.{first_trusted}
+use Rattle.rb_book.proofs.Popped.{all_left, first_told, is_below, nobody_told, one_less, untold}
+use Rattle.rb_book.proofs.walks.first_trusted.Goals as goal
 
-pub loop-i-init : goal.loop-i-init
-loop-i-init g c = found_none (row_at c.args.good c.args.place) c.args.told.now
+pub loop-id-init : goal.loop-id-init
+loop-id-init g c =
+    all_left (is_below c.args.count c.args.good) c.those_below-left.result (λ i. has_told (Stage c.args.place) (told_at c.args.told.now i)) c.those_below-left.ensures
 
-pub loop-i-preserved : goal.loop-i-preserved
-loop-i-preserved g c =
-    let is = c.trusted_in-trusted.ensures ∙ ap (λ t. first_trusted (option_to_list (row_if c.args.place c.has.result t))) (ap (told_at c.args.told.now) c.from.ensures)
-    ∙ ap (λ b. first_trusted (option_to_list (row_if c.args.place b (told_at c.args.told.now c.loop-i.i)))) c.has.ensures in
-    found_not (row_at c.args.good c.args.place) c.args.told.now c.loop-i.i c.trusted_in-trusted.result (omega arith) c.loop-i.invariant is (sym c.is_some.ensures ∙ c.if-is_some.false)
+pub loop-id-preserved : goal.loop-id-preserved
+loop-id-preserved g c =
+    let told = c.args.told.now in
+    let k = c.index.result in
+    let takes : TakesFirst c.loop-id.left c.pop_first.new.self k = rw c.index.ensures.value c.in-Some.ensures.first in
+    let is : c.trusted_in-trusted.result ≡ first_trusted (option_to_list (row_for c.args.place (row_told (told_at told k)))) =
+    c.trusted_in-trusted.ensures ∙ ap (λ n. first_trusted (option_to_list (row_for c.args.place (row_told (told_at told n))))) c.from.ensures in
+    one_less (is_below c.args.count c.args.good) c.loop-id.left c.pop_first.new.self k (λ i. has_told (Stage c.args.place) (told_at told i)) c.loop-id.invariant takes
+    (untold c.args.place k told c.trusted_in-trusted.result is (sym c.is_some.ensures ∙ c.if-is_some.false))
 
 pub returns-then-is_some : goal.returns-then-is_some
 returns-then-is_some g c =
-    let is = c.trusted_in-trusted.ensures ∙ ap (λ t. first_trusted (option_to_list (row_if c.args.place c.has.result t))) (ap (told_at c.args.told.now) c.from.ensures)
-    ∙ ap (λ b. first_trusted (option_to_list (row_if c.args.place b (told_at c.args.told.now c.loop-i.i)))) c.has.ensures in
-    found_first (row_at c.args.good c.args.place) c.args.told.now c.loop-i.i c.args.count c.trusted_in-trusted.result (omega arith) (omega arith) c.loop-i.invariant is
-    (sym c.is_some.ensures ∙ c.if-is_some.true)
+    let told = c.args.told.now in
+    let k = c.index.result in
+    let takes : TakesFirst c.loop-id.left c.pop_first.new.self k = rw c.index.ensures.value c.in-Some.ensures.first in
+    let is : c.trusted_in-trusted.result ≡ first_trusted (option_to_list (row_for c.args.place (row_told (told_at told k)))) =
+    c.trusted_in-trusted.ensures ∙ ap (λ n. first_trusted (option_to_list (row_for c.args.place (row_told (told_at told n))))) c.from.ensures in
+    first_told c.args.place c.args.count c.args.good c.loop-id.left c.pop_first.new.self k told c.trusted_in-trusted.result (omega arith) (omega arith) c.loop-id.invariant takes c.index.ensures.range
+    is (sym c.is_some.ensures ∙ c.if-is_some.true)
 
 pub returns : goal.returns
 returns g c =
-    let last : c.loop-i.i ≡ c.args.count = omega arith in
-    sym (ap first_trusted (ap (λ n. found_of (row_at c.args.good c.args.place) n c.args.told.now) (sym last) ∙ c.loop-i.invariant))
+    sym (nobody_told c.args.place c.args.count c.args.good c.loop-id.left c.args.told.now (omega arith) (omega arith) c.loop-id.invariant (c.in_default.ensures.empty.0 refl))

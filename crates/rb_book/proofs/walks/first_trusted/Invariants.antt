@@ -1,7 +1,8 @@
-use Rattle.std.proofs.Common.{◌≡◌, []}
-use Rattle.rb_book.specs.Waiting.{found_of}
-use Rattle.rb_book.specs.Waiting.{row_at}
+use Rattle.rb_book.proofs.Popped.{none_told}
 use Rattle.rb_book.proofs.walks.first_trusted.Given as goal
 
-abbrev pub invariant-loop-i : goal.invariant-loop-i
-invariant-loop-i g l = found_of (row_at l.good l.place) l.i l.told ≡ []
+abbrev pub invariant-loop-id : goal.invariant-loop-id
+invariant-loop-id g l = none_told l.place l.count l.fn.good l.told l.left
+
+abbrev pub decreases-loop-id : goal.decreases-loop-id
+decreases-loop-id g l = l.left

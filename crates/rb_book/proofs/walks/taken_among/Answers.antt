@@ -1,29 +1,28 @@
-use Rattle.std.proofs.Common.{ℕ, ◌&&◌, Bool, sym, ◌∙◌, arith}
-use Rattle.rb_base.specs.Nodes.{has}
-use Rattle.rb_base.proofs.SetLoops.{passing_none, passing_more, passing_same}
-use Rattle.rb_book.proofs.walks.taken_among.Goals as goal
+use Rattle.std.proofs.Common.{ℕ, Bool, refl, sym, ◌∙◌}
+use Rattle.rb_base.specs.Nodes.{TakesFirst}
 use Rattle.rb_book.specs.Waiting.{was_taken}
-use Rattle.rb_book.proofs.Found.{all_sources, first_false, second_false}
-use Rattle.rb_judge.proofs.SomeNode.{and_both}
-use Rattle.rb_book.proofs.walks.taken_among.Goals.{then-has+then-was_taken, else-has, else-has-via-then-has+else-was_taken, else-has-via-else-has}
+use Rattle.rb_book.proofs.Popped.{all_gone, is_below, none_gone, one_fails, one_joins}
+use Rattle.rb_book.proofs.walks.taken_among.Goals as goal
 
 pub loop-source-init : goal.loop-source-init
-loop-source-init g c = c.empty-taken.ensures.value ∙ passing_none (λ j. has c.args.among j && was_taken c.args.count c.args.good c.args.told.now j)
+loop-source-init g c =
+    none_gone (is_below c.args.sources c.args.among) c.those_below-left.result c.empty-taken.result (was_taken c.args.count c.args.good c.args.told.now) c.those_below-left.ensures c.empty-taken.ensures.value
+
+pub loop-source-preserved-then-was_taken : goal.loop-source-preserved-then-was_taken
+loop-source-preserved-then-was_taken g c =
+    let these : ℕ → Bool = is_below c.args.sources c.args.among in
+    let passes : ℕ → Bool = was_taken c.args.count c.args.good c.args.told.now in
+    let takes : TakesFirst c.loop-source.left c.pop_first.new.self c.index.result = rw c.index.ensures.value c.in-Some.ensures.first in
+    one_joins these c.loop-source.left c.pop_first.new.self c.index.result c.loop-source.taken c.insert.new.self passes c.loop-source.invariant takes c.index.ensures.range (sym c.was_taken.ensures ∙ c.if-was_taken.true)
+    (rw c.index.ensures.value c.insert.ensures)
 
 pub loop-source-preserved : goal.loop-source-preserved
 loop-source-preserved g c =
-    let p : ℕ → Bool = λ j. has c.args.among j && was_taken c.args.count c.args.good c.args.told.now j in
-    let set = c.loop-source.taken in
-    let k = c.loop-source.source in
-    elim c.if-has.branch [
-      | then-has+then-was_taken w ↦
-          w.taken-is ∙ w.insert.ensures
-          ∙ passing_more p set k w.of.result c.loop-source.invariant w.of.ensures (and_both _ _ (sym c.has.ensures ∙ w.if-has.true) (sym w.was_taken.ensures ∙ w.if-was_taken.true))
-      | else-has w ↦ elim w.else-has.branch [
-        | else-has-via-then-has+else-was_taken v ↦ w.taken-is ∙ passing_same p set k c.loop-source.invariant (second_false _ _ (sym v.was_taken.ensures ∙ v.if-was_taken.false))
-        | else-has-via-else-has v ↦ w.taken-is ∙ passing_same p set k c.loop-source.invariant (first_false _ _ (sym c.has.ensures ∙ v.if-has.false))
-      ]
-    ]
+    let these : ℕ → Bool = is_below c.args.sources c.args.among in
+    let passes : ℕ → Bool = was_taken c.args.count c.args.good c.args.told.now in
+    let takes : TakesFirst c.loop-source.left c.pop_first.new.self c.index.result = rw c.index.ensures.value c.in-Some.ensures.first in
+    one_fails these c.loop-source.left c.pop_first.new.self c.index.result c.loop-source.taken passes c.loop-source.invariant takes (sym c.was_taken.ensures ∙ c.if-was_taken.false)
 
 pub returns : goal.returns
-returns g c = all_sources c.args.sources c.loop-source.taken c.loop-source.source (λ j. has c.args.among j && was_taken c.args.count c.args.good c.args.told.now j) c.loop-source.invariant (omega arith)
+returns g c =
+    all_gone c.args.sources c.args.among c.loop-source.left c.loop-source.taken (was_taken c.args.count c.args.good c.args.told.now) c.loop-source.invariant (c.in_default.ensures.empty.0 refl)

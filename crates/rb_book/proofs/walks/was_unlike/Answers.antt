@@ -1,4 +1,4 @@
-use Rattle.std.proofs.Common.{◌≡◌, ◌<◌, false, sym, ◌∙◌, ap, arith}
+use Rattle.std.proofs.Common.{◌≡◌, false, sym, ◌∙◌, ap, arith}
 use Rattle.rb_book.specs.Telling.{see_of, told_at}
 use Rattle.rb_book.specs.Waiting.{is_time}
 use Rattle.rb_book.proofs.Alike.{by_one}

@@ -14,9 +14,9 @@ invariant_of-self c =
     let bius = c.self.inside.bius in
     let name = c.args.node in
     let h : HasLane lanes name = subst (λ x. HasLane x name) (sym c.self.view_is) c.requires.in_shape in (
-      c.keep_key-self-inside.ensures.kept lanes (without_events (lane_of lanes name)) c.self.invariant.0 h c.drop_all.ensures.after
+      c.keep_key.ensures.kept lanes (without_events (lane_of lanes name)) c.self.invariant.0 h c.drop_all.ensures.after
           (room-of lanes bius name c.self.invariant.0.few h),
-      c.keep_key-self-inside.ensures.front,
+      c.keep_key.ensures.front,
       subst (AreTicks c.drop_all.new.self) (sym c.put_tick.ensures)
           (ticks-dropped lanes c.drop_all.new.self c.self.inside.ticks bius c.position_of-place.result name c.self.invariant.0.few.split c.position_of-place.ensures
           c.self.invariant.2 h c.drop_all.ensures.after),
@@ -24,18 +24,18 @@ invariant_of-self c =
           (All-nil (λ (c : Coming). c.from ≤ 255)),
     )
 
-pub keep_key-self-inside-requires-clause-bius : goal.keep_key-self-inside-requires-clause-bius
-keep_key-self-inside-requires-clause-bius c = let few = c.self.invariant.0.few.few_bius in let split = c.self.invariant.0.few.split in omega (arith, few, split)
+pub keep_key-requires-clause-bius : goal.keep_key-requires-clause-bius
+keep_key-requires-clause-bius c = let few = c.self.invariant.0.few.few_bius in let split = c.self.invariant.0.few.split in omega (arith, few, split)
 
-pub keep_key-self-inside-requires-clause-lane : goal.keep_key-self-inside-requires-clause-lane
-keep_key-self-inside-requires-clause-lane c =
+pub keep_key-requires-clause-lane : goal.keep_key-requires-clause-lane
+keep_key-requires-clause-lane c =
     let lanes = c.self.inside.lanes in
     let name = c.args.node in
     let h : HasLane lanes name = subst (λ x. HasLane x name) (sym c.self.view_is) c.requires.in_shape in
     subst (λ x. HasLane x name) (sym c.drop_all.ensures.after) (has-with lanes name name (without_events (lane_of lanes name)) h)
 
-pub keep_key-self-inside-requires-clause-within : goal.keep_key-self-inside-requires-clause-within
-keep_key-self-inside-requires-clause-within c =
+pub keep_key-requires-clause-within : goal.keep_key-requires-clause-within
+keep_key-requires-clause-within c =
     place-within c.self.inside.lanes c.self.inside.keys.items c.self.inside.bius c.args.node c.self.invariant.0.few c.self.invariant.0.many
     (subst (λ x. HasLane x c.args.node) (sym c.self.view_is) c.requires.in_shape)
 

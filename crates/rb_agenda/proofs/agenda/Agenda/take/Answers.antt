@@ -14,9 +14,9 @@ invariant_of-self c =
     let bius = c.self.inside.bius in
     let name = c.locate-node.result.0 in
     let place = c.locate-node.result.1 in (
-      c.keep_key-self-inside.ensures.kept lanes (without_ready place (lane_of lanes name)) c.self.invariant.0 c.locate-node.ensures.lane c.take-event.ensures.after
+      c.keep_key.ensures.kept lanes (without_ready place (lane_of lanes name)) c.self.invariant.0 c.locate-node.ensures.lane c.take-event.ensures.after
           (room-without place (lane_of lanes name) (room-of lanes bius name c.self.invariant.0.few c.locate-node.ensures.lane)),
-      c.keep_key-self-inside.ensures.front,
+      c.keep_key.ensures.front,
       subst (AreTicks c.take-event.new.self) (sym c.after_event.ensures)
           (ticks-taken lanes c.take-event.new.self c.self.inside.ticks bius c.position_of-place.result name place c.take-event.result c.self.invariant.0.few.split
           c.position_of-place.ensures c.self.invariant.2 c.locate-node.ensures.lane c.take-event.ensures.value c.take-event.ensures.after),
@@ -24,17 +24,17 @@ invariant_of-self c =
           (known-less (lane_of lanes name) place (known-of lanes name c.self.invariant.3 c.locate-node.ensures.lane)),
     )
 
-pub keep_key-self-inside-requires-clause-bius : goal.keep_key-self-inside-requires-clause-bius
-keep_key-self-inside-requires-clause-bius c = let few = c.self.invariant.0.few.few_bius in let split = c.self.invariant.0.few.split in omega (arith, few, split)
+pub keep_key-requires-clause-bius : goal.keep_key-requires-clause-bius
+keep_key-requires-clause-bius c = let few = c.self.invariant.0.few.few_bius in let split = c.self.invariant.0.few.split in omega (arith, few, split)
 
-pub keep_key-self-inside-requires-clause-lane : goal.keep_key-self-inside-requires-clause-lane
-keep_key-self-inside-requires-clause-lane c =
+pub keep_key-requires-clause-lane : goal.keep_key-requires-clause-lane
+keep_key-requires-clause-lane c =
     let lanes = c.self.inside.lanes in
     let name = c.locate-node.result.0 in
     subst (λ x. HasLane x name) (sym c.take-event.ensures.after) (has-with lanes name name (without_ready c.locate-node.result.1 (lane_of lanes name)) c.locate-node.ensures.lane)
 
-pub keep_key-self-inside-requires-clause-within : goal.keep_key-self-inside-requires-clause-within
-keep_key-self-inside-requires-clause-within c =
+pub keep_key-requires-clause-within : goal.keep_key-requires-clause-within
+keep_key-requires-clause-within c =
     place-within c.self.inside.lanes c.self.inside.keys.items c.self.inside.bius c.locate-node.result.0 c.self.invariant.0.few c.self.invariant.0.many c.locate-node.ensures.lane
 
 pub after_event-requires : goal.after_event-requires

@@ -11,7 +11,7 @@ use Rattle.rb_rules.specs.Book.{Row}
 use Rattle.rb_rules.specs.Slots.{count_of}
 use Rattle.rb_rules.specs.WorldStep.{Site}
 use Rattle.rb_book.specs.Changing.{changed_at, count_for, number_in, row_shown, side_in, with_row}
-use Rattle.rb_book.specs.Holding.{AllLast, Holds}
+use Rattle.rb_book.specs.Holding.{Holds, Lasts, OthersLast}
 use Rattle.std.specs.Prelude.{Bool, ◌&&◌, nat_lt}
 use Rattle.std.proofs.Common.{arith}
 use Rattle.std.proofs.lemmas.Bool.Decides.{nat_tests}
@@ -24,15 +24,15 @@ use Rattle.rb_book.specs.Telling.{is_at, told_at, told_closed}
 use Rattle.rb_book.proofs.Noting.{none-seen, other-kind, row-noted, same-shown, sees-kept, shows-same, with-bius, with-rmus}
 use Rattle.rb_book.proofs.ledger.Ledger.close.Goals as goal
 
--- those that last are so in the frame of the upcoming stage
-last-there : (m : Milestone) (place : Place) (count lasting : ℕ) → is_at m place ≡ true → ((j : ℕ) → nat_lt j count ≡ true → has lasting j ≡ true) → AllLast m place.frame count lasting
-last-there (Begin f) place count lasting here lasts = absurd (cc)
-last-there End place count lasting here lasts = absurd (cc)
-last-there (Stage stage) place count lasting here lasts = record {
+-- who lasts does so in the frame of the upcoming stage
+last-there : (m : Milestone) (place : Place) (lasting j : ℕ) → is_at m place ≡ true → has lasting j ≡ true → Lasts m place.frame lasting j
+last-there (Begin f) place lasting j here member = absurd (cc)
+last-there End place lasting j here member = absurd (cc)
+last-there (Stage stage) place lasting j here member = record {
   place = stage;
   upcoming = refl;
   of_frame = same-frame place.frame stage.frame (place.slot == stage.slot) (place.stage == stage.stage) here;
-  lasts = lasts;
+  member = member;
 }
   where
     same-frame : (a b : ℕ) (q r : Bool) → ((a == b) && q && r) ≡ true → b ≡ a
@@ -78,16 +78,17 @@ returns-in-Biu-clause-noted c = λ sc w h.
     (subst (λ n. (j : ℕ) → count_of (other (side_in n)) c.args.self.now.shape ≤ j → get_or closed.sees j Nothing ≡ Nothing) c.in-Biu.is c.requires.sources) in
     let none : (j : ℕ) → sc.sizes.rmus ≤ j → get_or told.sees j Nothing ≡ Nothing = λ j. h.bius.within i j in
     let saw : ℕ → See = λ j. judged_see (slice_index c.args.times.now j) (get_or closed.sees j Nothing) in
-    let last : c.counts-counts.result ≡ false → AllLast c.args.self.now.upcoming closed.place.frame sc.sizes.rmus c.args.self.now.rmus.lasting =
-    λ e. subst (λ n. AllLast c.args.self.now.upcoming closed.place.frame n c.args.self.now.rmus.lasting) (c.rmu.ensures.value ∙ ap (λ (s : Sizes). s.rmus) h.fits.sizes)
-    (last-there c.args.self.now.upcoming closed.place _ _ (sym c.is_at-is_upcoming.ensures ∙ c.counts-counts.ensures.upcoming e) (c.counts-counts.ensures.last e)) in
+    let last : OthersLast c.args.self.now.upcoming closed.place.frame sc.sizes.rmus c.args.self.now.rmus.lasting c.counted-counted.result =
+    λ j e out.
+    let so = c.counted-counted.ensures j (ap (nat_lt j) (c.rmu.ensures.value ∙ ap (λ (s : Sizes). s.rmus) h.fits.sizes) ∙ e) out in
+    last-there c.args.self.now.upcoming closed.place c.args.self.now.rmus.lasting j (sym c.is_at-is_upcoming.ensures ∙ so.0) so.1 in
     let holds = row-noted sc Biu c.args.self.now.upcoming c.args.self.now.bius c.close.new.self i
-    (told_closed c.counts-counts.result closed c.args.times.now c.args.biu c.args.rmu (line_from i closed.delivered) told) row saw (with_row closed.place.stage row) w.sites
+    (told_closed c.counted-counted.result closed c.args.times.now c.args.biu c.args.rmu (line_from i closed.delivered) told) row saw (with_row closed.place.stage row) w.sites
     c.close.ensures inside shape.most_bius h.bius
     (λ s. ap (λ (x : Site). x.row) (stage-told closed.place.stage row s stage)) (λ s. ap (λ (x : Site). x.begun) (stage-told closed.place.stage row s stage))
     refl
-    (sees-kept c.counts-counts.result sc Rmu c.args.self.now.upcoming c.args.self.now.rmus w.sites closed c.args.times.now c.args.biu c.args.rmu (line_from i closed.delivered) told shape.most_rmus h.rmus last nobody none)
-    refl (none-seen c.counts-counts.result closed c.args.times.now c.args.biu c.args.rmu (line_from i closed.delivered) told sc.sizes.rmus nobody none) in
+    (sees-kept c.counted-counted.result sc Rmu c.args.self.now.upcoming c.args.self.now.rmus w.sites closed c.args.times.now c.args.biu c.args.rmu (line_from i closed.delivered) told shape.most_rmus h.rmus last nobody none)
+    refl (none-seen c.counted-counted.result closed c.args.times.now c.args.biu c.args.rmu (line_from i closed.delivered) told sc.sizes.rmus nobody none) in
     let others = other-kind sc Rmu Biu c.args.self.now.upcoming c.args.self.now.rmus i (with_row closed.place.stage row) w.sites refl h.rmus in
     subst (λ n. Holds sc (record c.args.self.now { bius = c.close.new.self })
     (changed_at n (with_row closed.place.stage (row_shown (number_in n) closed c.args.times.now c.args.biu c.args.rmu)) w)) (sym c.in-Biu.is)
@@ -108,16 +109,17 @@ returns-in-Rmu-clause-noted c = λ sc w h.
     (subst (λ n. (j : ℕ) → count_of (other (side_in n)) c.args.self.now.shape ≤ j → get_or closed.sees j Nothing ≡ Nothing) c.in-Rmu.is c.requires.sources) in
     let none : (j : ℕ) → sc.sizes.bius ≤ j → get_or told.sees j Nothing ≡ Nothing = λ j. h.rmus.within i j in
     let saw : ℕ → See = λ j. judged_see (slice_index c.args.times.now j) (get_or closed.sees j Nothing) in
-    let last : c.counts-counts-in-Rmu.result ≡ false → AllLast c.args.self.now.upcoming closed.place.frame sc.sizes.bius c.args.self.now.bius.lasting =
-    λ e. subst (λ n. AllLast c.args.self.now.upcoming closed.place.frame n c.args.self.now.bius.lasting) (c.biu.ensures.value ∙ ap (λ (s : Sizes). s.bius) h.fits.sizes)
-    (last-there c.args.self.now.upcoming closed.place _ _ (sym c.is_at-is_upcoming.ensures ∙ c.counts-counts-in-Rmu.ensures.upcoming e) (c.counts-counts-in-Rmu.ensures.last e)) in
+    let last : OthersLast c.args.self.now.upcoming closed.place.frame sc.sizes.bius c.args.self.now.bius.lasting c.counted-counted-in-Rmu.result =
+    λ j e out.
+    let so = c.counted-counted-in-Rmu.ensures j (ap (nat_lt j) (c.biu.ensures.value ∙ ap (λ (s : Sizes). s.bius) h.fits.sizes) ∙ e) out in
+    last-there c.args.self.now.upcoming closed.place c.args.self.now.bius.lasting j (sym c.is_at-is_upcoming.ensures ∙ so.0) so.1 in
     let holds = row-noted sc Rmu c.args.self.now.upcoming c.args.self.now.rmus c.close-in-Rmu.new.self i
-    (told_closed c.counts-counts-in-Rmu.result closed c.args.times.now c.args.biu c.args.rmu (line_from i closed.delivered) told) row saw (with_row closed.place.stage row) w.sites
+    (told_closed c.counted-counted-in-Rmu.result closed c.args.times.now c.args.biu c.args.rmu (line_from i closed.delivered) told) row saw (with_row closed.place.stage row) w.sites
     c.close-in-Rmu.ensures inside shape.most_rmus h.rmus
     (λ s. ap (λ (x : Site). x.row) (stage-told closed.place.stage row s stage)) (λ s. ap (λ (x : Site). x.begun) (stage-told closed.place.stage row s stage))
     refl
-    (sees-kept c.counts-counts-in-Rmu.result sc Biu c.args.self.now.upcoming c.args.self.now.bius w.sites closed c.args.times.now c.args.biu c.args.rmu (line_from i closed.delivered) told shape.most_bius h.bius last nobody none)
-    refl (none-seen c.counts-counts-in-Rmu.result closed c.args.times.now c.args.biu c.args.rmu (line_from i closed.delivered) told sc.sizes.bius nobody none) in
+    (sees-kept c.counted-counted-in-Rmu.result sc Biu c.args.self.now.upcoming c.args.self.now.bius w.sites closed c.args.times.now c.args.biu c.args.rmu (line_from i closed.delivered) told shape.most_bius h.bius last nobody none)
+    refl (none-seen c.counted-counted-in-Rmu.result closed c.args.times.now c.args.biu c.args.rmu (line_from i closed.delivered) told sc.sizes.bius nobody none) in
     let others = other-kind sc Biu Rmu c.args.self.now.upcoming c.args.self.now.bius i (with_row closed.place.stage row) w.sites refl h.bius in
     subst (λ n. Holds sc (record c.args.self.now { rmus = c.close-in-Rmu.new.self })
     (changed_at n (with_row closed.place.stage (row_shown (number_in n) closed c.args.times.now c.args.biu c.args.rmu)) w)) (sym c.in-Rmu.is)
