@@ -43,7 +43,7 @@ runs-on me v had m inbox a r lo hi =
       frame = omega arith;
       epoch = omega arith;
       stamps = r.stamps;
-      ahead = record { next = next-on me v had m a.busy.tick r.ahead.next lo hi; window = window-on me v had m a r.ahead lo hi; stage = r.ahead.stage; wants = r.ahead.wants };
+      ahead = record { next = next-on me v had m a.busy.tick r.ahead.next lo hi; window = window-on me v had m a r.ahead lo hi; stage = r.ahead.stage; wants = r.ahead.wants; alone = r.ahead.alone };
     }
 
 -- so it is the end of what may pass

@@ -1,5 +1,5 @@
 -- Which tick is the next one that isn't quiet.
-use Rattle.std.proofs.Common.{◌≡◌, ℕ, ◌+◌, ◌≤◌, ◌^◌, ◌⊎◌, ◌==◌, ◌||◌, Bool, true, false, refl, ap, sym, ◌∙◌, subst, arith, inl, inr, Option, Some, None, is_some}
+use Rattle.std.proofs.Common.{◌≡◌, ℕ, ◌+◌, ◌<◌, ◌≤◌, ◌^◌, ◌⊎◌, ◌==◌, ◌||◌, Bool, true, false, refl, ap, sym, ◌∙◌, subst, arith, inl, inr, Option, Some, None, is_some}
 use Rattle.std.specs.Option.{option_or}
 use Rattle.std.proofs.lemmas.Bool.{cases_lt}
 use Rattle.std.proofs.lemmas.Bool.Decides.{nat_tests}
@@ -94,16 +94,16 @@ said-of a b c = option_or a (option_or b c)
 none-of : (a b c : Option Message) → a ≡ None → b ≡ None → c ≡ None → said-of a b c ≡ None
 none-of a b c h i j = rw (h, i, j) refl
 
-some-first : (a b c : Option Message) → is_some a ≡ true → is_some (said-of a b c) ≡ true
+pub some-first : (a b c : Option Message) → is_some a ≡ true → is_some (said-of a b c) ≡ true
 some-first None b c h = cc
 some-first (Some m) b c h = refl
 
-some-second : (a b c : Option Message) → is_some b ≡ true → is_some (said-of a b c) ≡ true
+pub some-second : (a b c : Option Message) → is_some b ≡ true → is_some (said-of a b c) ≡ true
 some-second (Some m) b c h = refl
 some-second None None c h = cc
 some-second None (Some m) c h = refl
 
-some-third : (a b c : Option Message) → is_some c ≡ true → is_some (said-of a b c) ≡ true
+pub some-third : (a b c : Option Message) → is_some c ≡ true → is_some (said-of a b c) ≡ true
 some-third (Some m) b c h = refl
 some-third None (Some m) c h = refl
 some-third None None c h = h
@@ -265,6 +265,47 @@ soonest-is me v w had b1 b2 b3 b4 b5 b6 ticks epoch is s =
       ];
       here = λ k lo hi. here k lo hi ∙ is;
     }
+
+-- Where the frame has begun, and no other is to begin, it is the window's last tick, or that of a message before.
+
+over : (epoch had k : ℕ) → epoch < had → had ≤ k → (epoch == k) ≡ false
+over epoch had k lt le = grind (arith, nat_tests)
+
+not-at : (last k : ℕ) → k < last → (last == k) ≡ false
+not-at last k lt = grind (arith, nat_tests)
+
+never : (next : Option ℕ) (k : ℕ) → is_some next ≡ false → is_tick next k ≡ false
+never None k h = refl
+never (Some tick) k h = cc
+
+pub soonest-on : (me : Side) (v : Seated) (w : Window) (had last b4 b5 b6 : ℕ) → HasTicks v.plan → v.state.epoch < had → had ≤ last → last < 2 ^ 31
+    → last ≡ v.state.epoch + w.last → w ≡ window_of_tick me v had → is_some (new_epoch_of v.plan me v.state) ≡ false
+    → IsSooner had (tick_said me v w.slot 3) last b4 → IsSooner had (tick_said me v w.slot 2) b4 b5 → IsSooner had (tick_said me v w.slot 1) b5 b6
+    → IsNextBusy me v had b6
+soonest-on me v w had last b4 b5 b6 ticks begun from below ends is stays s4 s5 s6 =
+    soonest-is me v w had (2 ^ 31) last last b4 b5 b6 ticks (omega arith) is (record {
+      s1 = record {
+        later = omega arith;
+        most = omega arith;
+        not_before = λ k lo hi. over v.state.epoch had k begun lo;
+        either = inl refl;
+      };
+      s2 = subst (λ e. IsSooner had (Some e) (2 ^ 31) last) ends (record {
+        later = from;
+        most = omega arith;
+        not_before = λ k lo hi. not-at last k hi;
+        either = inr (eq-self last);
+      });
+      s3 = record {
+        later = from;
+        most = omega arith;
+        not_before = λ k lo hi. never (new_epoch_of v.plan me v.state) k stays;
+        either = inl refl;
+      };
+      s4 = s4;
+      s5 = s5;
+      s6 = s6;
+    })
 
 -- Which message is said at the tick that is chosen.
 

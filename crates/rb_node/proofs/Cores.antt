@@ -182,7 +182,7 @@ on-message sizes plan me index c st kept m = by (is_last sizes plan me st c.had)
     by true x y h k = h
     by false x y h k = k
 
-at-message : (sizes : Sizes) (plan : Plan) (me : Side) (index : ℕ) (c : Core) (word : ℕ)
+pub at-message : (sizes : Sizes) (plan : Plan) (me : Side) (index : ℕ) (c : Core) (word : ℕ)
     → (act_at sizes plan me index c word).message ≡ said_at sizes plan me index (state_at sizes plan me c.state c.had) word c.had
 unfolding act_at
 at-message sizes plan me index c word = on-message sizes plan me index c _ _ _

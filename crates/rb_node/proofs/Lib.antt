@@ -10,3 +10,4 @@ pub mod Acting
 pub mod Numbering
 pub mod Going
 pub mod Ending
+pub mod Alone

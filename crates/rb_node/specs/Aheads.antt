@@ -1,12 +1,12 @@
 -- What a node keeps at hand of what is ahead of it.
-use Rattle.std.specs.Prelude.{ℕ, ◌≡◌, ◌≤◌, ◌<◌, ◌^◌, ◌+◌, ◌⊎◌, nat_lt, if◌then◌else◌, Bool, true, false, is_some, Option, None}
+use Rattle.std.specs.Prelude.{ℕ, ◌≡◌, ◌≤◌, ◌<◌, ◌^◌, ◌+◌, ◌⊎◌, ◌==◌, ◌&&◌, not, nat_lt, if◌then◌else◌, Bool, true, false, is_some, Option, None}
 use Rattle.rb_base.specs.Nodes.{Side}
 use Rattle.rb_base.specs.Sizes.{sync_slot_of}
 use Rattle.rb_rules.specs.declared.plan.Plan.{Plan}
 use Rattle.rb_rules.specs.declared.plan.Window.{Window}
 use Rattle.rb_rules.specs.Core.{is_busy, is_tick, said_at, slot_wanted, state_at, window_here}
 use Rattle.rb_rules.specs.NodeSteps.{message_said}
-use Rattle.rb_rules.specs.SyncStage.{send_tick_of}
+use Rattle.rb_rules.specs.SyncStage.{new_epoch_of, send_tick_of}
 use Rattle.rb_eligible.specs.Inboxes.{KeptArrivals, StampsUpTo}
 use Rattle.rb_slot.specs.Closable.{IsOfFrame}
 use Rattle.rb_slot.specs.Engines.{Seated}
@@ -96,12 +96,19 @@ pub record IsWindowOf (me : Side) (v : Seated) (k : ℕ) (w : Window) : Type 0 w
   pub first : w.first ≤ 400000
   pub fits : v.state.epoch + w.last < 2 ^ 64
 
+-- all that happens at the busy tick is that the window ends, which is one of a slot before the sync slot. A node can have that tick
+abbrev pub is_alone : Side → Seated → Window → Busy → Bool
+is_alone me v w b =
+    (b.stage == 0) && nat_lt w.slot (sync_slot_of v.sizes) && (v.state.epoch + w.last == b.tick) && nat_lt b.tick (2 ^ 31)
+    && not (is_tick (new_epoch_of v.plan me v.state) b.tick)
+
 -- what is kept is so for a node that has had so many ticks
 pub record LooksAhead (me : Side) (v : Seated) (had : ℕ) (a : Ahead) : Type 0 where
   pub next : IsNextBusy me v had a.busy.tick
   pub window : IsWindowOf me v had a.window
   pub stage : SaysIn me v a.window.slot a.busy.tick a.busy.stage
   pub wants : a.want ≡ want_ahead me v a.busy.tick
+  pub alone : a.alone ≡ is_alone me v a.window a.busy
 
 -- what holds of a node between two calls: it is a node of its bus, its frame and its stamps don't run ahead of its ticks
 pub record IsRunning (me : Side) (v : Seated) (had : ℕ) (inbox : KeptArrivals) (a : Ahead) : Type 0 where

@@ -1,12 +1,12 @@
 //! When something happens at a node next.
-ghost use Rattle.std.specs.Prelude.{◌≡◌, ◌+◌, ◌<◌, ◌≤◌, ◌^◌, ℕ, Some, false, is_some, true};
+ghost use Rattle.std.specs.Prelude.{◌≡◌, ◌+◌, ◌<◌, ◌≤◌, ◌==◌, ◌^◌, ℕ, Some, false, is_some, true};
 ghost use Rattle.rb_base.specs.Nodes.{side_of};
 ghost use Rattle.rb_base.specs.Sizes.{IsShape, sync_slot_of};
 ghost use Rattle.rb_rules.specs.Core.{is_tick};
 ghost use Rattle.rb_rules.specs.Hearing.{tail_at};
 ghost use Rattle.rb_rules.specs.Plan.{IsFeasible, IsPlan, tail_start_of};
-ghost use Rattle.rb_rules.specs.SyncStage.{send_tick_of};
-ghost use Rattle.rb_node.specs.Aheads.{IsChosen, IsEnded, IsNextBusy, IsSaidNext, IsSooner, IsWindowOf, LooksAhead, SaysIn, following, tick_said, want_ahead, want_at, window_of_tick};
+ghost use Rattle.rb_rules.specs.SyncStage.{new_epoch_of, send_tick_of};
+ghost use Rattle.rb_node.specs.Aheads.{IsChosen, IsEnded, IsNextBusy, IsSaidNext, IsSooner, IsWindowOf, LooksAhead, SaysIn, following, is_alone, tick_said, want_ahead, want_at, window_of_tick};
 ghost use Rattle.rb_node.specs.Wants.{slot_of_words, want_for};
 
 use crate::act::Want;
@@ -33,6 +33,8 @@ pub struct Ahead {
     pub(crate) window: Window,
     // What it wants at that one.
     pub(crate) want: Want,
+    // Whether all that happens at that one is that a window of a slot before the sync slot ends.
+    pub(crate) alone: bool,
 }
 
 // The sizes and the plan are within their bounds. It does nothing: a proof that needs a bound reads it at its call.
@@ -89,7 +91,7 @@ pub(crate) fn window_of<K: Kind>(engine: &Engine<K>, tick: u64) -> Window
 
 // The window after one below the sync slot.
 #[inline(always)]
-fn following(plan: &Plan, window: &Window) -> Window
+pub(crate) fn following(plan: &Plan, window: &Window) -> Window
     requires plan { IsPlan plan.now }
     requires slot { window.now.slot < 112 }
     requires stage { window.now.stage ≤ 3 }
@@ -308,6 +310,19 @@ fn want_ahead<K: Kind>(engine: &Engine<K>, window: &Window, busy: Busy) -> Want
     }
 }
 
+// Whether all that happens at this tick of the window is that the window ends, which is one of a slot before the sync slot.
+#[inline(always)]
+fn is_alone<K: Kind>(engine: &Engine<K>, window: &Window, busy: Busy) -> bool
+    requires { engine.now.state.epoch + window.now.last < 2 ^ 64 }
+    ensures { result ≡ is_alone (side_of K.CODE) engine.now window.now busy }
+{
+    busy.stage == 0
+        && window.slot < engine.plan().shape().sync_slot()
+        && engine.epoch() + window.last == busy.tick
+        && busy.tick < MOST_TICKS
+        && !is_tick(engine.new_epoch(), busy.tick)
+}
+
 // What is ahead of a node that has had so many ticks, the window being that of its next.
 #[inline(always)]
 pub(crate) fn look_ahead<K: Kind>(engine: &Engine<K>, ahead: &mut Ahead, had: u64)
@@ -319,6 +334,71 @@ pub(crate) fn look_ahead<K: Kind>(engine: &Engine<K>, ahead: &mut Ahead, had: u6
 {
     let busy = busy_tick(engine, &ahead.window, had);
     ahead.want = want_ahead(engine, &ahead.window, busy);
+    ahead.alone = is_alone(engine, &ahead.window, busy);
+    ahead.busy = busy;
+}
+
+// The same in a call of its own.
+#[inline(never)]
+fn look_anew<K: Kind>(engine: &Engine<K>, ahead: &mut Ahead, had: u64)
+    requires index { engine.now.index < 16 }
+    requires epoch { engine.now.state.epoch ≤ had }
+    requires had { had ≤ 2 ^ 31 }
+    requires window { IsWindowOf (side_of K.CODE) engine.now had ahead.old.window }
+    ensures { LooksAhead (side_of K.CODE) engine.now had ahead.new }
+{
+    look_ahead(engine, ahead, had);
+}
+
+// The tick of what is said next in a window below the sync slot, else its last tick, where no frame begins in it.
+#[inline(always)]
+fn word_or_end<K: Kind>(engine: &Engine<K>, window: &Window, had: u64, last: u64) -> Busy
+    requires index { engine.now.index < 16 }
+    requires epoch { engine.now.state.epoch < had }
+    requires had { had ≤ 2 ^ 31 }
+    requires window { IsWindowOf (side_of K.CODE) engine.now had window.now }
+    requires last { last ≡ engine.now.state.epoch + window.now.last }
+    requires soon { last < 2 ^ 31 }
+    requires slot { window.now.slot < sync_slot_of engine.now.sizes }
+    requires stays { is_some (new_epoch_of engine.now.plan (side_of K.CODE) engine.now.state) ≡ false }
+    ensures next { IsNextBusy (side_of K.CODE) engine.now had result.tick }
+    ensures stage { SaysIn (side_of K.CODE) engine.now window.now.slot result.tick result.stage }
+    ensures alone { (result.stage == 0) ≡ is_alone (side_of K.CODE) engine.now window.now result }
+{
+    bounds(engine);
+    sooner_word(
+        Busy {
+            tick: last,
+            stage: 0,
+        },
+        had,
+        engine,
+        window,
+    )
+}
+
+// The same as `look_ahead` after a window that ended with the tick before. Before the sync slot only what is said in the window
+// that begins, and its end, can be next.
+#[inline(always)]
+pub(crate) fn look_on<K: Kind>(engine: &Engine<K>, ahead: &mut Ahead, had: u64)
+    requires index { engine.now.index < 16 }
+    requires epoch { engine.now.state.epoch < had }
+    requires had { had ≤ 2 ^ 31 }
+    requires window { IsWindowOf (side_of K.CODE) engine.now had ahead.old.window }
+    ensures { LooksAhead (side_of K.CODE) engine.now had ahead.new }
+{
+    bounds(engine);
+    let last = engine.epoch() + ahead.window.last;
+    if ahead.window.slot >= engine.plan().shape().sync_slot()
+        || last >= MOST_TICKS
+        || engine.new_epoch().is_some()
+    {
+        look_anew(engine, ahead, had);
+        return;
+    }
+    let busy = word_or_end(engine, &ahead.window, had, last);
+    ahead.want = want_ahead(engine, &ahead.window, busy);
+    ahead.alone = busy.stage == 0;
     ahead.busy = busy;
 }
 
@@ -330,5 +410,6 @@ pub(crate) fn not_looked(window: Window) -> Ahead
         busy: Busy { tick: 0, stage: 0 },
         window,
         want: Want::Nothing,
+        alone: false,
     }
 }

@@ -1,5 +1,5 @@
 //! One node core.
-ghost use Rattle.std.specs.Prelude.{◌≡◌, ℕ, ◌+◌, ◌<◌, ◌≤◌, ◌^◌, false, IfSome, IsTrue, Some, option_map, unwrap_or};
+ghost use Rattle.std.specs.Prelude.{◌≡◌, ℕ, ◌+◌, ◌<◌, ◌≤◌, ◌^◌, false, true, IfSome, IsTrue, None, Some, option_map, unwrap_or};
 ghost use Rattle.rb_base.specs.Nodes.{side_of};
 ghost use Rattle.rb_rules.specs.Core.{Core, first_core, is_tick, pass_to};
 ghost use Rattle.rb_rules.specs.NodeState.{first_state};
@@ -14,7 +14,10 @@ ghost use Rattle.rb_node.specs.Events.{EventsComeInParts};
 ghost use Rattle.rb_node.specs.Wants.{want_of, want_then};
 
 use crate::act::{Act, Span, Step, Want};
-use crate::ahead::{Ahead, MOST_TICKS, bounds, go_on, is_tick, look_ahead, not_looked, window_of};
+use crate::ahead::{
+    Ahead, MOST_TICKS, bounds, following, go_on, is_tick, look_ahead, look_on, not_looked,
+    window_of,
+};
 use crate::parts::{
     bytes_of, close_at, delivered_in, epoch_at, first_window, if_closed, nothing, others, say_at,
     span_at, turn_at,
@@ -133,6 +136,9 @@ impl<K: Kind> Node<K> {
             → is_tick (new_epoch_of self.now.seat.plan (side_of K.CODE) c.state) k ≡ false
             → EndsExactWindow self.now.seat.sizes self.now.seat.plan (side_of K.CODE) c.state k → IsTrue result }
     {
+        if self.ahead.alone {
+            return true;
+        }
         let tick = self.ahead.busy.tick;
         self.ahead.window.slot < self.engine.plan().shape().sync_slot()
             && self.engine.epoch() + self.ahead.window.last == tick
@@ -267,6 +273,37 @@ impl<K: Kind> Node<K> {
             closed,
             epoch: step.epoch,
         }
+    }
+
+    /// If all that happens at its next tick that isn't quiet is that a window of a slot before the sync slot ends, the node has
+    /// its quiet ticks and then that tick, and the result is true: it says nothing, no frame begins, and what it saw is then
+    /// `shown`. Else nothing changes.
+    #[inline(always)]
+    pub fn end_window(&mut self) -> bool
+        ensures core { IsTrue result → (c : Core) (k word : ℕ) → IsCore self.old c → next_of (side_of K.CODE) self.old c ≡ Some k
+            → IsCore self.new (tick_of (side_of K.CODE) self.old (pass_to k c) word).core }
+        ensures act { IsTrue result → (c : Core) (k word : ℕ) → IsCore self.old c → next_of (side_of K.CODE) self.old c ≡ Some k
+            → IsAct self.new.shown (record { epoch = None; message = None; closed = true })
+            (tick_of (side_of K.CODE) self.old (pass_to k c) word) }
+        ensures otherwise { (c : Core) (k : ℕ) → IsCore self.old c → next_of (side_of K.CODE) self.old c ≡ Some k
+            → is_tick (new_epoch_of self.old.seat.plan (side_of K.CODE) c.state) k ≡ false
+            → EndsExactWindow self.old.seat.sizes self.old.seat.plan (side_of K.CODE) c.state k
+            → (tick_of (side_of K.CODE) self.old (pass_to k c) 0).message ≡ None → IsTrue result }
+        ensures stays { result ≡ false → self.new ≡ self.old }
+        ensures same { IsSameNode self.old self.new }
+    {
+        if !self.ahead.alone {
+            return false;
+        }
+        bounds(&self.engine);
+        let _came = self.inbox.came();
+        self.had = self.ahead.busy.tick + 1;
+        self.engine
+            .close_into(&self.inbox, &self.ahead.window, &mut self.shown);
+        self.inbox.clear();
+        self.ahead.window = following(self.engine.plan().plan(), &self.ahead.window);
+        look_on(&self.engine, &mut self.ahead, self.had);
+        true
     }
 
     /// So many quiet ticks pass, at once: at most up to the tick that `next_tick` gives, which is not among them, and where it

@@ -4,9 +4,20 @@ use Rattle.rb_base.specs.Sizes.{sync_slot_of}
 use Rattle.rb_rules.specs.Core.{is_tick}
 use Rattle.rb_slot.specs.Engines.{Seated}
 use Rattle.rb_node.specs.declared.ahead.Ahead.{Ahead}
+use Rattle.rb_node.proofs.Alone.{alone-ends, alone-stays}
 use Rattle.rb_node.proofs.Ending.{ShowsEnd, ends-kept, eq-true, kept-ends, kept-stays, not-below, not-true, stays-kept, true-eq}
 use Rattle.rb_node.proofs.node.Node.ends_exact_window.Goals.{then-self-sync_slot, else-self-sync_slot}
 use Rattle.rb_node.proofs.node.Node.ends_exact_window.Goals as goal
+
+pub returns-then-self-clause-ends : goal.returns-then-self-clause-ends
+returns-then-self-clause-ends g c =
+    rw (← c.self.view_is) (λ d k is next ends.
+    alone-ends (side_of g.K.Kind.CODE) c.self.inside.engine c.self.inside.had c.self.inside.ahead d k c.self.invariant.ahead c.if-self.true is.state is.had next)
+
+pub returns-then-self-clause-stays : goal.returns-then-self-clause-stays
+returns-then-self-clause-stays g c =
+    rw (← c.self.view_is) (λ d k is next ends.
+    alone-stays (side_of g.K.Kind.CODE) c.self.inside.engine c.self.inside.had c.self.inside.ahead d k c.self.invariant.ahead c.if-self.true is.state is.had next)
 
 pub returns-then-epoch-self-clause-ends : goal.returns-then-epoch-self-clause-ends
 returns-then-epoch-self-clause-ends g c =
