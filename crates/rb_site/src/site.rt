@@ -1,16 +1,18 @@
 //! One node of a world.
-ghost use Rattle.std.specs.Prelude.{◌≡◌, ℕ, ◌-◌, ◌^◌, ◌<◌, ◌≤◌, ◌&&◌, false, max, IfSome, List, Some, option_map, slice_set, unwrap_or};
+ghost use Rattle.std.specs.Prelude.{◌≡◌, ℕ, ◌-◌, ◌^◌, ◌<◌, ◌≤◌, ◌&&◌, false, true, max, IfSome, IsTrue, List, None, Some, option_map, slice_set, unwrap_or};
 ghost use Rattle.rb_base.specs.Nodes.{Side, other, side_of};
 ghost use Rattle.rb_rules.specs.Clock.{ComesBy};
-ghost use Rattle.rb_rules.specs.Core.{Core, next_tick, pass_to};
+ghost use Rattle.rb_rules.specs.Core.{Core, is_tick, next_tick, pass_to, tick};
 ghost use Rattle.rb_rules.specs.Hearing.{begun_of};
 ghost use Rattle.rb_rules.specs.Links.{name_of};
 ghost use Rattle.rb_rules.specs.Goodness.{Scenario, clock_of};
 ghost use Rattle.rb_rules.specs.Ports.{PortState};
 ghost use Rattle.rb_rules.specs.Slots.{count_of};
+ghost use Rattle.rb_rules.specs.SyncStage.{new_epoch_of};
 ghost use Rattle.rb_rules.specs.WorldStep.{Site as WorldSite, after_arrival, fresh_site, proceed, span_from, stop, wants_in, word_of};
 ghost use Rattle.rb_node.specs.Acts.{IsSendable, span_in};
 ghost use Rattle.rb_node.specs.Cores.{IsCore, IsSameNode, passing_end};
+ghost use Rattle.rb_node.specs.Ends.{EndsExactWindow};
 ghost use Rattle.rb_node.specs.Wants.{want_for};
 ghost use Rattle.rb_slot.specs.Engines.{nothing_shown};
 ghost use Rattle.rb_site.specs.Sites.{KeptSite, Stands, goes_on, number_of, taken_in};
@@ -248,6 +250,27 @@ impl<K: Kind> Site<K> {
     {
         pass_to(&mut self.node, k);
         self.node.step(word)
+    }
+
+    /// If all that happens at the node's next busy tick is that a window of a slot before the sync slot ends, the node has that
+    /// tick, and the result is true: it sends nothing and begins no frame. The quiet ticks before it pass. What the node then
+    /// shows of the stage, with `times` in place of stamps, is what it tells of it. Else nothing changes.
+    #[inline(always)]
+    pub fn end_window(&mut self) -> bool
+        ensures ticked { IsTrue result → (sc : Scenario) (ports : List PortState) (k : ℕ) (s : WorldSite)
+            → Stands sc (side_of K.CODE) self.old s
+            → next_tick sc.sizes sc.plan (side_of K.CODE) (number_of self.old) s.core ≡ Some k
+            → IsTicked sc ports (side_of K.CODE) self.old self.new (record { epoch = None; message = None; closed = true }) k s }
+        ensures otherwise { (sc : Scenario) (k : ℕ) (s : WorldSite) → Stands sc (side_of K.CODE) self.old s
+            → next_tick sc.sizes sc.plan (side_of K.CODE) (number_of self.old) s.core ≡ Some k
+            → is_tick (new_epoch_of sc.plan (side_of K.CODE) s.core.state) k ≡ false
+            → EndsExactWindow sc.sizes sc.plan (side_of K.CODE) s.core.state k
+            → (tick sc.sizes sc.plan (side_of K.CODE) (number_of self.old) (pass_to k s.core) 0).message ≡ None → IsTrue result }
+        ensures stays { result ≡ false → self.new ≡ self.old }
+        ensures rest { self.new ≡ record self.old { node = self.new.node } }
+        ensures same { IsSameNode self.old.node self.new.node }
+    {
+        self.node.end_window()
     }
 }
 
