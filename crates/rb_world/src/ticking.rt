@@ -95,6 +95,7 @@ fn deliver(bus: &Bus, apps: &Apps, i: u8, delivered: Option<Delivery>, ports: &m
 }
 
 // A node has closed a window, if it has: it tells what it saw, and what it delivers goes to its port.
+#[inline(always)]
 fn close<K: Kind>(
     bus: &Bus,
     apps: &Apps,
@@ -162,8 +163,9 @@ fn depart(
     }
 }
 
-/// A node takes its next tick, which has this number.
-pub(crate) fn tick<K: Kind>(
+// A node takes its next tick, which has this number, whatever happens at it.
+#[inline(never)]
+fn tick_in_full<K: Kind>(
     bus: &Bus,
     apps: &Apps,
     node: NodeName,
@@ -185,4 +187,29 @@ pub(crate) fn tick<K: Kind>(
     proceed(bus, node, site, scene);
     let frame = site.node().engine().frame();
     depart(bus, node, frame, k, step.message, scene);
+}
+
+/// A node takes its next tick, which has this number.
+#[inline(always)]
+pub(crate) fn tick<K: Kind>(
+    bus: &Bus,
+    apps: &Apps,
+    node: NodeName,
+    i: u8,
+    k: u64,
+    site: &mut Site<K>,
+    scene: &mut Scene,
+)
+    requires number { i ≡ number_of site.old }
+    requires name { node ≡ name_of (side_of K.CODE) (number_of site.old) }
+    requires may { (w : World) × (s : WorldSite) × MayTick bus.now (side_of K.CODE) (number_of site.old) k site.old scene.old w s }
+    ensures { (w : World) (s : WorldSite) → MayTick bus.now (side_of K.CODE) (number_of site.old) k site.old scene.old w s
+        → Ticks bus.now (side_of K.CODE) (number_of site.old) k site.new scene.new w s (act_at bus.now w (side_of K.CODE) (number_of site.old) k s) }
+{
+    if site.end_window() {
+        close(bus, apps, node, true, site, scene);
+        proceed(bus, node, site, scene);
+    } else {
+        tick_in_full(bus, apps, node, i, k, site, scene);
+    }
 }

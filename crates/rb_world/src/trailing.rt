@@ -56,6 +56,7 @@ fn take_exact_tick<K: Kind>(
 
 // Node `i` of the kind is swept up to its tick, which comes at this time, and takes it. If it is the node that is observed, it is told first
 // what the node is given.
+#[inline(always)]
 fn take_tick<K: Kind, T: Observer>(
     bus: &Bus,
     apps: &Apps,
@@ -98,6 +99,7 @@ fn take_tick<K: Kind, T: Observer>(
 }
 
 // The first tick of all is taken at its node. Before it the node is swept.
+#[inline(always)]
 fn take_first<T: Observer>(
     bus: &Bus,
     apps: &Apps,
@@ -125,6 +127,7 @@ fn take_first<T: Observer>(
 }
 
 // And what that completes is settled.
+#[inline(always)]
 fn tick_first<T: Observer>(
     bus: &Bus,
     apps: &Apps,
@@ -151,6 +154,7 @@ fn tick_first<T: Observer>(
 }
 
 // What needs no event is given, or the first tick of all is taken.
+#[inline(always)]
 fn step_on<T: Observer>(
     bus: &Bus,
     apps: &Apps,
