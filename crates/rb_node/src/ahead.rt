@@ -377,8 +377,8 @@ fn word_or_end<K: Kind>(engine: &Engine<K>, window: &Window, had: u64, last: u64
     )
 }
 
-// The same as `look_ahead` after a window that ended with the tick before. Before the sync slot only what is said in the window
-// that begins, and its end, can be next.
+// The same as `look_ahead` once the first tick of the frame is over. Before the sync slot only what is said in the window, and its
+// end, can be next.
 #[inline(always)]
 pub(crate) fn look_on<K: Kind>(engine: &Engine<K>, ahead: &mut Ahead, had: u64)
     requires index { engine.now.index < 16 }

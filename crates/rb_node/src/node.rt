@@ -247,7 +247,7 @@ impl<K: Kind> Node<K> {
         );
         bounds(&self.engine);
         go_on(&self.engine, &mut self.ahead.window, closed, self.had);
-        look_ahead(&self.engine, &mut self.ahead, self.had);
+        look_on(&self.engine, &mut self.ahead, self.had);
         Step {
             epoch,
             message,

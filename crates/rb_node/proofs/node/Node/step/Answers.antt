@@ -71,8 +71,8 @@ go_on-requires-clause-ended g c =
       stays = c.close_at-closed.ensures.keeps;
     })
 
-pub look_ahead-requires-clause-epoch : goal.look_ahead-requires-clause-epoch
-look_ahead-requires-clause-epoch g c =
+pub look_on-requires-clause-epoch : goal.look_on-requires-clause-epoch
+look_on-requires-clause-epoch g c =
     let k : Kept c.self.inside.engine c.close_at-closed.new.engine c.self.inside.had =
     keeps (side_of g.K.Kind.CODE) _ c.turn_at.new.engine c.say_at-message.new.engine _ _ c.args.word c.say_at-message.result c.self.invariant.epoch
     c.turn_at.ensures.state c.say_at-message.ensures.keeps c.close_at-closed.ensures.same in
@@ -93,10 +93,10 @@ invariant_of-self-2 g c =
       frame = omega arith;
       epoch = omega arith;
       stamps = c.close_at-closed.ensures.stamps;
-      ahead = c.look_ahead.ensures;
+      ahead = c.look_on.ensures;
     }
 
-parts : (g : _) (c : goal.After-look_ahead g)
+parts : (g : _) (c : goal.After-look_on g)
     → Parts (side_of g.K.Kind.CODE) c.self.inside.engine c.turn_at.new.engine c.say_at-message.new.engine c.close_at-closed.new.engine
     c.self.inside.had c.args.word c.turn_at.new.ahead.window c.epoch_at-epoch.result c.say_at-message.result c.close_at-closed.result
     c.self.inside.shown c.close_at-closed.new.shown c.self.inside.inbox c.close_at-closed.new.inbox
