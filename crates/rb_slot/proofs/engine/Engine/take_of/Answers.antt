@@ -4,6 +4,8 @@ use Rattle.rb_eligible.specs.Inboxes.{sense_in}
 use Rattle.rb_eligible.specs.Standings.{standing_of}
 use Rattle.rb_rules.specs.ExactStage.{closing_of}
 use Rattle.rb_rules.specs.Standing.{has_evidence, with_evidence}
+use Rattle.rb_slot.proofs.Keeping.{still_sound}
+use Rattle.rb_rules.specs.Standing.{Standing}
 use Rattle.rb_slot.proofs.engine.Engine.take_of.Goals as goal
 
 pub returns-clause-closing : goal.returns-clause-closing
@@ -21,3 +23,9 @@ returns-clause-accused g c = λ received shown.
     c.close_on_sheet.ensures.accused received shown
     ∙ ap (λ e. with_evidence (has_evidence s (has c.args.expected) (sense_in e received)) s) e in
     rw (← c.self.view_is, far) refl
+
+pub invariant_of-self : goal.invariant_of-self
+invariant_of-self g c =
+    let received = c.came-came.ensures.stands in
+    still_sound _ _ _ _ _ _ _ _ _ _ _ _ _ c.self.invariant
+    (ap (λ (s : Standing). s.trusted) (c.close_on_sheet.ensures.accused received.0 received.1))

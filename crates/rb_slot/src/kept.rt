@@ -1,0 +1,144 @@
+//! What an engine keeps of one slot.
+ghost use Rattle.std.specs.Prelude.{◌≡◌, ℕ, ◌<◌, false, List, get_or};
+ghost use Rattle.rb_base.specs.Nodes.{Side, side_of};
+ghost use Rattle.rb_base.specs.Sizes.{Sizes, sync_slot_of};
+ghost use Rattle.rb_rules.specs.NodeState.{trusted_of};
+ghost use Rattle.rb_rules.specs.Slots.{role_of, sender_in};
+ghost use Rattle.rb_slot.specs.KeptSlots.{IsKeptSlot, speaks_of};
+ghost use Rattle.rb_slot.specs.Senders.{sender_of};
+
+use crate::engine::{Engine, PASSIVE};
+use crate::outgoing::speaks;
+use crate::sender::Sender;
+use crate::slots::role_of;
+use rb_base::{Kind, Shape};
+use rb_rules::Role;
+
+// What is kept of one slot, so that it is not worked out again in each stage: what it is for, who sends in stage 1, and by
+// stage whether this node speaks.
+#[derive(Clone, Copy)]
+pub(crate) struct KeptSlot {
+    pub(crate) slot: u16,
+    pub(crate) role: Role,
+    pub(crate) sender: Sender,
+    pub(crate) spoken: [bool; 4],
+}
+
+// What is kept where no slot is: that of a slot past all others, in which nobody speaks.
+pub(crate) fn no_slot(shape: &Shape) -> KeptSlot
+    ensures { (me : Side) (index near far : ℕ) (owners : List ℕ) → IsKeptSlot shape.now me index near far owners result }
+{
+    let _biu = shape.biu();
+    KeptSlot {
+        slot: 65535,
+        role: Role::Sync,
+        sender: Sender::EachTrusted,
+        spoken: [false; 4],
+    }
+}
+
+// Whether a stage is among those in which the node speaks.
+#[inline(always)]
+pub(crate) fn is_spoken(spoken: &[bool; 4], stage: u8) -> bool
+    ensures { result ≡ get_or spoken.now stage false }
+{
+    if stage < 4 {
+        spoken[usize::from(stage)]
+    } else {
+        false
+    }
+}
+
+impl<K: Kind> Engine<K> {
+    // Whether this node speaks in a stage of a slot below the sync slot.
+    fn speaks_of(&self, role: Role, sender: Sender, stage: u8) -> bool
+        ensures { result ≡ speaks_of (side_of K.CODE) self.now.index role (sender_of sender) stage }
+    {
+        match sender {
+            Sender::Nobody => false,
+            Sender::Node(_) => {
+                self.index < PASSIVE
+                    && speaks(K::CODE, role, stage)
+                    && (stage != 1 || self.is_sender(role, sender))
+            }
+            Sender::EachTrusted => false,
+        }
+    }
+
+    // What is to be kept of a slot below the sync slot.
+    fn slot_now(&self, slot: u16) -> KeptSlot
+        requires { slot < sync_slot_of self.now.sizes }
+        ensures { IsKeptSlot self.now.sizes (side_of K.CODE) self.now.index self.now.state.near
+            self.now.state.far.trusted self.now.state.owners result }
+    {
+        let role = role_of(self.plan.shape(), slot);
+        let sender = self.sender(role);
+        let first = self.speaks_of(role, sender, 1);
+        let second = self.speaks_of(role, sender, 2);
+        let third = self.speaks_of(role, sender, 3);
+        KeptSlot {
+            slot,
+            role,
+            sender,
+            spoken: [false, first, second, third],
+        }
+    }
+
+    // Keeps this slot, if it is below the sync slot.
+    #[inline(never)]
+    pub(crate) fn keep_slot(&mut self, slot: u16)
+        ensures { self.new ≡ self.old }
+    {
+        if slot < self.sync_slot() {
+            self.kept = self.slot_now(slot);
+        } else {
+            self.kept = no_slot(self.plan.shape());
+        }
+    }
+
+    // At the close of the last stage of a slot the next one is kept.
+    #[inline(always)]
+    pub(crate) fn keep_next(&mut self, slot: u16, stage: u8)
+        requires { slot < sync_slot_of self.old.sizes }
+        ensures { self.new ≡ self.old }
+    {
+        self.bounds();
+        if stage == 3 {
+            self.keep_slot(slot + 1);
+        }
+    }
+
+    // What a slot is for that isn't kept.
+    #[inline(never)]
+    fn role_aside(&self, slot: u16) -> Role
+        ensures { result ≡ role_of self.now.sizes slot }
+    {
+        role_of(self.plan.shape(), slot)
+    }
+
+    // What a slot is for.
+    #[inline(always)]
+    pub(crate) fn role_at(&self, slot: u16) -> Role
+        ensures { result ≡ role_of self.now.sizes slot }
+    {
+        if slot == self.kept.slot {
+            self.kept.role
+        } else {
+            self.role_aside(slot)
+        }
+    }
+
+    // Who sends in stage 1 of a slot.
+    #[inline(always)]
+    pub(crate) fn sender_at(&self, slot: u16, role: Role) -> Sender
+        requires { role ≡ role_of self.now.sizes slot }
+        ensures { sender_of result ≡ sender_in (trusted_of (side_of K.CODE) Side.Biu self.now.state)
+            (trusted_of (side_of K.CODE) Side.Rmu self.now.state) self.now.state.owners role }
+    {
+        if slot == self.kept.slot {
+            self.kept.sender
+        } else {
+            self.sender(role)
+        }
+    }
+}
