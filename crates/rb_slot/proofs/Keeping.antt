@@ -1,12 +1,11 @@
 -- What an engine keeps of one slot is right.
-use Rattle.std.proofs.Common.{◌≡◌, ℕ, ◌<◌, Bool, true, false, ◌&&◌, ◌||◌, not, ◌==◌, nat_lt, if◌then◌else◌, Option, List, [], ◌∷◌, get_or, zero, suc, subst, refl, sym, ◌∙◌, ap, arith}
-use Rattle.rb_base.specs.Nodes.{Side, other}
+use Rattle.std.proofs.Common.{◌≡◌, ℕ, ◌<◌, false, Option, List, get_or, subst, refl, sym, ◌∙◌, ap, arith}
+use Rattle.rb_base.specs.Nodes.{Side}
 use Rattle.rb_base.specs.Sizes.{Sizes, sync_slot_of}
 use Rattle.rb_base.proofs.Sets.{eq_other}
 use Rattle.rb_rules.specs.declared.role.Role.{Role}
-use Rattle.rb_rules.specs.ExactStage.{is_sender}
 use Rattle.rb_rules.specs.NodeState.{NodeState, trusted_of}
-use Rattle.rb_rules.specs.Slots.{Sender, has_third_stage, listens, role_of, same_side, sender_in, sender_kind}
+use Rattle.rb_rules.specs.Slots.{role_of, sender_in}
 use Rattle.rb_slot.specs.declared.kept.KeptSlot.{KeptSlot}
 use Rattle.rb_slot.specs.Engines.{IsSound, Seated}
 use Rattle.rb_slot.specs.KeptSlots.{IsKeptSlot, bius_by, rmus_by, speaks_of}
@@ -34,40 +33,6 @@ sound_with sizes me index frame epoch near far near_after far_after owners owner
   slot_kept = right;
 }
 
--- three answers are those of all stages
-either_false : (b : Bool) → ◌≡◌ {A = Bool} (if b then false else false) false
-either_false true = refl
-either_false false = refl
-
-and_false : (b : Bool) → (b && false) ≡ false
-and_false true = refl
-and_false false = refl
-
-no_stage : (me : Side) (index : ℕ) (role : Role) (sender : Sender) (stage : ℕ) → (stage == 1) ≡ false → (stage == 2) ≡ false → (stage == 3) ≡ false
-    → speaks_of me index role sender stage ≡ false
-no_stage me index role Sender.Nobody stage first second third = refl
-no_stage me index role (Sender.Node i) stage first second third =
-    let same = same_side (other me) (sender_kind role) in
-    let rest : Bool = not (stage == 1) || is_sender me index role (Sender.Node i) in
-    let deaf : listens (other me) role stage ≡ false =
-    ap (λ b. if same then b else ((stage == 1) || ((stage == 3) && has_third_stage role))) second
-    ∙ ap (λ b. if same then false else (b || ((stage == 3) && has_third_stage role))) first
-    ∙ ap (λ b. if same then false else (b && has_third_stage role)) third
-    ∙ either_false same in
-    ap (λ b. nat_lt index 16 && (b && rest)) deaf ∙ and_false (nat_lt index 16)
-no_stage me index role Sender.EachTrusted stage first second third = refl
-
-spoken_by_stage : (me : Side) (index : ℕ) (role : Role) (sender : Sender) (a b c : Bool)
-    → a ≡ speaks_of me index role sender 1 → b ≡ speaks_of me index role sender 2 → c ≡ speaks_of me index role sender 3
-    → (stage : ℕ) → get_or (false ∷ (a ∷ (b ∷ (c ∷ [])))) stage false ≡ speaks_of me index role sender stage
-spoken_by_stage me index role sender a b c first second third zero = sym (no_stage me index role sender 0 refl refl refl)
-spoken_by_stage me index role sender a b c first second third (suc zero) = first
-spoken_by_stage me index role sender a b c first second third (suc (suc zero)) = second
-spoken_by_stage me index role sender a b c first second third (suc (suc (suc zero))) = third
-spoken_by_stage me index role sender a b c first second third (suc (suc (suc (suc n)))) =
-    let stage : ℕ = suc (suc (suc (suc n))) in
-    sym (no_stage me index role sender stage (eq_other stage 1 (λ e. omega (arith, e))) (eq_other stage 2 (λ e. omega (arith, e))) (eq_other stage 3 (λ e. omega (arith, e))))
-
 -- the trusted nodes by kind
 bius_are : (me : Side) (st : NodeState) → bius_by me st.near st.far.trusted ≡ trusted_of me Side.Biu st
 bius_are Side.Biu st = refl
@@ -84,19 +49,16 @@ senders_alike me st role =
     ∙ ap (λ r. sender_in (trusted_of me Side.Biu st) r st.owners role) (rmus_are me st)
 
 -- what was found of a slot below the sync slot is right
-pub found_right : (me : Side) (v : Seated) (slot : ℕ) (k : KeptSlot) (a b c : Bool)
+pub found_right : (me : Side) (v : Seated) (slot : ℕ) (k : KeptSlot)
     → slot < sync_slot_of v.sizes
     → k.slot ≡ slot
     → k.role ≡ role_of v.sizes slot
     → sender_of k.sender ≡ sender_in (trusted_of me Side.Biu v.state) (trusted_of me Side.Rmu v.state) v.state.owners k.role
-    → k.spoken ≡ false ∷ (a ∷ (b ∷ (c ∷ [])))
-    → a ≡ speaks_of me v.index k.role (sender_of k.sender) 1
-    → b ≡ speaks_of me v.index k.role (sender_of k.sender) 2
-    → c ≡ speaks_of me v.index k.role (sender_of k.sender) 3
+    → ((stage : ℕ) → get_or k.spoken stage false ≡ speaks_of me v.index k.role (sender_of k.sender) stage)
     → IsKeptSlot v.sizes me v.index v.state.near v.state.far.trusted v.state.owners k
-found_right me v slot k a b c below here role_is sender_is spoken first second third = record {
+found_right me v slot k below here role_is sender_is spoken = record {
   role_is = role_is ∙ ap (role_of v.sizes) (sym here);
   sender_is = sender_is ∙ sym (senders_alike me v.state k.role);
   apart = eq_other k.slot (sync_slot_of v.sizes) (λ e. omega (arith, e, here, below));
-  spoken_is = λ stage. ap (λ xs. get_or xs stage false) spoken ∙ spoken_by_stage me v.index k.role (sender_of k.sender) a b c first second third stage;
+  spoken_is = spoken;
 }

@@ -8,9 +8,8 @@ ghost use Rattle.rb_slot.specs.KeptSlots.{IsKeptSlot, speaks_of};
 ghost use Rattle.rb_slot.specs.Senders.{sender_of};
 
 use crate::engine::{Engine, PASSIVE};
-use crate::outgoing::speaks;
 use crate::sender::Sender;
-use crate::slots::role_of;
+use crate::slots::{has_third_stage, role_of, sends_first};
 use rb_base::{Kind, Shape};
 use rb_rules::Role;
 
@@ -50,22 +49,27 @@ pub(crate) fn is_spoken(spoken: &[bool; 4], stage: u8) -> bool
 }
 
 impl<K: Kind> Engine<K> {
-    // Whether this node speaks in a stage of a slot below the sync slot.
-    fn speaks_of(&self, role: Role, sender: Sender, stage: u8) -> bool
-        ensures { result ≡ speaks_of (side_of K.CODE) self.now.index role (sender_of sender) stage }
+    // By stage whether this node speaks in a slot below the sync slot. The kind that sends in stage 1 sends in stage 3 too,
+    // the other kind in stage 2.
+    #[inline(always)]
+    fn stages_spoken(&self, role: Role, sender: Sender) -> [bool; 4]
+        ensures { (stage : ℕ) → get_or result stage false
+            ≡ speaks_of (side_of K.CODE) self.now.index role (sender_of sender) stage }
     {
         match sender {
-            Sender::Nobody => false,
-            Sender::Node(_) => {
-                self.index < PASSIVE
-                    && speaks(K::CODE, role, stage)
-                    && (stage != 1 || self.is_sender(role, sender))
+            Sender::Node(index) if self.index < PASSIVE => {
+                if sends_first(K::CODE, role) {
+                    [false, self.index == index, false, has_third_stage(role)]
+                } else {
+                    [false, false, true, false]
+                }
             }
-            Sender::EachTrusted => false,
+            _ => [false; 4],
         }
     }
 
     // What is to be kept of a slot below the sync slot.
+    #[inline(always)]
     fn slot_now(&self, slot: u16) -> KeptSlot
         requires { slot < sync_slot_of self.now.sizes }
         ensures { IsKeptSlot self.now.sizes (side_of K.CODE) self.now.index self.now.state.near
@@ -73,14 +77,11 @@ impl<K: Kind> Engine<K> {
     {
         let role = role_of(self.plan.shape(), slot);
         let sender = self.sender(role);
-        let first = self.speaks_of(role, sender, 1);
-        let second = self.speaks_of(role, sender, 2);
-        let third = self.speaks_of(role, sender, 3);
         KeptSlot {
             slot,
             role,
             sender,
-            spoken: [false, first, second, third],
+            spoken: self.stages_spoken(role, sender),
         }
     }
 
@@ -128,6 +129,15 @@ impl<K: Kind> Engine<K> {
         }
     }
 
+    // Who sends in stage 1 of a slot that isn't kept.
+    #[inline(never)]
+    fn sender_aside(&self, role: Role) -> Sender
+        ensures { sender_of result ≡ sender_in (trusted_of (side_of K.CODE) Side.Biu self.now.state)
+            (trusted_of (side_of K.CODE) Side.Rmu self.now.state) self.now.state.owners role }
+    {
+        self.sender(role)
+    }
+
     // Who sends in stage 1 of a slot.
     #[inline(always)]
     pub(crate) fn sender_at(&self, slot: u16, role: Role) -> Sender
@@ -138,7 +148,7 @@ impl<K: Kind> Engine<K> {
         if slot == self.kept.slot {
             self.kept.sender
         } else {
-            self.sender(role)
+            self.sender_aside(role)
         }
     }
 }

@@ -7,12 +7,9 @@ use Rattle.rb_slot.proofs.engine.Engine.slot_now.Goals as goal
 
 pub returns : goal.returns
 returns g c =
-    found_right (side_of g.K.Kind.CODE) c.args.self.now c.args.slot _ c.speaks_of-first.result c.speaks_of-second.result c.speaks_of-third.result
+    found_right (side_of g.K.Kind.CODE) c.args.self.now c.args.slot _
     c.requires
     refl
     (c.role_of-role.ensures ∙ ap (λ s. role_of s c.args.slot) (c.shape.ensures ∙ ap (λ (v : Seated). v.sizes) c.self.view_is))
     c.sender-sender.ensures
-    refl
-    c.speaks_of-first.ensures
-    c.speaks_of-second.ensures
-    c.speaks_of-third.ensures
+    c.stages_spoken.ensures
