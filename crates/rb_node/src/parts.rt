@@ -92,6 +92,7 @@ pub(crate) fn say_at<K: Kind>(
 }
 
 // The node closes the window, if this is its last tick.
+#[inline(always)]
 pub(crate) fn close_at<K: Kind>(
     engine: &mut Engine<K>,
     inbox: &mut Inbox<K::Other>,
