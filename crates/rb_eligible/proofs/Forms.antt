@@ -11,7 +11,7 @@ use Rattle.rb_rules.specs.declared.message.Message.{Message}
 use Rattle.rb_rules.specs.declared.message.Version.{Version}
 use Rattle.rb_rules.specs.declared.message.Version.TheVariants.{One, Two}
 use Rattle.rb_rules.specs.Spelling.{check_of, has_form, message_in, message_with, tag_in}
-use Rattle.rb_eligible.specs.Readings.{spelled}
+use Rattle.rb_frame.specs.Spellings.{spelled}
 
 xor_0 : (x : ℕ) → bit_xor 0 x ≡ x
 xor_0 x = xor_comm 0 x ∙ grind (arith, common_steps)

@@ -6,6 +6,5 @@ pub mod Sensed
 pub mod Alike
 pub mod Seeing
 pub mod Quiet
-pub mod Checks
 pub mod Forms
 pub mod Onlys

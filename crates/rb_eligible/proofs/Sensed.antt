@@ -16,9 +16,10 @@ use Rattle.rb_rules.specs.declared.sense.Sense.{Sense}
 use Rattle.rb_rules.specs.declared.sense.Sense.TheVariants.{Silent, One, Bad}
 use Rattle.rb_rules.specs.Sense.{Arrival, is_one, is_silent, sense_of, sense_of_one, stamp_in, suits, value_in}
 use Rattle.rb_rules.specs.Spelling.{message_in}
+use Rattle.rb_frame.specs.Spellings.{spelled}
 use Rattle.rb_eligible.specs.declared.reading.Sole.{Sole}
 use Rattle.rb_eligible.specs.Inboxes.{IsKept, IsSpoilt, IsUpTo, KeptArrivals, Received, HoldsArrivals, StampsUpTo, arrivals_of, is_sole, sense_in, sole_at}
-use Rattle.rb_eligible.specs.Readings.{Says, bytes_of, spelled}
+use Rattle.rb_eligible.specs.Readings.{Says, bytes_of}
 
 -- no message has more than 12 bytes
 too_long : (v : Version) (bytes : List ℕ) → 12 < length bytes → message_in v bytes ≡ None

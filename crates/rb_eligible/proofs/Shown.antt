@@ -6,9 +6,10 @@ use Rattle.std.proofs.lemmas.List.Elements.{filter-append}
 use Rattle.rb_base.specs.Nodes.{has, set_of}
 use Rattle.rb_base.proofs.Sets.{eq_other, eq_self, has-set_of}
 use Rattle.rb_rules.specs.Sense.{Arrival}
+use Rattle.rb_frame.specs.Spellings.{len_of}
 use Rattle.rb_eligible.specs.declared.reading.Sole.{Sole}
 use Rattle.rb_eligible.specs.Inboxes.{IsKept, IsSpoilt, IsUpTo, KeptArrivals, Received, HoldsArrivals, StampsUpTo, arrivals_of, sole_at}
-use Rattle.rb_eligible.specs.Readings.{bytes_of, len_of}
+use Rattle.rb_eligible.specs.Readings.{bytes_of}
 
 arrivals_more : (j : ℕ) (received : List Received) (r : Received) → arrivals_of j (received ++ r ∷ []) ≡ arrivals_of j received ++ arrivals_of j (r ∷ [])
 arrivals_more j received r =

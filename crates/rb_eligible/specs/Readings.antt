@@ -1,24 +1,13 @@
 -- What an arrival is kept as, and what its bytes say.
-use Rattle.std.specs.Prelude.{ℕ, ◌≡◌, ◌≤◌, ◌/◌, ◌%◌, Bool, true, Option, Some, List, ◌++◌, take}
-use Rattle.std.specs.Int.{to_le_bytes, w32, w64}
+use Rattle.std.specs.Prelude.{ℕ, ◌≡◌, ◌≤◌, Bool, true, Option, Some, List}
 use Rattle.rb_base.specs.declared.values.Heard.{Heard}
 use Rattle.rb_rules.specs.declared.sense.Expect.{Expect}
 use Rattle.rb_rules.specs.ExactStage.{see_value}
 use Rattle.rb_rules.specs.Sense.{is_one, sense_of_one, value_in}
 use Rattle.rb_rules.specs.Spelling.{message_in}
+use Rattle.rb_frame.specs.Spellings.{high_of, len_of, spelled}
 use Rattle.rb_eligible.specs.declared.reading.Reading.{Reading}
 use Rattle.rb_eligible.specs.declared.reading.Sole.{Sole}
-
--- the last four bytes, and how many bytes there are, are kept as one number
-abbrev pub high_of : ℕ → ℕ
-high_of tail = tail % 4294967296
-
-abbrev pub len_of : ℕ → ℕ
-len_of tail = tail / 4294967296
-
--- so many bytes, kept as two numbers
-unfoldable pub spelled : ℕ → ℕ → ℕ → List ℕ
-spelled low high len = take len (to_le_bytes w64 low ++ to_le_bytes w32 high)
 
 -- the bytes of a sole arrival
 abbrev pub bytes_of : Sole → List ℕ

@@ -2,11 +2,12 @@
 ghost use Rattle.std.specs.Prelude.{◌≡◌, List, [], ◌∷◌, ◌++◌, ◌<◌, ◌≤◌, ℕ};
 ghost use Rattle.rb_base.specs.Nodes.{set_of};
 ghost use Rattle.rb_rules.specs.Sense.{sense_of};
+ghost use Rattle.rb_frame.specs.Spellings.{len_of};
 ghost use Rattle.rb_eligible.specs.Inboxes.{Received, HoldsArrivals, StampsUpTo, arrivals_of, is_sole, sole_at};
-ghost use Rattle.rb_eligible.specs.Readings.{len_of};
 
 use crate::reading::{MOST_BYTES, Sole, sense_of_sole, sole_of};
 use rb_base::{NodeId, NodeSet};
+use rb_frame::Spelling;
 use rb_rules::{Expect, Sense};
 use std::marker::Model;
 
@@ -62,6 +63,26 @@ impl<K: Copy> Inbox<K> {
         self.came.insert(from);
         if !again && bytes.len() <= MOST_BYTES {
             self.soles[usize::from(source)] = sole_of(at, bytes);
+        } else {
+            self.spoilt.insert(from);
+        }
+    }
+
+    /// The same with the bytes as numbers: nothing is looked at byte by byte.
+    #[inline(always)]
+    pub fn take_spelled(&mut self, from: NodeId<K>, at: u64, bytes: &Spelling)
+        ensures shows { (received : List Received) → HoldsArrivals self.old received
+            → HoldsArrivals self.new (received
+            ++ record { source = from; arrival = record { stamp = at; bytes = bytes.now } } ∷ []) }
+        ensures stamps { (n : ℕ) → at ≤ n → StampsUpTo n self.old → StampsUpTo n self.new }
+    {
+        let source = from.index();
+        let again = self.came.contains(from);
+        self.came.insert(from);
+        let (low, tail) = bytes.words();
+        // At most 12 bytes are no longer than any message.
+        if !again && tail < 13 << 32 {
+            self.soles[usize::from(source)] = Sole { at, low, tail };
         } else {
             self.spoilt.insert(from);
         }

@@ -5,7 +5,8 @@ ghost use Rattle.rb_rules.specs.ExactStage.{see_value};
 ghost use Rattle.rb_rules.specs.Sense.{is_one, sense_of_one, suits, tag_suits, value_in, value_of};
 ghost use Rattle.rb_rules.specs.Spelling.{message_in};
 ghost use Rattle.rb_base.specs.declared.values.Heard.{Heard};
-ghost use Rattle.rb_eligible.specs.Readings.{IsReading, Says, bytes_of, high_of, len_of};
+ghost use Rattle.rb_frame.specs.Spellings.{high_of, len_of};
+ghost use Rattle.rb_eligible.specs.Readings.{IsReading, Says, bytes_of};
 
 use crate::words::message_in;
 use byteorder::{ByteOrder, LittleEndian};

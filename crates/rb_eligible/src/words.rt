@@ -2,7 +2,7 @@
 ghost use Rattle.std.specs.Prelude.{◌≡◌, ◌≤◌, ◌++◌, ◌*◌, ◌/◌, ◌%◌, ◌+◌, ◌==◌, ◌&&◌};
 ghost use Rattle.std.specs.Int.{to_le_bytes, w32, w64};
 ghost use Rattle.rb_rules.specs.Spelling.{check_of, has_form, message_in};
-ghost use Rattle.rb_eligible.specs.Readings.{spelled};
+ghost use Rattle.rb_frame.specs.Spellings.{spelled};
 
 use rb_frame::{Message, Version, message_with, tag_in};
 

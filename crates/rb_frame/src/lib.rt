@@ -7,17 +7,32 @@
 
 ghost use Rattle.std.specs.Prelude.{◌≡◌, ◌≤◌, ◌<◌, ◌^◌, ◌++◌, ℕ, List, [], ◌∷◌, length, IfSome, IfNone, IsTrue};
 ghost use Rattle.rb_rules.specs.declared.message.Message.{Message};
-ghost use Rattle.rb_rules.specs.Spelling.{IsZeroUnlessWord, Spells, check_of, fields_of, has_form, may_have, message_in, message_with, tag_in};
+ghost use Rattle.rb_rules.specs.Spelling.{IsZeroUnlessWord, Spells, check_of, fields_of, has_form, may_have, message_in, message_with, tag_byte, tag_in};
 
 use arrayvec::ArrayVec;
 use byteorder::{BigEndian, ByteOrder};
 pub use rb_rules::{Message, Tag, Version};
+pub use spelling::Spelling;
+
+pub mod spelling;
 
 // The exclusive or of the bytes.
 fn check(bytes: &[u8]) -> u8
     ensures { result ≡ check_of bytes.now }
 {
     bytes.iter().fold(0, |check, byte| check ^ byte)
+}
+
+// The byte of a tag.
+#[inline(always)]
+fn tag_byte(tag: Tag) -> u8
+    ensures { result ≡ tag_byte tag }
+{
+    match tag {
+        Tag::Word => 1,
+        Tag::Fault => 2,
+        Tag::Sync => 3,
+    }
 }
 
 // The ten bytes that both versions begin with, and room for two more.
@@ -35,11 +50,7 @@ fn fields(message: &Message) -> [u8; 12]
         value,
     } = *message;
     let mut bytes = [0; 12];
-    bytes[0] = match tag {
-        Tag::Word => 1,
-        Tag::Fault => 2,
-        Tag::Sync => 3,
-    };
+    bytes[0] = tag_byte(tag);
     BigEndian::write_u16(&mut bytes[1..3], frame);
     BigEndian::write_u16(&mut bytes[3..5], slot);
     bytes[5] = stage;

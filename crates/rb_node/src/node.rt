@@ -24,6 +24,7 @@ use crate::parts::{
 };
 use rb_base::{Kind, NodeId};
 use rb_eligible::Inbox;
+use rb_frame::Spelling;
 use rb_plan::Feasible;
 use rb_rules::Closed;
 use rb_slot::{Engine, Shown};
@@ -208,6 +209,24 @@ impl<K: Kind> Node<K> {
         }
     }
 
+    /// The same with the bytes as numbers.
+    #[inline(always)]
+    pub fn hear(&mut self, from: u8, bytes: &Spelling)
+        ensures core { (c : Core) → IsCore self.old c → IsCore self.new (arrive_of (side_of K.CODE) self.old c from bytes.now) }
+        ensures rest { self.new ≡ record self.old { inbox = self.new.inbox } }
+        ensures spent { 2 ^ 31 ≤ self.old.had → self.new ≡ self.old }
+    {
+        if self.had >= MOST_TICKS {
+            return;
+        }
+        if from >= others(K::CODE, self.engine.plan().shape()) {
+            return;
+        }
+        if let Some(source) = NodeId::new(from) {
+            self.inbox.take_spelled(source, self.had, bytes);
+        }
+    }
+
     /// A tick of the node's clock, with the request or the word for the case that one is wanted; else the word counts for
     /// nothing. At the tick of its next epoch the node first turns to the next frame; then it says its message, if this is the
     /// tick of one; then it closes the window, if this is its last tick, on what came since the last close. What it saw is
@@ -285,6 +304,8 @@ impl<K: Kind> Node<K> {
         ensures act { IsTrue result → (c : Core) (k word : ℕ) → IsCore self.old c → next_of (side_of K.CODE) self.old c ≡ Some k
             → IsAct self.new.shown (record { epoch = None; message = None; closed = true })
             (tick_of (side_of K.CODE) self.old (pass_to k c) word) }
+        ensures only { IsTrue result → (c : Core) → IsCore self.old c → (k : ℕ) × ((next_of (side_of K.CODE) self.old c ≡ Some k)
+            × EndsExactWindow self.old.seat.sizes self.old.seat.plan (side_of K.CODE) c.state k) }
         ensures otherwise { (c : Core) (k : ℕ) → IsCore self.old c → next_of (side_of K.CODE) self.old c ≡ Some k
             → is_tick (new_epoch_of self.old.seat.plan (side_of K.CODE) c.state) k ≡ false
             → EndsExactWindow self.old.seat.sizes self.old.seat.plan (side_of K.CODE) c.state k

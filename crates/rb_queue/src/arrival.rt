@@ -1,82 +1,28 @@
 //! An arrival that is pending.
-ghost use Rattle.std.specs.Prelude.{◌≡◌, ◌≤◌, length, take};
+ghost use Rattle.std.specs.Prelude.{◌≡◌, ◌≤◌};
 ghost use Rattle.rb_queue.specs.Waiting.{comes, event_with};
 ghost use Rattle.rb_queue.specs.Waiting.Ready.{Comes};
 ghost use Rattle.rb_queue.specs.Scanning.{comes_before};
 
 use arrayvec::ArrayVec;
 use rb_base::{Event, EventKind, NodeName};
+use rb_frame::Spelling;
 use std::marker::Model;
 
 /// What comes to a node: the time at which it is due, in reference units, its sender's number and its bytes.
 #[derive(Drop)]
 pub struct Arrival {
     time: u64,
+    spelling: Spelling,
     from: u8,
-    len: u8,
-    bytes: [u8; 32],
 }
 
 impl Model for Arrival {
-    ghost use Rattle.std.specs.Prelude.{take, length, ◌≡◌, ◌≤◌};
     ghost use Rattle.rb_rules.specs.Hearing.{Coming};
 
     ghost Value = { Coming };
 
-    ghost view = { λ a. record { time = a.time; from = a.from; bytes = take a.len a.bytes } };
-
-    ghost invariant = { λ a. a.len ≤ 32 × length a.bytes ≡ 32 };
-}
-
-// The bytes, and zeros behind them.
-fn padded(bytes: &[u8]) -> [u8; 32]
-    requires { length bytes.now ≤ 32 }
-    ensures front { take (length bytes.now) result ≡ bytes.now }
-    ensures whole { length result ≡ 32 }
-{
-    let mut all = [0u8; 32];
-    all[..bytes.len()].copy_from_slice(bytes);
-    all
-}
-
-// The same where they are eleven.
-#[inline(always)]
-fn padded_eleven(bytes: &[u8]) -> [u8; 32]
-    requires { length bytes.now ≡ 11 }
-    ensures front { take (length bytes.now) result ≡ bytes.now }
-    ensures whole { length result ≡ 32 }
-{
-    let mut all = [0u8; 32];
-    all[..11].copy_from_slice(&bytes[..11]);
-    all
-}
-
-// The same where they are twelve.
-#[inline(always)]
-fn padded_twelve(bytes: &[u8]) -> [u8; 32]
-    requires { length bytes.now ≡ 12 }
-    ensures front { take (length bytes.now) result ≡ bytes.now }
-    ensures whole { length result ≡ 32 }
-{
-    let mut all = [0u8; 32];
-    all[..12].copy_from_slice(&bytes[..12]);
-    all
-}
-
-// The same. Those of a message are copied with a length that is known.
-#[inline(always)]
-fn padded_at_once(bytes: &[u8]) -> [u8; 32]
-    requires { length bytes.now ≤ 32 }
-    ensures front { take (length bytes.now) result ≡ bytes.now }
-    ensures whole { length result ≡ 32 }
-{
-    if bytes.len() == 11 {
-        return padded_eleven(bytes);
-    }
-    if bytes.len() == 12 {
-        return padded_twelve(bytes);
-    }
-    padded(bytes)
+    ghost view = { λ a. record { time = a.time; from = a.from; bytes = a.spelling } };
 }
 
 impl Arrival {
@@ -84,22 +30,18 @@ impl Arrival {
     pub(crate) fn new(time: u64, from: u8, bytes: ArrayVec<u8, 32>) -> Arrival
         ensures { result ≡ record { time = time; from = from; bytes = bytes.items } }
     {
-        Arrival::of(time, from, bytes.as_slice())
+        Arrival::of(time, from, Spelling::of(bytes.as_slice()))
     }
 
     /// What comes at this time, in reference units, from the sender of this number, as its bytes.
     #[inline(always)]
-    pub fn of(time: u64, from: u8, bytes: &[u8]) -> Arrival
-        requires few { length bytes.now ≤ 32 }
-        ensures { result ≡ record { time = time; from = from; bytes = bytes.now } }
+    pub fn of(time: u64, from: u8, bytes: Spelling) -> Arrival
+        ensures { result ≡ record { time = time; from = from; bytes = bytes } }
     {
-        let len = bytes.len() as u8;
-        let bytes = padded_at_once(bytes);
         Arrival {
             time,
+            spelling: bytes,
             from,
-            len,
-            bytes,
         }
     }
 
@@ -110,9 +52,8 @@ impl Arrival {
     {
         Arrival {
             time,
+            spelling: self.spelling,
             from: self.from,
-            len: self.len,
-            bytes: self.bytes,
         }
     }
 
@@ -132,21 +73,19 @@ impl Arrival {
         self.from
     }
 
-    /// Its bytes.
+    /// Its bytes, kept as numbers.
     #[inline(always)]
-    pub fn bytes(&self) -> &[u8]
+    pub fn spelling(&self) -> &Spelling
         ensures { result.now ≡ self.now.bytes }
     {
-        &self.bytes[..usize::from(self.len)]
+        &self.spelling
     }
 
     /// Its bytes, in the form in which an event holds them.
     pub fn held(&self) -> ArrayVec<u8, 32>
         ensures { result.items ≡ self.now.bytes }
     {
-        let mut held = ArrayVec::new();
-        let _ = held.try_extend_from_slice(&self.bytes[..usize::from(self.len)]);
-        held
+        self.spelling.held()
     }
 
     // It, as an event of the node.

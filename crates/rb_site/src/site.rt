@@ -20,6 +20,7 @@ ghost use Rattle.rb_site.specs.Tells.{IsTicked};
 
 use rb_base::{Kind, NodeName};
 use rb_clock::Clock;
+use rb_frame::Spelling;
 use rb_node::{Epoch, Node, Span, Step, Want};
 use rb_plan::Feasible;
 use rb_rules::NodeLine;
@@ -198,7 +199,7 @@ impl<K: Kind> Site<K> {
     /// A message or other bytes come to the node from a source at a reference time, no later than its next busy tick, by the
     /// node's clock. The quiet ticks before its stamp pass.
     #[inline(always)]
-    pub fn arrive(&mut self, clock: &Clock, time: u64, from: u8, bytes: &[u8])
+    pub fn arrive(&mut self, clock: &Clock, time: u64, from: u8, bytes: &Spelling)
         requires in_time { ComesBy (passing_end (side_of K.CODE) self.old.node) clock.now time }
         requires source { from < count_of (other (side_of K.CODE)) self.old.node.seat.sizes }
         ensures stands { (sc : Scenario) (place : ℕ) (s : WorldSite) → clock.now ≡ clock_of sc (side_of K.CODE) (number_of self.old)
@@ -220,7 +221,7 @@ impl<K: Kind> Site<K> {
     /// A message or other bytes come to the node from a source at a reference time, and no tick passes before them: they have the
     /// stamp of its next tick, and not their own. It is for a node whose next busy tick depends on no stamp.
     #[inline(always)]
-    pub fn take_in(&mut self, time: u64, from: u8, bytes: &[u8])
+    pub fn take_in(&mut self, time: u64, from: u8, bytes: &Spelling)
         requires source { from < count_of (other (side_of K.CODE)) self.old.node.seat.sizes }
         ensures stands { (sc : Scenario) (s : WorldSite) → Stands sc (side_of K.CODE) self.old s
             → Stands sc (side_of K.CODE) self.new
@@ -231,7 +232,7 @@ impl<K: Kind> Site<K> {
         } }
         ensures same { IsSameNode self.old.node self.new.node }
     {
-        self.node.arrive(from, bytes);
+        self.node.hear(from, bytes);
         keep_time(&mut self.times, from, time);
     }
 
@@ -261,6 +262,9 @@ impl<K: Kind> Site<K> {
             → Stands sc (side_of K.CODE) self.old s
             → next_tick sc.sizes sc.plan (side_of K.CODE) (number_of self.old) s.core ≡ Some k
             → IsTicked sc ports (side_of K.CODE) self.old self.new (record { epoch = None; message = None; closed = true }) k s }
+        ensures only { IsTrue result → (sc : Scenario) (s : WorldSite) → Stands sc (side_of K.CODE) self.old s
+            → (k : ℕ) × ((next_tick sc.sizes sc.plan (side_of K.CODE) (number_of self.old) s.core ≡ Some k)
+            × EndsExactWindow sc.sizes sc.plan (side_of K.CODE) s.core.state k) }
         ensures otherwise { (sc : Scenario) (k : ℕ) (s : WorldSite) → Stands sc (side_of K.CODE) self.old s
             → next_tick sc.sizes sc.plan (side_of K.CODE) (number_of self.old) s.core ≡ Some k
             → is_tick (new_epoch_of sc.plan (side_of K.CODE) s.core.state) k ≡ false

@@ -1,5 +1,5 @@
 -- What comes to nodes.
-use Rattle.std.specs.Prelude.{◌≡◌, ℕ, ◌+◌, ◌≤◌, Bool, true, false, List, length, slice_get, Some, ◌⊎◌}
+use Rattle.std.specs.Prelude.{◌≡◌, ℕ, ◌+◌, ◌≤◌, Bool, true, false, List, slice_get, Some}
 use Rattle.rb_base.specs.Nodes.{Side, has, other}
 use Rattle.rb_base.specs.Nodes.Side.{Biu, Rmu}
 use Rattle.rb_base.specs.declared.node.NodeName.{NodeName}
@@ -18,10 +18,6 @@ number_of (node.Biu i) = i
 number_of (node.Rmu i) = i
 
 -- Messages of good nodes.
-
--- as long as a message is
-abbrev pub IsLong : List ℕ → Type 0
-IsLong bytes = (length bytes ≡ 11) ⊎ (length bytes ≡ 12)
 
 -- what a node sends at a time, as it comes to node i of the other kind
 abbrev pub coming_to : DelayRules → NodeName → ℕ → Place → List ℕ → ℕ → Coming

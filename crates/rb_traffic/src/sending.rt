@@ -12,14 +12,14 @@ ghost use Rattle.rb_rules.specs.Goodness.{Scenario};
 ghost use Rattle.rb_rules.specs.Spelling.{IsZeroUnlessWord};
 ghost use Rattle.rb_rules.specs.WorldStep.{Site};
 ghost use Rattle.rb_agenda.specs.Holding.{HoldsSites};
-ghost use Rattle.rb_traffic.specs.Arriving.{AreRunning, HaveRoom, IsLong, coming_to, lanes_with, number_of};
+ghost use Rattle.rb_traffic.specs.Arriving.{AreRunning, HaveRoom, coming_to, lanes_with, number_of};
 ghost use Rattle.rb_traffic.specs.Departing.{IsOfScenario, with_departure, with_sent};
 
 use crate::arriving::{number_of, receiver};
 use rb_agenda::Agenda;
 use rb_base::{NodeName, NodeSet, Place, Rmu};
 use rb_clock::Clock;
-use rb_frame::encode;
+use rb_frame::Spelling;
 use rb_link::Delays;
 use rb_queue::Arrival;
 use rb_rules::{Message, Version};
@@ -61,16 +61,15 @@ fn spread(
     from: NodeName,
     time: u64,
     place: Place,
-    bytes: &[u8],
+    bytes: &Spelling,
     running: u16,
 )
     requires room { HaveRoom (other (kind_of from)) running agenda.old }
-    requires long { IsLong bytes.now }
     requires time { time < 2 ^ 53 }
     ensures { agenda.new ≡ lanes_with (other (kind_of from)) (coming_to delays.now from time place bytes.now) (has running) agenda.old }
 {
     let row = delays.row(from, place);
-    let message = Arrival::of(0, number_of(from), bytes);
+    let message = Arrival::of(0, number_of(from), *bytes);
     match from {
         NodeName::Biu(i) => {
             let biu = NodeName::Biu(i);
@@ -137,7 +136,7 @@ pub fn send(
         tick,
         message,
     } = *departure;
-    let bytes = encode(version, &message);
+    let bytes = Spelling::of_message(version, &message);
     let place = Place {
         frame,
         slot: message.slot,

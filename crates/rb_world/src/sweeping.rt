@@ -56,7 +56,7 @@ pub(crate) fn sweep<K: Kind>(
                 let arrival = agenda.arrival(node, place);
                 let time = arrival.time();
                 let from = arrival.from();
-                site.arrive(clock, time, from, arrival.bytes());
+                site.arrive(clock, time, from, arrival.spelling());
                 agenda.drop_at(node, place);
             }
         }
@@ -73,7 +73,7 @@ fn take_in_before<K: Kind>(until: u64, arrival: &Arrival, site: &mut Site<K>)
 {
     let time = arrival.time();
     if time < until {
-        site.take_in(time, arrival.from(), arrival.bytes());
+        site.take_in(time, arrival.from(), arrival.spelling());
     }
 }
 

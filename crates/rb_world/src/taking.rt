@@ -21,6 +21,7 @@ use crate::world::World;
 use rb_agenda::Agenda;
 use rb_base::{Biu, Event, EventKind, Kind, NodeName, Rmu};
 use rb_book::{Turn, Way};
+use rb_frame::Spelling;
 use rb_port::Apps;
 use rb_site::Site;
 
@@ -83,10 +84,10 @@ fn happen(
             tick_at(bus, apps, node, i, &mut rmus[usize::from(i)], scene);
         }
         (EventKind::Arrive { from, bytes }, NodeName::Biu(i)) => {
-            bius[usize::from(i)].arrive(bus.clock(node), time, *from, bytes);
+            bius[usize::from(i)].arrive(bus.clock(node), time, *from, &Spelling::of(bytes));
         }
         (EventKind::Arrive { from, bytes }, NodeName::Rmu(i)) => {
-            rmus[usize::from(i)].arrive(bus.clock(node), time, *from, bytes);
+            rmus[usize::from(i)].arrive(bus.clock(node), time, *from, &Spelling::of(bytes));
         }
     }
 }
@@ -110,7 +111,7 @@ pub(crate) fn hear_at<K: Kind>(
     let arrival = agenda.arrival(node, place);
     let time = arrival.time();
     let from = arrival.from();
-    site.arrive(bus.clock(node), time, from, arrival.bytes());
+    site.arrive(bus.clock(node), time, from, arrival.spelling());
     agenda.drop_at(node, place);
 }
 

@@ -1,5 +1,5 @@
 use Rattle.std.proofs.Common.{◌∙◌}
-use Rattle.rb_eligible.proofs.Checks.{check_twelve}
+use Rattle.rb_frame.proofs.Checks.{check_twelve}
 use Rattle.rb_eligible.proofs.words.check.Goals as goal
 
 pub returns : goal.returns

@@ -1,5 +1,5 @@
 use Rattle.std.proofs.Common.{refl, ◌/◌, bit_xor}
-use Rattle.rb_eligible.proofs.Checks.{check_four}
+use Rattle.rb_frame.proofs.Checks.{check_four}
 use Rattle.rb_eligible.proofs.words.check_of_four.Goals as goal
 
 pub returns : goal.returns

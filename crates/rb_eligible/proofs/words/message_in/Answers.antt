@@ -1,7 +1,7 @@
 use Rattle.std.proofs.Common.{◌/◌, ◌%◌, sym, ◌∙◌}
 use Rattle.rb_rules.specs.Spelling.{message_with}
 use Rattle.rb_eligible.proofs.Forms.{message_from, no_message}
-use Rattle.rb_eligible.specs.Readings.{spelled}
+use Rattle.rb_frame.specs.Spellings.{spelled}
 use Rattle.rb_eligible.proofs.words.message_in.Goals as goal
 
 pub returns-then-not-has_form : goal.returns-then-not-has_form

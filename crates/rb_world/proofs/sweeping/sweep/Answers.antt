@@ -119,8 +119,8 @@ events-preserved g c =
           let stands = c.arrive.ensures.stands sc takes.place on.now clock_is on.may.node.site in
           let so : StandsFor sc me c.arrive.new.self (after_arrival sc me i takes.place x on.now) =
           subst (λ y. StandsFor sc me c.arrive.new.self (after_arrival sc me i takes.place y on.now))
-          (coming-is p c.time-time.result c.from-from.result c.bytes.result.now c.time-time.ensures c.from-from.ensures c.bytes.ensures)
-          (subst (λ n. StandsFor sc me c.arrive.new.self (after_arrival sc me n takes.place (record { time = c.time-time.result; from = c.from-from.result; bytes = c.bytes.result.now }) on.now)) number stands) in
+          (coming-is p c.time-time.result c.from-from.result c.spelling.result.now c.time-time.ensures c.from-from.ensures c.spelling.ensures)
+          (subst (λ n. StandsFor sc me c.arrive.new.self (after_arrival sc me n takes.place (record { time = c.time-time.result; from = c.from-from.result; bytes = c.spelling.result.now }) on.now)) number stands) in
           sweep-goes sc me i c.args.until c.events.site c.arrive.new.self c.events.agenda c.drop_at.new.self sites s x on takes (kept (name_of me i) on.may.lane)
           (rooms-taken sc c.events.agenda c.drop_at.new.self c.args.node 0 first.lane after on.may.rooms) (c.arrive.ensures.same.index ∙ number) so;
     }

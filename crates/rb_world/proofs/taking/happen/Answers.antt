@@ -200,8 +200,8 @@ returns-in-Arrive-Biu g c =
     c.clock.ensures ∙ ap (λ n. clock_of sc (kind_of n) (number_in n)) c.in-Arrive-Biu.is-1 ∙ ap (clock_of sc Biu) (sym number) in
     let stands = c.arrive.ensures.stands sc r.place r.s clock_is (subst (λ k. StandsFor sc Biu k r.s) is r.node.site) in
     let so : StandsFor sc Biu c.arrive.new.self (after_arrival sc Biu i r.place x r.s) =
-    subst (λ b. StandsFor sc Biu c.arrive.new.self (after_arrival sc Biu i r.place (record { time = c.args.time; from = c.in-Arrive-Biu.from; bytes = b }) r.s)) c.deref.ensures.0
-    (subst (λ n. StandsFor sc Biu c.arrive.new.self (after_arrival sc Biu n r.place (record { time = c.args.time; from = c.in-Arrive-Biu.from; bytes = c.deref.result.now }) r.s)) number stands) in
+    subst (λ b. StandsFor sc Biu c.arrive.new.self (after_arrival sc Biu i r.place (record { time = c.args.time; from = c.in-Arrive-Biu.from; bytes = b }) r.s)) (c.of.ensures ∙ c.deref.ensures.0)
+    (subst (λ n. StandsFor sc Biu c.arrive.new.self (after_arrival sc Biu n r.place (record { time = c.args.time; from = c.in-Arrive-Biu.from; bytes = c.of.result }) r.s)) number stands) in
     subst (λ n. Happens sc (record { bius = slice_set c.args.bius.now.items n c.arrive.new.self; rmus = c.args.rmus.now.items }) c.args.scene.now w d) (sym c.from-in-Arrive-Biu.ensures)
     (biu-happens sc w d (slice_set c.args.bius.now.items i c.arrive.new.self) c.args.rmus.now.items c.args.scene.now
     (arrival-acts sc (record { bius = c.args.bius.now.items; rmus = c.args.rmus.now.items }) c.args.scene.now c.args.time c.args.node c.args.event.now w p d Biu i x c.arrive.new.self may r (c.arrive.ensures.same.index ∙ number) so))
@@ -220,8 +220,8 @@ returns-in-Arrive-Rmu g c =
     c.clock-in-Arrive-Rmu.ensures ∙ ap (λ n. clock_of sc (kind_of n) (number_in n)) c.in-Arrive-Rmu.is-1 ∙ ap (clock_of sc Rmu) (sym number) in
     let stands = c.arrive-in-Arrive-Rmu.ensures.stands sc r.place r.s clock_is (subst (λ k. StandsFor sc Rmu k r.s) is r.node.site) in
     let so : StandsFor sc Rmu c.arrive-in-Arrive-Rmu.new.self (after_arrival sc Rmu i r.place x r.s) =
-    subst (λ b. StandsFor sc Rmu c.arrive-in-Arrive-Rmu.new.self (after_arrival sc Rmu i r.place (record { time = c.args.time; from = c.in-Arrive-Rmu.from; bytes = b }) r.s)) c.deref-in-Arrive-Rmu.ensures.0
-    (subst (λ n. StandsFor sc Rmu c.arrive-in-Arrive-Rmu.new.self (after_arrival sc Rmu n r.place (record { time = c.args.time; from = c.in-Arrive-Rmu.from; bytes = c.deref-in-Arrive-Rmu.result.now }) r.s)) number stands) in
+    subst (λ b. StandsFor sc Rmu c.arrive-in-Arrive-Rmu.new.self (after_arrival sc Rmu i r.place (record { time = c.args.time; from = c.in-Arrive-Rmu.from; bytes = b }) r.s)) (c.of-in-Arrive-Rmu.ensures ∙ c.deref-in-Arrive-Rmu.ensures.0)
+    (subst (λ n. StandsFor sc Rmu c.arrive-in-Arrive-Rmu.new.self (after_arrival sc Rmu n r.place (record { time = c.args.time; from = c.in-Arrive-Rmu.from; bytes = c.of-in-Arrive-Rmu.result }) r.s)) number stands) in
     subst (λ n. Happens sc (record { bius = c.args.bius.now.items; rmus = slice_set c.args.rmus.now.items n c.arrive-in-Arrive-Rmu.new.self }) c.args.scene.now w d) (sym c.from-in-Arrive-Rmu.ensures)
     (rmu-happens sc w d c.args.bius.now.items (slice_set c.args.rmus.now.items i c.arrive-in-Arrive-Rmu.new.self) c.args.scene.now
     (arrival-acts sc (record { bius = c.args.bius.now.items; rmus = c.args.rmus.now.items }) c.args.scene.now c.args.time c.args.node c.args.event.now w p d Rmu i x c.arrive-in-Arrive-Rmu.new.self may r (c.arrive-in-Arrive-Rmu.ensures.same.index ∙ number) so))

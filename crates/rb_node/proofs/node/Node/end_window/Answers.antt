@@ -3,7 +3,8 @@ use Rattle.rb_base.specs.Nodes.{Side, side_of}
 use Rattle.rb_slot.specs.Engines.{IsSameFrame, Seated}
 use Rattle.rb_node.specs.Aheads.{following}
 use Rattle.rb_node.proofs.Acting.{closes-same}
-use Rattle.rb_node.proofs.Alone.{alone-follows, alone-gives, alone-soon, alone-stage, kept-alone, kept-otherwise}
+use Rattle.rb_node.proofs.Alone.{alone-ends, alone-follows, alone-gives, alone-soon, alone-stage, kept-alone, kept-otherwise}
+use Rattle.rb_node.proofs.Cores.{next-is}
 use Rattle.rb_node.proofs.node.Node.end_window.Goals as goal
 
 true-false : true ≡ false → ⊥
@@ -103,3 +104,15 @@ returns-clause-same g c =
     let same : IsSameFrame v v3 =
     closes-same (side_of g.K.Kind.CODE) v v3 c.self.inside.ahead.window received.0 (c.close_into.ensures.state received.0 received.1) in
     rw (← c.self.view_is) (record { sizes = same.sizes; plan = same.plan; index = same.index })
+
+pub returns-clause-only : goal.returns-clause-only
+returns-clause-only g c =
+    let me : Side = side_of g.K.Kind.CODE in
+    let v = c.self.inside.engine in
+    let had = c.self.inside.had in
+    let a = c.self.inside.ahead in
+    let l = c.self.invariant.ahead in
+    let alone = kept-alone me v had a l c.if-not-self.false in
+    rw (← c.self.view_is) (λ one d is.
+    let next = next-is me v d had a.busy.tick is.state is.had l.next alone.below in
+    (a.busy.tick, (next, alone-ends me v had a d a.busy.tick l c.if-not-self.false is.state is.had next)))

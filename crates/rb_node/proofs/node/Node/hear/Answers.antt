@@ -1,0 +1,34 @@
+use Rattle.std.proofs.Common.{◌≡◌, ◌<◌, ◌≤◌, ◌^◌, sym, subst, arith}
+use Rattle.rb_base.specs.Nodes.{other, side_of}
+use Rattle.rb_rules.specs.Slots.{count_of}
+use Rattle.rb_node.specs.Cores.{IsCore, Running, received_of}
+use Rattle.rb_node.proofs.Between.{arrive-nobody, arrive-spent, arrive-takes, holds-more}
+use Rattle.rb_node.proofs.node.Node.hear.Goals as goal
+
+pub returns-then-self-ge-MOST_TICKS-clause-core : goal.returns-then-self-ge-MOST_TICKS-clause-core
+returns-then-self-ge-MOST_TICKS-clause-core g c =
+    rw (← c.self.view_is) (λ d is. subst (IsCore _) (sym (arrive-spent _ _ d c.args.from c.args.bytes.now (let had = is.had in omega arith))) is)
+
+pub returns-then-from-others-clause-core : goal.returns-then-from-others-clause-core
+returns-then-from-others-clause-core g c =
+    let v = c.self.inside.engine in
+    let few : count_of (other (side_of g.K.Kind.CODE)) v.sizes ≤ c.args.from =
+    subst (λ k. k ≤ c.args.from) (rw (c.CODE.ensures, c.shape.ensures, c.plan.ensures) at c.others.ensures.value) c.if-from-others.true in
+    rw (← c.self.view_is) (λ d is. subst (IsCore _) (sym (arrive-nobody _ _ d c.args.from c.args.bytes.now few)) is)
+
+pub returns-in-Some-clause-core : goal.returns-in-Some-clause-core
+returns-in-Some-clause-core g c =
+    let v = c.self.inside.engine in
+    let there : c.args.from < count_of (other (side_of g.K.Kind.CODE)) v.sizes =
+    subst (λ k. c.args.from < k) (rw (c.CODE.ensures, c.shape.ensures, c.plan.ensures) at c.others.ensures.value) c.if-from-others.false in
+    let n : Running = record { seat = v; had = c.self.inside.had; inbox = c.take_spelled.new.self; shown = c.self.inside.shown } in
+    rw (← c.self.view_is) (λ d is.
+    let had : d.had ≡ c.self.inside.had = is.had in
+    let below : d.had < 2 ^ 31 = omega arith in
+    subst (IsCore n) (sym (arrive-takes v.sizes (side_of g.K.Kind.CODE) d c.args.from c.args.bytes.now there below))
+    (record {
+      state = is.state;
+      had = is.had;
+      inbox = holds-more c.take_spelled.new.self d.inbox c.args.from d.had c.args.bytes.now c.in-Some.source c.self.inside.had
+          (c.take_spelled.ensures.shows (received_of d.inbox) is.inbox) c.in-Some.ensures.value had;
+    }))
