@@ -1,9 +1,11 @@
 -- What the entries for a node bring in a window is what is said to it.
-use Rattle.std.proofs.Common.{◌≡◌, ℕ, zero, suc, ◌+◌, ◌-◌, ◌&&◌, not, nat_le, Bool, true, false, cond, List, [], ◌∷◌, ◌++◌, filter, map, refl, sym, ap, ◌∙◌, arith}
-use Rattle.std.specs.List.{flat_map, range_with_len}
+use Rattle.std.proofs.Common.{◌≡◌, ℕ, zero, suc, ◌+◌, ◌-◌, ◌<◌, ◌&&◌, ◌||◌, not, nat_le, Bool, true, false, cond, List, [], ◌∷◌, ◌++◌, drop, filter, get_or, length, map, slice_get, take, refl, sym, ap, ◌∙◌, arith}
+use Rattle.std.specs.List.{flat_map, list_any, range_with_len}
+use Rattle.std.proofs.lemmas.Bool.{or_parts}
 use Rattle.std.proofs.lemmas.Bool.Decides.{nat_tests}
-use Rattle.std.proofs.lemmas.List.{map-append}
-use Rattle.std.proofs.lemmas.List.Elements.{filter-append}
+use Rattle.std.proofs.lemmas.List.{map-append, take-append-drop, take_more}
+use Rattle.std.proofs.lemmas.List.Elements.{filter-append, filter_map-append}
+use Rattle.std.proofs.lemmas.List.Folds.{list_any-append}
 use Rattle.rb_base.specs.Nodes.{Side, other}
 use Rattle.rb_base.specs.Nodes.Side.{Biu, Rmu}
 use Rattle.rb_base.specs.declared.node.NodeName.{NodeName}
@@ -16,7 +18,7 @@ use Rattle.rb_rules.specs.Lawful.{is_node_good, kind_of}
 use Rattle.rb_rules.specs.Links.{covers, name_of, same_node, stands_for}
 use Rattle.rb_rules.specs.WorldStep.{says_in}
 use Rattle.rb_traffic.specs.Arriving.{number_of}
-use Rattle.rb_traffic.specs.Saying.{all_brought, brought, entries_to, is_between, is_said_in, senders_to}
+use Rattle.rb_traffic.specs.Saying.{all_brought, brought, entries_at, entries_to, is_between, is_for, is_said_in, senders_to}
 
 pub brought-append : (sc : Scenario) (clock : Timeline) (span : Span) (xs ys : List Say) → all_brought sc clock span (xs ++ ys) ≡ all_brought sc clock span xs ++ all_brought sc clock span ys
 brought-append sc clock span xs ys =
@@ -134,3 +136,38 @@ pub says-are : (sc : Scenario) (to : NodeName) (span : Span)
 unfolding says_in entries_to
 says-are sc (node.Biu i) span = by-senders sc Biu i 0 sc.sizes.rmus span
 says-are sc (node.Rmu i) span = by-senders sc Rmu i 0 sc.sizes.bius span
+
+-- Where none of the entries is for the window's place, none is said in it.
+pub none-for : (sc : Scenario) (clock : Timeline) (span : Span) (says : List Say) → list_any (is_for span.place) says ≡ false → all_brought sc clock span says ≡ []
+none-for sc clock span [] none = refl
+none-for sc clock span (s ∷ says) none =
+    let parts = or_parts (is_for span.place s) (list_any (is_for span.place) says) none in
+    let not_said : is_said_in sc span s ≡ false = ap (λ b. b && nat_le (span.first + s.offset) span.last && not (is_node_good sc s.from span.place.frame span.place.slot)) parts.0 in
+    ap (λ b. map (brought sc.plan.version clock span) (cond b (s ∷ filter (is_said_in sc span) says) (filter (is_said_in sc span) says))) not_said
+    ∙ none-for sc clock span says parts.1
+
+-- One number more is looked at.
+pub some-more : (p : Say → Bool) (says : List Say) (places : List ℕ) (i : ℕ) → i < length places
+    → list_any p (entries_at says (take (i + 1) places)) ≡ (list_any p (entries_at says (take i places)) || list_any p (entries_at says (get_or places i 0 ∷ [])))
+some-more p says places i within =
+    ap (λ l. list_any p (entries_at says l)) (take_more places i 0 within)
+    ∙ ap (list_any p) (filter_map-append (slice_get says) (take i places) (get_or places i 0 ∷ []))
+    ∙ list_any-append p (entries_at says (take i places)) (entries_at says (get_or places i 0 ∷ []))
+
+or-first : (a b : Bool) → a ≡ true → (a || b) ≡ true
+or-first true b e = refl
+or-first false b e = let never : false ≡ true = e in absurd cc
+
+or-second : (a b : Bool) → b ≡ true → (a || b) ≡ true
+or-second true b e = refl
+or-second false b e = e
+
+-- An entry that passes is one of them.
+pub some-there : (p : Say → Bool) (says : List Say) (places : List ℕ) (i : ℕ) → i < length places → list_any p (entries_at says (get_or places i 0 ∷ [])) ≡ true
+    → list_any p (entries_at says places) ≡ true
+some-there p says places i within passes =
+    let so_far = some-more p says places i within ∙ or-second (list_any p (entries_at says (take i places))) (list_any p (entries_at says (get_or places i 0 ∷ []))) passes in
+    ap (λ l. list_any p (entries_at says l)) (sym (take-append-drop (i + 1) places))
+    ∙ ap (list_any p) (filter_map-append (slice_get says) (take (i + 1) places) (drop (i + 1) places))
+    ∙ list_any-append p (entries_at says (take (i + 1) places)) (entries_at says (drop (i + 1) places))
+    ∙ or-first (list_any p (entries_at says (take (i + 1) places))) (list_any p (entries_at says (drop (i + 1) places))) so_far

@@ -5,6 +5,7 @@ use Rattle.rb_base.specs.Nodes.{Side, other}
 use Rattle.rb_base.specs.Nodes.Side.{Biu, Rmu}
 use Rattle.rb_base.specs.Sizes.{Sizes}
 use Rattle.rb_base.specs.declared.node.NodeName.{NodeName}
+use Rattle.rb_base.specs.declared.values.Place.{Place}
 use Rattle.rb_rules.specs.declared.message.Version.{Version}
 use Rattle.rb_rules.specs.declared.say.Say.{Say}
 use Rattle.rb_rules.specs.Clock.{Timeline, time_of}
@@ -65,6 +66,10 @@ pub record AreIndexed (sizes : Sizes) (says : List Say) (bius rmus : List (List 
   pub to_rmus : AreOfKind says Rmu sizes.rmus sizes.bius rmus
 
 -- In a window.
+
+-- the entry is for this place
+abbrev pub is_for : Place → Say → Bool
+is_for place s = covers s.frames s.slots s.stages place
 
 -- the entry is said by its sender in a window: it is for the place, comes inside of the window, and the sender is not good there
 abbrev pub is_said_in : Scenario → Span → Say → Bool

@@ -1,5 +1,6 @@
 //! What nodes that are not good say.
 ghost use Rattle.std.specs.Prelude.{◌≡◌, ℕ, ◌+◌, ◌-◌, ◌<◌, ◌≤◌, ◌^◌, ◌∷◌, [], IfOk, IsTrue, length, min, take};
+ghost use Rattle.std.specs.List.{list_any};
 ghost use Rattle.rb_rules.specs.Book.{Each};
 ghost use Rattle.rb_rules.specs.Clock.{time_of};
 ghost use Rattle.rb_rules.specs.Goodness.{Scenario, clock_of};
@@ -11,7 +12,7 @@ ghost use Rattle.rb_queue.specs.Waiting.{HasLane, lane_of, spare_of, with_arriva
 ghost use Rattle.rb_onset.specs.Faults.{faults_of};
 ghost use Rattle.rb_agenda.specs.Holding.{HoldsSites};
 ghost use Rattle.rb_traffic.specs.Arriving.{number_of};
-ghost use Rattle.rb_traffic.specs.Saying.{AreFor, all_brought, entries_at, hears, is_said_in, kept_of, most_to, senders_to, with_arrivals};
+ghost use Rattle.rb_traffic.specs.Saying.{AreFor, all_brought, entries_at, hears, is_for, is_said_in, kept_of, most_to, senders_to, with_arrivals};
 ghost use Rattle.rb_traffic.specs.Spans.{span_of};
 
 use crate::arriving::{arrive, number_of};
@@ -176,7 +177,28 @@ fn say_each(
     }
 }
 
-// The same. As a rule there are none.
+// Whether there is an entry with this number, and it is for this place.
+fn is_for(says: &SayList, number: u16, place: Place) -> bool
+    ensures { result ≡ list_any (is_for place) (entries_at says.now (number ∷ [])) }
+{
+    let number = usize::from(number);
+    number < says.len() && covers(says.get(number), place)
+}
+
+// Whether one of the entries with these numbers is for this place.
+#[inline(always)]
+fn some_for(says: &SayList, places: &[u16], place: Place) -> bool
+    ensures { result ≡ list_any (is_for place) (entries_at says.now places.now) }
+{
+    for number in places {
+        if is_for(says, *number, place) {
+            return true;
+        }
+    }
+    false
+}
+
+// The same. As a rule none of them is for the window.
 #[inline(always)]
 fn say_all(
     agenda: &mut Agenda,
@@ -195,7 +217,7 @@ fn say_all(
     ensures { (sc : Scenario) → onsets.now ≡ faults_of sc → version ≡ sc.plan.version
         → agenda.new ≡ with_lane to (with_arrivals (all_brought sc clock.now (span_of span.now) (entries_at says.now places.now)) (lane_of agenda.old to)) agenda.old }
 {
-    if places.is_empty() {
+    if !some_for(says, places, span.place) {
         return;
     }
     say_each(agenda, says, places, onsets, version, clock, to, span);

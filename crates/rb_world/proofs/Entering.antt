@@ -20,12 +20,14 @@ use Rattle.rb_traffic.specs.Arriving.{number_of}
 use Rattle.rb_traffic.specs.Saying.{hears, with_arrivals}
 use Rattle.rb_world.specs.declared.scene.Scene.{Scene}
 use Rattle.rb_world.specs.Buses.{HaveRooms}
+use Rattle.rb_world.specs.Steady.{is_steady}
 use Rattle.rb_world.specs.Steps.{IsAt, IsCoreAt, OthersStay, Proceeds, moved}
 use Rattle.rb_world.specs.Worlds.{Surrounds}
 use Rattle.rb_world.proofs.Around.{Pends, pends-more}
 use Rattle.rb_world.proofs.Entries.{says-few}
 use Rattle.rb_world.proofs.Going.{name-is, says-then}
 use Rattle.rb_world.proofs.Lanes.{kind-named, number-named, rooms-with}
+use Rattle.rb_world.proofs.SteadyNodes.{steady-awaits}
 use Rattle.rb_world.proofs.Onward.{goes-in, goes-on, goes-out, others-stay, proceeds-on, proceeds-out}
 
 pub good-named : (sc : Scenario) (me : Side) (i frame slot : ℕ) → is_node_good sc (name_of me i) frame slot ≡ is_good sc me i frame slot
@@ -166,3 +168,15 @@ after-stop sc me i name site stopped before after w s span named at enters bad i
     (proceeds-out sc me i site before after w s at (goes-out sc me i span s enters here)
     (subst (Surrounds sc after) (ap (λ n. moved (kind_of n) (number_of n) stop w) named ∙ named-moved me i stop w) around)
     (subst (λ k. OthersStay k before after) (ap kind_of named ∙ kind-named me i) others))
+
+pub after-steady : (sc : Scenario) (me : Side) (i : ℕ) (name : NodeName) (site : KeptSite) (before after : Scene) (w : World) (s : Site) → name ≡ name_of me i
+    → IsAt sc me i site before w s → is_steady sc (kind_of name) (number_of name) ≡ true → AwaitsTick sc me name site before after → OthersStay (kind_of name) before after
+    → Proceeds sc me i site before after w s
+after-steady sc me i name site before after w s named at steady awaits others =
+    let does : AwaitsTick sc me (name_of me i) site before after = subst (λ n. AwaitsTick sc me n site before after) named awaits in
+    let kind : kind_of name ≡ me = ap kind_of named ∙ kind-named me i in
+    let number : number_of name ≡ i = ap number_of named ∙ number-named me i in
+    let here : is_steady sc me i ≡ true = sym (ap (λ k. is_steady sc k (number_of name)) kind ∙ ap (is_steady sc me) number) ∙ steady in
+    proceeds-on sc me i site before after w s [] at (steady-awaits sc me i s here at.within)
+    (subst (Surrounds sc after) (await-named sc me i w) (does w s.core (core-at sc me i site before w s at) at.surrounds))
+    (subst (λ k. OthersStay k before after) kind others)

@@ -1,3 +1,4 @@
+pub mod Steady
 pub mod Buses
 pub mod Worlds
 pub mod Turning

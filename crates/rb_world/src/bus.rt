@@ -1,7 +1,7 @@
 //! The bus of a run.
 ghost use Rattle.std.specs.Prelude.{◌≡◌, ◌+◌, ◌<◌, ◌≤◌, ◌^◌, IfOk, get_or, length};
 ghost use Rattle.rb_base.specs.Nodes.{other};
-ghost use Rattle.rb_base.specs.Nodes.Side.{Biu, Rmu};
+ghost use Rattle.rb_base.specs.Nodes.Side.{Biu as biu, Rmu as rmu};
 ghost use Rattle.rb_rules.specs.Book.{Each};
 ghost use Rattle.rb_rules.specs.WorldStep.{Site, at_node, first_world, says_in};
 ghost use Rattle.rb_order.specs.PendingEvents.{most_pending};
@@ -16,9 +16,11 @@ ghost use Rattle.rb_traffic.specs.Arriving.{AreRunning, HaveRoom, number_of};
 ghost use Rattle.rb_traffic.specs.Saying.{hears, kept_of, with_arrivals};
 ghost use Rattle.rb_traffic.specs.Departing.{with_sent};
 ghost use Rattle.rb_world.specs.Buses.{HaveRooms};
+ghost use Rattle.rb_world.specs.Steady.{is_steady};
 
+use crate::steady::steady_nodes;
 use rb_agenda::Agenda;
-use rb_base::{NodeName, OutOfMemory, Shape};
+use rb_base::{Biu, NodeName, NodeSet, OutOfMemory, Rmu, Shape};
 use rb_book::Book;
 use rb_clock::Clock;
 use rb_link::Delays;
@@ -43,6 +45,9 @@ pub struct Bus {
     onsets: Onsets,
     sayings: Sayings,
     says: usize,
+    // The nodes that are good in every slot, and to which nothing is said.
+    steady_biu: NodeSet<Biu>,
+    steady_rmu: NodeSet<Rmu>,
 }
 
 impl Model for Bus {
@@ -53,7 +58,7 @@ impl Model for Bus {
 
     ghost view = { λ b. scenario_of b.plan b.frames b.requests b.words b.apps b.clocks b.delays b.onsets b.sayings };
 
-    ghost invariant = { λ b. IsBus b.says (scenario_of b.plan b.frames b.requests b.words b.apps b.clocks b.delays b.onsets b.sayings) b.onsets b.sayings };
+    ghost invariant = { λ b. IsBus b.says (scenario_of b.plan b.frames b.requests b.words b.apps b.clocks b.delays b.onsets b.sayings) b.onsets b.sayings b.steady_biu b.steady_rmu };
 }
 
 impl Bus {
@@ -67,6 +72,8 @@ impl Bus {
         let onsets = Onsets::new(shape, scenario.biu_onset, scenario.rmu_onset);
         let says = scenario.says.len();
         let sayings = Sayings::new(alloc, &shape, onsets, version, scenario.says)?;
+        let steady_biu = steady_nodes(shape.biu(), &scenario.biu_onset, &sayings);
+        let steady_rmu = steady_nodes(shape.rmu(), &scenario.rmu_onset, &sayings);
         Ok(Bus {
             plan: scenario.plan,
             frames: scenario.frames,
@@ -78,6 +85,8 @@ impl Bus {
             onsets,
             sayings,
             says,
+            steady_biu,
+            steady_rmu,
         })
     }
 
@@ -152,6 +161,18 @@ impl Bus {
         self.onsets.is_good(node, span.place.frame, span.place.slot)
     }
 
+    /// Whether the node is good in every slot, and no entry of the scenario says anything to it.
+    #[inline(always)]
+    pub fn is_steady(&self, node: NodeName) -> bool
+        requires { IsNodeOf self.now.sizes node }
+        ensures { result ≡ is_steady self.now (kind_of node) (number_of node) }
+    {
+        match node {
+            NodeName::Biu(i) => self.steady_biu.has(i),
+            NodeName::Rmu(i) => self.steady_rmu.has(i),
+        }
+    }
+
     /// How many data slots BIU `i` asks for.
     pub fn request(&self, i: u8) -> u32
         requires { i < self.now.sizes.bius }
@@ -162,8 +183,8 @@ impl Bus {
 
     /// How much may be pending at a node at most, with what comes to it when an event is taken.
     pub fn room(&self) -> usize
-        ensures biu { most_pending self.now Biu + length self.now.says + 1 ≤ result }
-        ensures rmu { most_pending self.now Rmu + length self.now.says + 1 ≤ result }
+        ensures biu { most_pending self.now biu + length self.now.says + 1 ≤ result }
+        ensures rmu { most_pending self.now rmu + length self.now.says + 1 ≤ result }
         ensures most { result ≤ 65536 }
     {
         let nodes = self.plan.shape().biu().max(self.plan.shape().rmu());

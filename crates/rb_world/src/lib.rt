@@ -12,6 +12,7 @@ pub mod observing;
 mod opening;
 mod proceeding;
 mod scene;
+mod steady;
 mod sweeping;
 mod taking;
 mod ticking;

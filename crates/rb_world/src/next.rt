@@ -83,9 +83,8 @@ impl World {
         unreachable!()
     }
 
-    // The same by first choices: from tick to tick. What the node that is observed is given up to there is told. It is a call of its own, so
-    // that the turn which `next` gives is made where it is wanted, and not copied.
-    #[inline(never)]
+    // The same by first choices: from tick to tick. What the node that is observed is given up to there is told.
+    #[inline(always)]
     fn run_first<T: Observer>(
         &mut self,
         apps: &Apps,
@@ -117,6 +116,18 @@ impl World {
         self.last = last_of(turn);
     }
 
+    // The same, where no node is observed. It is a call of its own, so that the turn which `next` gives is made where it is wanted, and not
+    // copied.
+    #[inline(never)]
+    fn run_unobserved(&mut self, apps: &Apps, turn: &mut Turn)
+        requires stands { (w : RunWorld) × Stands self.old w }
+        requires quiet { turn.old ≡ Turn.Quiet }
+        ensures world { (w : RunWorld) (state : ℕ) → Stands self.old w → RunsOn First state state self.old self.new turn.new w }
+        ensures bus { self.new.bus ≡ self.old.bus }
+    {
+        self.run_first(apps, turn, None, &mut Nobody);
+    }
+
     // The same for any choices.
     #[inline(always)]
     fn run_on(&mut self, apps: &Apps, ties: Ties, draws: &mut Draws, turn: &mut Turn)
@@ -126,7 +137,7 @@ impl World {
         ensures bus { self.new.bus ≡ self.old.bus }
     {
         match ties {
-            Ties::First => self.run_first(apps, turn, None, &mut Nobody),
+            Ties::First => self.run_unobserved(apps, turn),
             _ => self.run_counted(apps, ties, draws, turn),
         }
     }

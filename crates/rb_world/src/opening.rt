@@ -78,7 +78,7 @@ fn open_scene(alloc: Global, bus: &Bus) -> Result<Scene, OutOfMemory>
 }
 
 // The name of a node of the kind.
-fn name_of<K: Kind>(i: u8) -> NodeName
+pub(crate) fn name_of<K: Kind>(i: u8) -> NodeName
     ensures { result ≡ name_of (side_of K.CODE) i }
 {
     if K::CODE == 0 {

@@ -57,10 +57,9 @@ fn stop_at(bus: &Bus, node: NodeName, scene: &mut Scene)
     }
 }
 
-/// The node goes on to its next tick. At a window's begin a node that is not good there stops, and to the others comes what they
-/// are told in it.
+// The node goes on, whatever its windows may bring it.
 #[inline(always)]
-pub(crate) fn proceed<K: Kind>(bus: &Bus, node: NodeName, site: &mut Site<K>, scene: &mut Scene)
+fn proceed_in_full<K: Kind>(bus: &Bus, node: NodeName, site: &mut Site<K>, scene: &mut Scene)
     requires name { node ≡ name_of (side_of K.CODE) (number_of site.old) }
     requires may { (w : World) × (s : WorldSite) × MayProceed bus.now (side_of K.CODE) (number_of site.old) site.old scene.old w s }
     ensures { (w : World) (s : WorldSite) → MayProceed bus.now (side_of K.CODE) (number_of site.old) site.old scene.old w s
@@ -75,4 +74,20 @@ pub(crate) fn proceed<K: Kind>(bus: &Bus, node: NodeName, site: &mut Site<K>, sc
         bus.say(&mut scene.agenda, node, &span);
     }
     await_tick(bus, node, site, scene);
+}
+
+/// The node goes on to its next tick. At a window's begin a node that is not good there stops, and to the others comes what they
+/// are told in it.
+#[inline(always)]
+pub(crate) fn proceed<K: Kind>(bus: &Bus, node: NodeName, site: &mut Site<K>, scene: &mut Scene)
+    requires name { node ≡ name_of (side_of K.CODE) (number_of site.old) }
+    requires may { (w : World) × (s : WorldSite) × MayProceed bus.now (side_of K.CODE) (number_of site.old) site.old scene.old w s }
+    ensures { (w : World) (s : WorldSite) → MayProceed bus.now (side_of K.CODE) (number_of site.old) site.old scene.old w s
+        → Proceeds bus.now (side_of K.CODE) (number_of site.old) site.new scene.old scene.new w s }
+{
+    if bus.is_steady(node) {
+        await_tick(bus, node, site, scene);
+    } else {
+        proceed_in_full(bus, node, site, scene);
+    }
 }

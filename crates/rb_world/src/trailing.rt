@@ -186,6 +186,7 @@ fn step_on<T: Observer>(
 
 /// Takes the run from tick to tick up to its next record. Before that it has not ended. A run has fewer than 2^64 - 1 events. What the node
 /// that is observed is given up to there is told.
+#[inline(always)]
 pub(crate) fn run_ticks<T: Observer>(
     bus: &Bus,
     apps: &Apps,

@@ -4,5 +4,5 @@ use Rattle.rb_world.proofs.world.World.run_on.Goals as goal
 
 pub returns-in-First-clause-world : goal.returns-in-First-clause-world
 returns-in-First-clause-world g c = λ w is.
-    subst (λ t. RunsOn t c.args.draws.now.state c.args.draws.now.state c.args.self.now c.run_first.new.self c.run_first.new.turn w) (sym c.in-First.is)
-    (c.run_first.ensures.world w c.args.draws.now.state is)
+    subst (λ t. RunsOn t c.args.draws.now.state c.args.draws.now.state c.args.self.now c.run_unobserved.new.self c.run_unobserved.new.turn w) (sym c.in-First.is)
+    (c.run_unobserved.ensures.world w c.args.draws.now.state is)
