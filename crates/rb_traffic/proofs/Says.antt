@@ -1,24 +1,27 @@
 -- What the entries for a node bring in a window is what is said to it.
 use Rattle.std.proofs.Common.{◌≡◌, ℕ, zero, suc, ◌+◌, ◌-◌, ◌<◌, ◌&&◌, ◌||◌, not, nat_le, Bool, true, false, cond, List, [], ◌∷◌, ◌++◌, drop, filter, get_or, length, map, slice_get, take, refl, sym, ap, ◌∙◌, arith}
-use Rattle.std.specs.List.{flat_map, list_any, range_with_len}
-use Rattle.std.proofs.lemmas.Bool.{or_parts}
+use Rattle.std.specs.Prelude.{max, min}
+use Rattle.std.specs.List.{flat_map, fold, list_any, range_with_len}
+use Rattle.std.proofs.lemmas.Bool.{or_from, or_parts}
 use Rattle.std.proofs.lemmas.Bool.Decides.{nat_tests}
 use Rattle.std.proofs.lemmas.List.{map-append, take-append-drop, take_more}
 use Rattle.std.proofs.lemmas.List.Elements.{filter-append, filter_map-append}
 use Rattle.std.proofs.lemmas.List.Folds.{list_any-append}
+use Rattle.std.proofs.lemmas.List.Sums.{fold-append}
 use Rattle.rb_base.specs.Nodes.{Side, other}
 use Rattle.rb_base.specs.Nodes.Side.{Biu, Rmu}
 use Rattle.rb_base.specs.declared.node.NodeName.{NodeName}
+use Rattle.rb_base.specs.declared.values.Place.{Place}
 use Rattle.rb_base.specs.declared.node.NodeName.TheVariants as node
 use Rattle.rb_rules.specs.declared.say.Say.{Say}
 use Rattle.rb_rules.specs.Clock.{Timeline, time_of}
 use Rattle.rb_rules.specs.Goodness.{Scenario, clock_of, is_good}
 use Rattle.rb_rules.specs.Hearing.{Coming, Span, bytes_of, coming_said, is_said, said_by}
 use Rattle.rb_rules.specs.Lawful.{is_node_good, kind_of}
-use Rattle.rb_rules.specs.Links.{covers, name_of, same_node, stands_for}
+use Rattle.rb_rules.specs.Links.{covers, is_in_range, name_of, same_node, stands_for}
 use Rattle.rb_rules.specs.WorldStep.{says_in}
 use Rattle.rb_traffic.specs.Arriving.{number_of}
-use Rattle.rb_traffic.specs.Saying.{all_brought, brought, entries_at, entries_to, is_between, is_for, is_said_in, senders_to}
+use Rattle.rb_traffic.specs.Saying.{all_brought, brought, entries_at, entries_to, first_frame, is_between, is_for, is_said_in, last_frame, later_frame, senders_to, sooner_frame}
 
 pub brought-append : (sc : Scenario) (clock : Timeline) (span : Span) (xs ys : List Say) → all_brought sc clock span (xs ++ ys) ≡ all_brought sc clock span xs ++ all_brought sc clock span ys
 brought-append sc clock span xs ys =
@@ -147,12 +150,21 @@ none-for sc clock span (s ∷ says) none =
     ∙ none-for sc clock span says parts.1
 
 -- One number more is looked at.
+entries-one-more : (says : List Say) (places : List ℕ) (i : ℕ) → i < length places
+    → entries_at says (take (i + 1) places) ≡ entries_at says (take i places) ++ entries_at says (get_or places i 0 ∷ [])
+entries-one-more says places i within =
+    ap (entries_at says) (take_more places i 0 within) ∙ filter_map-append (slice_get says) (take i places) (get_or places i 0 ∷ [])
+
+-- what is gathered of all so far
+pub fold-more : (f : ℕ → Say → ℕ) (a : ℕ) (says : List Say) (places : List ℕ) (i : ℕ) → i < length places
+    → fold f a (entries_at says (take (i + 1) places)) ≡ fold f (fold f a (entries_at says (take i places))) (entries_at says (get_or places i 0 ∷ []))
+fold-more f a says places i within =
+    ap (fold f a) (entries-one-more says places i within) ∙ fold-append f a (entries_at says (take i places)) (entries_at says (get_or places i 0 ∷ []))
+
 pub some-more : (p : Say → Bool) (says : List Say) (places : List ℕ) (i : ℕ) → i < length places
     → list_any p (entries_at says (take (i + 1) places)) ≡ (list_any p (entries_at says (take i places)) || list_any p (entries_at says (get_or places i 0 ∷ [])))
 some-more p says places i within =
-    ap (λ l. list_any p (entries_at says l)) (take_more places i 0 within)
-    ∙ ap (list_any p) (filter_map-append (slice_get says) (take i places) (get_or places i 0 ∷ []))
-    ∙ list_any-append p (entries_at says (take i places)) (entries_at says (get_or places i 0 ∷ []))
+    ap (list_any p) (entries-one-more says places i within) ∙ list_any-append p (entries_at says (take i places)) (entries_at says (get_or places i 0 ∷ []))
 
 or-first : (a b : Bool) → a ≡ true → (a || b) ≡ true
 or-first true b e = refl
@@ -171,3 +183,31 @@ some-there p says places i within passes =
     ∙ ap (list_any p) (filter_map-append (slice_get says) (take (i + 1) places) (drop (i + 1) places))
     ∙ list_any-append p (entries_at says (take (i + 1) places)) (entries_at says (drop (i + 1) places))
     ∙ or-first (list_any p (entries_at says (take (i + 1) places))) (list_any p (entries_at says (drop (i + 1) places))) so_far
+
+-- No entry speaks of a frame before the first, or after the last.
+not-for : (s : Say) (place : Place) → is_in_range s.frames place.frame ≡ false → is_for place s ≡ false
+not-for s place out = ap (λ b. b && is_in_range s.slots place.slot && is_in_range s.stages place.stage) out
+
+none-before-from : (says : List Say) (a : ℕ) (place : Place) → place.frame < fold sooner_frame a says → (place.frame < a) × (list_any (is_for place) says ≡ false)
+none-before-from [] a place before = (before, refl)
+none-before-from (s ∷ says) a place before =
+    let rest = none-before-from says (min a s.frames.0) place before in
+    let small : place.frame < min a s.frames.0 = rest.0 in
+    let first : place.frame < a = omega (arith, small) in
+    let below : nat_le s.frames.0 place.frame ≡ false = grind (arith, nat_tests, small) in
+    (first, or_from (is_for place s) (list_any (is_for place) says) (not-for s place (ap (λ b. b && nat_le place.frame s.frames.1) below)) rest.1)
+
+none-after-from : (says : List Say) (a : ℕ) (place : Place) → fold later_frame a says < place.frame → (a < place.frame) × (list_any (is_for place) says ≡ false)
+none-after-from [] a place after = (after, refl)
+none-after-from (s ∷ says) a place after =
+    let rest = none-after-from says (max a s.frames.1) place after in
+    let great : max a s.frames.1 < place.frame = rest.0 in
+    let last : a < place.frame = omega (arith, great) in
+    let above : nat_le place.frame s.frames.1 ≡ false = grind (arith, nat_tests, great) in
+    (last, or_from (is_for place s) (list_any (is_for place) says) (not-for s place (ap (λ b. nat_le s.frames.0 place.frame && b) above ∙ and-false (nat_le s.frames.0 place.frame))) rest.1)
+
+pub none-before : (says : List Say) (place : Place) → place.frame < first_frame says → list_any (is_for place) says ≡ false
+none-before says place before = (none-before-from says 4294967296 place before).1
+
+pub none-after : (says : List Say) (place : Place) → last_frame says < place.frame → list_any (is_for place) says ≡ false
+none-after says place after = (none-after-from says 0 place after).1

@@ -1,5 +1,5 @@
 -- What nodes that are not good say, receiver by receiver.
-use Rattle.std.specs.Prelude.{◌≡◌, ℕ, ◌+◌, ◌-◌, ◌<◌, ◌&&◌, not, nat_le, Bool, List, [], ◌++◌, filter, filter_map, flat_map, length, map, slice_get, unwrap_or}
+use Rattle.std.specs.Prelude.{◌≡◌, ℕ, ◌+◌, ◌-◌, ◌<◌, ◌&&◌, not, nat_le, Bool, List, [], ◌++◌, filter, filter_map, flat_map, fold, length, map, max, min, slice_get, unwrap_or}
 use Rattle.rb_base.specs.Counting.{numbers}
 use Rattle.rb_base.specs.Nodes.{Side, other}
 use Rattle.rb_base.specs.Nodes.Side.{Biu, Rmu}
@@ -45,6 +45,24 @@ senders_to sizes to = count_of (other (kind_of to)) sizes
 -- the most that is said to a node in a window: its entries
 abbrev pub most_to : KeptSayings → NodeName → ℕ
 most_to k to = length (entries_to to (senders_to k.faults.sizes to) k.says)
+
+-- the entries for the node, of what is kept
+abbrev pub entries_for : KeptSayings → NodeName → List Say
+entries_for k to = entries_to to (senders_to k.faults.sizes to) k.says
+
+-- the first frame of which one of the entries speaks, below 2^32
+abbrev pub sooner_frame : ℕ → Say → ℕ
+sooner_frame first s = min first s.frames.0
+
+abbrev pub first_frame : List Say → ℕ
+first_frame says = fold sooner_frame 4294967296 says
+
+-- the last
+abbrev pub later_frame : ℕ → Say → ℕ
+later_frame last s = max last s.frames.1
+
+abbrev pub last_frame : List Say → ℕ
+last_frame says = fold later_frame 0 says
 
 -- the entries with these numbers
 abbrev pub entries_at : List Say → List ℕ → List Say

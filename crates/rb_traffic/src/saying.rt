@@ -1,6 +1,6 @@
 //! What nodes that are not good say.
 ghost use Rattle.std.specs.Prelude.{◌≡◌, ℕ, ◌+◌, ◌-◌, ◌<◌, ◌≤◌, ◌^◌, ◌∷◌, [], IfOk, IsTrue, length, min, take};
-ghost use Rattle.std.specs.List.{list_any};
+ghost use Rattle.std.specs.List.{fold, list_any};
 ghost use Rattle.rb_rules.specs.Book.{Each};
 ghost use Rattle.rb_rules.specs.Clock.{time_of};
 ghost use Rattle.rb_rules.specs.Goodness.{Scenario, clock_of};
@@ -12,7 +12,7 @@ ghost use Rattle.rb_queue.specs.Waiting.{HasLane, lane_of, spare_of, with_arriva
 ghost use Rattle.rb_onset.specs.Faults.{faults_of};
 ghost use Rattle.rb_agenda.specs.Holding.{HoldsSites};
 ghost use Rattle.rb_traffic.specs.Arriving.{number_of};
-ghost use Rattle.rb_traffic.specs.Saying.{AreFor, all_brought, entries_at, hears, is_for, is_said_in, kept_of, most_to, senders_to, with_arrivals};
+ghost use Rattle.rb_traffic.specs.Saying.{AreFor, all_brought, entries_at, entries_for, first_frame, hears, is_for, is_said_in, kept_of, last_frame, later_frame, most_to, senders_to, sooner_frame, with_arrivals};
 ghost use Rattle.rb_traffic.specs.Spans.{span_of};
 
 use crate::arriving::{arrive, number_of};
@@ -177,6 +177,35 @@ fn say_each(
     }
 }
 
+// The frames from the first to the last, once those of the entry with this number, if there is one, are among them.
+fn with_frames_of(says: &SayList, number: u16, first: u64, last: u64) -> (u64, u64)
+    ensures first { result.0 ≡ fold sooner_frame first (entries_at says.now (number ∷ [])) }
+    ensures last { result.1 ≡ fold later_frame last (entries_at says.now (number ∷ [])) }
+{
+    let number = usize::from(number);
+    if number < says.len() {
+        let frames = says.get(number).frames;
+        (
+            first.min(u64::from(frames.0)),
+            last.max(u64::from(frames.1)),
+        )
+    } else {
+        (first, last)
+    }
+}
+
+// The frames from the first to the last of which the entries with these numbers speak.
+fn frames_of(says: &SayList, places: &[u16]) -> (u64, u64)
+    ensures first { result.0 ≡ first_frame (entries_at says.now places.now) }
+    ensures last { result.1 ≡ last_frame (entries_at says.now places.now) }
+{
+    let (mut first, mut last) = (1 << 32, 0);
+    for number in places {
+        (first, last) = with_frames_of(says, *number, first, last);
+    }
+    (first, last)
+}
+
 // Whether there is an entry with this number, and it is for this place.
 fn is_for(says: &SayList, number: u16, place: Place) -> bool
     ensures { result ≡ list_any (is_for place) (entries_at says.now (number ∷ [])) }
@@ -265,6 +294,15 @@ impl Sayings {
         ensures value { result ≡ most_to self.now to }
     {
         self.places(to).len()
+    }
+
+    /// The first and the last of the frames of which the entries for the node speak. Where there are no entries these are 2^32 and 0.
+    pub fn frames(&self, to: NodeName) -> (u64, u64)
+        requires node { IsNodeOf self.now.faults.sizes to }
+        ensures first { result.0 ≡ first_frame (entries_for self.now to) }
+        ensures last { result.1 ≡ last_frame (entries_for self.now to) }
+    {
+        frames_of(&self.says, self.places(to))
     }
 
     /// What nodes that are not good say to the node in a window comes to it: by sender, and then in the order of the entries. `clock`

@@ -1,5 +1,5 @@
 -- A node enters a window, or not.
-use Rattle.std.proofs.Common.{◌≡◌, ℕ, ◌+◌, ◌≤◌, true, false, Some, None, List, [], ◌++◌, length, slice_get, refl, sym, ap, ◌∙◌, subst, arith, length-append}
+use Rattle.std.proofs.Common.{◌≡◌, ℕ, ◌+◌, ◌<◌, ◌≤◌, true, false, Some, None, List, [], ◌++◌, length, slice_get, refl, sym, ap, ◌∙◌, subst, arith, length-append}
 use Rattle.std.specs.Prelude.{option_map, unwrap_or}
 use Rattle.rb_base.specs.Nodes.{Side, other}
 use Rattle.rb_base.specs.Nodes.Side.{Biu, Rmu}
@@ -10,6 +10,7 @@ use Rattle.rb_rules.specs.Goodness.{Scenario, is_good}
 use Rattle.rb_rules.specs.Hearing.{Coming, Span}
 use Rattle.rb_rules.specs.Lawful.{is_node_good, kind_of}
 use Rattle.rb_rules.specs.Links.{name_of}
+use Rattle.rb_rules.specs.NodeState.{NodeState}
 use Rattle.rb_rules.specs.WorldStep.{Site, World, at_node, await, says_in, span_from, stop}
 use Rattle.rb_queue.specs.Waiting.{HasLane, Held, lane_of, spare_of, with_lane}
 use Rattle.rb_agenda.proofs.Keeping.{lane-with}
@@ -20,14 +21,14 @@ use Rattle.rb_traffic.specs.Arriving.{number_of}
 use Rattle.rb_traffic.specs.Saying.{hears, with_arrivals}
 use Rattle.rb_world.specs.declared.scene.Scene.{Scene}
 use Rattle.rb_world.specs.Buses.{HaveRooms}
-use Rattle.rb_world.specs.Steady.{is_steady}
+use Rattle.rb_world.specs.Calm.{is_calm}
 use Rattle.rb_world.specs.Steps.{IsAt, IsCoreAt, OthersStay, Proceeds, moved}
 use Rattle.rb_world.specs.Worlds.{Surrounds}
 use Rattle.rb_world.proofs.Around.{Pends, pends-more}
 use Rattle.rb_world.proofs.Entries.{says-few}
 use Rattle.rb_world.proofs.Going.{name-is, says-then}
 use Rattle.rb_world.proofs.Lanes.{kind-named, number-named, rooms-with}
-use Rattle.rb_world.proofs.SteadyNodes.{steady-awaits}
+use Rattle.rb_world.proofs.Calmness.{calm-awaits}
 use Rattle.rb_world.proofs.Onward.{goes-in, goes-on, goes-out, others-stay, proceeds-on, proceeds-out}
 
 pub good-named : (sc : Scenario) (me : Side) (i frame slot : ℕ) → is_node_good sc (name_of me i) frame slot ≡ is_good sc me i frame slot
@@ -169,14 +170,17 @@ after-stop sc me i name site stopped before after w s span named at enters bad i
     (subst (Surrounds sc after) (ap (λ n. moved (kind_of n) (number_of n) stop w) named ∙ named-moved me i stop w) around)
     (subst (λ k. OthersStay k before after) (ap kind_of named ∙ kind-named me i) others))
 
-pub after-steady : (sc : Scenario) (me : Side) (i : ℕ) (name : NodeName) (site : KeptSite) (before after : Scene) (w : World) (s : Site) → name ≡ name_of me i
-    → IsAt sc me i site before w s → is_steady sc (kind_of name) (number_of name) ≡ true → AwaitsTick sc me name site before after → OthersStay (kind_of name) before after
-    → Proceeds sc me i site before after w s
-after-steady sc me i name site before after w s named at steady awaits others =
+pub after-calm : (sc : Scenario) (me : Side) (i : ℕ) (name : NodeName) (site : KeptSite) (before after : Scene) (w : World) (s : Site) (frame : ℕ) → name ≡ name_of me i
+    → IsAt sc me i site before w s → frame ≡ site.node.seat.state.frame → frame < 4294967296 → is_calm sc (kind_of name) (number_of name) frame ≡ true
+    → AwaitsTick sc me name site before after → OthersStay (kind_of name) before after → Proceeds sc me i site before after w s
+after-calm sc me i name site before after w s frame named at is small calm awaits others =
     let does : AwaitsTick sc me (name_of me i) site before after = subst (λ n. AwaitsTick sc me n site before after) named awaits in
     let kind : kind_of name ≡ me = ap kind_of named ∙ kind-named me i in
     let number : number_of name ≡ i = ap number_of named ∙ number-named me i in
-    let here : is_steady sc me i ≡ true = sym (ap (λ k. is_steady sc k (number_of name)) kind ∙ ap (is_steady sc me) number) ∙ steady in
-    proceeds-on sc me i site before after w s [] at (steady-awaits sc me i s here at.within)
+    let same : frame ≡ s.core.state.frame = is ∙ ap (λ (st : NodeState). st.frame) (sym at.stands.core.state) in
+    let here : is_calm sc me i s.core.state.frame ≡ true =
+    sym (ap (is_calm sc me i) same) ∙ sym (ap (λ k. is_calm sc k (number_of name) frame) kind ∙ ap (λ n. is_calm sc me n frame) number) ∙ calm in
+    let few : s.core.state.frame < 4294967296 = subst (λ f. f < 4294967296) same small in
+    proceeds-on sc me i site before after w s [] at (calm-awaits sc me i s here at.within few)
     (subst (Surrounds sc after) (await-named sc me i w) (does w s.core (core-at sc me i site before w s at) at.surrounds))
     (subst (λ k. OthersStay k before after) kind others)

@@ -50,4 +50,4 @@ pub mod Small
 pub mod Running
 pub mod ToldOn
 pub mod LeftTold
-pub mod SteadyNodes
+pub mod Calmness

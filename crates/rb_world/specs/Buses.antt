@@ -12,7 +12,8 @@ use Rattle.rb_plan.specs.Timetable.{Timetable}
 use Rattle.rb_traffic.specs.Saying.{KeptSayings, kept_of}
 use Rattle.rb_order.specs.PendingEvents.{most_pending}
 use Rattle.rb_queue.specs.Waiting.{Held}
-use Rattle.rb_world.specs.Steady.{steady_nodes}
+use Rattle.rb_world.specs.Calm.{AreRestless}
+use Rattle.rb_world.specs.declared.calm.Restless.{Restless}
 
 -- the scenario of a bus, by what is kept of it
 abbrev pub scenario_of : Timetable → ℕ → List ℕ → List ℕ → List ℕ → List Timeline → DelayRules → Faults → KeptSayings → Scenario
@@ -30,15 +31,15 @@ scenario_of plan frames requests words apps clocks delays onsets sayings = recor
   says = sayings.says;
 }
 
--- the scenario is lawful, and this is kept of who is good and of what is said, which are so many entries, and of the nodes of each kind that
--- are always good and are told nothing
-pub record IsBus (count : ℕ) (sc : Scenario) (onsets : Faults) (sayings : KeptSayings) (bius rmus : ℕ) : Type 0 where
+-- the scenario is lawful, and this is kept of who is good and of what is said, which are so many entries, and of the frames in which a
+-- node may not be good or may be told something
+pub record IsBus (count : ℕ) (sc : Scenario) (onsets : Faults) (sayings : KeptSayings) (bius rmus : List Restless) : Type 0 where
   pub lawful : IsLawful sc
   pub onsets_are : onsets ≡ faults_of sc
   pub sayings_are : sayings ≡ kept_of sc
   pub many : count ≡ length sc.says
-  pub steady_bius : bius ≡ steady_nodes sc Biu
-  pub steady_rmus : rmus ≡ steady_nodes sc Rmu
+  pub restless_bius : AreRestless sc.biu_onsets (kept_of sc) Biu sc.sizes.bius bius
+  pub restless_rmus : AreRestless sc.rmu_onsets (kept_of sc) Rmu sc.sizes.rmus rmus
 
 -- At a node of kind me there is room for all that is pending there, and, when an event has been taken, for all that may then come at
 -- once: its next tick and what is said to it in a window, or a message

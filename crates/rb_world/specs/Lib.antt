@@ -1,4 +1,4 @@
-pub mod Steady
+pub mod Calm
 pub mod Buses
 pub mod Worlds
 pub mod Turning

@@ -16,11 +16,11 @@ ghost use Rattle.rb_traffic.specs.Arriving.{AreRunning, HaveRoom, number_of};
 ghost use Rattle.rb_traffic.specs.Saying.{hears, kept_of, with_arrivals};
 ghost use Rattle.rb_traffic.specs.Departing.{with_sent};
 ghost use Rattle.rb_world.specs.Buses.{HaveRooms};
-ghost use Rattle.rb_world.specs.Steady.{is_steady};
+ghost use Rattle.rb_world.specs.Calm.{is_calm};
 
-use crate::steady::steady_nodes;
+use crate::calm::{Restless, is_outside, restless_nodes};
 use rb_agenda::Agenda;
-use rb_base::{Biu, NodeName, NodeSet, OutOfMemory, Rmu, Shape};
+use rb_base::{Biu, NodeName, OutOfMemory, Rmu, Shape};
 use rb_book::Book;
 use rb_clock::Clock;
 use rb_link::Delays;
@@ -45,9 +45,9 @@ pub struct Bus {
     onsets: Onsets,
     sayings: Sayings,
     says: usize,
-    // The nodes that are good in every slot, and to which nothing is said.
-    steady_biu: NodeSet<Biu>,
-    steady_rmu: NodeSet<Rmu>,
+    // For each node the frames in which it may not be good, or something may be said to it.
+    restless_biu: [Restless; 16],
+    restless_rmu: [Restless; 16],
 }
 
 impl Model for Bus {
@@ -58,7 +58,7 @@ impl Model for Bus {
 
     ghost view = { λ b. scenario_of b.plan b.frames b.requests b.words b.apps b.clocks b.delays b.onsets b.sayings };
 
-    ghost invariant = { λ b. IsBus b.says (scenario_of b.plan b.frames b.requests b.words b.apps b.clocks b.delays b.onsets b.sayings) b.onsets b.sayings b.steady_biu b.steady_rmu };
+    ghost invariant = { λ b. IsBus b.says (scenario_of b.plan b.frames b.requests b.words b.apps b.clocks b.delays b.onsets b.sayings) b.onsets b.sayings b.restless_biu b.restless_rmu };
 }
 
 impl Bus {
@@ -72,8 +72,8 @@ impl Bus {
         let onsets = Onsets::new(shape, scenario.biu_onset, scenario.rmu_onset);
         let says = scenario.says.len();
         let sayings = Sayings::new(alloc, &shape, onsets, version, scenario.says)?;
-        let steady_biu = steady_nodes(shape.biu(), &scenario.biu_onset, &sayings);
-        let steady_rmu = steady_nodes(shape.rmu(), &scenario.rmu_onset, &sayings);
+        let restless_biu = restless_nodes::<Biu>(shape.biu(), &scenario.biu_onset, &sayings);
+        let restless_rmu = restless_nodes::<Rmu>(shape.rmu(), &scenario.rmu_onset, &sayings);
         Ok(Bus {
             plan: scenario.plan,
             frames: scenario.frames,
@@ -85,8 +85,8 @@ impl Bus {
             onsets,
             sayings,
             says,
-            steady_biu,
-            steady_rmu,
+            restless_biu,
+            restless_rmu,
         })
     }
 
@@ -161,16 +161,17 @@ impl Bus {
         self.onsets.is_good(node, span.place.frame, span.place.slot)
     }
 
-    /// Whether the node is good in every slot, and no entry of the scenario says anything to it.
+    /// Whether in this frame and in the next the node is good, and no entry for it speaks of them or of frames on both sides.
     #[inline(always)]
-    pub fn is_steady(&self, node: NodeName) -> bool
+    pub fn is_calm(&self, node: NodeName, frame: u32) -> bool
         requires { IsNodeOf self.now.sizes node }
-        ensures { result ≡ is_steady self.now (kind_of node) (number_of node) }
+        ensures { result ≡ is_calm self.now (kind_of node) (number_of node) frame }
     {
-        match node {
-            NodeName::Biu(i) => self.steady_biu.has(i),
-            NodeName::Rmu(i) => self.steady_rmu.has(i),
-        }
+        let restless = match node {
+            NodeName::Biu(i) => self.restless_biu[usize::from(i)],
+            NodeName::Rmu(i) => self.restless_rmu[usize::from(i)],
+        };
+        is_outside(restless, frame)
     }
 
     /// How many data slots BIU `i` asks for.

@@ -3,6 +3,7 @@
 
 mod asking;
 mod bus;
+mod calm;
 pub mod drive;
 mod due;
 mod handing;
@@ -12,7 +13,6 @@ pub mod observing;
 mod opening;
 mod proceeding;
 mod scene;
-mod steady;
 mod sweeping;
 mod taking;
 mod ticking;

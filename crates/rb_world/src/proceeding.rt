@@ -85,7 +85,7 @@ pub(crate) fn proceed<K: Kind>(bus: &Bus, node: NodeName, site: &mut Site<K>, sc
     ensures { (w : World) (s : WorldSite) → MayProceed bus.now (side_of K.CODE) (number_of site.old) site.old scene.old w s
         → Proceeds bus.now (side_of K.CODE) (number_of site.old) site.new scene.old scene.new w s }
 {
-    if bus.is_steady(node) {
+    if bus.is_calm(node, site.node().engine().frame()) {
         await_tick(bus, node, site, scene);
     } else {
         proceed_in_full(bus, node, site, scene);

@@ -6,7 +6,7 @@ use Rattle.rb_rules.specs.Goodness.{Scenario}
 use Rattle.rb_onset.specs.Faults.{faults_of}
 use Rattle.rb_scenario.specs.Acceptance.{as_scenario}
 use Rattle.rb_traffic.specs.Saying.{kept_of}
-use Rattle.rb_world.proofs.SteadyNodes.{found-steady, keeps-bus}
+use Rattle.rb_world.proofs.Calmness.{found-restless, keeps-bus}
 use Rattle.rb_world.proofs.bus.Bus.new.Goals as goal
 
 pub invariant_of-result : goal.invariant_of-result
@@ -18,7 +18,9 @@ invariant_of-result c =
     let kept : c.in_ok-sayings.sayings ≡ kept_of sc =
     c.in_ok-sayings.ensures ∙ ap (λ f. record { faults = f; version = c.plan.result.now.version; says = s.says }) faults
     ∙ ap (λ (p : Plan). record { faults = faults_of sc; version = p.version; says = s.says }) c.plan.ensures.value in
-    keeps-bus sc s.plan s.frames s.requests s.words s.apps s.clocks s.delays c.new-onsets.result c.in_ok-sayings.sayings c.len-says.result c.steady_nodes-steady_biu.result
-    c.steady_nodes-steady_rmu.result c.requires refl faults kept c.len-says.ensures
-    (found-steady sc biu c.biu.result c.steady_nodes-steady_biu.result c.in_ok-sayings.sayings (c.biu.ensures.value ∙ ap (λ (z : Sizes). z.bius) c.shape.ensures) kept c.steady_nodes-steady_biu.ensures)
-    (found-steady sc rmu c.rmu.result c.steady_nodes-steady_rmu.result c.in_ok-sayings.sayings (c.rmu.ensures.value ∙ ap (λ (z : Sizes). z.rmus) c.shape.ensures) kept c.steady_nodes-steady_rmu.ensures)
+    keeps-bus sc s.plan s.frames s.requests s.words s.apps s.clocks s.delays c.new-onsets.result c.in_ok-sayings.sayings c.len-says.result c.restless_nodes-restless_biu.result
+    c.restless_nodes-restless_rmu.result c.requires refl faults kept c.len-says.ensures
+    (found-restless sc biu c.biu.result c.restless_nodes-restless_biu.result c.in_ok-sayings.sayings (c.biu.ensures.value ∙ ap (λ (z : Sizes). z.bius) c.shape.ensures) kept
+    c.restless_nodes-restless_biu.ensures.each)
+    (found-restless sc rmu c.rmu.result c.restless_nodes-restless_rmu.result c.in_ok-sayings.sayings (c.rmu.ensures.value ∙ ap (λ (z : Sizes). z.rmus) c.shape.ensures) kept
+    c.restless_nodes-restless_rmu.ensures.each)
