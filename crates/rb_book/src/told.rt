@@ -74,7 +74,11 @@ fn keep_line(receiver: u8, delivered: Option<Delivery>, line: &mut Option<SlotLi
                 value: delivery.value,
             });
         }
-        None => *line = None,
+        None => {
+            if line.is_some() {
+                *line = None;
+            }
+        }
     }
 }
 
