@@ -1,11 +1,11 @@
 //! The book of a run, as it is kept.
-ghost use Rattle.std.specs.Prelude.{◌≡◌, IfSome, nat_lt, true, ◌+◌, ◌-◌, ◌^◌, ◌<◌, ◌≤◌, ◌==◌, ◌&&◌, ◌++◌, ℕ, false, is_none, get_or, Some, None, if◌then◌else◌};
+ghost use Rattle.std.specs.Prelude.{◌≡◌, IfSome, nat_lt, true, ◌+◌, ◌-◌, ◌^◌, ◌<◌, ◌≤◌, ◌==◌, ◌&&◌, ◌++◌, [], ℕ, false, is_none, get_or, Some, None, if◌then◌else◌};
 ghost use Rattle.rb_base.specs.Nodes.{has, other};
 ghost use Rattle.rb_base.specs.declared.values.See.TheVariants.{Nothing};
 ghost use Rattle.rb_rules.specs.Slots.{count_of};
 ghost use Rattle.rb_base.specs.Nodes.Side.{Biu as biu, Rmu as rmu};
 ghost use Rattle.rb_base.specs.declared.values.Place.{Place};
-ghost use Rattle.rb_rules.specs.Book.{after_stage, trusted_by};
+ghost use Rattle.rb_rules.specs.Book.{Record, after_stage, trusted_by};
 ghost use Rattle.rb_rules.specs.Goodness.{Scenario};
 ghost use Rattle.rb_rules.specs.WorldStep.{World, first_world};
 ghost use Rattle.rb_onset.specs.Faults.{faults_of};
@@ -172,6 +172,34 @@ fn all_stay(bius: &Group<Biu>, rmus: &Group<Rmu>) -> bool
     bius.good.bits() == bius.lasting.bits() && rmus.good.bits() == rmus.lasting.bits()
 }
 
+// The record of a slot is written in place.
+fn write_slot(place: Place, lines: &ArrayVec<SlotLine, 16>, turn: &mut Turn)
+    ensures { record_of turn.new ≡ Some (Record.Slot place.frame place.slot lines.now.items) }
+{
+    *turn = Turn::Slot(SlotRecord {
+        frame: place.frame,
+        slot: place.slot,
+        lines: ArrayVec::new(),
+    });
+    give_lines(lines, turn);
+}
+
+// The lines of a slot are written into its record, which has none yet.
+fn give_lines(lines: &ArrayVec<SlotLine, 16>, turn: &mut Turn)
+    ensures { (frame slot : ℕ) → record_of turn.old ≡ Some (Record.Slot frame slot []) → record_of turn.new ≡ Some (Record.Slot frame slot lines.now.items) }
+{
+    if let Turn::Slot(record) = turn {
+        add_lines(lines, &mut record.lines);
+    }
+}
+
+// Lines are written where there were none.
+fn add_lines(lines: &ArrayVec<SlotLine, 16>, room: &mut ArrayVec<SlotLine, 16>)
+    ensures { room.old.items ≡ [] → room.new.items ≡ lines.now.items }
+{
+    let _all = room.try_extend_from_slice(lines.as_slice());
+}
+
 fn is_quiet(turn: &Turn) -> bool
     ensures { result ≡ is_none (record_of turn.now) }
 {
@@ -294,11 +322,7 @@ impl Ledger {
         ensures { record_of turn.new ≡ slot_record self.now.shape place self.now.lines.items }
     {
         if place.stage == 3 && place.slot < self.shape.sync_slot() {
-            *turn = Turn::Slot(SlotRecord {
-                frame: place.frame,
-                slot: place.slot,
-                lines: self.lines.clone().unwrap(),
-            });
+            write_slot(place, &self.lines, turn);
         }
     }
 
