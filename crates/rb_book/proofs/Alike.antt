@@ -1,16 +1,17 @@
 -- Where the first good receiver saw no time of a source, the others are compared with it alone.
-use Rattle.std.proofs.Common.{◌≡◌, ℕ, ◌<◌, ◌≤◌, ◌&&◌, not, Bool, true, false, List, refl, sym, ◌∙◌, ap, arith}
+use Rattle.std.proofs.Common.{◌≡◌, ℕ, ◌<◌, ◌≤◌, ◌&&◌, not, nat_lt, Bool, true, false, List, refl, sym, ◌∙◌, ap, arith}
 use Rattle.std.proofs.lemmas.Bool.Decides.{nat_tests}
-use Rattle.rb_base.specs.Nodes.{has}
+use Rattle.rb_base.specs.Nodes.{has, set_of}
+use Rattle.rb_base.proofs.Sets.{has-is, same_set_of}
 use Rattle.rb_base.specs.declared.values.Heard.{Heard}
 use Rattle.rb_base.specs.declared.values.Heard.TheVariants.{Word, Fault}
 use Rattle.rb_base.specs.declared.values.See.{See}
 use Rattle.rb_base.specs.declared.values.See.TheVariants as see
-use Rattle.rb_rules.specs.Judging.{are_alike}
+use Rattle.rb_rules.specs.Judging.{are_alike, is_something}
 use Rattle.rb_rules.specs.Majority.{same_heard}
 use Rattle.rb_book.specs.declared.told.Told.{Told}
 use Rattle.rb_book.specs.Telling.{see_of, told_at}
-use Rattle.rb_book.specs.Waiting.{differs, is_time, some_good, was_unlike}
+use Rattle.rb_book.specs.Waiting.{differs, is_time, some_good, was_taken, was_unlike}
 use Rattle.rb_book.proofs.Found.{some_good_found, some_good_none}
 
 heard_alike : (v w u : Heard) → same_heard v w ≡ true → same_heard v u ≡ true → same_heard w u ≡ true
@@ -73,3 +74,41 @@ by_one eps count good told j f most h member none = whole (differs eps count goo
         let both : (has good f && differs eps count good told j f) ≡ true = rw (member, e) refl in
         e ∙ sym (some_good_found count good (differs eps count good told j) f h most both)
     whole false e = e ∙ sym (some_good_none count good (differs eps count good told j) (λ a ha. one a e ha (has good a) refl))
+
+-- a source of which no good one took anything was seen by all alike
+alike_untaken : (eps count good : ℕ) (told : List Told) (j : ℕ) → count ≤ 16 → was_taken count good told j ≡ false → was_unlike eps count good told j ≡ false
+alike_untaken eps count good told j most none = some_good_none count good (differs eps count good told j) (λ a ha. one a ha (has good a) refl)
+  where
+    nothing : (s : See) → is_something s ≡ false → s ≡ see.Nothing
+    nothing see.Nothing e = refl
+    nothing (see.Value v) e = absurd (cc)
+    nothing (see.Time t) e = absurd (cc)
+
+    silent : (a : ℕ) → a < count → has good a ≡ true → see_of (told_at told a) j ≡ see.Nothing
+    silent a ha ma = nothing (see_of (told_at told a) j) (each_fails count good (λ i. is_something (see_of (told_at told i) j)) a none ha most ma)
+
+    pair : (a b : ℕ) → see_of (told_at told a) j ≡ see.Nothing → b < count → (m : Bool) → has good b ≡ m
+        → (m && not (are_alike eps (see_of (told_at told a) j) (see_of (told_at told b) j))) ≡ false
+    pair a b ea hb false mb = refl
+    pair a b ea hb true mb =
+        ap (λ x. not (are_alike eps x (see_of (told_at told b) j))) ea ∙ ap (λ y. not (are_alike eps see.Nothing y)) (silent b hb mb)
+
+    one : (a : ℕ) → a < count → (m : Bool) → has good a ≡ m → (m && differs eps count good told j a) ≡ false
+    one a ha false ma = refl
+    one a ha true ma =
+        some_good_none count good (λ b. not (are_alike eps (see_of (told_at told a) j) (see_of (told_at told b) j))) (λ b hb. pair a b (silent a ha ma) hb (has good b) refl)
+
+-- so those that are seen unlike are among those of which something was taken
+pub unlike_of_taken : (eps sources among taken count good : ℕ) (told : List Told) → count ≤ 16
+    → taken ≡ set_of (λ j. nat_lt j sources && (has among j && was_taken count good told j))
+    → set_of (λ j. nat_lt j sources && (has taken j && was_unlike eps count good told j)) ≡ set_of (λ j. nat_lt j sources && (has among j && was_unlike eps count good told j))
+unlike_of_taken eps sources among taken count good told most is =
+    same_set_of _ _ (λ j h.
+    ap (λ b. nat_lt j sources && (b && was_unlike eps count good told j)) (has-is taken j (λ j. nat_lt j sources && (has among j && was_taken count good told j)) is h)
+    ∙ narrow (nat_lt j sources) (has among j) (was_taken count good told j) (was_unlike eps count good told j) (alike_untaken eps count good told j most))
+  where
+    narrow : (s a t u : Bool) → (t ≡ false → u ≡ false) → (s && ((s && (a && t)) && u)) ≡ (s && (a && u))
+    narrow false a t u h = refl
+    narrow true false t u h = refl
+    narrow true true true u h = refl
+    narrow true true false u h = sym (h refl)

@@ -2,7 +2,7 @@
 use Rattle.std.proofs.Common.{◌≡◌, ℕ, ◌<◌, ◌≤◌, ◌&&◌, not, nat_lt, Bool, true, false, refl, sym, ◌∙◌, ap, arith}
 use Rattle.rb_base.specs.Nodes.{has, set_of}
 use Rattle.std.proofs.lemmas.Bool.{ltb-true}
-use Rattle.rb_base.proofs.Sets.{has-is, has-set_of, has_none, is_set_of, same_set_of}
+use Rattle.rb_base.proofs.Sets.{has-is, has-set_of, same_set_of}
 
 -- those below a number that are not in a set
 abbrev pub are_counted : ℕ → ℕ → (ℕ → Bool) → ℕ
@@ -22,18 +22,6 @@ pub counted_is : (count lasting first counted : ℕ) (p : ℕ → Bool) → firs
     → set_of (λ j. nat_lt j count && (has counted j && p j)) ≡ are_counted count lasting p
 counted_is count lasting first counted p first_is is =
     same_set_of _ _ (λ j h. ap (λ b. nat_lt j count && (b && p j)) (has_counted count lasting first counted first_is is j h) ∙ narrowed (nat_lt j count) (has lasting j) (p j))
-
-pub counted_none : (count lasting first counted : ℕ) (p : ℕ → Bool) → first ≡ set_of (λ i. nat_lt i count) → counted ≡ set_of (λ i. has first i && not (has lasting i))
-    → counted ≡ 0 → counted ≡ are_counted count lasting p
-counted_none count lasting first counted p first_is is none =
-    none ∙ is_set_of 0 _ (omega arith) (λ j h.
-    let out : (nat_lt j count && not (has lasting j)) ≡ false = sym (has_counted count lasting first counted first_is is j h) ∙ ap (λ s. has s j) none ∙ has_none j in
-    has_none j ∙ sym (drop_last (nat_lt j count) (not (has lasting j)) (p j) out))
-  where
-    drop_last : (a b c : Bool) → (a && b) ≡ false → (a && (b && c)) ≡ false
-    drop_last false b c e = refl
-    drop_last true false c e = refl
-    drop_last true true c e = absurd (cc)
 
 -- who is not counted lasts
 pub not_counted : (count lasting first counted : ℕ) → count ≤ 16 → first ≡ set_of (λ i. nat_lt i count) → counted ≡ set_of (λ i. has first i && not (has lasting i))

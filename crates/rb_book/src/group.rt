@@ -136,7 +136,7 @@ impl<K: Copy> Group<K> {
     }
 
     /// The sets of these nodes as sources in a stage, by what the receivers told of them. What was seen of those that are good to
-    /// the end of the frame is left out.
+    /// the end of the frame is left out. A source of which no good receiver took anything is not seen unlike.
     pub(crate) fn stage_sets<R: Copy>(
         &self,
         count: u8,
@@ -155,19 +155,13 @@ impl<K: Copy> Group<K> {
             ≡ set_of (λ j. nat_lt j count && (not (has self.now.lasting j) && was_unlike eps receivers others.now.good others.now.told j)) }
     {
         let counted = NodeSet::first(count).difference(self.lasting);
-        if counted.is_empty() {
-            return StageSets {
-                good: self.good,
-                trusted,
-                taken: counted,
-                unlike: counted,
-            };
-        }
+        let taken = taken_among(count, counted, receivers, others.good, &others.told);
+        let unlike = unlike_among(eps, count, taken, receivers, others.good, &others.told);
         StageSets {
             good: self.good,
             trusted,
-            taken: taken_among(count, counted, receivers, others.good, &others.told),
-            unlike: unlike_among(eps, count, counted, receivers, others.good, &others.told),
+            taken,
+            unlike,
         }
     }
 }
