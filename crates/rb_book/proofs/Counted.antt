@@ -2,6 +2,7 @@
 use Rattle.std.proofs.Common.{◌≡◌, ℕ, ◌<◌, ◌≤◌, ◌&&◌, not, nat_lt, Bool, true, false, refl, sym, ◌∙◌, ap, arith}
 use Rattle.rb_base.specs.Nodes.{has, set_of}
 use Rattle.std.proofs.lemmas.Bool.{ltb-true}
+use Rattle.rb_book.specs.Waiting.{all_but}
 use Rattle.rb_base.proofs.Sets.{has-is, has-set_of, same_set_of}
 
 -- those below a number that are not in a set
@@ -23,18 +24,10 @@ pub counted_is : (count lasting first counted : ℕ) (p : ℕ → Bool) → firs
 counted_is count lasting first counted p first_is is =
     same_set_of _ _ (λ j h. ap (λ b. nat_lt j count && (b && p j)) (has_counted count lasting first counted first_is is j h) ∙ narrowed (nat_lt j count) (has lasting j) (p j))
 
--- who is not counted lasts
-pub not_counted : (count lasting first counted : ℕ) → count ≤ 16 → first ≡ set_of (λ i. nat_lt i count) → counted ≡ set_of (λ i. has first i && not (has lasting i))
-    → (j : ℕ) → nat_lt j count ≡ true → has counted j ≡ false → has lasting j ≡ true
-not_counted count lasting first counted few is_first is j e out =
-    let below : j < count = ltb-true j count e in
-    by (nat_lt j count) (has lasting j) e (sym (has_counted count lasting first counted is_first is j (omega arith)) ∙ out)
-  where
-    by : (a b : Bool) → a ≡ true → (a && not b) ≡ false → b ≡ true
-    by true true ha o = refl
-    by true false ha o = absurd (cc)
-    by false b ha o = absurd (cc)
+pub all_but_is : (count set first rest : ℕ) → first ≡ set_of (λ i. nat_lt i count) → rest ≡ set_of (λ i. has first i && not (has set i)) → rest ≡ all_but count set
+all_but_is count set first rest first_is is =
+    is ∙ same_set_of _ _ (λ j h. ap (λ b. b && not (has set j)) (has-is first j (λ i. nat_lt i count) first_is h))
 
--- without those that last all are counted
+-- all of them are counted where none is left out
 pub first_counted : (count first : ℕ) → count ≤ 16 → first ≡ set_of (λ i. nat_lt i count) → (j : ℕ) → nat_lt j count ≡ true → has first j ≡ true
 first_counted count first few is j e = let below : j < count = ltb-true j count e in has-is first j (λ i. nat_lt i count) is (omega arith) ∙ e

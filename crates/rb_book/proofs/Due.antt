@@ -288,8 +288,8 @@ with-turn sc l w t h = record {
   lines = h.lines;
   ended = h.ended;
   judged = h.judged;
-  bius = record { all = h.bius.all; saw = h.bius.saw; rows = h.bius.rows; sights = h.bius.sights; begins = h.bius.begins; within = h.bius.within; good = h.bius.good; waiting = h.bius.waiting; lasting = h.bius.lasting };
-  rmus = record { all = h.rmus.all; saw = h.rmus.saw; rows = h.rmus.rows; sights = h.rmus.sights; begins = h.rmus.begins; within = h.rmus.within; good = h.rmus.good; waiting = h.rmus.waiting; lasting = h.rmus.lasting };
+  bius = record { all = h.bius.all; saw = h.bius.saw; rows = h.bius.rows; sights = h.bius.sights; begins = h.bius.begins; within = h.bius.within; good = h.bius.good; waiting = h.bius.waiting; lasting = h.bius.lasting; counted = h.bius.counted };
+  rmus = record { all = h.rmus.all; saw = h.rmus.saw; rows = h.rmus.rows; sights = h.rmus.sights; begins = h.rmus.begins; within = h.rmus.within; good = h.rmus.good; waiting = h.rmus.waiting; lasting = h.rmus.lasting; counted = h.rmus.counted };
 }
 
 settles-at : (sc : Scenario) (way : Way) (w next : World) (l : Ledger) (t : Turn) (r : Option Record) → settle sc way 2 w ≡ record next { turn = r } → r ≡ record_of t

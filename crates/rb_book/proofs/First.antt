@@ -87,4 +87,5 @@ first-kind sc kind g h sizes same most told turns good =
       good = good;
       waiting = turns.waiting ∙ ap (λ (s : Sizes). waiting_for (count_of kind s) h.good (Begin 0) g.told) same ∙ ap (waiting_for n h.good (Begin 0)) (sym turns.told);
       lasting = λ place e. absurd (cc);
+      counted = λ place e. absurd (cc);
     }

@@ -10,6 +10,7 @@ pub mod Steady
 pub mod Passing
 pub mod Due
 pub mod Noting
+pub mod Closing
 pub mod First
 pub mod Worlds
 pub mod Kept

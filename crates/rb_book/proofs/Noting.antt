@@ -31,7 +31,7 @@ use Rattle.rb_rules.specs.declared.closing.Closed.{Closed}
 use Rattle.rb_rules.specs.declared.record.SlotLine.{SlotLine}
 use Rattle.rb_rules.specs.Hearing.{judged_see}
 use Rattle.rb_book.proofs.Rows.{good-is}
-use Rattle.rb_book.specs.Waiting.{waiting_for}
+use Rattle.rb_book.specs.Waiting.{all_but, waiting_for}
 
 -- Lists of sites.
 
@@ -111,6 +111,7 @@ other-kind sc kind me m g i change sites e holds = record {
   good = holds.good;
   waiting = holds.waiting;
   lasting = holds.lasting;
+  counted = holds.counted;
 }
 
 -- What is kept.
@@ -195,6 +196,7 @@ noted sc kind m g h node t sites after saw is inside most holds rows sights begi
       waiting = is.waiting ∙ still-waits (count_of kind sc.sizes) g.good g.waiting node m g.told t inside there holds.waiting
           ∙ ap (λ s. waiting_for (count_of kind sc.sizes) s m (set g.told node t)) (sym is.good) ∙ ap (waiting_for (count_of kind sc.sizes) h.good m) (sym is.told);
       lasting = λ place e. is.lasting ∙ holds.lasting place e;
+      counted = λ place e. is.counted ∙ holds.counted place e ∙ ap (all_but (count_of kind sc.sizes)) (sym is.lasting);
     }
   where
     unseen : (i j : ℕ) → count_of (other kind) sc.sizes ≤ j → (b : Bool) → get_or (if b then t else told_at g.told i).sees j Nothing ≡ Nothing
@@ -347,6 +349,7 @@ same-shown sc l w v is book rows begins = record {
     good = is.bius.good;
     waiting = is.bius.waiting;
     lasting = is.bius.lasting;
+    counted = is.bius.counted;
   };
   rmus = record {
     all = is.rmus.all;
@@ -358,5 +361,6 @@ same-shown sc l w v is book rows begins = record {
     good = is.rmus.good;
     waiting = is.rmus.waiting;
     lasting = is.rmus.lasting;
+    counted = is.rmus.counted;
   };
 }

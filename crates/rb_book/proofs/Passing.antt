@@ -26,7 +26,7 @@ use Rattle.rb_book.specs.declared.turn.Turn.{Turn}
 use Rattle.rb_book.specs.Holding.{Holds, HoldsKind, IsComing, IsStageOf, Passes, TurnsKind, frame_record, good_for, slot_record}
 use Rattle.rb_book.specs.Records.{milestone_of, record_of}
 use Rattle.rb_book.specs.Settling.{after_begin}
-use Rattle.rb_book.specs.Waiting.{begun_at, found_of, line_of, node_line_of, port_line_of, waiting_for}
+use Rattle.rb_book.specs.Waiting.{all_but, begun_at, found_of, line_of, node_line_of, port_line_of, waiting_for}
 use Rattle.rb_base.specs.declared.values.See.TheVariants.{Nothing}
 use Rattle.rb_book.specs.Telling.{begun_told, row_seeing, see_of, told_at}
 use Rattle.rb_book.proofs.Judged.{rows_of}
@@ -117,8 +117,9 @@ few-slots sizes slot is h =
 -- the nodes of a kind, where a milestone is the upcoming one
 pub turns-holds : {K : Type 0} (sc : Scenario) (kind : Side) (before now : Kept) (g h : Group K) (sizes : Sizes) (sites : Each Site) → sizes ≡ sc.sizes
     → HoldsKind sc kind before g sites → TurnsKind kind sizes g h now → h.good ≡ good_for sc kind now
-    → ((place : Place) → now ≡ kept.Stage place → h.lasting ≡ good_at sc kind place.frame (sync_slot_of sc.sizes)) → HoldsKind sc kind now h sites
-turns-holds sc kind before now g h sizes sites same holds turns good lasting = record {
+    → ((place : Place) → now ≡ kept.Stage place → h.lasting ≡ good_at sc kind place.frame (sync_slot_of sc.sizes))
+    → ((place : Place) → now ≡ kept.Stage place → h.counted ≡ all_but (count_of kind sc.sizes) h.lasting) → HoldsKind sc kind now h sites
+turns-holds sc kind before now g h sizes sites same holds turns good lasting counted = record {
   all = ap length turns.told ∙ holds.all;
   saw = holds.saw;
   rows = holds.rows ∙ ap (λ l. map_from 0 (λ i t. row_seeing (holds.saw i) t) (take (count_of kind sc.sizes) l)) (sym turns.told);
@@ -128,6 +129,7 @@ turns-holds sc kind before now g h sizes sites same holds turns good lasting = r
   good = good;
   waiting = turns.waiting ∙ ap (λ (s : Sizes). waiting_for (count_of kind s) h.good now g.told) same ∙ ap (waiting_for (count_of kind sc.sizes) h.good now) (sym turns.told);
   lasting = lasting;
+  counted = counted;
 }
 
 -- the lines after a stage

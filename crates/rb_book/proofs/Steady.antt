@@ -151,6 +151,7 @@ goes-on kind sizes onsets place next before after other good awaits = record {
   turns = λ sc is now none. record {
     told = awaits.told;
     lasting = awaits.lasting;
+    counted = awaits.counted;
     waiting = awaits.waiting
         ∙ all-wait sc kind place next before.good (count_of kind sizes) before.told (ap (λ (s : Sizes). count_of kind s) is) other now none
         ∙ ap (λ g. waiting_for (count_of kind sizes) g (Stage next) before.told) (sym awaits.good);

@@ -11,6 +11,7 @@ pub record IsNoted {K : Type 0} (before after : Group K) (node : ℕ) (m : Miles
   pub told : after.told ≡ slice_set before.told node t
   pub good : after.good ≡ before.good
   pub lasting : after.lasting ≡ before.lasting
+  pub counted : after.counted ≡ before.counted
   pub waiting : after.waiting ≡ set_of (λ i. if i == node then has before.good node && not (has_told m t) else has before.waiting i)
 
 -- the same nodes are good, and all of them are awaited
@@ -18,4 +19,5 @@ pub record AwaitsGood {K : Type 0} (before after : Group K) : Type 0 where
   pub told : after.told ≡ before.told
   pub good : after.good ≡ before.good
   pub lasting : after.lasting ≡ before.lasting
+  pub counted : after.counted ≡ before.counted
   pub waiting : after.waiting ≡ before.good

@@ -24,7 +24,7 @@ use Rattle.rb_book.specs.declared.turn.Turn.{Turn}
 use Rattle.rb_book.specs.Grouping.{AwaitsGood}
 use Rattle.rb_book.specs.Records.{milestone_of, record_of}
 use Rattle.rb_book.specs.Telling.{begun_told, row_seeing, see_of, told_at}
-use Rattle.rb_book.specs.Waiting.{waiting_for}
+use Rattle.rb_book.specs.Waiting.{all_but, waiting_for}
 
 -- Judging.
 
@@ -78,6 +78,7 @@ pub record HoldsKind {K : Type 0} (sc : Scenario) (kind : Side) (m : Milestone) 
   pub good : g.good ≡ good_for sc kind m
   pub waiting : g.waiting ≡ waiting_for (count_of kind sc.sizes) g.good m g.told
   pub lasting : (place : Place) → m ≡ Stage place → g.lasting ≡ good_at sc kind place.frame (sync_slot_of sc.sizes)
+  pub counted : (place : Place) → m ≡ Stage place → g.counted ≡ all_but (count_of kind sc.sizes) g.lasting
 
 -- the numbers of a scenario
 pub record Fits (sc : Scenario) (l : Ledger) : Type 0 where
@@ -115,6 +116,7 @@ pub record Passes (sc : Scenario) (w : World) (after : Ledger) (turn : Turn) : T
 pub record TurnsKind {K : Type 0} (kind : Side) (sizes : Sizes) (before after : Group K) (m : Milestone) : Type 0 where
   pub told : after.told ≡ before.told
   pub lasting : after.lasting ≡ before.lasting
+  pub counted : after.counted ≡ before.counted
   pub waiting : after.waiting ≡ waiting_for (count_of kind sizes) after.good m before.told
 
 pub record TurnsTo (before after : Ledger) (m : Milestone) : Type 0 where

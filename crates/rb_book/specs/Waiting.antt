@@ -21,6 +21,10 @@ use Rattle.rb_book.specs.Telling.{begun_told, has_told, row_seeing, row_told, se
 unfoldable pub waiting_for : ℕ → ℕ → Milestone → List Told → ℕ
 waiting_for count good m told = set_of (λ i. nat_lt i count && (has good i && not (has_told m (told_at told i))))
 
+-- of so many nodes those that are not in a set
+abbrev pub all_but : ℕ → ℕ → ℕ
+all_but count out = set_of (λ j. nat_lt j count && not (has out j))
+
 -- what is found of the first so many nodes, in their order
 unfoldable pub found_of : {X : Type 0} → (ℕ → Told → Option X) → ℕ → List Told → List X
 found_of find n told = present (map_from 0 find (take n told))

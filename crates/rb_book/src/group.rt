@@ -2,9 +2,10 @@
 ghost use Rattle.std.specs.Prelude.{◌≡◌, ◌<◌, ◌≤◌, ℕ, true, false, nat_lt, not, ◌&&◌, ◌==◌, replicate, if◌then◌else◌};
 ghost use Rattle.rb_base.specs.Nodes.{has, set_of};
 ghost use Rattle.rb_book.specs.Changing.{line_from};
+ghost use Rattle.rb_book.specs.declared.milestone.Milestone.{Milestone};
 ghost use Rattle.rb_book.specs.Grouping.{AwaitsGood, IsNoted};
 ghost use Rattle.rb_book.specs.Telling.{fresh_told, has_told, is_at, told_at, told_begun_frame, told_closed};
-ghost use Rattle.rb_book.specs.Waiting.{waiting_for, was_taken, was_unlike};
+ghost use Rattle.rb_book.specs.Waiting.{all_but, waiting_for, was_taken, was_unlike};
 
 use crate::milestone::Milestone;
 use crate::told::{Begin, Told};
@@ -23,6 +24,8 @@ pub struct Group<K> {
     pub waiting: NodeSet<K>,
     /// The nodes that are good to the end of the frame.
     pub lasting: NodeSet<K>,
+    /// All others. As sources in the upcoming stage they are those of which it counts what is seen.
+    pub counted: NodeSet<K>,
 }
 
 // The set with node i exactly where `member`.
@@ -37,6 +40,14 @@ fn with_or_without<K: Copy>(set: NodeSet<K>, i: u8, member: bool) -> NodeSet<K>
         changed.remove(NodeId::of(i));
     }
     changed
+}
+
+/// Of so many nodes those that are not in the set.
+pub(crate) fn all_but<K: Copy>(count: u8, set: NodeSet<K>) -> NodeSet<K>
+    requires { count ≤ 16 }
+    ensures { result ≡ all_but count set }
+{
+    NodeSet::first(count).difference(set)
 }
 
 fn told_of_nothing() -> [Told; 16]
@@ -55,6 +66,7 @@ impl<K: Copy> Group<K> {
             good: NodeSet::empty(),
             waiting: NodeSet::empty(),
             lasting: NodeSet::empty(),
+            counted: NodeSet::empty(),
         }
     }
 
@@ -63,6 +75,7 @@ impl<K: Copy> Group<K> {
         requires { count ≤ 16 }
         ensures told { self.new.told ≡ self.old.told }
         ensures lasting { self.new.lasting ≡ self.old.lasting }
+        ensures counted { self.new.counted ≡ self.old.counted }
         ensures good { self.new.good ≡ good }
         ensures waiting { self.new.waiting ≡ waiting_for count good milestone self.old.told }
     {
@@ -84,6 +97,7 @@ impl<K: Copy> Group<K> {
         ensures told { self.new.told ≡ self.old.told }
         ensures good { self.new.good ≡ self.old.good }
         ensures lasting { self.new.lasting ≡ self.old.lasting }
+        ensures counted { self.new.counted ≡ self.old.counted }
         ensures waiting { self.new.waiting ≡ set_of (λ i. if i == node
             then (has self.old.good node && not (has_told upcoming (told_at self.old.told node))) else has self.old.waiting i) }
     {
@@ -100,30 +114,42 @@ impl<K: Copy> Group<K> {
         self.waiting = with_or_without(self.waiting, node, false);
     }
 
-    /// A node closes a stage, which may be known to be the upcoming milestone. What it saw is kept of the sources of which
-    /// that counts.
+    /// A node closes a stage. What it saw is kept of the sources of which that counts.
     pub(crate) fn close<S: Copy>(
         &mut self,
         node: u8,
         upcoming: Milestone,
-        is_upcoming: bool,
         closed: &Closed,
         times: &[u64; 16],
         counted: NodeSet<S>,
         biu: NodeSet<Biu>,
         rmu: NodeSet<Rmu>,
     )
-        requires node { node < 16 }
-        requires upcoming { is_upcoming ≡ true → is_at upcoming closed.now.place ≡ true }
+        requires { node < 16 }
         ensures { IsNoted self.old self.new node upcoming
             (told_closed counted closed.now times.now biu rmu (line_from node closed.now.delivered) (told_at self.old.told node)) }
     {
         self.told[usize::from(node)].close(node, closed, times, counted, biu, rmu);
-        if is_upcoming {
-            self.strike(node);
-        } else {
-            self.note(node, upcoming);
-        }
+        self.note(node, upcoming);
+    }
+
+    /// The same, where the stage is the upcoming milestone.
+    #[inline(always)]
+    pub(crate) fn close_upcoming<S: Copy>(
+        &mut self,
+        node: u8,
+        closed: &Closed,
+        times: &[u64; 16],
+        counted: NodeSet<S>,
+        biu: NodeSet<Biu>,
+        rmu: NodeSet<Rmu>,
+    )
+        requires { node < 16 }
+        ensures { (upcoming : Milestone) → is_at upcoming closed.now.place ≡ true → IsNoted self.old self.new node upcoming
+            (told_closed counted closed.now times.now biu rmu (line_from node closed.now.delivered) (told_at self.old.told node)) }
+    {
+        self.told[usize::from(node)].close(node, closed, times, counted, biu, rmu);
+        self.strike(node);
     }
 
     /// A node begins a frame.

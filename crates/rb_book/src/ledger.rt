@@ -1,5 +1,5 @@
 //! The book of a run, as it is kept.
-ghost use Rattle.std.specs.Prelude.{◌≡◌, IfSome, nat_lt, true, ◌+◌, ◌-◌, ◌^◌, ◌<◌, ◌≤◌, ◌==◌, ◌&&◌, ◌++◌, [], ℕ, false, is_none, get_or, Some, None, if◌then◌else◌};
+ghost use Rattle.std.specs.Prelude.{◌≡◌, ◌≢◌, IfSome, nat_lt, true, ◌+◌, ◌-◌, ◌^◌, ◌<◌, ◌≤◌, ◌==◌, ◌&&◌, ◌++◌, [], ℕ, false, is_none, get_or, Some, None, if◌then◌else◌};
 ghost use Rattle.rb_base.specs.Nodes.{has, other};
 ghost use Rattle.rb_base.specs.declared.values.See.TheVariants.{Nothing};
 ghost use Rattle.rb_rules.specs.Slots.{count_of};
@@ -18,7 +18,7 @@ ghost use Rattle.rb_book.specs.Records.{milestone_of, record_of, way_of};
 ghost use Rattle.rb_book.specs.Telling.{is_at};
 ghost use Rattle.rb_book.specs.Waiting.{found_of, line_of, node_line_of, port_line_of};
 
-use crate::group::Group;
+use crate::group::{Group, all_but};
 use crate::milestone::{Milestone, Way};
 use crate::told::{Begin, same_place};
 use crate::turn::{FrameRecord, SlotRecord, Turn};
@@ -206,20 +206,6 @@ fn is_quiet(turn: &Turn) -> bool
     matches!(turn, Turn::Quiet)
 }
 
-// The sources, of so many, of which it counts what is seen. In the upcoming stage it doesn't of those that are known to be good to the end
-// of its frame.
-fn counted<K: Copy>(is_upcoming: bool, count: u8, lasting: NodeSet<K>) -> NodeSet<K>
-    requires { count ≤ 16 }
-    ensures { (j : ℕ) → nat_lt j count ≡ true → has result j ≡ false → (is_upcoming ≡ true) × (has lasting j ≡ true) }
-{
-    let all = NodeSet::first(count);
-    if is_upcoming {
-        all.difference(lasting)
-    } else {
-        all
-    }
-}
-
 // Whether a stage is the upcoming milestone.
 fn is_at(upcoming: Milestone, place: Place) -> bool
     ensures { result ≡ is_at upcoming place }
@@ -337,6 +323,8 @@ impl Ledger {
         self.lines = ArrayVec::new();
         self.bius.lasting = self.onsets.good_biu(frame, sync_slot);
         self.rmus.lasting = self.onsets.good_rmu(frame, sync_slot);
+        self.bius.counted = all_but(self.shape.biu(), self.bius.lasting);
+        self.rmus.counted = all_but(self.shape.rmu(), self.rmus.lasting);
         self.turn_to(after_begin(frame, self.frames));
         *turn = given;
     }
@@ -440,20 +428,76 @@ impl Ledger {
         if closed.place.stage == 4 {
             return;
         }
-        let upcoming = self.upcoming;
-        let is_upcoming = is_at(upcoming, closed.place);
+        if is_at(self.upcoming, closed.place) {
+            self.close_upcoming(node, closed, times, biu, rmu);
+        } else {
+            self.close_other(node, closed, times, biu, rmu);
+        }
+    }
+
+    // A node closes the stage that is the upcoming milestone. What it saw counts of sources that are not good to the end of the frame.
+    #[inline(always)]
+    fn close_upcoming(
+        &mut self,
+        node: NodeName,
+        closed: &Closed,
+        times: &[u64; 16],
+        biu: NodeSet<Biu>,
+        rmu: NodeSet<Rmu>,
+    )
+        requires node { number_in node < count_for node self.old.shape }
+        requires sources { (j : ℕ) → count_of (other (side_in node)) self.old.shape ≤ j → get_or closed.now.sees j Nothing ≡ Nothing }
+        requires stage { closed.now.place.stage ≢ 4 }
+        requires upcoming { is_at self.old.upcoming closed.now.place ≡ true }
+        ensures noted { (sc : Scenario) (w : World) → Holds sc self.old w
+            → Holds sc self.new (changed_at node (with_row closed.now.place.stage (row_shown (number_in node) closed.now times.now biu rmu)) w) }
+        ensures shape { self.new.shape ≡ self.old.shape }
+    {
         match node {
             NodeName::Biu(i) => {
                 let _bius = self.shape.biu();
-                let counted = counted(is_upcoming, self.shape.rmu(), self.rmus.lasting);
+                let counted = self.rmus.counted;
                 self.bius
-                    .close(i, upcoming, is_upcoming, closed, times, counted, biu, rmu);
+                    .close_upcoming(i, closed, times, counted, biu, rmu);
             }
             NodeName::Rmu(i) => {
                 let _rmus = self.shape.rmu();
-                let counted = counted(is_upcoming, self.shape.biu(), self.bius.lasting);
+                let counted = self.bius.counted;
                 self.rmus
-                    .close(i, upcoming, is_upcoming, closed, times, counted, biu, rmu);
+                    .close_upcoming(i, closed, times, counted, biu, rmu);
+            }
+        }
+    }
+
+    // A node closes another stage. What it saw counts of all sources.
+    #[inline(never)]
+    fn close_other(
+        &mut self,
+        node: NodeName,
+        closed: &Closed,
+        times: &[u64; 16],
+        biu: NodeSet<Biu>,
+        rmu: NodeSet<Rmu>,
+    )
+        requires node { number_in node < count_for node self.old.shape }
+        requires sources { (j : ℕ) → count_of (other (side_in node)) self.old.shape ≤ j → get_or closed.now.sees j Nothing ≡ Nothing }
+        requires stage { closed.now.place.stage ≢ 4 }
+        ensures noted { (sc : Scenario) (w : World) → Holds sc self.old w
+            → Holds sc self.new (changed_at node (with_row closed.now.place.stage (row_shown (number_in node) closed.now times.now biu rmu)) w) }
+        ensures shape { self.new.shape ≡ self.old.shape }
+    {
+        let upcoming = self.upcoming;
+        let (bius, rmus) = (self.shape.biu(), self.shape.rmu());
+        match node {
+            NodeName::Biu(i) => {
+                let counted: NodeSet<Rmu> = NodeSet::first(rmus);
+                self.bius
+                    .close(i, upcoming, closed, times, counted, biu, rmu);
+            }
+            NodeName::Rmu(i) => {
+                let counted: NodeSet<Biu> = NodeSet::first(bius);
+                self.rmus
+                    .close(i, upcoming, closed, times, counted, biu, rmu);
             }
         }
     }

@@ -8,6 +8,7 @@ use Rattle.rb_rules.specs.WorldStep.{begun_for, told_by_good}
 use Rattle.rb_judge.proofs.Noting.{shows_knows}
 use Rattle.rb_judge.specs.Stages.{Knows}
 use Rattle.rb_book.specs.Holding.{HoldsKind, IsComing}
+use Rattle.rb_book.specs.Waiting.{all_but}
 use Rattle.rb_book.specs.declared.milestone.Milestone.TheVariants as kept
 use Rattle.rb_book.specs.Records.{milestone_of}
 use Rattle.rb_book.specs.Settling.{after_begin}
@@ -42,12 +43,14 @@ returns-clause-passes c = λ sc w h ended next.
       lines = sym (turns.lines ∙ c.new-self.ensures);
       ended = sym (turns.ended ∙ ended);
       judged = λ e p is. subst (λ k. Knows k []) (sym turns.judge) (shows_knows _ [] c.frame.ensures.begun);
-      bius = subst (λ m. HoldsKind sc Biu m c.turn_to.new.self.bius w.sites) (sym turns.upcoming) (turns-holds sc Biu (kept.Begin frame) c.after_begin.result (record c.args.self.now.bius { lasting = c.good_biu-self.result }) _ c.args.self.now.shape w.sites h.fits.sizes
-          (record { all = bius.all; saw = bius.saw; rows = bius.rows; sights = bius.sights; begins = bius.begins; within = bius.within; good = bius.good; waiting = bius.waiting; lasting = λ p e. absurd (cc) })
+      bius = subst (λ m. HoldsKind sc Biu m c.turn_to.new.self.bius w.sites) (sym turns.upcoming) (turns-holds sc Biu (kept.Begin frame) c.after_begin.result (record c.args.self.now.bius { lasting = c.good_biu-self.result; counted = c.all_but-self.result }) _ c.args.self.now.shape w.sites h.fits.sizes
+          (record { all = bius.all; saw = bius.saw; rows = bius.rows; sights = bius.sights; begins = bius.begins; within = bius.within; good = bius.good; waiting = bius.waiting; lasting = λ p e. absurd (cc); counted = λ p e. absurd (cc) })
           turns.bius (turns.good_bius sc h.fits.onsets)
-          (λ p is. turns.bius.lasting ∙ c.good_biu-self.ensures sc h.fits.onsets ∙ ap (good_at sc Biu frame) sync ∙ ap (λ f. good_at sc Biu f (sync_slot_of sc.sizes)) (sym (coming.1 p (turns.upcoming ∙ is)))));
-      rmus = subst (λ m. HoldsKind sc Rmu m c.turn_to.new.self.rmus w.sites) (sym turns.upcoming) (turns-holds sc Rmu (kept.Begin frame) c.after_begin.result (record c.args.self.now.rmus { lasting = c.good_rmu-self.result }) _ c.args.self.now.shape w.sites h.fits.sizes
-          (record { all = rmus.all; saw = rmus.saw; rows = rmus.rows; sights = rmus.sights; begins = rmus.begins; within = rmus.within; good = rmus.good; waiting = rmus.waiting; lasting = λ p e. absurd (cc) })
+          (λ p is. turns.bius.lasting ∙ c.good_biu-self.ensures sc h.fits.onsets ∙ ap (good_at sc Biu frame) sync ∙ ap (λ f. good_at sc Biu f (sync_slot_of sc.sizes)) (sym (coming.1 p (turns.upcoming ∙ is))))
+          (λ p is. turns.bius.counted ∙ c.all_but-self.ensures ∙ ap (λ n. all_but n c.good_biu-self.result) (c.biu.ensures.value ∙ ap (λ (s : Sizes). s.bius) h.fits.sizes) ∙ ap (all_but sc.sizes.bius) (sym turns.bius.lasting)));
+      rmus = subst (λ m. HoldsKind sc Rmu m c.turn_to.new.self.rmus w.sites) (sym turns.upcoming) (turns-holds sc Rmu (kept.Begin frame) c.after_begin.result (record c.args.self.now.rmus { lasting = c.good_rmu-self.result; counted = c.all_but-self-2.result }) _ c.args.self.now.shape w.sites h.fits.sizes
+          (record { all = rmus.all; saw = rmus.saw; rows = rmus.rows; sights = rmus.sights; begins = rmus.begins; within = rmus.within; good = rmus.good; waiting = rmus.waiting; lasting = λ p e. absurd (cc); counted = λ p e. absurd (cc) })
           turns.rmus (turns.good_rmus sc h.fits.onsets)
-          (λ p is. turns.rmus.lasting ∙ c.good_rmu-self.ensures sc h.fits.onsets ∙ ap (good_at sc Rmu frame) sync ∙ ap (λ f. good_at sc Rmu f (sync_slot_of sc.sizes)) (sym (coming.1 p (turns.upcoming ∙ is)))));
+          (λ p is. turns.rmus.lasting ∙ c.good_rmu-self.ensures sc h.fits.onsets ∙ ap (good_at sc Rmu frame) sync ∙ ap (λ f. good_at sc Rmu f (sync_slot_of sc.sizes)) (sym (coming.1 p (turns.upcoming ∙ is))))
+          (λ p is. turns.rmus.counted ∙ c.all_but-self-2.ensures ∙ ap (λ n. all_but n c.good_rmu-self.result) (c.rmu.ensures.value ∙ ap (λ (s : Sizes). s.rmus) h.fits.sizes) ∙ ap (all_but sc.sizes.rmus) (sym turns.rmus.lasting)));
     }) refl (c.frame_turn-given.ensures ∙ frame-record sc frame c.args.self.now.bius c.args.self.now.rmus w.sites c.args.self.now.shape h.fits.sizes h.fits.is_shape bius rmus)

@@ -12,7 +12,7 @@ use Rattle.rb_rules.specs.Judging.{JudgedStage, verdict_of}
 use Rattle.rb_judge.specs.Stages.{Knows}
 use Rattle.rb_book.specs.Holding.{HoldsKind, IsComing, IsStageOf, without_lasting}
 use Rattle.rb_book.specs.Records.{milestone_of}
-use Rattle.rb_book.specs.Waiting.{waiting_for}
+use Rattle.rb_book.specs.Waiting.{all_but, waiting_for}
 use Rattle.rb_book.specs.declared.milestone.Milestone.TheVariants as kept
 use Rattle.rb_book.proofs.Judged.{rows_of}
 use Rattle.rb_book.proofs.Passing.{coming-after, few-slots, lines-after, passes-by, slot-record, stage-then, turns-holds}
@@ -85,10 +85,12 @@ returns-in-None-clause-passes c = λ sc w h ended next none_bius none_rmus.
           (subst (λ f. Knows c.judge_stage.new.judge (map (without_lasting sc f) all)) (sym (coming.1 p is)) known);
       bius = turns-holds sc Biu _ _ c.args.self.now.bius _ c.args.self.now.shape w.sites h.fits.sizes bius turns-bius
           (past.bius.good sc h.fits.sizes h.fits.onsets stage.slot bius.good (bius.lasting place refl))
-          (λ p is. turns-bius.lasting ∙ bius.lasting place refl ∙ ap (λ f. good_at sc Biu f (sync_slot_of sc.sizes)) (sym (coming.1 p is)));
+          (λ p is. turns-bius.lasting ∙ bius.lasting place refl ∙ ap (λ f. good_at sc Biu f (sync_slot_of sc.sizes)) (sym (coming.1 p is)))
+          (λ p is. turns-bius.counted ∙ bius.counted place refl ∙ ap (all_but sc.sizes.bius) (sym turns-bius.lasting));
       rmus = turns-holds sc Rmu _ _ c.args.self.now.rmus _ c.args.self.now.shape w.sites h.fits.sizes rmus turns-rmus
           (past.rmus.good sc h.fits.sizes h.fits.onsets stage.slot rmus.good (rmus.lasting place refl))
-          (λ p is. turns-rmus.lasting ∙ rmus.lasting place refl ∙ ap (λ f. good_at sc Rmu f (sync_slot_of sc.sizes)) (sym (coming.1 p is)));
+          (λ p is. turns-rmus.lasting ∙ rmus.lasting place refl ∙ ap (λ f. good_at sc Rmu f (sync_slot_of sc.sizes)) (sym (coming.1 p is)))
+          (λ p is. turns-rmus.counted ∙ rmus.counted place refl ∙ ap (all_but sc.sizes.rmus) (sym turns-rmus.lasting));
     }) refl (past.record_is
     ∙ ap (λ (s : Sizes). slot_record s place c.args.self.now.lines.items) h.fits.sizes ∙ ap (slot_record sc.sizes place) (sym h.lines)
     ∙ slot-record sc.sizes place w.book.lines)
