@@ -27,7 +27,6 @@ use Rattle.rb_book.specs.Changing.{changed_at, line_from, row_shown, with_row}
 use Rattle.rb_book.specs.Grouping.{IsNoted}
 use Rattle.rb_book.specs.Holding.{Holds, HoldsKind, Lasts, OthersLast}
 use Rattle.rb_book.specs.Telling.{is_at, told_at, told_closed}
-use Rattle.rb_book.specs.Waiting.{all_but}
 use Rattle.rb_book.proofs.Counted.{first_counted}
 use Rattle.rb_book.proofs.Noting.{none-seen, other-kind, row-noted, sees-kept, with-bius, with-rmus}
 

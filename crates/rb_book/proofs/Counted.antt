@@ -1,5 +1,5 @@
 -- The sources of which it counts what was seen.
-use Rattle.std.proofs.Common.{◌≡◌, ℕ, ◌<◌, ◌≤◌, ◌&&◌, not, nat_lt, Bool, true, false, refl, sym, ◌∙◌, ap, arith}
+use Rattle.std.proofs.Common.{◌≡◌, ℕ, ◌<◌, ◌≤◌, ◌&&◌, not, nat_lt, Bool, true, false, refl, ◌∙◌, ap, arith}
 use Rattle.rb_base.specs.Nodes.{has, set_of}
 use Rattle.std.proofs.lemmas.Bool.{ltb-true}
 use Rattle.rb_book.specs.Waiting.{all_but}

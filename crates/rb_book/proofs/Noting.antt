@@ -25,7 +25,7 @@ use Rattle.rb_book.specs.Holding.{OthersLast, HoldsKind}
 use Rattle.rb_base.specs.Sizes.{sync_slot_of}
 use Rattle.rb_base.specs.declared.values.Place.{Place}
 use Rattle.rb_base.specs.declared.values.See.{See}
-use Rattle.rb_book.specs.Telling.{begun_in, begun_told, has_told, kept_of, no_told, row_seeing, see_of, told_at, told_closed}
+use Rattle.rb_book.specs.Telling.{begun_in, begun_told, has_told, kept_of, no_told, row_seeing, see_of, timed_in, told_at, told_closed}
 use Rattle.rb_book.proofs.Kept.{kept-at, length-kept}
 use Rattle.rb_rules.specs.declared.closing.Closed.{Closed}
 use Rattle.rb_rules.specs.declared.record.SlotLine.{SlotLine}
@@ -263,16 +263,16 @@ pub none-seen : (counted : ℕ) (c : Closed) (times : List ℕ) (biu rmu : ℕ) 
     → (j : ℕ) → n ≤ j → get_or (told_closed counted c times biu rmu line t).sees j Nothing ≡ Nothing
 none-seen counted c times biu rmu line t n nobody none j past = by (nat_lt j 16) refl
   where
-    either : (b : Bool) → (if b then get_or c.sees j Nothing else get_or t.sees j Nothing) ≡ Nothing
-    either true = nobody j past
+    either : (b : Bool) → (if b then timed_in c.sees times j else get_or t.sees j Nothing) ≡ Nothing
+    either true = ap (judged_see (slice_index times j)) (nobody j past)
     either false = none j past
 
-    by : (b : Bool) → nat_lt j 16 ≡ b → get_or (kept_of counted Nothing c.sees t.sees) j Nothing ≡ Nothing
-    by true e = kept-at counted Nothing c.sees t.sees j (grind (arith, nat_tests)) ∙ either (has counted j)
+    by : (b : Bool) → nat_lt j 16 ≡ b → get_or (kept_of counted Nothing (timed_in c.sees times) t.sees) j Nothing ≡ Nothing
+    by true e = kept-at counted Nothing (timed_in c.sees times) t.sees j (grind (arith, nat_tests)) ∙ either (has counted j)
     by false e =
-        let long : length (kept_of counted Nothing c.sees t.sees) ≡ 16 = length-kept counted Nothing c.sees t.sees in
-        let most : length (kept_of counted Nothing c.sees t.sees) ≤ j = grind (arith, nat_tests) in
-        get_or_past (kept_of counted Nothing c.sees t.sees) j Nothing most
+        let long : length (kept_of counted Nothing (timed_in c.sees times) t.sees) ≡ 16 = length-kept counted Nothing (timed_in c.sees times) t.sees in
+        let most : length (kept_of counted Nothing (timed_in c.sees times) t.sees) ≤ j = grind (arith, nat_tests) in
+        get_or_past (kept_of counted Nothing (timed_in c.sees times) t.sees) j Nothing most
 
 -- what is kept at a close of sources that are not good to the end of its frame
 pub sees-kept : {K : Type 0} (counted : ℕ) (sc : Scenario) (source : Side) (m : Milestone) (o : Group K) (sites : Each Site) (c : Closed) (times : List ℕ) (biu rmu : ℕ) (line : Option SlotLine) (t : Told)
@@ -286,9 +286,7 @@ sees-kept counted sc source m o sites c times biu rmu line t most holds last nob
         → judged_see (slice_index times j) (get_or c.sees j Nothing) ≡ see_of (told_closed counted c times biu rmu line t) j
     by true e true there =
         let small : j < 16 = grind (arith, nat_tests) in
-        let seen : get_or (kept_of counted Nothing c.sees t.sees) j Nothing ≡ get_or c.sees j Nothing = kept-at counted Nothing c.sees t.sees j small ∙ ap (λ b. if b then get_or c.sees j Nothing else get_or t.sees j Nothing) there in
-        let timed : slice_index (kept_of counted 0 times t.times) j ≡ slice_index times j = kept-at counted 0 times t.times j small ∙ ap (λ b. if b then get_or times j 0 else get_or t.times j 0) there in
-        ap (λ s. judged_see s (get_or c.sees j Nothing)) (sym timed) ∙ ap (judged_see (slice_index (kept_of counted 0 times t.times) j)) (sym seen)
+        sym (kept-at counted Nothing (timed_in c.sees times) t.sees j small ∙ ap (λ b. if b then timed_in c.sees times j else get_or t.sees j Nothing) there)
     by true e false out =
         let lasts = last j e out in
         let good : is_good sc source j c.place.frame (sync_slot_of sc.sizes) ≡ true =
@@ -298,7 +296,7 @@ sees-kept counted sc source m o sites c times biu rmu line t most holds last nob
     by false e k is =
         let past : count_of source sc.sizes ≤ j = grind (arith, nat_tests) in
         ap (judged_see (slice_index times j)) (nobody j past)
-        ∙ sym (ap (judged_see (slice_index (kept_of counted 0 times t.times) j)) (none-seen counted c times biu rmu line t (count_of source sc.sizes) nobody none j past))
+        ∙ sym (none-seen counted c times biu rmu line t (count_of source sc.sizes) nobody none j past)
 
 -- The world.
 

@@ -1,6 +1,6 @@
 -- What good receivers told of the sources in a stage, and what is noted of it.
 use Rattle.std.proofs.Common.{◌≡◌, ℕ, zero, suc, ◌+◌, ◌<◌, ◌≤◌, ◌&&◌, not, nat_lt, Bool, true, false, List, [], ◌∷◌, length, take, get_or, Option, Some, None, refl, sym, ◌∙◌, ap, arith, if◌then◌else◌}
-use Rattle.std.specs.Prelude.{is_some, slice_index}
+use Rattle.std.specs.Prelude.{is_some}
 use Rattle.std.proofs.lemmas.Bool.Decides.{nat_tests}
 use Rattle.std.proofs.lemmas.List.{get_or-take, length-take}
 use Rattle.std.proofs.lemmas.List.FromFn.{get_or-map-range_with_len}
@@ -11,7 +11,6 @@ use Rattle.rb_base.specs.declared.values.See.TheVariants.{Nothing}
 use Rattle.rb_base.proofs.Sets.{has-set_of, has_none}
 use Rattle.rb_rules.specs.Book.{Row, map_from, see_in}
 use Rattle.rb_rules.specs.ExactStage.{each_node}
-use Rattle.rb_rules.specs.Hearing.{judged_see}
 use Rattle.rb_rules.specs.Judging.{are_alike, is_something}
 use Rattle.rb_rules.specs.WorldStep.{row_for, same_place}
 use Rattle.rb_judge.specs.Sights.{some_node}
@@ -189,7 +188,7 @@ kept saw_it place sources count good told false eps j h seen = by (nat_lt j sour
     same i hi e = saw saw_it good count place told i j h (seen.there i hi e) e (seen.told_it i hi e) ∙ seen.sights i hi e refl
 
     none : (i : ℕ) → sources ≤ j → i < 16 → has good i ≡ true → sight i ≡ Nothing
-    none i past hi e = same i hi e ∙ ap (judged_see (slice_index (told_at told i).times j)) (seen.nobody i past)
+    none i past hi e = same i hi e ∙ seen.nobody i past
 
     by : (b : Bool) → nat_lt j sources ≡ b
         → (some_node (λ i. has good i && is_something (sight i)) ≡ (nat_lt j sources && (not false && was_taken count good told j)))

@@ -19,7 +19,7 @@ use Rattle.rb_book.specs.declared.told.Told.{Told}
 
 -- what it saw of source j in its latest stage
 abbrev pub see_of : Told → ℕ → See
-see_of t j = judged_see (slice_index t.times j) (get_or t.sees j Nothing)
+see_of t j = get_or t.sees j Nothing
 
 -- its latest row, where it saw this of each source
 abbrev pub latest_seeing : (ℕ → See) → Told → Row
@@ -61,7 +61,6 @@ no_told = record {
   has_closed = false;
   place = record { frame = 0; slot = 0; stage = 0 };
   sees = [];
-  times = [];
   biu = 0;
   rmu = 0;
   line = None;
@@ -74,7 +73,6 @@ fresh_told = record {
   has_closed = false;
   place = record { frame = 0; slot = 0; stage = 0 };
   sees = replicate 16 Nothing;
-  times = replicate 16 0;
   biu = 0;
   rmu = 0;
   line = None;
@@ -82,8 +80,12 @@ fresh_told = record {
 }
 
 -- of each of these sources what is new, and of the others what was kept before
-unfoldable pub kept_of : {X : Type 0} → ℕ → X → List X → List X → List X
-kept_of counted d new before = each_node (λ j. if has counted j then get_or new j d else get_or before j d)
+unfoldable pub kept_of : {X : Type 0} → ℕ → X → (ℕ → X) → List X → List X
+kept_of counted d new before = each_node (λ j. if has counted j then new j else get_or before j d)
+
+-- what was seen of source j, with these reference times in place of stamps
+abbrev pub timed_in : List See → List ℕ → ℕ → See
+timed_in sees times j = judged_see (slice_index times j) (get_or sees j Nothing)
 
 -- a node that told this has closed a stage. What it saw of a source is kept where that counts
 abbrev pub told_closed : ℕ → Closed → List ℕ → ℕ → ℕ → Option SlotLine → Told → Told
@@ -91,8 +93,7 @@ told_closed counted c times biu rmu line t =
     record t {
       has_closed = true;
       place = c.place;
-      sees = kept_of counted Nothing c.sees t.sees;
-      times = kept_of counted 0 times t.times;
+      sees = kept_of counted Nothing (timed_in c.sees times) t.sees;
       biu = biu;
       rmu = rmu;
       line = line;

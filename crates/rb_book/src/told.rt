@@ -1,11 +1,12 @@
 //! What a node has told last.
-ghost use Rattle.std.specs.Prelude.{◌≡◌, ◌<◌, if◌then◌else◌};
+ghost use Rattle.std.specs.Prelude.{◌≡◌, ◌<◌, slice_set, if◌then◌else◌};
 ghost use Rattle.rb_base.specs.declared.values.See.TheVariants.{Nothing};
+ghost use Rattle.rb_rules.specs.Hearing.{judged_see};
 ghost use Rattle.rb_rules.specs.Judging.{are_alike, is_something};
 ghost use Rattle.rb_rules.specs.Majority.{same_heard};
 ghost use Rattle.rb_rules.specs.WorldStep.{same_place};
 ghost use Rattle.rb_book.specs.Changing.{line_from};
-ghost use Rattle.rb_book.specs.Telling.{fresh_told, has_told, kept_of, see_of, told_begun_frame, told_closed};
+ghost use Rattle.rb_book.specs.Telling.{fresh_told, has_told, kept_of, see_of, timed_in, told_begun_frame, told_closed};
 
 use crate::milestone::Milestone;
 use rb_base::{Biu, Delivery, Heard, NodeSet, Place, Rmu, See};
@@ -26,10 +27,9 @@ pub struct Told {
     /// Whether it has closed a stage. If so, the next are of the last one.
     pub has_closed: bool,
     pub place: Place,
-    /// What it saw of each source. Where that is a stamp, the reference time is beside it. Of sources that are good to the end of the
-    /// frame it is of an earlier stage.
+    /// What it saw of each source, with reference times in place of stamps. Of sources that are good to the end of the frame it is of
+    /// an earlier stage.
     pub sees: [See; 16],
-    pub times: [u64; 16],
     /// The trusted nodes of both kinds, as masks.
     pub biu: u16,
     pub rmu: u16,
@@ -43,22 +43,40 @@ pub(crate) fn same_place(a: Place, b: Place) -> bool
     a == b
 }
 
+// What was seen of a source, with a reference time in place of a stamp.
+fn timed(see: See, time: u64) -> See
+    ensures { result ≡ judged_see time see }
+{
+    match see {
+        See::Time(_) => See::Time(time),
+        see => see,
+    }
+}
+
+// What was seen of one source is kept. Mostly that is nothing, and nothing was kept of it before: then no place is written.
+#[inline(always)]
+fn keep_one(sees: &mut [See; 16], at: usize, see: See, time: u64)
+    requires { at < 16 }
+    ensures { sees.new ≡ slice_set sees.old at (judged_see time see) }
+{
+    if is_something(see) || is_something(sees[at]) {
+        sees[at] = timed(see, time);
+    }
+}
+
 // What was seen of each of these sources is kept, with its reference time. Of the others what was kept stays.
 fn keep_seen<S: Copy>(
     counted: NodeSet<S>,
     seen: &[See; 16],
-    seen_at: &[u64; 16],
+    times: &[u64; 16],
     sees: &mut [See; 16],
-    times: &mut [u64; 16],
 )
-    ensures sees { sees.new ≡ kept_of counted Nothing seen.now sees.old }
-    ensures times { times.new ≡ kept_of counted 0 seen_at.now times.old }
+    ensures { sees.new ≡ kept_of counted Nothing (timed_in seen.now times.now) sees.old }
 {
     let mut left = counted;
     while let Some(source) = left.pop_first() {
         let at = usize::from(source.index());
-        sees[at] = seen[at];
-        times[at] = seen_at[at];
+        keep_one(sees, at, seen[at], times[at]);
     }
 }
 
@@ -94,7 +112,6 @@ impl Told {
                 stage: 0,
             },
             sees: [See::Nothing; 16],
-            times: [0; 16],
             biu: 0,
             rmu: 0,
             line: None,
@@ -117,13 +134,7 @@ impl Told {
     {
         self.has_closed = true;
         self.place = closed.place;
-        keep_seen(
-            counted,
-            &closed.sees,
-            times,
-            &mut self.sees,
-            &mut self.times,
-        );
+        keep_seen(counted, &closed.sees, times, &mut self.sees);
         self.biu = biu.bits();
         self.rmu = rmu.bits();
         keep_line(i, closed.delivered, &mut self.line);
@@ -155,11 +166,7 @@ impl Told {
         requires { source < 16 }
         ensures { result ≡ see_of self.now source }
     {
-        let at = usize::from(source);
-        match self.sees[at] {
-            See::Time(_) => See::Time(self.times[at]),
-            see => see,
-        }
+        self.sees[usize::from(source)]
     }
 }
 
