@@ -55,12 +55,12 @@ fn timed(see: See, time: u64) -> See
 
 // What was seen of one source is kept. Mostly that is nothing, and nothing was kept of it before: then no place is written.
 #[inline(always)]
-fn keep_one(sees: &mut [See; 16], at: usize, see: See, time: u64)
+fn keep_one(at: usize, seen: &[See; 16], times: &[u64; 16], sees: &mut [See; 16])
     requires { at < 16 }
-    ensures { sees.new ≡ slice_set sees.old at (judged_see time see) }
+    ensures { sees.new ≡ slice_set sees.old at (timed_in seen.now times.now at) }
 {
-    if is_something(see) || is_something(sees[at]) {
-        sees[at] = timed(see, time);
+    if is_something(seen[at]) || is_something(sees[at]) {
+        sees[at] = timed(seen[at], times[at]);
     }
 }
 
@@ -76,7 +76,7 @@ fn keep_seen<S: Copy>(
     let mut left = counted;
     while let Some(source) = left.pop_first() {
         let at = usize::from(source.index());
-        keep_one(sees, at, seen[at], times[at]);
+        keep_one(at, seen, times, sees);
     }
 }
 
