@@ -8,3 +8,5 @@ pub mod Seeing
 pub mod Quiet
 pub mod Forms
 pub mod Onlys
+pub mod Starts
+pub mod Agreeing

@@ -1,5 +1,5 @@
 -- What an arrival is kept as, and what its bytes say.
-use Rattle.std.specs.Prelude.{ℕ, ◌≡◌, ◌≤◌, Bool, true, Option, Some, List}
+use Rattle.std.specs.Prelude.{ℕ, ◌≡◌, ◌≤◌, ◌+◌, ◌*◌, ◌/◌, ◌%◌, Bool, true, false, Option, Some, List}
 use Rattle.rb_base.specs.declared.values.Heard.{Heard}
 use Rattle.rb_rules.specs.declared.sense.Expect.{Expect}
 use Rattle.rb_rules.specs.ExactStage.{see_value}
@@ -23,3 +23,13 @@ pub record IsReading (e : Expect) (r : Reading) : Type 0 where
   pub says : len_of r.tail ≤ 12 → Says e (spelled r.low (high_of r.tail) (len_of r.tail)) r.one r.value
   pub shown : r.see ≡ see_value r.value
   pub agreed : r.agrees ≡ true → (h : Heard) × ((r.value ≡ Some h) × (r.candidate ≡ Some h))
+
+-- the first eight bytes begin as a word that is meant for the window
+pub record StartsAsWord (e : Expect) (low : ℕ) : Type 0 where
+  pub tag : low % 256 ≡ 1
+  pub frame : low / 256 % 256 * 256 + low / 65536 % 256 ≡ e.frame
+  pub slot : low / 16777216 % 256 * 256 + low / 4294967296 % 256 ≡ e.slot
+  pub stage : low / 1099511627776 % 256 ≡ e.stage
+  pub some_stage : 1 ≤ e.stage
+  pub most_stages : e.stage ≤ 3
+  pub no_sync : e.sync ≡ false

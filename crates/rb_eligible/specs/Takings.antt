@@ -1,12 +1,14 @@
 -- What is taken of sources in a window, and whom that accuses, whatever list of arrivals the inbox stands for.
-use Rattle.std.specs.Prelude.{ℕ, ◌≡◌, ◌<◌, ◌&&◌, Bool, if◌then◌else◌, Option, None, List}
+use Rattle.std.specs.Prelude.{ℕ, ◌≡◌, ◌<◌, ◌&&◌, Bool, true, if◌then◌else◌, Option, None, Some, List}
 use Rattle.rb_base.specs.Nodes.{has, set_of}
 use Rattle.rb_base.specs.declared.values.Heard.{Heard}
+use Rattle.rb_base.specs.declared.values.Heard.TheVariants.{Word}
 use Rattle.rb_rules.specs.declared.sense.Expect.{Expect}
 use Rattle.rb_rules.specs.ExactStage.{at_source, each_node}
 use Rattle.rb_rules.specs.Sense.{is_one, value_in}
 use Rattle.rb_rules.specs.Standing.{Standing, has_evidence, taken_of, with_evidence}
-use Rattle.rb_eligible.specs.Inboxes.{HoldsArrivals, KeptArrivals, Received, sense_in}
+use Rattle.rb_eligible.specs.Inboxes.{HoldsArrivals, KeptArrivals, Received, sense_in, sole_at}
+use Rattle.rb_eligible.specs.Readings.{Says, bytes_of}
 
 -- the sources among these of which exactly one message came that is meant for the window
 abbrev pub AreOnesOf : KeptArrivals → Expect → (ℕ → Bool) → ℕ → Type 0
@@ -25,3 +27,9 @@ AreTakenOf kept s e expected taken = (received : List Received) → HoldsArrival
 -- after the window each node is accused against which it has evidence
 abbrev pub AccusesBy : KeptArrivals → Standing → Expect → ℕ → Standing → Type 0
 AccusesBy kept s e expected after = (received : List Received) → HoldsArrivals kept received → after ≡ with_evidence (has_evidence s (has expected) (sense_in e received)) s
+
+-- there are sources in the set, and of each the word came and was taken
+pub record AreWords (kept : KeptArrivals) (e : Expect) (due word : ℕ) (taken : List (Option Heard)) : Type 0 where
+  pub some : (k : ℕ) × ((k < 16) × (has due k ≡ true))
+  pub each : (j : ℕ) → j < 16 → has due j ≡ true
+      → (at_source taken j ≡ Some (Word word)) × Says e (bytes_of (sole_at kept.soles j)) true (Some (Word word))

@@ -1,14 +1,14 @@
 //! What the bytes of an arrival say, in a window.
-ghost use Rattle.std.specs.Prelude.{◌≡◌, ◌≤◌, ℕ, IsTrue, Some, ◌<◌, drop, length, slice_index, take, true};
+ghost use Rattle.std.specs.Prelude.{◌≡◌, ◌≤◌, ◌+◌, ◌*◌, ◌/◌, ◌%◌, ◌^◌, ℕ, IfSome, IsTrue, Some, ◌<◌, drop, length, slice_index, take, true};
 ghost use Rattle.std.specs.Int.{from_le_bytes, w32, w64};
 ghost use Rattle.rb_rules.specs.ExactStage.{see_value};
 ghost use Rattle.rb_rules.specs.Sense.{is_one, sense_of_one, suits, tag_suits, value_in, value_of};
 ghost use Rattle.rb_rules.specs.Spelling.{message_in};
 ghost use Rattle.rb_base.specs.declared.values.Heard.{Heard};
-ghost use Rattle.rb_frame.specs.Spellings.{high_of, len_of};
-ghost use Rattle.rb_eligible.specs.Readings.{IsReading, Says, bytes_of};
+ghost use Rattle.rb_frame.specs.Spellings.{high_of, len_of, spelled};
+ghost use Rattle.rb_eligible.specs.Readings.{IsReading, Says, StartsAsWord, bytes_of};
 
-use crate::words::message_in;
+use crate::words::{has_form, message_in, value_in as value_at};
 use byteorder::{ByteOrder, LittleEndian};
 use rb_base::{Heard, See};
 use rb_frame::{Message, Tag};
@@ -97,6 +97,46 @@ pub(crate) fn words_of(sole: &Sole, expect: &Expect) -> Said
     Said {
         one: is_one(&sense),
         value: value_in(&sense),
+    }
+}
+
+// The first six bytes of a word that is meant for a window, the first byte lowest: the tag, the frame, the slot and the stage.
+#[inline(always)]
+fn word_start(frame: u16, slot: u16, stage: u8) -> u64
+    ensures bytes { result
+        ≡ 1 + frame / 256 * 256 + frame % 256 * 65536 + slot / 256 * 16777216 + slot % 256 * 4294967296 + stage * 1099511627776 }
+    ensures frame { frame < 2 ^ 16 }
+    ensures slot { slot < 2 ^ 16 }
+    ensures stage { stage < 2 ^ 8 }
+{
+    let place = u32::from(frame) * 0x1_0000 + u32::from(slot);
+    1 + u64::from(place.swap_bytes()) * 0x100 + u64::from(stage) * 0x100_0000_0000
+}
+
+// Whether bytes begin as a word does that is meant for the window.
+#[inline(always)]
+fn starts_as_word(low: u64, expect: &Expect) -> bool
+    ensures { IsTrue result → StartsAsWord expect.now low }
+{
+    low % 0x1_0000_0000_0000 == word_start(expect.frame, expect.slot, expect.stage)
+        && 1 <= expect.stage
+        && expect.stage <= 3
+        && !expect.sync
+}
+
+/// The word that the bytes are which are kept as these two numbers, if they are one that is meant for the window. None also
+/// where they are another message that is meant for it.
+#[inline(always)]
+pub(crate) fn word_of(low: u64, tail: u64, expect: &Expect) -> Option<u32>
+    requires { len_of tail ≤ 12 }
+    ensures { IfSome result (λ word. Says expect.now (spelled low (high_of tail) (len_of tail)) true (Some (Heard.Word word))) }
+{
+    let len = tail >> 32;
+    let high = (tail % 0x1_0000_0000) as u32;
+    if starts_as_word(low, expect) && has_form(expect.version, low, high, len) {
+        Some(value_at(low, high))
+    } else {
+        None
     }
 }
 

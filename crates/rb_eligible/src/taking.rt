@@ -1,17 +1,18 @@
 //! What a node takes in a window, and whom it accuses for what came.
-ghost use Rattle.std.specs.Prelude.{◌≡◌, ℕ, ◌<◌, ◌*◌, ◌^◌, ◌&&◌, ◌==◌, not, true, if◌then◌else◌, None, unwrap_or, IfNone, IfSome, IsTrue};
+ghost use Rattle.std.specs.Prelude.{◌≡◌, ℕ, ◌<◌, ◌*◌, ◌^◌, ◌&&◌, ◌==◌, not, true, if◌then◌else◌, None, Some, slice_set, unwrap_or, IfNone, IfSome, IsTrue};
 ghost use Rattle.rb_base.specs.Nodes.{has, set_of, size};
 ghost use Rattle.rb_base.specs.declared.values.Heard.{Heard};
+ghost use Rattle.rb_base.specs.declared.values.See.{See};
 ghost use Rattle.rb_rules.specs.ExactStage.{present};
 ghost use Rattle.rb_rules.specs.Majority.{majority_of};
 ghost use Rattle.rb_rules.specs.Standing.{is_eligible};
 ghost use Rattle.rb_eligible.specs.Inboxes.{is_sole};
 ghost use Rattle.rb_eligible.specs.Sheets.{IsSheet};
 ghost use Rattle.rb_eligible.specs.Standings.{standing_of};
-ghost use Rattle.rb_eligible.specs.Takings.{AccusesBy, AreOnesOf, AreTakenOf, AreValuesOf};
+ghost use Rattle.rb_eligible.specs.Takings.{AccusesBy, AreOnesOf, AreTakenOf, AreValuesOf, AreWords};
 
 use crate::inbox::Inbox;
-use crate::reading::{Said, nothing_read, read, see_value, words_of};
+use crate::reading::{Said, Sole, nothing_read, read, see_value, word_of, words_of};
 use crate::standing::Standing;
 use rb_base::{Heard, NodeId, NodeSet, See};
 use rb_rules::Expect;
@@ -167,6 +168,56 @@ fn take_some<K: Copy>(
     }
 }
 
+// Writes down that the word was taken of the source.
+#[inline(always)]
+fn put_word<K: Copy>(
+    source: NodeId<K>,
+    word: u32,
+    taken: &mut [Option<Heard>; 16],
+    sees: &mut [See; 16],
+)
+    ensures small { source < 16 }
+    ensures taken { taken.new ≡ slice_set taken.old source (Some (Heard.Word word)) }
+    ensures sees { sees.new ≡ slice_set sees.old source (See.Value (Heard.Word word)) }
+{
+    let at = usize::from(source.index());
+    taken[at] = Some(Heard::Word(word));
+    sees[at] = See::Value(Heard::Word(word));
+}
+
+// Takes the word that came of all sources of the set, of each of which there is one arrival: if the bytes are alike of all, and
+// are a word that is meant for the window. That is nearly always so, and quick.
+#[inline(always)]
+fn take_words<K: Copy>(
+    inbox: &Inbox<K>,
+    due: NodeSet<K>,
+    expect: &Expect,
+    taken: &mut [Option<Heard>; 16],
+    sees: &mut [See; 16],
+) -> Option<u32>
+    requires { IsSheet due taken.old sees.old }
+    ensures words { IfSome result (λ word. AreWords inbox.now expect.now due word taken.new) }
+    ensures sheet { IsSheet due taken.new sees.new }
+{
+    let mut left = due;
+    let Some(first) = left.pop_first() else {
+        return None;
+    };
+    let Sole { low, tail, .. } = *inbox.sole_at(first);
+    let Some(word) = word_of(low, tail, expect) else {
+        return None;
+    };
+    put_word(first, word, taken, sees);
+    while let Some(source) = left.pop_first() {
+        let sole = inbox.sole_at(source);
+        if sole.low != low || sole.tail != tail {
+            return None;
+        }
+        put_word(source, word, taken, sees);
+    }
+    Some(word)
+}
+
 // The same, where the only source of the set may be known.
 #[inline(always)]
 fn take_due<K: Copy>(
@@ -246,6 +297,25 @@ fn ones_barred<K: Copy>(inbox: &Inbox<K>, barred: NodeSet<K>, expect: &Expect) -
     }
 }
 
+// Accuses after a window in which exactly one message that is meant for it came of these of the sources that are expected and
+// eligible.
+#[inline(always)]
+fn accuse_by<K: Copy>(
+    inbox: &Inbox<K>,
+    standing: &mut Standing<K>,
+    expect: &Expect,
+    expected: NodeSet<K>,
+    ones: NodeSet<K>,
+)
+    requires { AreOnesOf inbox.now expect.now (λ j. has expected j && is_eligible (standing_of standing.old) j) ones }
+    ensures { AccusesBy inbox.now (standing_of standing.old) expect.now expected (standing_of standing.new) }
+{
+    let barred = expected.intersection(standing.direct);
+    let ones = ones.union(ones_barred(inbox, barred, expect));
+    let evidence = standing.evidence(expected, ones, inbox.came());
+    standing.accuse_each(evidence);
+}
+
 // Takes and accuses.
 #[inline(always)]
 fn take_all<K: Copy>(
@@ -268,12 +338,57 @@ fn take_all<K: Copy>(
     ensures sheet { IsSheet written.new taken.new sees.new }
 {
     let takable = standing.eligible_of(expected);
-    let barred = expected.intersection(standing.direct);
     let taking = take_each(inbox, takable, only, expect, written, taken, sees);
-    let ones = taking.ones.union(ones_barred(inbox, barred, expect));
-    let evidence = standing.evidence(expected, ones, inbox.came());
-    standing.accuse_each(evidence);
+    accuse_by(inbox, standing, expect, expected, taking.ones);
     taking
+}
+
+// The sources of which something may be taken: they are expected and eligible, and of each there is one arrival.
+#[inline(always)]
+fn due_of<K: Copy>(inbox: &Inbox<K>, standing: &Standing<K>, expected: NodeSet<K>) -> NodeSet<K>
+    ensures fits { result < 2 ^ 16 }
+    ensures due { (j : ℕ) → j < 16
+        → has result j ≡ ((has expected j && is_eligible (standing_of standing.now) j) && is_sole inbox.now j) }
+{
+    standing.eligible_of(expected).intersection(inbox.soles())
+}
+
+// Takes and accuses, whatever came of the sources of which something may be taken.
+#[cold]
+#[inline(never)]
+fn take_mixed<K: Copy>(
+    inbox: &Inbox<K>,
+    standing: &mut Standing<K>,
+    expect: &Expect,
+    expected: NodeSet<K>,
+    due: NodeSet<K>,
+    taken: &mut [Option<Heard>; 16],
+    sees: &mut [See; 16],
+) -> Taking<K>
+    requires fits { due < 2 ^ 16 }
+    requires due { (j : ℕ) → j < 16
+        → has due j ≡ ((has expected j && is_eligible (standing_of standing.old) j) && is_sole inbox.now j) }
+    requires sheet { IsSheet due taken.old sees.old }
+    ensures ones { AreOnesOf inbox.now expect.now (λ j. has expected j && is_eligible (standing_of standing.old) j) result.ones }
+    ensures taken { AreTakenOf inbox.now (standing_of standing.old) expect.now expected taken.new }
+    ensures accused { AccusesBy inbox.now (standing_of standing.old) expect.now expected (standing_of standing.new) }
+    ensures alike { IsTrue result.alike → majority_of (present taken.new) ≡ unwrap_or result.value Heard.Fault }
+    ensures sheet { IsSheet due taken.new sees.new }
+{
+    let taking = take_some(inbox, due, expect, taken, sees);
+    accuse_by(inbox, standing, expect, expected, taking.ones);
+    taking
+}
+
+// Of all these sources the word was taken.
+fn all_alike<K: Copy>(ones: NodeSet<K>, word: u32) -> Taking<K>
+    ensures { result ≡ record { ones = ones; alike = true; value = Some (Heard.Word word) } }
+{
+    Taking {
+        ones,
+        alike: true,
+        value: Some(Heard::Word(word)),
+    }
 }
 
 /// The only source of which something may be taken in a window. None exactly where there is none or more than one, or where
@@ -322,9 +437,15 @@ pub fn take_with_evidence<K: Copy>(
     ensures alike { IsTrue result.alike → majority_of (present taken.new) ≡ unwrap_or result.value Heard.Fault }
     ensures sheet { IsSheet written.new taken.new sees.new }
 {
-    take_all(
-        inbox, standing, expect, expected, None, written, taken, sees,
-    )
+    let due = due_of(inbox, standing, expected);
+    make_room(due, written, taken, sees);
+    match take_words(inbox, due, expect, taken, sees) {
+        Some(word) => {
+            accuse_by(inbox, standing, expect, expected, due);
+            all_alike(due, word)
+        }
+        None => take_mixed(inbox, standing, expect, expected, due, taken, sees),
+    }
 }
 
 /// The same, quicker, where `source` is the only one of which something may be taken, as `single_of` gives it.

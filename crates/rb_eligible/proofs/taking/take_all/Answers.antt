@@ -6,9 +6,7 @@ use Rattle.rb_rules.specs.Sense.{is_one, value_in}
 use Rattle.rb_rules.specs.Standing.{is_eligible, taken_of}
 use Rattle.rb_eligible.specs.Inboxes.{is_sole, sense_in}
 use Rattle.rb_eligible.specs.Standings.{standing_of}
-use Rattle.rb_eligible.proofs.Evidence.{either_one, evidence_is}
 use Rattle.rb_eligible.proofs.Onlys.{if_some_then}
-use Rattle.rb_eligible.proofs.Sensed.{came_is}
 use Rattle.rb_eligible.proofs.taking.take_all.Goals as goal
 
 pub take_each-taking-requires-clause-only : goal.take_each-taking-requires-clause-only
@@ -33,18 +31,9 @@ returns-clause-taken g c = λ received shown.
     fill_by_all (taken_of value_in s (has c.args.expected) sense) c.take_each-taking.new.taken 16 None c.take_each-taking.ensures.sheet.all
     (λ j h. c.take_each-taking.ensures.taken received shown j h ∙ ap (λ b. if b then value_in (sense j) else None) (has-is c.eligible_of-takable.result j takable c.eligible_of-takable.ensures h))
 
-pub returns-clause-accused : goal.returns-clause-accused
-returns-clause-accused g c = λ received shown.
+pub accuse_by-requires : goal.accuse_by-requires
+accuse_by-requires g c = λ received shown.
     let s = standing_of c.args.standing.now in
-    let e = c.args.expect.now in
-    let sense = sense_in e received in
     let takable : ℕ → Bool = λ j. has c.args.expected j && is_eligible s j in
-    c.accuse_each.ensures
-    ∙ evidence_is s c.args.expected c.union-ones.result c.came.result c.evidence-evidence.result sense c.evidence-evidence.ensures
-    (λ j h. ap (λ t. has t j) c.came.ensures.value ∙ came_is e c.args.inbox.now received j shown h)
-    (λ j h trusted expected.
-    either_one s c.args.expected c.intersection-barred.result c.take_each-taking.result.ones c.ones_barred.result c.union-ones.result j (λ j. is_one (sense j)) h trusted expected
-    c.intersection-barred.ensures c.union-ones.ensures
-    (has-is c.take_each-taking.result.ones j (λ j. has c.eligible_of-takable.result j && is_one (sense j)) (c.take_each-taking.ensures.ones received shown) h
-    ∙ ap (λ b. b && is_one (sense j)) (has-is c.eligible_of-takable.result j takable c.eligible_of-takable.ensures h))
-    (c.ones_barred.ensures received shown))
+    c.take_each-taking.ensures.ones received shown
+    ∙ same_set_of _ _ (λ j h. ap (λ b. b && is_one (sense_in c.args.expect.now received j)) (has-is c.eligible_of-takable.result j takable c.eligible_of-takable.ensures h))
