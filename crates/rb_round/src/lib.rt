@@ -1,20 +1,19 @@
 //! A stage below the sync slot: what a node makes of what came in it.
 #![tactic(auto)]
 
-ghost use Rattle.std.specs.Prelude.{◌≡◌, ℕ, ◌<◌, ◌||◌, ◌&&◌, ◌==◌, if◌then◌else◌, None, map, replicate, unwrap_or, IsTrue};
+ghost use Rattle.std.specs.Prelude.{◌≡◌, ◌<◌, ◌||◌, ◌==◌, if◌then◌else◌, None, map, replicate, unwrap_or, IsTrue};
 ghost use Rattle.rb_base.specs.Nodes.{has, set_of};
 ghost use Rattle.rb_base.specs.declared.values.Heard.{Heard};
-ghost use Rattle.rb_eligible.specs.Inboxes.{is_sole};
 ghost use Rattle.rb_eligible.specs.Sheets.{IsSheet};
 ghost use Rattle.rb_eligible.specs.Standings.{standing_of};
 ghost use Rattle.rb_eligible.specs.Takings.{AccusesBy};
 ghost use Rattle.rb_round.specs.Closes.{ClosesBy};
 ghost use Rattle.rb_rules.specs.ExactStage.{at_source, present, see_value, with_unlike};
 ghost use Rattle.rb_rules.specs.Majority.{majority_of};
-ghost use Rattle.rb_rules.specs.Standing.{is_eligible, is_unlike};
+ghost use Rattle.rb_rules.specs.Standing.{is_unlike};
 
 use rb_base::{Heard, NodeId, NodeSet, See};
-use rb_eligible::{Inbox, Standing, Taking, is_quiet, single_of, take_single, take_with_evidence};
+use rb_eligible::{Inbox, Standing, is_quiet, take_with_evidence};
 pub use rb_rules::Closing;
 use rb_rules::Expect;
 use rb_vote::majority_taken;
@@ -56,9 +55,9 @@ pub fn close_stage<K: Copy>(
     closing
 }
 
-// The close of a stage in which messages of several sources may be taken.
+// The close of a stage in which something came or somebody is expected.
 #[inline(never)]
-fn close_many<K: Copy>(
+fn close_busy<K: Copy>(
     inbox: &Inbox<K>,
     standing: &mut Standing<K>,
     expect: &Expect,
@@ -82,56 +81,6 @@ fn close_many<K: Copy>(
         sees,
     );
     closing.voted = vote(&closing.taken, taking.alike, taking.value);
-}
-
-// The close of a stage in which the message of one source may be taken.
-#[inline(always)]
-fn close_single<K: Copy>(
-    inbox: &Inbox<K>,
-    standing: &mut Standing<K>,
-    expect: &Expect,
-    expected: NodeSet<K>,
-    source: NodeId<K>,
-    written: &mut NodeSet<K>,
-    closing: &mut Closing,
-    sees: &mut [See; 16],
-)
-    requires only { (j : ℕ) → j < 16
-        → ((has expected j && is_eligible (standing_of standing.old) j) && is_sole inbox.now j) ≡ (j == source) }
-    requires sheet { IsSheet written.old closing.old.taken sees.old }
-    ensures closing { ClosesBy inbox.now (standing_of standing.old) expect.now expected closing.new }
-    ensures accused { AccusesBy inbox.now (standing_of standing.old) expect.now expected (standing_of standing.new) }
-    ensures sheet { IsSheet written.new closing.new.taken sees.new }
-{
-    let taken = &mut closing.taken;
-    let Taking { alike, value, .. } = take_single(
-        inbox, standing, expect, expected, source, written, taken, sees,
-    );
-    closing.voted = vote(&closing.taken, alike, value);
-}
-
-// The close of a stage in which something came or somebody is expected.
-#[inline(never)]
-fn close_busy<K: Copy>(
-    inbox: &Inbox<K>,
-    standing: &mut Standing<K>,
-    expect: &Expect,
-    expected: NodeSet<K>,
-    written: &mut NodeSet<K>,
-    closing: &mut Closing,
-    sees: &mut [See; 16],
-)
-    requires { IsSheet written.old closing.old.taken sees.old }
-    ensures closing { ClosesBy inbox.now (standing_of standing.old) expect.now expected closing.new }
-    ensures accused { AccusesBy inbox.now (standing_of standing.old) expect.now expected (standing_of standing.new) }
-    ensures sheet { IsSheet written.new closing.new.taken sees.new }
-{
-    match single_of(inbox, standing, expected) {
-        Some(source) => close_single(
-            inbox, standing, expect, expected, source, written, closing, sees,
-        ),
-        None => close_many(inbox, standing, expect, expected, written, closing, sees),
-    }
 }
 
 /// The same in place: the closing is written over `closing`, and what is shown of each source over `sees`, whatever they were
