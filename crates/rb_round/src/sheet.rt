@@ -1,5 +1,5 @@
 //! A closing that is written over from stage to stage.
-ghost use Rattle.std.specs.Prelude.{◌≡◌, None, map, replicate};
+ghost use Rattle.std.specs.Prelude.{◌≡◌, ◌++◌, None, drop, map, replicate};
 ghost use Rattle.rb_base.specs.declared.values.Heard.{Heard};
 ghost use Rattle.rb_base.specs.declared.values.See.{See};
 ghost use Rattle.rb_eligible.specs.Sheets.{IsSheet};
@@ -35,16 +35,33 @@ impl<K> Model for Sheet<K> {
     ghost invariant = { λ s. IsSheet s.written s.closing.taken s.sees };
 }
 
+// Nothing was taken of the first eight sources, and nothing is shown of them.
+#[inline(always)]
+fn blank_first(taken: &mut [Option<Heard>; 16], sees: &mut [See; 16])
+    ensures taken { taken.new ≡ replicate 8 None ++ drop 8 taken.old }
+    ensures sees { sees.new ≡ replicate 8 See.Nothing ++ drop 8 sees.old }
+{
+    taken[..8].fill(None);
+    sees[..8].fill(See::Nothing);
+}
+
 // The same closing, in which nothing was taken any longer.
 #[inline(never)]
 fn wipe<K: Copy>(written: &mut NodeSet<K>, closing: &mut Closing, sees: &mut [See; 16])
+    requires { IsSheet written.old closing.old.taken sees.old }
     ensures written { written.new ≡ 0 }
     ensures closing { closing.new ≡ record { taken = replicate 16 None; voted = Heard.Fault } }
     ensures sees { sees.new ≡ replicate 16 See.Nothing }
 {
+    let bits = written.bits();
     *written = NodeSet::empty();
-    *closing = nothing_taken();
-    *sees = [See::Nothing; 16];
+    closing.voted = Heard::Fault;
+    if bits < 256 {
+        blank_first(&mut closing.taken, sees);
+    } else {
+        closing.taken = [None; 16];
+        *sees = [See::Nothing; 16];
+    }
 }
 
 // Nothing is taken.
