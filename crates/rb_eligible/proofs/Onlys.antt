@@ -110,7 +110,7 @@ one_vote due k taken h below all only rest =
     (λ j less out. get_or-set_other taken k j (Some h) None (λ here. let e : true ≡ false = sym inside ∙ ap (has due) (sym here) ∙ out in absurd cc) ∙ rest j less out)
     (omega (arith, size_some due k below inside))
 
-no_values : (taken : List (Option Heard)) → ((j : ℕ) → j < length taken → get_or taken j None ≡ None) → present taken ≡ []
+pub no_values : (taken : List (Option Heard)) → ((j : ℕ) → j < length taken → get_or taken j None ≡ None) → present taken ≡ []
 no_values [] none = refl
 no_values (None ∷ taken) none = no_values taken (λ j h. none (suc j) (omega (arith, h)))
 no_values (Some x ∷ taken) none = let e : Some x ≡ None = none 0 (omega arith) in absurd cc

@@ -1,8 +1,7 @@
 -- What is taken of sources in a window, and whom that accuses, whatever list of arrivals the inbox stands for.
-use Rattle.std.specs.Prelude.{ℕ, ◌≡◌, ◌<◌, ◌&&◌, Bool, true, if◌then◌else◌, Option, None, Some, List}
+use Rattle.std.specs.Prelude.{ℕ, ◌≡◌, ◌<◌, ◌&&◌, Bool, true, if◌then◌else◌, Option, None, List}
 use Rattle.rb_base.specs.Nodes.{has, set_of}
 use Rattle.rb_base.specs.declared.values.Heard.{Heard}
-use Rattle.rb_base.specs.declared.values.Heard.TheVariants.{Word}
 use Rattle.rb_rules.specs.declared.sense.Expect.{Expect}
 use Rattle.rb_rules.specs.ExactStage.{at_source, each_node}
 use Rattle.rb_rules.specs.Sense.{is_one, value_in}
@@ -28,8 +27,14 @@ AreTakenOf kept s e expected taken = (received : List Received) → HoldsArrival
 abbrev pub AccusesBy : KeptArrivals → Standing → Expect → ℕ → Standing → Type 0
 AccusesBy kept s e expected after = (received : List Received) → HoldsArrivals kept received → after ≡ with_evidence (has_evidence s (has expected) (sense_in e received)) s
 
--- there are sources in the set, and of each the word came and was taken
-pub record AreWords (kept : KeptArrivals) (e : Expect) (due word : ℕ) (taken : List (Option Heard)) : Type 0 where
+-- there are sources in the set, of each of which the same bytes came and the value was taken
+pub record AreAlike (kept : KeptArrivals) (due low tail : ℕ) (value : Option Heard) (taken : List (Option Heard)) : Type 0 where
   pub some : (k : ℕ) × ((k < 16) × (has due k ≡ true))
   pub each : (j : ℕ) → j < 16 → has due j ≡ true
-      → (at_source taken j ≡ Some (Word word)) × Says e (bytes_of (sole_at kept.soles j)) true (Some (Word word))
+      → (at_source taken j ≡ value) × ((sole_at kept.soles j).low ≡ low) × ((sole_at kept.soles j).tail ≡ tail)
+
+-- and the value is what the bytes say
+pub record AreSaid (kept : KeptArrivals) (e : Expect) (due : ℕ) (one : Bool) (value : Option Heard) (taken : List (Option Heard)) : Type 0 where
+  pub some : (k : ℕ) × ((k < 16) × (has due k ≡ true))
+  pub each : (j : ℕ) → j < 16 → has due j ≡ true
+      → (at_source taken j ≡ value) × Says e (bytes_of (sole_at kept.soles j)) one value

@@ -2,14 +2,13 @@
 ghost use Rattle.std.specs.Prelude.{◌≡◌, ℕ, ◌<◌, ◌*◌, ◌^◌, ◌&&◌, ◌==◌, not, true, if◌then◌else◌, None, Some, slice_set, unwrap_or, IfNone, IfSome, IsTrue};
 ghost use Rattle.rb_base.specs.Nodes.{has, set_of, size};
 ghost use Rattle.rb_base.specs.declared.values.Heard.{Heard};
-ghost use Rattle.rb_base.specs.declared.values.See.{See};
-ghost use Rattle.rb_rules.specs.ExactStage.{present};
+ghost use Rattle.rb_rules.specs.ExactStage.{present, see_value};
 ghost use Rattle.rb_rules.specs.Majority.{majority_of};
 ghost use Rattle.rb_rules.specs.Standing.{is_eligible};
-ghost use Rattle.rb_eligible.specs.Inboxes.{is_sole};
+ghost use Rattle.rb_eligible.specs.Inboxes.{is_sole, sole_at};
 ghost use Rattle.rb_eligible.specs.Sheets.{IsSheet};
 ghost use Rattle.rb_eligible.specs.Standings.{standing_of};
-ghost use Rattle.rb_eligible.specs.Takings.{AccusesBy, AreOnesOf, AreTakenOf, AreValuesOf, AreWords};
+ghost use Rattle.rb_eligible.specs.Takings.{AccusesBy, AreAlike, AreOnesOf, AreTakenOf, AreSaid, AreValuesOf};
 
 use crate::inbox::Inbox;
 use crate::reading::{Said, Sole, nothing_read, read, see_value, word_of, words_of};
@@ -168,21 +167,63 @@ fn take_some<K: Copy>(
     }
 }
 
-// Writes down that the word was taken of the source.
+// The lowest node of the set.
 #[inline(always)]
-fn put_word<K: Copy>(
+fn lowest_of<K: Copy>(set: NodeSet<K>) -> Option<NodeId<K>>
+    ensures { IfSome result (λ first. has set first ≡ true) }
+{
+    let mut left = set;
+    match left.pop_first() {
+        Some(first) => Some(first),
+        None => None,
+    }
+}
+
+// Writes down what was taken of the source.
+#[inline(always)]
+fn put<K: Copy>(
     source: NodeId<K>,
-    word: u32,
+    value: Option<Heard>,
     taken: &mut [Option<Heard>; 16],
     sees: &mut [See; 16],
 )
     ensures small { source < 16 }
-    ensures taken { taken.new ≡ slice_set taken.old source (Some (Heard.Word word)) }
-    ensures sees { sees.new ≡ slice_set sees.old source (See.Value (Heard.Word word)) }
+    ensures taken { taken.new ≡ slice_set taken.old source value }
+    ensures sees { sees.new ≡ slice_set sees.old source (see_value value) }
 {
     let at = usize::from(source.index());
-    taken[at] = Some(Heard::Word(word));
-    sees[at] = See::Value(Heard::Word(word));
+    taken[at] = value;
+    sees[at] = see_value(value);
+}
+
+// Takes the value of the first source, and of all others of the set of which the same bytes came. Whether there is no source of
+// which others came.
+#[inline(always)]
+fn take_alike<K: Copy>(
+    inbox: &Inbox<K>,
+    due: NodeSet<K>,
+    first: NodeId<K>,
+    value: Option<Heard>,
+    taken: &mut [Option<Heard>; 16],
+    sees: &mut [See; 16],
+) -> bool
+    requires inside { has due first ≡ true }
+    requires sheet { IsSheet due taken.old sees.old }
+    ensures alike { IsTrue result → AreAlike inbox.now due (sole_at inbox.now.soles first).low (sole_at inbox.now.soles first).tail value taken.new }
+    ensures sheet { IsSheet due taken.new sees.new }
+{
+    let Sole { low, tail, .. } = *inbox.sole_at(first);
+    let mut left = due;
+    left.remove(first);
+    put(first, value, taken, sees);
+    while let Some(source) = left.pop_first() {
+        let sole = inbox.sole_at(source);
+        if sole.low != low || sole.tail != tail {
+            return false;
+        }
+        put(source, value, taken, sees);
+    }
+    true
 }
 
 // Takes the word that came of all sources of the set, of each of which there is one arrival: if the bytes are alike of all, and
@@ -196,26 +237,72 @@ fn take_words<K: Copy>(
     sees: &mut [See; 16],
 ) -> Option<u32>
     requires { IsSheet due taken.old sees.old }
-    ensures words { IfSome result (λ word. AreWords inbox.now expect.now due word taken.new) }
+    ensures words { IfSome result (λ word. AreSaid inbox.now expect.now due true (Some (Heard.Word word)) taken.new) }
     ensures sheet { IsSheet due taken.new sees.new }
 {
-    let mut left = due;
-    let Some(first) = left.pop_first() else {
+    let Some(first) = lowest_of(due) else {
         return None;
     };
-    let Sole { low, tail, .. } = *inbox.sole_at(first);
-    let Some(word) = word_of(low, tail, expect) else {
+    let sole = inbox.sole_at(first);
+    let Some(word) = word_of(sole.low, sole.tail, expect) else {
         return None;
     };
-    put_word(first, word, taken, sees);
-    while let Some(source) = left.pop_first() {
-        let sole = inbox.sole_at(source);
-        if sole.low != low || sole.tail != tail {
-            return None;
-        }
-        put_word(source, word, taken, sees);
+    if take_alike(inbox, due, first, Some(Heard::Word(word)), taken, sees) {
+        Some(word)
+    } else {
+        None
     }
-    Some(word)
+}
+
+// The same of whatever came of all sources of the set, if the bytes are alike of all.
+#[inline(always)]
+fn take_same<K: Copy>(
+    inbox: &Inbox<K>,
+    due: NodeSet<K>,
+    expect: &Expect,
+    taken: &mut [Option<Heard>; 16],
+    sees: &mut [See; 16],
+) -> Option<Said>
+    requires { IsSheet due taken.old sees.old }
+    ensures said { IfSome result (λ said. AreSaid inbox.now expect.now due said.one said.value taken.new) }
+    ensures sheet { IsSheet due taken.new sees.new }
+{
+    let Some(first) = lowest_of(due) else {
+        return None;
+    };
+    let said = words_of(inbox.sole_at(first), expect);
+    if take_alike(inbox, due, first, said.value, taken, sees) {
+        Some(said)
+    } else {
+        None
+    }
+}
+
+// Takes what came of the sources of the set, of each of which there is one arrival, whatever it is.
+#[inline(always)]
+fn take_any<K: Copy>(
+    inbox: &Inbox<K>,
+    due: NodeSet<K>,
+    expect: &Expect,
+    taken: &mut [Option<Heard>; 16],
+    sees: &mut [See; 16],
+) -> Taking<K>
+    requires fits { due < 2 ^ 16 }
+    requires due { (j : ℕ) → j < 16 → has due j ≡ true → is_sole inbox.now j ≡ true }
+    requires sheet { IsSheet due taken.old sees.old }
+    ensures ones { AreOnesOf inbox.now expect.now (has due) result.ones }
+    ensures taken { AreValuesOf inbox.now expect.now due taken.new }
+    ensures alike { IsTrue result.alike → majority_of (present taken.new) ≡ unwrap_or result.value Heard.Fault }
+    ensures sheet { IsSheet due taken.new sees.new }
+{
+    match take_same(inbox, due, expect, taken, sees) {
+        Some(said) => Taking {
+            ones: set_if(due, said.one),
+            alike: true,
+            value: said.value,
+        },
+        None => take_some(inbox, due, expect, taken, sees),
+    }
 }
 
 // The same, where the only source of the set may be known.
@@ -375,7 +462,7 @@ fn take_mixed<K: Copy>(
     ensures alike { IsTrue result.alike → majority_of (present taken.new) ≡ unwrap_or result.value Heard.Fault }
     ensures sheet { IsSheet due taken.new sees.new }
 {
-    let taking = take_some(inbox, due, expect, taken, sees);
+    let taking = take_any(inbox, due, expect, taken, sees);
     accuse_by(inbox, standing, expect, expected, taking.ones);
     taking
 }

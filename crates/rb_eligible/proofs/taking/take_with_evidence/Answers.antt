@@ -1,5 +1,7 @@
+use Rattle.std.proofs.Common.{true, Some}
+use Rattle.rb_base.specs.declared.values.Heard.TheVariants.{Word}
 use Rattle.rb_eligible.specs.Standings.{standing_of}
-use Rattle.rb_eligible.proofs.Agreeing.{due_ones, due_soles, due_taken, words_ones, words_values, words_vote}
+use Rattle.rb_eligible.proofs.Agreeing.{due_ones, due_soles, due_taken, said_ones, said_values, said_vote}
 use Rattle.rb_eligible.proofs.taking.take_with_evidence.Goals as goal
 
 pub accuse_by-requires : goal.accuse_by-requires
@@ -10,7 +12,7 @@ accuse_by-requires g c =
     let due = c.due_of-due.result in
     let is = c.due_of-due.ensures.due in
     due_ones kept s e c.args.expected due due is
-    (words_ones kept e due c.in-Some.word c.take_words.new.taken c.due_of-due.ensures.fits (due_soles kept s c.args.expected due is) c.in-Some.ensures.words)
+    (said_ones kept e due true (Some (Word c.in-Some.word)) c.take_words.new.taken c.due_of-due.ensures.fits (due_soles kept s c.args.expected due is) c.in-Some.ensures.words)
 
 pub returns-in-Some-clause-ones : goal.returns-in-Some-clause-ones
 returns-in-Some-clause-ones g c =
@@ -21,7 +23,7 @@ returns-in-Some-clause-ones g c =
     let is = c.due_of-due.ensures.due in
     rw c.all_alike.ensures
     (due_ones kept s e c.args.expected due due is
-    (words_ones kept e due c.in-Some.word c.take_words.new.taken c.due_of-due.ensures.fits (due_soles kept s c.args.expected due is) c.in-Some.ensures.words))
+    (said_ones kept e due true (Some (Word c.in-Some.word)) c.take_words.new.taken c.due_of-due.ensures.fits (due_soles kept s c.args.expected due is) c.in-Some.ensures.words))
 
 pub returns-in-Some-clause-taken : goal.returns-in-Some-clause-taken
 returns-in-Some-clause-taken g c =
@@ -32,10 +34,10 @@ returns-in-Some-clause-taken g c =
     let is = c.due_of-due.ensures.due in
     let sheet = c.take_words.ensures.sheet in
     due_taken kept s e c.args.expected due c.take_words.new.taken is sheet.all
-    (words_values kept e due c.in-Some.word c.take_words.new.taken (due_soles kept s c.args.expected due is) sheet.rest c.in-Some.ensures.words)
+    (said_values kept e due true (Some (Word c.in-Some.word)) c.take_words.new.taken (due_soles kept s c.args.expected due is) sheet.rest c.in-Some.ensures.words)
 
 pub returns-in-Some-clause-alike : goal.returns-in-Some-clause-alike
 returns-in-Some-clause-alike g c =
     let sheet = c.take_words.ensures.sheet in
     rw c.all_alike.ensures
-    (λ always. words_vote c.args.inbox.now c.args.expect.now c.due_of-due.result c.in-Some.word c.take_words.new.taken sheet.all sheet.rest c.in-Some.ensures.words)
+    (λ always. said_vote c.args.inbox.now c.args.expect.now c.due_of-due.result true (Some (Word c.in-Some.word)) c.take_words.new.taken sheet.all sheet.rest c.in-Some.ensures.words)

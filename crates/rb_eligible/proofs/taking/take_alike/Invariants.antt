@@ -1,11 +1,8 @@
-use Rattle.std.proofs.Common.{◌≡◌, ℕ, ◌<◌, true, false, None, Some, length, get_or}
+use Rattle.std.proofs.Common.{◌≡◌, ℕ, ◌<◌, true, false, None, length, get_or}
 use Rattle.rb_base.specs.Nodes.{has}
-use Rattle.rb_base.specs.declared.values.Heard.TheVariants.{Word}
-use Rattle.rb_frame.specs.Spellings.{high_of, len_of, spelled}
-use Rattle.rb_eligible.specs.Readings.{Says}
 use Rattle.rb_eligible.proofs.Agreeing.{AreTold}
 use Rattle.rb_eligible.proofs.Seeing.{AreShown}
-use Rattle.rb_eligible.proofs.taking.take_words.Given as goal
+use Rattle.rb_eligible.proofs.taking.take_alike.Given as goal
 
 -- the sources that are left, and what was taken of the others
 abbrev pub invariant-loop-source : goal.invariant-loop-source
@@ -16,8 +13,7 @@ invariant-loop-source g l = record {
   rest : (j : ℕ) → j < 16 → has l.fn.due j ≡ false → get_or l.taken j None ≡ None;
   some : (k : ℕ) × ((k < 16) × (has l.fn.due k ≡ true));
   within : (j : ℕ) → j < 16 → has l.left j ≡ true → has l.fn.due j ≡ true;
-  says : Says l.expect (spelled l.low (high_of l.tail) (len_of l.tail)) true (Some (Word l.word));
-  told : AreTold l.inbox l.expect l.fn.due l.left l.word l.taken;
+  told : AreTold l.inbox l.fn.due l.left l.low l.tail l.value l.taken;
 }
 
 abbrev pub decreases-loop-source : goal.decreases-loop-source
