@@ -222,3 +222,8 @@ room-without place lane h = go (slice_get (ready_of lane) place)
     go None = h
     go (Some (Comes n c)) = h
     go (Some Ticks) = h
+
+-- the keys are stale once a place is kept of the marks
+pub stale-there : (stale : Bool) (at place : ℕ) → (stale ≡ false → at ≡ 32) → place ≡ at → place < 32 → stale ≡ true
+stale-there true at place fresh is few = refl
+stale-there false at place fresh is few = absurd (let none : at ≡ 32 = fresh refl in omega (arith, none, is, few))

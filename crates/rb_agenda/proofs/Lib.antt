@@ -5,6 +5,7 @@ pub mod Which
 pub mod Keeping
 pub mod Scans
 pub mod Fronts
+pub mod Fours
 pub mod Places
 pub mod Changes
 pub mod Taking

@@ -10,7 +10,6 @@ use Rattle.rb_queue.specs.Waiting.{Held}
 use Rattle.rb_agenda.specs.Agenda.{AreTicks, filled, least_key, mark_of, marks_from, tick_times}
 use Rattle.rb_agenda.specs.Fronts.{IsFront}
 use Rattle.rb_agenda.proofs.Fronts.{least-above, least-low}
-use Rattle.rb_agenda.proofs.Scans.{least-more}
 
 -- Marks.
 
@@ -71,25 +70,6 @@ least-front (x ∷ ms) (suc n) r h = ap (min x) (least-front ms n r (omega (arit
 least-filled : (ms : List ℕ) → length ms ≤ 32 → least_key (filled ms) ≡ least_key ms
 least-filled ms few = ap least_key (sym (take_all 32 (filled ms) (omega (arith, length-filled ms few)))) ∙ least-front ms 32 (32 - length ms) few
 
--- four keys more, in pairs
-two-more : (keys : List ℕ) (i : ℕ) → i + 2 ≤ length keys
-    → min (least_key (take i keys)) (min (get_or keys i 0) (get_or keys (i + 1) 0)) ≡ least_key (take (i + 2) keys)
-two-more keys i h =
-    let one = least-more keys i (omega (arith, h)) in
-    let two = least-more keys (i + 1) (omega (arith, h)) in
-    let both : i + 1 + 1 ≡ i + 2 = omega arith in
-    omega (arith, one, two) ∙ ap (λ k. least_key (take k keys)) both
-
-pub four-more : (keys : List ℕ) (i least : ℕ) → i + 4 ≤ length keys → least ≡ least_key (take i keys)
-    → min least (min (min (get_or keys i 0) (get_or keys (i + 1) 0)) (min (get_or keys (i + 2) 0) (get_or keys (i + 3) 0))) ≡ least_key (take (i + 4) keys)
-four-more keys i least h is =
-    let first = min (get_or keys i 0) (get_or keys (i + 1) 0) in
-    let one = two-more keys i (omega (arith, h)) in
-    let two = two-more keys (i + 2) (omega (arith, h)) in
-    let next : i + 2 + 1 ≡ i + 3 = omega arith in
-    let all : i + 2 + 2 ≡ i + 4 = omega arith in
-    ap (λ k. min least (min first (min (get_or keys (i + 2) 0) (get_or keys k 0)))) (sym next) ∙ omega (arith, is, one, two) ∙ ap (λ k. least_key (take k keys)) all
-
 -- The least mark.
 
 least-there : (ks : List ℕ) → least_key ks < 18446744073709551615 → (k : ℕ) × ((k < length ks) × (get_or ks k 0 ≡ least_key ks))
@@ -103,10 +83,6 @@ least-there (x ∷ ks) h = elim (cases_lt x (least_key ks)) [
       let at = rest.1.1 in
       (suc rest.0, (omega (arith, within), omega (arith, at, ge)))
 ]
-
-pub least-none : (ks : List ℕ) → 18446744073709551615 ≡ least_key (take 0 ks)
-unfolding least_key
-least-none ks = refl
 
 mark-parts : (k t v : ℕ) → mark_of k t ≡ v → v < 18446744073709551615 → (t < 576460752303423488) × (v ≡ t * 32 + k)
 mark-parts k t v is some = go (nat_lt t 576460752303423488) refl is

@@ -1,4 +1,5 @@
 pub mod Holding
 pub mod Agenda
 pub mod Fronts
+pub mod Fours
 pub mod Bare

@@ -13,9 +13,10 @@ ghost use Rattle.rb_agenda.specs.Holding.{HoldsSites};
 
 use crate::run_lanes::RunLanes;
 use crate::scan::{
-    Front, after_event, due_count, front_now, front_of, keep_key, locate, node_at, position_of,
-    put_tick, tick_front,
+    Front, after_event, due_count, front_now, front_of, keep_key, locate, mark_of, node_at,
+    position_of, tick_front,
 };
+use crate::tick_marks::Marks;
 use arrayvec::ArrayVec;
 use rb_base::{Event, NodeName, OutOfMemory, Shape};
 use rb_queue::Arrival;
@@ -28,8 +29,8 @@ pub struct Agenda {
     lanes: RunLanes,
     keys: Vec<u64>,
     // For each node, by its position, the mark of its tick: the time times 32 and the position where the time is below 2^59,
-    // else 2^64 - 1. All 32 are there, also of positions without a node.
-    ticks: [u64; 32],
+    // else 2^64 - 1. All 32 are there, also of positions without a node. Once a place is kept in them the keys are stale.
+    ticks: Marks,
     bius: usize,
     // Where the least of the keys stands. Neither is kept once they are stale.
     front: Front,
@@ -42,12 +43,13 @@ impl Model for Agenda {
     ghost use Rattle.rb_queue.specs.Waiting.{Held};
     ghost use Rattle.rb_agenda.specs.Agenda.{AreKeptUnless, AreKnown, AreTicks};
     ghost use Rattle.rb_agenda.specs.Fronts.{IsFront};
+    ghost use Rattle.rb_agenda.specs.Fours.{AreFours};
 
     ghost Value = { Each Held };
 
     ghost view = { λ a. a.lanes };
 
-    ghost invariant = { λ a. AreKeptUnless a.stale a.lanes a.keys.items a.bius × (a.stale ≡ false → IsFront a.keys.items a.front) × AreTicks a.lanes a.ticks × AreKnown a.lanes };
+    ghost invariant = { λ a. AreKeptUnless a.stale a.lanes a.keys.items a.bius × (a.stale ≡ false → IsFront a.keys.items a.front) × AreTicks a.lanes a.ticks.all × AreKnown a.lanes × AreFours a.ticks.all a.ticks.leasts a.ticks.opened a.ticks.at × (a.stale ≡ false → a.ticks.at ≡ 32) };
 }
 
 // So many least times of nodes at which nothing is pending.
@@ -70,7 +72,7 @@ impl Agenda {
         Ok(Agenda {
             lanes,
             keys,
-            ticks: [u64::MAX; 32],
+            ticks: Marks::new(),
             bius,
             front,
             stale: false,
@@ -134,6 +136,12 @@ impl Agenda {
         ensures after { self.new ≡ with_lane node (with_tick time (lane_of self.old node)) self.old }
     {
         self.lanes.push_tick(node, time);
+        let place = position_of(self.bius, node);
+        let mark = mark_of(place, time);
+        if place == self.ticks.at {
+            self.ticks.put(place, mark);
+            return;
+        }
         keep_key(
             &mut self.keys,
             &mut self.front,
@@ -142,8 +150,7 @@ impl Agenda {
             &self.lanes,
             node,
         );
-        let place = position_of(self.bius, node);
-        put_tick(&mut self.ticks, place, time);
+        self.ticks.put(place, mark);
     }
 
     /// The least time of all events, in reference units; 2^64 - 1 where there is none.
@@ -207,12 +214,14 @@ impl Agenda {
     /// The node whose tick is the first of all, in time and then in the order of nodes, and the tick's time in reference units. Where no
     /// tick is pending the time is 2^64 - 1.
     #[inline(always)]
-    pub fn first_tick(&self) -> (NodeName, u64)
-        ensures world { (sizes : Sizes) (sites : Each Site) → HoldsSites sizes self.now sites → (me : Side) (i time : ℕ) → IsFirstAhead sites me i time
+    pub fn first_tick(&mut self) -> (NodeName, u64)
+        ensures world { (sizes : Sizes) (sites : Each Site) → HoldsSites sizes self.old sites → (me : Side) (i time : ℕ) → IsFirstAhead sites me i time
             → (result.0 ≡ name_of me i) × (result.1 ≡ time) }
-        ensures time { result.1 ≡ first_tick_time self.now }
+        ensures time { result.1 ≡ first_tick_time self.old }
+        ensures lanes { self.new ≡ self.old }
     {
-        let front = tick_front(&self.lanes, &self.ticks, self.bius, self.keys.len());
+        self.stale = true;
+        let front = tick_front(&self.lanes, &mut self.ticks, self.bius, self.keys.len());
         (node_at(self.bius, front.first), front.least)
     }
 
@@ -284,7 +293,7 @@ impl Agenda {
         self.lanes.take_tick(node);
         self.stale = true;
         let place = position_of(self.bius, node);
-        put_tick(&mut self.ticks, place, u64::MAX);
+        self.ticks.put(place, u64::MAX);
     }
 
     /// Drops all events of the node, and no others.
@@ -302,6 +311,6 @@ impl Agenda {
             node,
         );
         let place = position_of(self.bius, node);
-        put_tick(&mut self.ticks, place, u64::MAX);
+        self.ticks.put(place, u64::MAX);
     }
 }

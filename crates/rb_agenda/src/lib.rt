@@ -4,5 +4,6 @@
 pub mod agenda;
 mod run_lanes;
 mod scan;
+mod tick_marks;
 
 pub use agenda::Agenda;

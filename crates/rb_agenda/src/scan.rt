@@ -4,8 +4,10 @@ ghost use Rattle.rb_rules.specs.Book.{Each, in_order};
 ghost use Rattle.rb_queue.specs.Waiting.{HasLane, Held, lane_of, tick_time_of, with_lane};
 ghost use Rattle.rb_agenda.specs.Agenda.{AreFew, AreKept, AreKeptUnless, AreKnown, AreTicks, StandsAt, due_count, due_in, is_tick, key_of, keys_of, least_key, mark_of, node_at, position_of, tick_times, ticks_after};
 ghost use Rattle.rb_agenda.specs.Fronts.{IsFront, lowered};
+ghost use Rattle.rb_agenda.specs.Fours.{AreFours};
 
 use crate::run_lanes::RunLanes;
+use crate::tick_marks::Marks;
 use rb_base::{EventKind, NodeName};
 
 // The node at a position, BIUs before RMUs.
@@ -187,7 +189,7 @@ pub(crate) fn is_tick(kind: &EventKind) -> bool
 
 // The mark of a tick: its time, and then the position of its node.
 #[inline(always)]
-fn mark_of(position: usize, time: u64) -> u64
+pub(crate) fn mark_of(position: usize, time: u64) -> u64
     requires { position < 32 }
     ensures { result ≡ mark_of position time }
 {
@@ -196,15 +198,6 @@ fn mark_of(position: usize, time: u64) -> u64
     } else {
         u64::MAX
     }
-}
-
-// The tick at a place is due at this time.
-#[inline(always)]
-pub(crate) fn put_tick(ticks: &mut [u64; 32], place: usize, time: u64)
-    requires { place < 32 }
-    ensures { ticks.new ≡ slice_set ticks.old place (mark_of place time) }
-{
-    ticks[place] = mark_of(place, time);
 }
 
 // The time of a node's tick, or the last time that there is.
@@ -234,56 +227,19 @@ fn late_front(lanes: &RunLanes, bius: usize, count: usize) -> Front
     front
 }
 
-// The least of the keys up to four places on, where the least of those before is known. The four are compared in
-// pairs, so that only one comparison waits for the least of those before.
-#[inline(always)]
-fn with_four(keys: &[u64; 32], place: usize, least: u64) -> u64
-    requires within { place + 4 ≤ 32 }
-    requires least { least ≡ least_key (take place keys.now) }
-    ensures { result ≡ least_key (take (place + 4) keys.now) }
-{
-    let first = keys[place].min(keys[place + 1]);
-    let second = keys[place + 2].min(keys[place + 3]);
-    least.min(first.min(second))
-}
-
-// The least of the keys up to 16 places on.
-#[inline(always)]
-fn with_sixteen(keys: &[u64; 32], place: usize, least: u64) -> u64
-    requires within { place + 16 ≤ 32 }
-    requires least { least ≡ least_key (take place keys.now) }
-    ensures { result ≡ least_key (take (place + 16) keys.now) }
-{
-    let four = with_four(keys, place, least);
-    let eight = with_four(keys, place + 4, four);
-    let twelve = with_four(keys, place + 8, eight);
-    with_four(keys, place + 12, twelve)
-}
-
-// The least of 32 keys, of which mostly the first 16 suffice. Written out they cost less than a loop over those
-// that are there.
-#[inline(always)]
-fn least_of(keys: &[u64; 32], count: usize) -> u64
-    requires { count ≤ 16 → least_key (take 16 keys.now) ≡ least_key keys.now }
-    ensures { result ≡ least_key keys.now }
-{
-    let least = with_sixteen(keys, 0, u64::MAX);
-    if count <= 16 {
-        return least;
-    }
-    with_sixteen(keys, 16, least)
-}
-
 // The front of the ticks: mostly it is read off the least of the marks.
 #[inline(always)]
-pub(crate) fn tick_front(lanes: &RunLanes, ticks: &[u64; 32], bius: usize, count: usize) -> Front
+pub(crate) fn tick_front(lanes: &RunLanes, ticks: &mut Marks, bius: usize, count: usize) -> Front
     requires few { AreFew lanes.now bius }
     requires many { count ≡ length (tick_times lanes.now) }
-    requires ticks { AreTicks lanes.now ticks.now }
+    requires ticks { AreTicks lanes.now ticks.old.all }
+    requires fours { AreFours ticks.old.all ticks.old.leasts ticks.old.opened ticks.old.at }
     ensures front { IsFront (tick_times lanes.now) result }
     ensures few { result.first < 32 }
+    ensures ticks { ticks.new.all ≡ ticks.old.all }
+    ensures fours { AreFours ticks.new.all ticks.new.leasts ticks.new.opened ticks.new.at }
 {
-    let least = least_of(ticks, count);
+    let least = ticks.least(count);
     if least == u64::MAX {
         return late_front(lanes, bius, count);
     }
@@ -294,12 +250,15 @@ pub(crate) fn tick_front(lanes: &RunLanes, ticks: &[u64; 32], bius: usize, count
 }
 
 // An event of the node whose place this is was taken.
-pub(crate) fn after_event(ticks: &mut [u64; 32], place: usize, kind: &EventKind)
-    requires { place < 32 }
-    ensures { ticks.new ≡ ticks_after kind.now place ticks.old }
+pub(crate) fn after_event(ticks: &mut Marks, place: usize, kind: &EventKind)
+    requires place { place < 32 }
+    requires fours { AreFours ticks.old.all ticks.old.leasts ticks.old.opened ticks.old.at }
+    ensures ticks { ticks.new.all ≡ ticks_after kind.now place ticks.old.all }
+    ensures fours { AreFours ticks.new.all ticks.new.leasts ticks.new.opened ticks.new.at }
+    ensures at { ticks.old.at ≡ 32 → ticks.new.at ≡ 32 }
 {
     if is_tick(kind) {
-        put_tick(ticks, place, u64::MAX);
+        ticks.put(place, u64::MAX);
     }
 }
 

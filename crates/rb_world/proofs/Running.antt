@@ -21,6 +21,7 @@ use Rattle.rb_book.specs.declared.turn.Turn.{Turn}
 use Rattle.rb_site.specs.Sites.{KeptSite}
 use Rattle.rb_sweep.specs.AheadOf.{until_tick}
 use Rattle.rb_traffic.specs.Arriving.{number_of as number_in}
+use Rattle.rb_queue.specs.Waiting.{Held}
 use Rattle.rb_world.specs.declared.scene.Scene.{Scene}
 use Rattle.rb_world.specs.declared.last.Last.{Last}
 use Rattle.rb_world.specs.declared.ties.Ties.TheVariants.{First}
@@ -89,6 +90,13 @@ rmu-may sc kept scene until w v me i a name time j h here e =
     let behind : BehindTick sc kept scene until w v Rmu j a =
     subst (λ k. BehindTick sc kept scene until w v k j a) its.0 (subst (λ n. BehindTick sc kept scene until w v me n a) its.1 h) in
     ((node-of sc kept scene until w v behind.trails Rmu j behind.first.node behind.first.there).inside, record { at = behind; own_is = refl; time_is = here.at })
+
+-- it may as well with lanes that are the same
+pub may-same : {sc : Scenario} {kept : Each KeptSite} {until : Side → ℕ → ℕ} {w v : World} {me : Side} {i time : ℕ} {a : Timed} {own : List KeptSite}
+    (scene : Scene) (agenda : Each Held) → agenda ≡ scene.agenda → MayTakeFirst sc kept scene until w v me i a time own
+    → MayTakeFirst sc kept (record scene { agenda = agenda }) until w v me i a time own
+may-same {sc} {kept} {until} {w} {v} {me} {i} {time} {a} {own} scene agenda is h =
+    subst (λ lanes. MayTakeFirst sc kept (record scene { agenda = lanes }) until w v me i a time own) (sym is) h
 
 pub biu-taken : (sc : Scenario) (after : Scene) (v : World) (me : Side) (i : ℕ) (a : Timed) (name : NodeName) (time j : ℕ) (bius rmus : List KeptSite)
     → FirstHere sc me i a name time → name ≡ node.Biu j → TakesFirst sc v Biu j a bius rmus after

@@ -3,7 +3,7 @@ use Rattle.rb_base.specs.Nodes.Side.{Biu, Rmu}
 use Rattle.rb_base.specs.declared.node.NodeName.TheVariants as node
 use Rattle.rb_rules.specs.Book.{Each}
 use Rattle.rb_site.specs.Sites.{KeptSite}
-use Rattle.rb_world.proofs.Running.{FirstHere, biu-may, biu-named, biu-taken, first-here, rmu-may, rmu-named, rmu-taken}
+use Rattle.rb_world.proofs.Running.{FirstHere, may-same, biu-may, biu-named, biu-taken, first-here, rmu-may, rmu-named, rmu-taken}
 use Rattle.rb_world.proofs.ToldOn.{alone-moved}
 use Rattle.rb_world.proofs.trailing.take_first.Goals as goal
 
@@ -43,7 +43,7 @@ take_tick-requires-clause-may g c =
       w,
       v,
       a,
-      (biu-may c.args.bus.now (record { bius = c.args.bius.now.items; rmus = c.args.rmus.now.items }) c.args.scene.now until w v me i a c.first_tick-node.result.0 c.first_tick-node.result.1 c.in-Biu.i h (first-here c.args.bus.now (record { bius = c.args.bius.now.items; rmus = c.args.rmus.now.items }) c.args.scene.now until w v me i a c.first_tick-node.result.0 c.first_tick-node.result.1 h c.first_tick-node.ensures.world) c.in-Biu.is).1,
+      may-same c.args.scene.now c.first_tick-node.new.self c.first_tick-node.ensures.lanes (biu-may c.args.bus.now (record { bius = c.args.bius.now.items; rmus = c.args.rmus.now.items }) c.args.scene.now until w v me i a c.first_tick-node.result.0 c.first_tick-node.result.1 c.in-Biu.i h (first-here c.args.bus.now (record { bius = c.args.bius.now.items; rmus = c.args.rmus.now.items }) c.args.scene.now until w v me i a c.first_tick-node.result.0 c.first_tick-node.result.1 h c.first_tick-node.ensures.world) c.in-Biu.is).1,
     )
 
 pub returns-in-Biu : goal.returns-in-Biu
@@ -51,14 +51,14 @@ returns-in-Biu g c = record {
   happens = λ until w v me i a h.
       let sc = c.args.bus.now in
       let here = first-here c.args.bus.now (record { bius = c.args.bius.now.items; rmus = c.args.rmus.now.items }) c.args.scene.now until w v me i a c.first_tick-node.result.0 c.first_tick-node.result.1 h c.first_tick-node.ensures.world in
-      let may = (biu-may sc (record { bius = c.args.bius.now.items; rmus = c.args.rmus.now.items }) c.args.scene.now until w v me i a c.first_tick-node.result.0 c.first_tick-node.result.1 c.in-Biu.i h here c.in-Biu.is).1 in
+      let may = may-same c.args.scene.now c.first_tick-node.new.self c.first_tick-node.ensures.lanes (biu-may sc (record { bius = c.args.bius.now.items; rmus = c.args.rmus.now.items }) c.args.scene.now until w v me i a c.first_tick-node.result.0 c.first_tick-node.result.1 c.in-Biu.i h here c.in-Biu.is).1 in
       biu-taken sc c.take_tick.new.scene v me i a (node.Biu c.in-Biu.i) c.first_tick-node.result.1 c.in-Biu.i c.take_tick.new.sites.items c.args.rmus.now.items
       (subst (λ n. FirstHere sc me i a n c.first_tick-node.result.1) c.in-Biu.is here) refl (c.take_tick.ensures.takes (record { bius = c.args.bius.now.items; rmus = c.args.rmus.now.items }) until w v a may);
   told = λ name is until w v me i a h.
       let sc = c.args.bus.now in
       let kept : Each KeptSite = record { bius = c.args.bius.now.items; rmus = c.args.rmus.now.items } in
       let here = first-here sc kept c.args.scene.now until w v me i a c.first_tick-node.result.0 c.first_tick-node.result.1 h c.first_tick-node.ensures.world in
-      let may = (biu-may sc kept c.args.scene.now until w v me i a c.first_tick-node.result.0 c.first_tick-node.result.1 c.in-Biu.i h here c.in-Biu.is).1 in
+      let may = may-same c.args.scene.now c.first_tick-node.new.self c.first_tick-node.ensures.lanes (biu-may sc kept c.args.scene.now until w v me i a c.first_tick-node.result.0 c.first_tick-node.result.1 c.in-Biu.i h here c.in-Biu.is).1 in
       alone-moved _ g.T.Observer.observes c.args.observer.now c.take_tick.new.observer sc v me Biu i c.in-Biu.i a name (biu-named me i c.in-Biu.i (sym here.named ∙ c.in-Biu.is))
       (c.take_tick.ensures.told name is kept until w v a may);
 }
@@ -99,7 +99,7 @@ take_tick-requires-in-Rmu-clause-may g c =
       w,
       v,
       a,
-      (rmu-may c.args.bus.now (record { bius = c.args.bius.now.items; rmus = c.args.rmus.now.items }) c.args.scene.now until w v me i a c.first_tick-node.result.0 c.first_tick-node.result.1 c.in-Rmu.i h (first-here c.args.bus.now (record { bius = c.args.bius.now.items; rmus = c.args.rmus.now.items }) c.args.scene.now until w v me i a c.first_tick-node.result.0 c.first_tick-node.result.1 h c.first_tick-node.ensures.world) c.in-Rmu.is).1,
+      may-same c.args.scene.now c.first_tick-node.new.self c.first_tick-node.ensures.lanes (rmu-may c.args.bus.now (record { bius = c.args.bius.now.items; rmus = c.args.rmus.now.items }) c.args.scene.now until w v me i a c.first_tick-node.result.0 c.first_tick-node.result.1 c.in-Rmu.i h (first-here c.args.bus.now (record { bius = c.args.bius.now.items; rmus = c.args.rmus.now.items }) c.args.scene.now until w v me i a c.first_tick-node.result.0 c.first_tick-node.result.1 h c.first_tick-node.ensures.world) c.in-Rmu.is).1,
     )
 
 pub returns-in-Rmu : goal.returns-in-Rmu
@@ -107,14 +107,14 @@ returns-in-Rmu g c = record {
   happens = λ until w v me i a h.
       let sc = c.args.bus.now in
       let here = first-here c.args.bus.now (record { bius = c.args.bius.now.items; rmus = c.args.rmus.now.items }) c.args.scene.now until w v me i a c.first_tick-node.result.0 c.first_tick-node.result.1 h c.first_tick-node.ensures.world in
-      let may = (rmu-may sc (record { bius = c.args.bius.now.items; rmus = c.args.rmus.now.items }) c.args.scene.now until w v me i a c.first_tick-node.result.0 c.first_tick-node.result.1 c.in-Rmu.i h here c.in-Rmu.is).1 in
+      let may = may-same c.args.scene.now c.first_tick-node.new.self c.first_tick-node.ensures.lanes (rmu-may sc (record { bius = c.args.bius.now.items; rmus = c.args.rmus.now.items }) c.args.scene.now until w v me i a c.first_tick-node.result.0 c.first_tick-node.result.1 c.in-Rmu.i h here c.in-Rmu.is).1 in
       rmu-taken sc c.take_tick-in-Rmu.new.scene v me i a (node.Rmu c.in-Rmu.i) c.first_tick-node.result.1 c.in-Rmu.i c.args.bius.now.items c.take_tick-in-Rmu.new.sites.items
       (subst (λ n. FirstHere sc me i a n c.first_tick-node.result.1) c.in-Rmu.is here) refl (c.take_tick-in-Rmu.ensures.takes (record { bius = c.args.bius.now.items; rmus = c.args.rmus.now.items }) until w v a may);
   told = λ name is until w v me i a h.
       let sc = c.args.bus.now in
       let kept : Each KeptSite = record { bius = c.args.bius.now.items; rmus = c.args.rmus.now.items } in
       let here = first-here sc kept c.args.scene.now until w v me i a c.first_tick-node.result.0 c.first_tick-node.result.1 h c.first_tick-node.ensures.world in
-      let may = (rmu-may sc kept c.args.scene.now until w v me i a c.first_tick-node.result.0 c.first_tick-node.result.1 c.in-Rmu.i h here c.in-Rmu.is).1 in
+      let may = may-same c.args.scene.now c.first_tick-node.new.self c.first_tick-node.ensures.lanes (rmu-may sc kept c.args.scene.now until w v me i a c.first_tick-node.result.0 c.first_tick-node.result.1 c.in-Rmu.i h here c.in-Rmu.is).1 in
       alone-moved _ g.T.Observer.observes c.args.observer.now c.take_tick-in-Rmu.new.observer sc v me Rmu i c.in-Rmu.i a name (rmu-named me i c.in-Rmu.i (sym here.named ∙ c.in-Rmu.is))
       (c.take_tick-in-Rmu.ensures.told name is kept until w v a may);
 }

@@ -17,11 +17,13 @@ invariant_of-self c =
       c.keep_key.ensures.kept lanes (without_events (lane_of lanes name)) c.self.invariant.0 h c.drop_all.ensures.after
           (room-of lanes bius name c.self.invariant.0.few h),
       c.keep_key.ensures.front,
-      subst (AreTicks c.drop_all.new.self) (sym c.put_tick.ensures)
-          (ticks-dropped lanes c.drop_all.new.self c.self.inside.ticks bius c.position_of-place.result name c.self.invariant.0.few.split c.position_of-place.ensures
+      subst (AreTicks c.drop_all.new.self) (sym c.put.ensures.marks)
+          (ticks-dropped lanes c.drop_all.new.self c.self.inside.ticks.all bius c.position_of-place.result name c.self.invariant.0.few.split c.position_of-place.ensures
           c.self.invariant.2 h c.drop_all.ensures.after),
       known-with lanes c.drop_all.new.self bius name (without_events (lane_of lanes name)) c.self.invariant.0.few.split h c.drop_all.ensures.after c.self.invariant.3
           (All-nil (λ (c : Coming). c.from ≤ 255)),
+      c.put.ensures.fours,
+      λ fresh. c.put.ensures.at (c.self.invariant.5 fresh),
     )
 
 pub keep_key-requires-clause-bius : goal.keep_key-requires-clause-bius
@@ -39,7 +41,7 @@ keep_key-requires-clause-within c =
     place-within c.self.inside.lanes c.self.inside.keys.items c.self.inside.bius c.args.node c.self.invariant.0.few c.self.invariant.0.many
     (subst (λ x. HasLane x c.args.node) (sym c.self.view_is) c.requires.in_shape)
 
-pub put_tick-requires : goal.put_tick-requires
-put_tick-requires c =
+pub put-requires-clause-place : goal.put-requires-clause-place
+put-requires-clause-place c =
     place-few c.self.inside.lanes c.self.inside.bius c.position_of-place.result c.args.node c.self.invariant.0.few c.position_of-place.ensures
     (subst (λ x. HasLane x c.args.node) (sym c.self.view_is) c.requires.in_shape)

@@ -17,7 +17,9 @@ invariant_of-self c =
       stale-with c.self.inside.stale lanes c.drop_at.new.self c.self.inside.keys.items bius name lane c.self.invariant.0 h c.drop_at.ensures.after
           (room-of lanes bius name c.self.invariant.0.few h),
       λ fresh. absurd (let never : true ≡ false = fresh in cc),
-      ticks-same lanes c.drop_at.new.self c.self.inside.ticks bius name lane c.self.invariant.0.few.split c.self.invariant.2 h c.drop_at.ensures.after refl,
+      ticks-same lanes c.drop_at.new.self c.self.inside.ticks.all bius name lane c.self.invariant.0.few.split c.self.invariant.2 h c.drop_at.ensures.after refl,
       known-with lanes c.drop_at.new.self bius name lane c.self.invariant.0.few.split h c.drop_at.ensures.after c.self.invariant.3
           (all-others (λ (c : Coming). c.from ≤ 255) (lane_of lanes name).arrivals c.args.place (known-of lanes name c.self.invariant.3 h)),
+      c.self.invariant.4,
+      λ fresh. absurd (let never : true ≡ false = fresh in cc),
     )

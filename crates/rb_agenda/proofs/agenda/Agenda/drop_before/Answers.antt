@@ -15,7 +15,9 @@ invariant_of-self c =
       stale-with c.self.inside.stale lanes c.drop_before.new.self c.self.inside.keys.items bius name lane c.self.invariant.0 h c.drop_before.ensures.after
           (room-of lanes bius name c.self.invariant.0.few h),
       λ fresh. absurd (let never : true ≡ false = fresh in cc),
-      ticks-same lanes c.drop_before.new.self c.self.inside.ticks bius name lane c.self.invariant.0.few.split c.self.invariant.2 h c.drop_before.ensures.after refl,
+      ticks-same lanes c.drop_before.new.self c.self.inside.ticks.all bius name lane c.self.invariant.0.few.split c.self.invariant.2 h c.drop_before.ensures.after refl,
       known-with lanes c.drop_before.new.self bius name lane c.self.invariant.0.few.split h c.drop_before.ensures.after c.self.invariant.3
           (known-left (lane_of lanes name) c.args.until (known-of lanes name c.self.invariant.3 h)),
+      c.self.invariant.4,
+      λ fresh. absurd (let never : true ≡ false = fresh in cc),
     )

@@ -14,9 +14,11 @@ invariant_of-self c =
     let h : HasLane lanes name = subst (λ x. HasLane x name) (sym c.self.view_is) c.requires.in_shape in (
       c.keep_key.ensures.kept lanes lane c.self.invariant.0 h c.push_arrival.ensures.after (room-of lanes bius name c.self.invariant.0.few h),
       c.keep_key.ensures.front,
-      ticks-same lanes c.push_arrival.new.self c.self.inside.ticks bius name lane c.self.invariant.0.few.split c.self.invariant.2 h c.push_arrival.ensures.after refl,
+      ticks-same lanes c.push_arrival.new.self c.self.inside.ticks.all bius name lane c.self.invariant.0.few.split c.self.invariant.2 h c.push_arrival.ensures.after refl,
       known-with lanes c.push_arrival.new.self bius name lane c.self.invariant.0.few.split h c.push_arrival.ensures.after c.self.invariant.3
           (known-more (lane_of lanes name) (record { time = c.args.time; from = c.args.from; bytes = c.args.bytes.items }) (let small = c.ranges.from.fits in omega (arith, small)) (known-of lanes name c.self.invariant.3 h)),
+      c.self.invariant.4,
+      c.self.invariant.5,
     )
 
 pub keep_key-requires-clause-bius : goal.keep_key-requires-clause-bius

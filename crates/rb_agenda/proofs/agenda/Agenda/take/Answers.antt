@@ -17,11 +17,13 @@ invariant_of-self c =
       c.keep_key.ensures.kept lanes (without_ready place (lane_of lanes name)) c.self.invariant.0 c.locate-node.ensures.lane c.take-event.ensures.after
           (room-without place (lane_of lanes name) (room-of lanes bius name c.self.invariant.0.few c.locate-node.ensures.lane)),
       c.keep_key.ensures.front,
-      subst (AreTicks c.take-event.new.self) (sym c.after_event.ensures)
-          (ticks-taken lanes c.take-event.new.self c.self.inside.ticks bius c.position_of-place.result name place c.take-event.result c.self.invariant.0.few.split
+      subst (AreTicks c.take-event.new.self) (sym c.after_event.ensures.ticks)
+          (ticks-taken lanes c.take-event.new.self c.self.inside.ticks.all bius c.position_of-place.result name place c.take-event.result c.self.invariant.0.few.split
           c.position_of-place.ensures c.self.invariant.2 c.locate-node.ensures.lane c.take-event.ensures.value c.take-event.ensures.after),
       known-with lanes c.take-event.new.self bius name (without_ready place (lane_of lanes name)) c.self.invariant.0.few.split c.locate-node.ensures.lane c.take-event.ensures.after c.self.invariant.3
           (known-less (lane_of lanes name) place (known-of lanes name c.self.invariant.3 c.locate-node.ensures.lane)),
+      c.after_event.ensures.fours,
+      λ fresh. c.after_event.ensures.at (c.self.invariant.5 fresh),
     )
 
 pub keep_key-requires-clause-bius : goal.keep_key-requires-clause-bius
@@ -37,8 +39,8 @@ pub keep_key-requires-clause-within : goal.keep_key-requires-clause-within
 keep_key-requires-clause-within c =
     place-within c.self.inside.lanes c.self.inside.keys.items c.self.inside.bius c.locate-node.result.0 c.self.invariant.0.few c.self.invariant.0.many c.locate-node.ensures.lane
 
-pub after_event-requires : goal.after_event-requires
-after_event-requires c =
+pub after_event-requires-clause-place : goal.after_event-requires-clause-place
+after_event-requires-clause-place c =
     place-few c.self.inside.lanes c.self.inside.bius c.position_of-place.result c.locate-node.result.0 c.self.invariant.0.few c.position_of-place.ensures
     c.locate-node.ensures.lane
 

@@ -16,13 +16,15 @@ invariant_of-self c =
       stale-with c.self.inside.stale lanes c.take_tick.new.self c.self.inside.keys.items bius name lane c.self.invariant.0 h c.take_tick.ensures.after
           (room-of lanes bius name c.self.invariant.0.few h),
       λ fresh. absurd (let never : true ≡ false = fresh in cc),
-      subst (AreTicks c.take_tick.new.self) (sym c.put_tick.ensures)
-          (ticks-with lanes c.take_tick.new.self c.self.inside.ticks bius c.position_of-place.result name lane 18446744073709551615 c.self.invariant.0.few.split
+      subst (AreTicks c.take_tick.new.self) (sym c.put.ensures.marks)
+          (ticks-with lanes c.take_tick.new.self c.self.inside.ticks.all bius c.position_of-place.result name lane 18446744073709551615 c.self.invariant.0.few.split
           c.position_of-place.ensures c.self.invariant.2 h c.take_tick.ensures.after refl),
       known-with lanes c.take_tick.new.self bius name lane c.self.invariant.0.few.split h c.take_tick.ensures.after c.self.invariant.3 (known-of lanes name c.self.invariant.3 h),
+      c.put.ensures.fours,
+      λ fresh. absurd (let never : true ≡ false = fresh in cc),
     )
 
-pub put_tick-requires : goal.put_tick-requires
-put_tick-requires c =
+pub put-requires-clause-place : goal.put-requires-clause-place
+put-requires-clause-place c =
     place-few c.self.inside.lanes c.self.inside.bius c.position_of-place.result c.args.node c.self.invariant.0.few c.position_of-place.ensures
     (subst (λ x. HasLane x c.args.node) (sym c.self.view_is) c.requires.in_shape)
