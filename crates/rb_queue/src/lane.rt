@@ -300,11 +300,14 @@ impl Lane {
         self.sorted = false;
     }
 
-    // Mostly all come before.
+    // Mostly there are none, or all come before.
     #[inline(always)]
     pub(crate) fn drop_before(&mut self, until: u64)
         ensures { self.new ≡ without_before until self.old }
     {
+        if self.kept.len() == 0 {
+            return;
+        }
         if self.latest < until {
             self.drop_waiting();
             return;
