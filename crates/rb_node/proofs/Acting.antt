@@ -57,7 +57,7 @@ not-due : (me : Side) (v : Seated) (slot stage word k : ℕ) → is_tick (tick_s
 not-due me v slot stage word k h = none-from _ (stage-some me v slot stage word 0 k ∙ ap is_some (unsaid me v slot stage k h))
 
 -- at its own tick it is
-due-parts : (k : ℕ) (m : Option Message) (t : Option ℕ) → is_tick (elim (is_some m) as (λ _. Option ℕ) [ true ↦ t | false ↦ None ]) k ≡ true
+pub due-parts : (k : ℕ) (m : Option Message) (t : Option ℕ) → is_tick (elim (is_some m) as (λ _. Option ℕ) [ true ↦ t | false ↦ None ]) k ≡ true
     → is_tick t k ≡ true
 due-parts k None t h = cc
 due-parts k (Some m) t h = h

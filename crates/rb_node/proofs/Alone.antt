@@ -42,14 +42,14 @@ pub record IsAlone (me : Side) (v : Seated) (w : Window) (b : Busy) : Type 0 whe
   pub below : b.tick < 2 ^ 31
   pub stays : is_tick (new_epoch_of v.plan me v.state) b.tick ≡ false
 
-record AllTrue (a b c d e : Bool) : Type 0 where
+pub record AllTrue (a b c d e : Bool) : Type 0 where
   pub first : a ≡ true
   pub second : b ≡ true
   pub third : c ≡ true
   pub fourth : d ≡ true
   pub fifth : e ≡ true
 
-all-true : (a b c d e : Bool) → (a && b && c && d && e) ≡ true → AllTrue a b c d e
+pub all-true : (a b c d e : Bool) → (a && b && c && d && e) ≡ true → AllTrue a b c d e
 all-true true true true true true h = record { first = refl; second = refl; third = refl; fourth = refl; fifth = refl }
 all-true true true true true false h = cc
 all-true true true true false e h = cc
@@ -57,13 +57,13 @@ all-true true true false d e h = cc
 all-true true false c d e h = cc
 all-true false b c d e h = cc
 
-true-all : (a b c d e : Bool) → a ≡ true → b ≡ true → c ≡ true → d ≡ true → e ≡ true → (a && b && c && d && e) ≡ true
+pub true-all : (a b c d e : Bool) → a ≡ true → b ≡ true → c ≡ true → d ≡ true → e ≡ true → (a && b && c && d && e) ≡ true
 true-all a b c d e h i j k l = rw (h, i, j, k, l) refl
 
-is-below : (a b : ℕ) → nat_lt a b ≡ true → a < b
+pub is-below : (a b : ℕ) → nat_lt a b ≡ true → a < b
 is-below a b h = grind (arith, nat_tests)
 
-below-is : (a b : ℕ) → a < b → nat_lt a b ≡ true
+pub below-is : (a b : ℕ) → a < b → nat_lt a b ≡ true
 below-is a b h = grind (arith, nat_tests)
 
 pub alone-is : (me : Side) (v : Seated) (w : Window) (b : Busy) → is_alone me v w b ≡ true → IsAlone me v w b

@@ -73,7 +73,7 @@ abbrev as-it-is : Side → Seated → ℕ → Bool
 as-it-is me v k = (v.state.epoch == k) || is_last v.sizes v.plan me v.state k || is_some (said_at v.sizes v.plan me v.index v.state 0 k)
 
 -- where the node does not turn, it is so by its state
-by-state : (me : Side) (v : Seated) (k : ℕ) → is_tick (new_epoch_of v.plan me v.state) k ≡ false → busy_at me v k ≡ as-it-is me v k
+pub by-state : (me : Side) (v : Seated) (k : ℕ) → is_tick (new_epoch_of v.plan me v.state) k ≡ false → busy_at me v k ≡ as-it-is me v k
 unfolding is_busy
 by-state me v k h =
     ap (λ (st : NodeState). (st.epoch == k) || is_last v.sizes v.plan me st k || is_some (said_at v.sizes v.plan me v.index st 0 k)) (no-turn v me k h)
@@ -274,7 +274,7 @@ over epoch had k lt le = grind (arith, nat_tests)
 not-at : (last k : ℕ) → k < last → (last == k) ≡ false
 not-at last k lt = grind (arith, nat_tests)
 
-never : (next : Option ℕ) (k : ℕ) → is_some next ≡ false → is_tick next k ≡ false
+pub never : (next : Option ℕ) (k : ℕ) → is_some next ≡ false → is_tick next k ≡ false
 never None k h = refl
 never (Some tick) k h = cc
 

@@ -11,3 +11,4 @@ pub mod Numbering
 pub mod Going
 pub mod Ending
 pub mod Alone
+pub mod Within

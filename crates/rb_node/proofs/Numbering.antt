@@ -206,7 +206,7 @@ elsewhere epoch k n m l h short from to other =
       ]
     ]
 
-not-due : (me : Side) (v : Seated) (had k stage : ℕ) (w : Window) → v.plan.h < v.plan.l → v.state.epoch ≤ had
+pub not-due : (me : Side) (v : Seated) (had k stage : ℕ) (w : Window) → v.plan.h < v.plan.l → v.state.epoch ≤ had
     → IsNumbered v.sizes v.plan (had - v.state.epoch) w → w.slot < sync_slot_of v.sizes → had ≤ k → k ≤ v.state.epoch + w.last → 1 ≤ stage
     → (stage ≡ w.stage → ⊥) → is_tick (tick_said me v w.slot stage) k ≡ false
 not-due me v had k stage w short epoch h below lo hi some other =
@@ -224,7 +224,7 @@ not-due me v had k stage w short epoch h below lo hi some other =
         (λ same. differs (omega (arith, some, same)))
 
 -- where nothing is due up to a tick, the choice is that tick
-idle : (had stage : ℕ) (candidate : Option ℕ) (b : Busy) → had ≤ b.tick → ((k : ℕ) → had ≤ k → k ≤ b.tick → is_tick candidate k ≡ false)
+pub idle : (had stage : ℕ) (candidate : Option ℕ) (b : Busy) → had ≤ b.tick → ((k : ℕ) → had ≤ k → k ≤ b.tick → is_tick candidate k ≡ false)
     → IsChosen had candidate stage b b
 idle had stage candidate b later none = record {
   later = later;

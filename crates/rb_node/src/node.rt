@@ -1,5 +1,5 @@
 //! One node core.
-ghost use Rattle.std.specs.Prelude.{◌≡◌, ℕ, ◌+◌, ◌<◌, ◌≤◌, ◌^◌, false, true, IfSome, IsTrue, None, Some, option_map, unwrap_or};
+ghost use Rattle.std.specs.Prelude.{◌≡◌, ℕ, ◌+◌, ◌<◌, ◌≤◌, ◌^◌, false, true, IfSome, IsTrue, None, Some, is_some, option_map, unwrap_or};
 ghost use Rattle.rb_base.specs.Nodes.{side_of};
 ghost use Rattle.rb_rules.specs.Core.{Core, first_core, is_tick, pass_to};
 ghost use Rattle.rb_rules.specs.NodeState.{first_state};
@@ -9,14 +9,14 @@ ghost use Rattle.rb_rules.specs.WorldStep.{span_from};
 ghost use Rattle.rb_slot.specs.Engines.{nothing_shown};
 ghost use Rattle.rb_node.specs.Acts.{IsAct, IsSendable, IsWholeAct, span_in};
 ghost use Rattle.rb_node.specs.Cores.{IsCore, IsSameNode, Running, arrive_of, next_of, passing_end, tick_of, ticks_of};
-ghost use Rattle.rb_node.specs.Ends.{EndsExactWindow};
+ghost use Rattle.rb_node.specs.Ends.{EndsExactWindow, IsWithinExactWindow};
 ghost use Rattle.rb_node.specs.Events.{EventsComeInParts};
 ghost use Rattle.rb_node.specs.Wants.{want_of, want_then};
 
 use crate::act::{Act, Span, Step, Want};
 use crate::ahead::{
-    Ahead, MOST_TICKS, bounds, following, go_on, is_tick, look_ahead, look_on, not_looked,
-    window_of,
+    Ahead, MOST_TICKS, bounds, following, go_on, is_tick, is_within, look_ahead, look_on,
+    look_to_end, not_looked, window_of,
 };
 use crate::parts::{
     bytes_of, close_at, delivered_in, epoch_at, first_window, if_closed, nothing, others, say_at,
@@ -26,7 +26,7 @@ use rb_base::{Kind, NodeId};
 use rb_eligible::Inbox;
 use rb_frame::Spelling;
 use rb_plan::Feasible;
-use rb_rules::Closed;
+use rb_rules::{Closed, Message};
 use rb_slot::{Engine, Shown};
 use std::marker::Model;
 
@@ -325,6 +325,40 @@ impl<K: Kind> Node<K> {
         self.ahead.window = following(self.engine.plan().plan(), &self.ahead.window);
         look_on(&self.engine, &mut self.ahead, self.had);
         true
+    }
+
+    /// If its next tick that isn't quiet lies within a window of a slot before the sync slot, all that happens at it is that the node
+    /// says a message. Then the node has its quiet ticks and that tick with this word, and the result is the message. Else nothing
+    /// changes, and it is None.
+    #[inline(always)]
+    pub fn say_alone(&mut self, word: u32) -> Option<Message>
+        ensures core { is_some result ≡ true → (c : Core) (k : ℕ) → IsCore self.old c → next_of (side_of K.CODE) self.old c ≡ Some k
+            → IsCore self.new (tick_of (side_of K.CODE) self.old (pass_to k c) word).core }
+        ensures act { is_some result ≡ true → (c : Core) (k : ℕ) → IsCore self.old c → next_of (side_of K.CODE) self.old c ≡ Some k
+            → IsAct self.new.shown (record { epoch = None; message = result; closed = false })
+            (tick_of (side_of K.CODE) self.old (pass_to k c) word) }
+        ensures only { is_some result ≡ true → (c : Core) → IsCore self.old c → (k : ℕ)
+            × ((next_of (side_of K.CODE) self.old c ≡ Some k)
+            × IsWithinExactWindow self.old.seat.sizes self.old.seat.plan (side_of K.CODE) c.state k) }
+        ensures otherwise { (c : Core) (k : ℕ) → IsCore self.old c → next_of (side_of K.CODE) self.old c ≡ Some k
+            → IsWithinExactWindow self.old.seat.sizes self.old.seat.plan (side_of K.CODE) c.state k → is_some result ≡ true }
+        ensures inside { is_some result ≡ true
+            → span_from self.new.seat.sizes self.new.seat.plan (side_of K.CODE) self.new.seat.state self.new.had ≡ None }
+        ensures stays { is_some result ≡ false → self.new ≡ self.old }
+        ensures shown { self.new.shown ≡ self.old.shown }
+        ensures message { IfSome result IsSendable }
+        ensures same { IsSameNode self.old self.new }
+    {
+        if !is_within(&self.engine, &self.ahead.window, self.ahead.busy.tick) {
+            return None;
+        }
+        bounds(&self.engine);
+        let (tick, stage) = (self.ahead.busy.tick, self.ahead.busy.stage);
+        self.had = tick + 1;
+        let slot = self.ahead.window.slot;
+        let message = say_at(&mut self.engine, slot, stage, tick, word);
+        look_to_end(&self.engine, &mut self.ahead);
+        message
     }
 
     /// So many quiet ticks pass, at once: at most up to the tick that `next_tick` gives, which is not among them, and where it
