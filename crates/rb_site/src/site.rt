@@ -1,5 +1,5 @@
 //! One node of a world.
-ghost use Rattle.std.specs.Prelude.{◌≡◌, ℕ, ◌-◌, ◌^◌, ◌<◌, ◌≤◌, ◌&&◌, false, true, max, IfSome, IsTrue, List, None, Some, option_map, slice_set, unwrap_or};
+ghost use Rattle.std.specs.Prelude.{◌≡◌, ℕ, ◌-◌, ◌^◌, ◌<◌, ◌≤◌, ◌&&◌, false, true, is_some, max, IfSome, IsTrue, List, None, Some, option_map, slice_set, unwrap_or};
 ghost use Rattle.rb_base.specs.Nodes.{Side, other, side_of};
 ghost use Rattle.rb_rules.specs.Clock.{ComesBy};
 ghost use Rattle.rb_rules.specs.Core.{Core, is_tick, next_tick, pass_to, tick};
@@ -12,7 +12,7 @@ ghost use Rattle.rb_rules.specs.SyncStage.{new_epoch_of};
 ghost use Rattle.rb_rules.specs.WorldStep.{Site as WorldSite, after_arrival, fresh_site, proceed, span_from, stop, wants_in, word_of};
 ghost use Rattle.rb_node.specs.Acts.{IsSendable, span_in};
 ghost use Rattle.rb_node.specs.Cores.{IsCore, IsSameNode, passing_end};
-ghost use Rattle.rb_node.specs.Ends.{EndsExactWindow};
+ghost use Rattle.rb_node.specs.Ends.{EndsExactWindow, IsWithinExactWindow};
 ghost use Rattle.rb_node.specs.Wants.{want_for};
 ghost use Rattle.rb_slot.specs.Engines.{nothing_shown};
 ghost use Rattle.rb_site.specs.Sites.{KeptSite, Stands, goes_on, number_of, taken_in};
@@ -23,7 +23,7 @@ use rb_clock::Clock;
 use rb_frame::Spelling;
 use rb_node::{Epoch, Node, Span, Step, Want};
 use rb_plan::Feasible;
-use rb_rules::NodeLine;
+use rb_rules::{Message, NodeLine};
 use std::marker::Model;
 
 // No node has as many ticks.
@@ -275,6 +275,33 @@ impl<K: Kind> Site<K> {
         ensures same { IsSameNode self.old.node self.new.node }
     {
         self.node.end_window()
+    }
+
+    /// If the node's next busy tick lies within a window of a slot before the sync slot, all that happens at it is that the node says
+    /// a message. Then the node has that tick with the word that it wants for it, and the result is the message. The quiet ticks
+    /// before it pass, and no window begins with the tick after it. Else nothing changes, and it is None.
+    #[inline(always)]
+    pub fn say_alone(&mut self, word: u32) -> Option<Message>
+        ensures ticked { is_some result ≡ true → (sc : Scenario) (ports : List PortState) (k : ℕ) (s : WorldSite)
+            → Stands sc (side_of K.CODE) self.old s
+            → next_tick sc.sizes sc.plan (side_of K.CODE) (number_of self.old) s.core ≡ Some k
+            → word ≡ word_of sc ports (number_of self.old) (wants_in sc (side_of K.CODE) (number_of self.old) (pass_to k s.core))
+            → IsTicked sc ports (side_of K.CODE) self.old self.new (record { epoch = None; message = result; closed = false }) k s }
+        ensures only { is_some result ≡ true → (sc : Scenario) (s : WorldSite) → Stands sc (side_of K.CODE) self.old s
+            → (k : ℕ) × ((next_tick sc.sizes sc.plan (side_of K.CODE) (number_of self.old) s.core ≡ Some k)
+            × IsWithinExactWindow sc.sizes sc.plan (side_of K.CODE) s.core.state k) }
+        ensures otherwise { (sc : Scenario) (k : ℕ) (s : WorldSite) → Stands sc (side_of K.CODE) self.old s
+            → next_tick sc.sizes sc.plan (side_of K.CODE) (number_of self.old) s.core ≡ Some k
+            → IsWithinExactWindow sc.sizes sc.plan (side_of K.CODE) s.core.state k → is_some result ≡ true }
+        ensures inside { is_some result ≡ true → (sc : Scenario) (s : WorldSite) → Stands sc (side_of K.CODE) self.new s
+            → span_from sc.sizes sc.plan (side_of K.CODE) s.core.state s.core.had ≡ None }
+        ensures stays { is_some result ≡ false → self.new ≡ self.old }
+        ensures shown { self.new.node.shown ≡ self.old.node.shown }
+        ensures rest { self.new ≡ record self.old { node = self.new.node } }
+        ensures message { IfSome result IsSendable }
+        ensures same { IsSameNode self.old.node self.new.node }
+    {
+        self.node.say_alone(word)
     }
 }
 
