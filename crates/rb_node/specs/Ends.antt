@@ -14,7 +14,7 @@ pub record EndsExactWindow (sizes : Sizes) (plan : Plan) (me : Side) (st : NodeS
 
 -- Tick k lies within a window of a slot before the sync slot: later than the first tick of the frame and sooner than the window's last,
 -- which a node can have, and when the next frame begins is not fixed yet. If such a tick isn't quiet, a message is said then, and nothing
--- else happens. What is left of the window is quiet up to its end
+-- else happens
 pub record IsWithinExactWindow (sizes : Sizes) (plan : Plan) (me : Side) (st : NodeState) (k : ℕ) : Type 0 where
   pub begun : st.epoch < k
   pub before_end : k < st.epoch + (window_here sizes plan me st k).last

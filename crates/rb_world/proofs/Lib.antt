@@ -3,6 +3,7 @@ pub mod Sites
 pub mod Around
 pub mod Turns
 pub mod Words
+pub mod SaidWithin
 pub mod Lanes
 pub mod Going
 pub mod Onward

@@ -1,12 +1,12 @@
 //! A node goes on to its next tick.
-ghost use Rattle.std.specs.Prelude.{◌≡◌, ◌<◌, ◌≤◌, ◌==◌, ◌&&◌, [], not};
+ghost use Rattle.std.specs.Prelude.{◌≡◌, ◌<◌, ◌≤◌, ◌==◌, ◌&&◌, [], None, not};
 ghost use Rattle.rb_base.specs.Nodes.{has, set_of, side_of};
 ghost use Rattle.rb_rules.specs.Core.{Core};
 ghost use Rattle.rb_rules.specs.Lawful.{IsNodeOf, kind_of};
 ghost use Rattle.rb_rules.specs.Links.{name_of};
-ghost use Rattle.rb_rules.specs.WorldStep.{Site as WorldSite, World, await, stop};
+ghost use Rattle.rb_rules.specs.WorldStep.{Site as WorldSite, World, await, span_from, stop};
 ghost use Rattle.rb_queue.specs.Waiting.{lane_of, spare_of};
-ghost use Rattle.rb_site.specs.Sites.{number_of};
+ghost use Rattle.rb_site.specs.Sites.{Stands, number_of};
 ghost use Rattle.rb_traffic.specs.Arriving.{number_of as number_in};
 ghost use Rattle.rb_world.specs.Steps.{IsCoreAt, MayProceed, OthersStay, Proceeds, moved};
 ghost use Rattle.rb_world.specs.Worlds.{Surrounds};
@@ -90,4 +90,17 @@ pub(crate) fn proceed<K: Kind>(bus: &Bus, node: NodeName, site: &mut Site<K>, sc
     } else {
         proceed_in_full(bus, node, site, scene);
     }
+}
+
+/// The same within a window, where none begins with its next tick.
+#[inline(always)]
+pub(crate) fn proceed_within<K: Kind>(bus: &Bus, node: NodeName, site: &Site<K>, scene: &mut Scene)
+    requires name { node ≡ name_of (side_of K.CODE) (number_of site.now) }
+    requires may { (w : World) × (s : WorldSite) × MayProceed bus.now (side_of K.CODE) (number_of site.now) site.now scene.old w s }
+    requires within { (s : WorldSite) → Stands bus.now (side_of K.CODE) site.now s
+        → span_from bus.now.sizes bus.now.plan (side_of K.CODE) s.core.state s.core.had ≡ None }
+    ensures { (w : World) (s : WorldSite) → MayProceed bus.now (side_of K.CODE) (number_of site.now) site.now scene.old w s
+        → Proceeds bus.now (side_of K.CODE) (number_of site.now) site.now scene.old scene.new w s }
+{
+    await_tick(bus, node, site, scene);
 }

@@ -2,6 +2,7 @@
 ghost use Rattle.std.specs.Prelude.{◌≡◌, ℕ, ◌<◌, ◌≤◌, ◌^◌, true, IfSome, Option, Some, None, List, length, if◌then◌else◌};
 ghost use Rattle.rb_base.specs.Nodes.{other, side_of};
 ghost use Rattle.rb_base.specs.Nodes.Side.{Biu};
+ghost use Rattle.rb_rules.specs.Core.{pass_to};
 ghost use Rattle.rb_rules.specs.Hearing.{port_at, port_line};
 ghost use Rattle.rb_rules.specs.Lawful.{IsNodeOf, kind_of};
 ghost use Rattle.rb_rules.specs.Ports.{PortState};
@@ -11,12 +12,12 @@ ghost use Rattle.rb_site.specs.Tells.{row_at};
 ghost use Rattle.rb_traffic.specs.Arriving.{number_of as number_in};
 ghost use Rattle.rb_world.specs.Worlds.{HoldsPorts, Surrounds};
 ghost use Rattle.rb_rules.specs.Links.{name_of};
-ghost use Rattle.rb_rules.specs.WorldStep.{Site as WorldSite, World, with_delivery, with_epoch, with_message, word_of};
+ghost use Rattle.rb_rules.specs.WorldStep.{Site as WorldSite, World, wants_in, with_delivery, with_epoch, with_message, word_of};
 ghost use Rattle.rb_site.specs.Sites.{number_of};
 ghost use Rattle.rb_world.specs.Steps.{CanWant, HasRoomFor, IsWordSlot, MayTick, SeesOnlyNodes, Ticks, act_at, closed_if, moved};
 
 use crate::bus::Bus;
-use crate::proceeding::proceed;
+use crate::proceeding::{proceed, proceed_within};
 use crate::scene::{Scene, number_of};
 use rb_base::{Delivery, Kind, NodeName};
 use rb_node::Want;
@@ -163,7 +164,33 @@ fn depart(
     }
 }
 
-// A node takes its next tick, which has this number, whatever happens at it.
+// A node takes its next tick, which has this number, with the word that it wants for it, whatever happens at it.
+#[inline(always)]
+fn tick_with_word<K: Kind>(
+    bus: &Bus,
+    apps: &Apps,
+    node: NodeName,
+    k: u64,
+    word: u32,
+    site: &mut Site<K>,
+    scene: &mut Scene,
+)
+    requires name { node ≡ name_of (side_of K.CODE) (number_of site.old) }
+    requires may { (w : World) × (s : WorldSite) × MayTick bus.now (side_of K.CODE) (number_of site.old) k site.old scene.old w s }
+    requires word { (w : World) (s : WorldSite) → MayTick bus.now (side_of K.CODE) (number_of site.old) k site.old scene.old w s
+        → word ≡ word_of bus.now w.ports (number_of site.old) (wants_in bus.now (side_of K.CODE) (number_of site.old) (pass_to k s.core)) }
+    ensures { (w : World) (s : WorldSite) → MayTick bus.now (side_of K.CODE) (number_of site.old) k site.old scene.old w s
+        → Ticks bus.now (side_of K.CODE) (number_of site.old) k site.new scene.new w s (act_at bus.now w (side_of K.CODE) (number_of site.old) k s) }
+{
+    let step = site.tick(k, word);
+    begin(bus, node, step.epoch, scene);
+    close(bus, apps, node, step.closed, site, scene);
+    proceed(bus, node, site, scene);
+    let frame = site.node().engine().frame();
+    depart(bus, node, frame, k, step.message, scene);
+}
+
+// The same, where most often all that happens at the tick is that the node says a message within a window.
 #[inline(never)]
 fn tick_in_full<K: Kind>(
     bus: &Bus,
@@ -181,12 +208,13 @@ fn tick_in_full<K: Kind>(
         → Ticks bus.now (side_of K.CODE) (number_of site.old) k site.new scene.new w s (act_at bus.now w (side_of K.CODE) (number_of site.old) k s) }
 {
     let word = word_for(bus, apps, &scene.ports, i, site.node().wants_then());
-    let step = site.tick(k, word);
-    begin(bus, node, step.epoch, scene);
-    close(bus, apps, node, step.closed, site, scene);
-    proceed(bus, node, site, scene);
-    let frame = site.node().engine().frame();
-    depart(bus, node, frame, k, step.message, scene);
+    if let Some(message) = site.say_alone(word) {
+        proceed_within(bus, node, site, scene);
+        let frame = site.node().engine().frame();
+        depart(bus, node, frame, k, Some(message), scene);
+        return;
+    }
+    tick_with_word(bus, apps, node, k, word, site, scene);
 }
 
 /// A node takes its next tick, which has this number.

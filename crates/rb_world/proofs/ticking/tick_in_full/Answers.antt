@@ -1,21 +1,19 @@
-use Rattle.std.proofs.Common.{◌≤◌, ◌^◌, sym, ap, ◌∙◌, subst, arith}
-use Rattle.std.specs.Prelude.{IfSome}
+use Rattle.std.proofs.Common.{◌≡◌, is_some, refl, sym, ap, ◌∙◌, subst}
 use Rattle.rb_base.specs.Nodes.{other, side_of}
 use Rattle.rb_rules.specs.Core.{pass_to}
 use Rattle.rb_rules.specs.Lawful.{kind_of}
-use Rattle.rb_rules.specs.WorldStep.{proceed, wants_in, word_of}
+use Rattle.rb_rules.specs.WorldStep.{Site as WorldSite, World, proceed, wants_in, word_of}
 use Rattle.rb_node.specs.Cores.{IsCore, Running, next_of}
 use Rattle.rb_slot.specs.Engines.{Seated}
 use Rattle.rb_node.specs.Wants.{want_then}
-use Rattle.rb_site.specs.Sites.{after_tick, number_of}
-use Rattle.rb_site.specs.Tells.{IsTicked}
-use Rattle.rb_world.specs.declared.scene.Scene.{Scene}
-use Rattle.rb_world.specs.Steps.{CanWant, moved, HasRoomFor, MayProceed, Proceeds, SeesOnlyNodes}
+use Rattle.rb_site.specs.Sites.{KeptSite, number_of}
+use Rattle.rb_world.specs.Steps.{CanWant, HasRoomFor, MayTick, moved}
 use Rattle.rb_world.specs.Worlds.{HoldsPorts}
-use Rattle.rb_world.proofs.Acting.{told_in, want-is}
+use Rattle.rb_world.proofs.Acting.{want-is}
 use Rattle.rb_world.proofs.Lanes.{kind-named}
-use Rattle.rb_world.proofs.Whole.{act_of, epoch-tick, may-then, room-then, sees-nodes, told-then, whole}
-use Rattle.rb_world.proofs.Words.{can-want, wants-words}
+use Rattle.rb_world.proofs.SaidWithin.{goes-on, has-ticked, is-word, may-go-on, site_then, world_then}
+use Rattle.rb_world.proofs.Whole.{room-then}
+use Rattle.rb_world.proofs.Words.{can-want}
 use Rattle.rb_world.proofs.ticking.tick_in_full.Goals as goal
 
 pub word_for-word-requires-clause-want : goal.word_for-word-requires-clause-want
@@ -31,152 +29,89 @@ word_for-word-requires-clause-want g c =
     subst (λ i. CanWant sc i c.wants_then.result) (sym c.requires.number)
     (subst (CanWant sc (number_of site)) (sym wanted) (can-want sc me (number_of site) (pass_to c.args.k s.core) may.at.within))
 
-pub begin-requires-clause-tick : goal.begin-requires-clause-tick
-begin-requires-clause-tick g c =
+pub proceed_within-requires-clause-may : goal.proceed_within-requires-clause-may
+proceed_within-requires-clause-may g c =
     let sc = c.args.bus.now in
     let me = side_of g.K.Kind.CODE in
     let site = c.args.site.now in
+    let after = c.say_alone.new.self in
     let k = c.args.k in
     let w = c.requires.may.0 in
     let s = c.requires.may.1 in
     let may = c.requires.may.2 in
-    let wanted = c.wants_then.ensures s.core (subst (λ n. IsCore n s.core) (sym c.node.ensures) may.at.stands.core)
-    ∙ ap (λ n. want_then me n s.core (next_of me n s.core)) c.node.ensures
-    ∙ want-is sc me (number_of site) k site s.core may.at.stands.sizes may.at.stands.plan may.at.number may.next in
-    let ticked : IsTicked sc w.ports me site c.tick-step.new.self c.tick-step.result k s = c.tick-step.ensures.ticked sc w.ports s may.at.stands
-    (c.word_for-word.ensures w.ports (wants_in sc me (number_of site) (pass_to k s.core)) (subst (λ ps. HoldsPorts sc ps w.ports) (sym c.deref.ensures.value) may.at.surrounds.ports)
-    (wants-words sc.sizes sc.plan me (number_of site) (pass_to k s.core)) wanted
-    ∙ ap (λ n. word_of sc w.ports n (wants_in sc me (number_of site) (pass_to k s.core))) c.requires.number) in
-    subst (λ o. IfSome o (λ e. e.tick ≤ 2 ^ 31)) (sym ticked.act.epoch) (epoch-tick sc w.ports me (number_of site) k s.core may.later may.below)
-
-pub close-requires-clause-sources : goal.close-requires-clause-sources
-close-requires-clause-sources g c =
-    let sc = c.args.bus.now in
-    let me = side_of g.K.Kind.CODE in
-    let site = c.args.site.now in
-    let k = c.args.k in
-    let w = c.requires.may.0 in
-    let s = c.requires.may.1 in
-    let may = c.requires.may.2 in
-    let wanted = c.wants_then.ensures s.core (subst (λ n. IsCore n s.core) (sym c.node.ensures) may.at.stands.core)
-    ∙ ap (λ n. want_then me n s.core (next_of me n s.core)) c.node.ensures
-    ∙ want-is sc me (number_of site) k site s.core may.at.stands.sizes may.at.stands.plan may.at.number may.next in
-    let ticked : IsTicked sc w.ports me site c.tick-step.new.self c.tick-step.result k s = c.tick-step.ensures.ticked sc w.ports s may.at.stands
-    (c.word_for-word.ensures w.ports (wants_in sc me (number_of site) (pass_to k s.core)) (subst (λ ps. HoldsPorts sc ps w.ports) (sym c.deref.ensures.value) may.at.surrounds.ports)
-    (wants-words sc.sizes sc.plan me (number_of site) (pass_to k s.core)) wanted
-    ∙ ap (λ n. word_of sc w.ports n (wants_in sc me (number_of site) (pass_to k s.core))) c.requires.number) in
-    λ closed.
-    subst (λ m. SeesOnlyNodes sc m c.tick-step.new.self.node.shown) (sym (ap kind_of c.requires.name ∙ kind-named me (number_of site)))
-    (sees-nodes sc me (number_of site) k site c.args.scene.now w s c.tick-step.result c.tick-step.new.self.node.shown may ticked.act closed)
-
-pub proceed-requires-clause-may : goal.proceed-requires-clause-may
-proceed-requires-clause-may g c =
-    let sc = c.args.bus.now in
-    let me = side_of g.K.Kind.CODE in
-    let site = c.args.site.now in
-    let k = c.args.k in
-    let w = c.requires.may.0 in
-    let s = c.requires.may.1 in
-    let may = c.requires.may.2 in
-    let wanted = c.wants_then.ensures s.core (subst (λ n. IsCore n s.core) (sym c.node.ensures) may.at.stands.core)
-    ∙ ap (λ n. want_then me n s.core (next_of me n s.core)) c.node.ensures
-    ∙ want-is sc me (number_of site) k site s.core may.at.stands.sizes may.at.stands.plan may.at.number may.next in
-    let ticked : IsTicked sc w.ports me site c.tick-step.new.self c.tick-step.result k s = c.tick-step.ensures.ticked sc w.ports s may.at.stands
-    (c.word_for-word.ensures w.ports (wants_in sc me (number_of site) (pass_to k s.core)) (subst (λ ps. HoldsPorts sc ps w.ports) (sym c.deref.ensures.value) may.at.surrounds.ports)
-    (wants-words sc.sizes sc.plan me (number_of site) (pass_to k s.core)) wanted
-    ∙ ap (λ n. word_of sc w.ports n (wants_in sc me (number_of site) (pass_to k s.core))) c.requires.number) in
-    let x = act_of sc w me site k s in
-    let told = told-then sc me k c.args.node site c.tick-step.new.self c.args.scene.now c.close.new.scene w s c.tick-step.result c.requires.name c.tick-step.ensures.same.index may ticked
-    (c.close.ensures.around _ (c.begin.ensures.around w may.at.surrounds)) in
-    let agenda = c.close.ensures.agenda ∙ ap (λ (m : Scene). m.agenda) c.begin.ensures.rest in
-    let ready = may-then sc me k site c.tick-step.new.self c.args.scene.now c.close.new.scene w s c.tick-step.result c.tick-step.ensures.same.index may ticked agenda told in
-    let z = after_tick sc w.ports me (number_of site) x s in
-    let v = told_in sc w me (number_of site) x in
-    (v, z, subst (λ i. MayProceed sc me i c.tick-step.new.self c.close.new.scene v z) (sym c.tick-step.ensures.same.index) ready)
-
-pub depart-requires-clause-tick : goal.depart-requires-clause-tick
-depart-requires-clause-tick g c = let below = c.requires.may.2.below in omega (arith, below)
+    let worded = is-word sc me k c.args.i c.word_for-word.result c.wants_then.result c.deref.result.now site c.args.scene.now w s may c.requires.number
+    (c.wants_then.ensures s.core (subst (λ n. IsCore n s.core) (sym c.node.ensures) may.at.stands.core) ∙ ap (λ n. want_then me n s.core (next_of me n s.core)) c.node.ensures)
+    (subst (λ ps. HoldsPorts sc ps w.ports) (sym c.deref.ensures.value) may.at.surrounds.ports) c.word_for-word.ensures in
+    let ticked = c.say_alone.ensures.ticked (ap is_some c.in-Some.is) sc w.ports k s may.at.stands may.next worded in (
+      world_then sc w me site k s,
+      site_then sc w me site k s,
+      may-go-on sc me k c.args.node site after c.args.scene.now w s c.say_alone.result c.requires.name c.say_alone.ensures.same.index may ticked,
+    )
 
 pub depart-requires-clause-around : goal.depart-requires-clause-around
 depart-requires-clause-around g c =
     let sc = c.args.bus.now in
     let me = side_of g.K.Kind.CODE in
     let site = c.args.site.now in
+    let after = c.say_alone.new.self in
     let k = c.args.k in
     let w = c.requires.may.0 in
     let s = c.requires.may.1 in
     let may = c.requires.may.2 in
-    let wanted = c.wants_then.ensures s.core (subst (λ n. IsCore n s.core) (sym c.node.ensures) may.at.stands.core)
-    ∙ ap (λ n. want_then me n s.core (next_of me n s.core)) c.node.ensures
-    ∙ want-is sc me (number_of site) k site s.core may.at.stands.sizes may.at.stands.plan may.at.number may.next in
-    let ticked : IsTicked sc w.ports me site c.tick-step.new.self c.tick-step.result k s = c.tick-step.ensures.ticked sc w.ports s may.at.stands
-    (c.word_for-word.ensures w.ports (wants_in sc me (number_of site) (pass_to k s.core)) (subst (λ ps. HoldsPorts sc ps w.ports) (sym c.deref.ensures.value) may.at.surrounds.ports)
-    (wants-words sc.sizes sc.plan me (number_of site) (pass_to k s.core)) wanted
-    ∙ ap (λ n. word_of sc w.ports n (wants_in sc me (number_of site) (pass_to k s.core))) c.requires.number) in
-    let x = act_of sc w me site k s in
-    let told = told-then sc me k c.args.node site c.tick-step.new.self c.args.scene.now c.close.new.scene w s c.tick-step.result c.requires.name c.tick-step.ensures.same.index may ticked
-    (c.close.ensures.around _ (c.begin.ensures.around w may.at.surrounds)) in
-    let agenda = c.close.ensures.agenda ∙ ap (λ (m : Scene). m.agenda) c.begin.ensures.rest in
-    let ready = may-then sc me k site c.tick-step.new.self c.args.scene.now c.close.new.scene w s c.tick-step.result c.tick-step.ensures.same.index may ticked agenda told in
-    let z = after_tick sc w.ports me (number_of site) x s in
-    let v = told_in sc w me (number_of site) x in
-    let on : Proceeds sc me (number_of site) c.proceed.new.site c.close.new.scene c.proceed.new.scene v z =
-    subst (λ i. Proceeds sc me i c.proceed.new.site c.close.new.scene c.proceed.new.scene v z) c.tick-step.ensures.same.index
-    (c.proceed.ensures v z (subst (λ i. MayProceed sc me i c.tick-step.new.self c.close.new.scene v z) (sym c.tick-step.ensures.same.index) ready)) in
-    (moved me (number_of site) (proceed sc me (number_of site)) v, on.surrounds)
+    let worded = is-word sc me k c.args.i c.word_for-word.result c.wants_then.result c.deref.result.now site c.args.scene.now w s may c.requires.number
+    (c.wants_then.ensures s.core (subst (λ n. IsCore n s.core) (sym c.node.ensures) may.at.stands.core) ∙ ap (λ n. want_then me n s.core (next_of me n s.core)) c.node.ensures)
+    (subst (λ ps. HoldsPorts sc ps w.ports) (sym c.deref.ensures.value) may.at.surrounds.ports) c.word_for-word.ensures in
+    let ticked = c.say_alone.ensures.ticked (ap is_some c.in-Some.is) sc w.ports k s may.at.stands may.next worded in
+    let on = goes-on sc me k c.args.node site after c.args.scene.now c.proceed_within.new.scene w s c.say_alone.result c.requires.name
+    c.say_alone.ensures.same.index may ticked c.proceed_within.ensures in
+    (moved me (number_of site) (proceed sc me (number_of site)) (world_then sc w me site k s), on.surrounds)
 
 pub depart-requires-clause-room : goal.depart-requires-clause-room
 depart-requires-clause-room g c =
     let sc = c.args.bus.now in
     let me = side_of g.K.Kind.CODE in
     let site = c.args.site.now in
+    let after = c.say_alone.new.self in
     let k = c.args.k in
     let w = c.requires.may.0 in
     let s = c.requires.may.1 in
     let may = c.requires.may.2 in
-    let wanted = c.wants_then.ensures s.core (subst (λ n. IsCore n s.core) (sym c.node.ensures) may.at.stands.core)
-    ∙ ap (λ n. want_then me n s.core (next_of me n s.core)) c.node.ensures
-    ∙ want-is sc me (number_of site) k site s.core may.at.stands.sizes may.at.stands.plan may.at.number may.next in
-    let ticked : IsTicked sc w.ports me site c.tick-step.new.self c.tick-step.result k s = c.tick-step.ensures.ticked sc w.ports s may.at.stands
-    (c.word_for-word.ensures w.ports (wants_in sc me (number_of site) (pass_to k s.core)) (subst (λ ps. HoldsPorts sc ps w.ports) (sym c.deref.ensures.value) may.at.surrounds.ports)
-    (wants-words sc.sizes sc.plan me (number_of site) (pass_to k s.core)) wanted
-    ∙ ap (λ n. word_of sc w.ports n (wants_in sc me (number_of site) (pass_to k s.core))) c.requires.number) in
-    let x = act_of sc w me site k s in
-    let told = told-then sc me k c.args.node site c.tick-step.new.self c.args.scene.now c.close.new.scene w s c.tick-step.result c.requires.name c.tick-step.ensures.same.index may ticked
-    (c.close.ensures.around _ (c.begin.ensures.around w may.at.surrounds)) in
-    let agenda = c.close.ensures.agenda ∙ ap (λ (m : Scene). m.agenda) c.begin.ensures.rest in
-    let ready = may-then sc me k site c.tick-step.new.self c.args.scene.now c.close.new.scene w s c.tick-step.result c.tick-step.ensures.same.index may ticked agenda told in
-    let z = after_tick sc w.ports me (number_of site) x s in
-    let v = told_in sc w me (number_of site) x in
-    let on : Proceeds sc me (number_of site) c.proceed.new.site c.close.new.scene c.proceed.new.scene v z =
-    subst (λ i. Proceeds sc me i c.proceed.new.site c.close.new.scene c.proceed.new.scene v z) c.tick-step.ensures.same.index
-    (c.proceed.ensures v z (subst (λ i. MayProceed sc me i c.tick-step.new.self c.close.new.scene v z) (sym c.tick-step.ensures.same.index) ready)) in
-    subst (λ m. HasRoomFor sc (other m) c.proceed.new.scene) (sym (ap kind_of c.requires.name ∙ kind-named me (number_of site)))
-    (room-then sc me (number_of site) c.args.scene.now c.close.new.scene c.proceed.new.scene may.message agenda on.others)
+    let worded = is-word sc me k c.args.i c.word_for-word.result c.wants_then.result c.deref.result.now site c.args.scene.now w s may c.requires.number
+    (c.wants_then.ensures s.core (subst (λ n. IsCore n s.core) (sym c.node.ensures) may.at.stands.core) ∙ ap (λ n. want_then me n s.core (next_of me n s.core)) c.node.ensures)
+    (subst (λ ps. HoldsPorts sc ps w.ports) (sym c.deref.ensures.value) may.at.surrounds.ports) c.word_for-word.ensures in
+    let ticked = c.say_alone.ensures.ticked (ap is_some c.in-Some.is) sc w.ports k s may.at.stands may.next worded in
+    let on = goes-on sc me k c.args.node site after c.args.scene.now c.proceed_within.new.scene w s c.say_alone.result c.requires.name
+    c.say_alone.ensures.same.index may ticked c.proceed_within.ensures in
+    subst (λ m. HasRoomFor sc (other m) c.proceed_within.new.scene) (sym (ap kind_of c.requires.name ∙ kind-named me (number_of site)))
+    (room-then sc me (number_of site) c.args.scene.now c.args.scene.now c.proceed_within.new.scene may.message refl on.others)
 
-pub returns : goal.returns
-returns g c =
+pub returns-in-Some : goal.returns-in-Some
+returns-in-Some g c =
     λ w s may.
     let sc = c.args.bus.now in
     let me = side_of g.K.Kind.CODE in
     let site = c.args.site.now in
+    let after = c.say_alone.new.self in
     let k = c.args.k in
-    let wanted = c.wants_then.ensures s.core (subst (λ n. IsCore n s.core) (sym c.node.ensures) may.at.stands.core)
-    ∙ ap (λ n. want_then me n s.core (next_of me n s.core)) c.node.ensures
-    ∙ want-is sc me (number_of site) k site s.core may.at.stands.sizes may.at.stands.plan may.at.number may.next in
-    let ticked : IsTicked sc w.ports me site c.tick-step.new.self c.tick-step.result k s = c.tick-step.ensures.ticked sc w.ports s may.at.stands
-    (c.word_for-word.ensures w.ports (wants_in sc me (number_of site) (pass_to k s.core)) (subst (λ ps. HoldsPorts sc ps w.ports) (sym c.deref.ensures.value) may.at.surrounds.ports)
-    (wants-words sc.sizes sc.plan me (number_of site) (pass_to k s.core)) wanted
-    ∙ ap (λ n. word_of sc w.ports n (wants_in sc me (number_of site) (pass_to k s.core))) c.requires.number) in
-    let x = act_of sc w me site k s in
-    let told = told-then sc me k c.args.node site c.tick-step.new.self c.args.scene.now c.close.new.scene w s c.tick-step.result c.requires.name c.tick-step.ensures.same.index may ticked
-    (c.close.ensures.around _ (c.begin.ensures.around w may.at.surrounds)) in
-    let agenda = c.close.ensures.agenda ∙ ap (λ (m : Scene). m.agenda) c.begin.ensures.rest in
-    let ready = may-then sc me k site c.tick-step.new.self c.args.scene.now c.close.new.scene w s c.tick-step.result c.tick-step.ensures.same.index may ticked agenda told in
-    let z = after_tick sc w.ports me (number_of site) x s in
-    let v = told_in sc w me (number_of site) x in
-    let on : Proceeds sc me (number_of site) c.proceed.new.site c.close.new.scene c.proceed.new.scene v z =
-    subst (λ i. Proceeds sc me i c.proceed.new.site c.close.new.scene c.proceed.new.scene v z) c.tick-step.ensures.same.index
-    (c.proceed.ensures v z (subst (λ i. MayProceed sc me i c.tick-step.new.self c.close.new.scene v z) (sym c.tick-step.ensures.same.index) ready)) in
-    whole sc me (number_of site) k c.args.node c.proceed.new.site c.close.new.scene c.proceed.new.scene c.depart.new.scene w s x c.tick-step.result c.frame-frame.result c.requires.name on
-    (c.frame-frame.ensures ∙ ap (λ (v : Seated). v.state.frame) (c.engine.ensures ∙ ap (λ (n : Running). n.seat) c.node-2.ensures)) ticked.act.message (c.depart.ensures (moved me (number_of site) (proceed sc me (number_of site)) v) on.surrounds)
+    let worded = is-word sc me k c.args.i c.word_for-word.result c.wants_then.result c.deref.result.now site c.args.scene.now w s may c.requires.number
+    (c.wants_then.ensures s.core (subst (λ n. IsCore n s.core) (sym c.node.ensures) may.at.stands.core) ∙ ap (λ n. want_then me n s.core (next_of me n s.core)) c.node.ensures)
+    (subst (λ ps. HoldsPorts sc ps w.ports) (sym c.deref.ensures.value) may.at.surrounds.ports) c.word_for-word.ensures in
+    let ticked = c.say_alone.ensures.ticked (ap is_some c.in-Some.is) sc w.ports k s may.at.stands may.next worded in
+    let on = goes-on sc me k c.args.node site after c.args.scene.now c.proceed_within.new.scene w s c.say_alone.result c.requires.name
+    c.say_alone.ensures.same.index may ticked c.proceed_within.ensures in
+    has-ticked sc me k c.frame-frame.result c.args.node site after c.args.scene.now c.proceed_within.new.scene c.depart.new.scene w s c.say_alone.result c.in-Some.message
+    c.requires.name c.in-Some.is ticked on
+    (c.frame-frame.ensures ∙ ap (λ (v : Seated). v.state.frame) (c.engine.ensures ∙ ap (λ (n : Running). n.seat) c.node-in-Some.ensures)) c.depart.ensures
+
+pub tick_with_word-requires-clause-word : goal.tick_with_word-requires-clause-word
+tick_with_word-requires-clause-word g c =
+    let sc = c.args.bus.now in
+    let me = side_of g.K.Kind.CODE in
+    let k = c.args.k in
+    let old : c.say_alone.new.self ≡ c.args.site.now = c.say_alone.ensures.stays (ap is_some c.in_default.is) in
+    subst (λ (x : KeptSite). (w : World) (s : WorldSite) → MayTick sc me (number_of x) k x c.args.scene.now w s
+    → c.word_for-word.result ≡ word_of sc w.ports (number_of x) (wants_in sc me (number_of x) (pass_to k s.core))) (sym old)
+    (λ w s may.
+    is-word sc me k c.args.i c.word_for-word.result c.wants_then.result c.deref.result.now c.args.site.now c.args.scene.now w s may c.requires.number
+    (c.wants_then.ensures s.core (subst (λ n. IsCore n s.core) (sym c.node.ensures) may.at.stands.core) ∙ ap (λ n. want_then me n s.core (next_of me n s.core)) c.node.ensures)
+    (subst (λ ps. HoldsPorts sc ps w.ports) (sym c.deref.ensures.value) may.at.surrounds.ports) c.word_for-word.ensures)

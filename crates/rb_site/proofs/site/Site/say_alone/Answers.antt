@@ -1,4 +1,4 @@
-use Rattle.std.proofs.Common.{◌≡◌, ℕ, false, None, Some, refl, sym, ap, ◌∙◌, subst}
+use Rattle.std.proofs.Common.{◌≡◌, false, None, Some, refl, sym, ap, ◌∙◌, subst}
 use Rattle.rb_base.specs.Nodes.{Side, side_of}
 use Rattle.rb_rules.specs.Core.{next_tick}
 use Rattle.rb_rules.specs.NodeState.{NodeState}
