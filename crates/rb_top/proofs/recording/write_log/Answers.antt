@@ -2,7 +2,11 @@ use Rattle.std.proofs.Common.{subst, sym}
 use Rattle.rb_rules.specs.Goodness.{Scenario}
 use Rattle.rb_rules.specs.Lawful.{IsNodeOf}
 use Rattle.rb_rules.specs.WorldStep.{first_world}
+use Rattle.rb_run.specs.declared.ending.Ending.{Ending}
+use Rattle.rb_run.specs.declared.ending.Ending.TheVariants as ending
 use Rattle.rb_world.specs.Worlds.{Stands}
+use Rattle.rb_top.specs.Answers.{status_of}
+use Rattle.rb_top.specs.Serving.{IsOfRun}
 use Rattle.rb_top.proofs.recording.write_log.Goals as goal
 
 pub record-requires-clause-begin : goal.record-requires-clause-begin
@@ -14,3 +18,10 @@ pub record-requires-clause-node : goal.record-requires-clause-node
 record-requires-clause-node g c =
     let P : Scenario → Type 0 = λ sc. IsNodeOf sc.sizes c.args.node in
     subst P (sym c.in-Ok.ensures.bus) c.requires.node
+
+of-run : (e : Ending) → IsOfRun (status_of e)
+of-run ending.Ended = tt
+of-run ending.Breach = tt
+
+pub returns-in-Ok-record-clause-one_of : goal.returns-in-Ok-record-clause-one_of
+returns-in-Ok-record-clause-one_of g c = subst IsOfRun (sym c.status_of.ensures) (of-run c.in-Ok-record.ending)
