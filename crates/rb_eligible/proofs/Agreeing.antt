@@ -1,5 +1,5 @@
 -- Bytes that came of all sources of a set.
-use Rattle.std.proofs.Common.{◌≡◌, ℕ, ◌<◌, ◌^◌, Bool, true, false, not, ◌&&◌, ◌==◌, if◌then◌else◌, Option, Some, None, unwrap_or, List, length, get_or, set, inl, inr, refl, sym, ◌∙◌, ap, arith}
+use Rattle.std.proofs.Common.{◌≡◌, ℕ, suc, ◌<◌, ◌^◌, lit<, Bool, true, false, not, ◌&&◌, ◌==◌, if◌then◌else◌, Option, Some, None, unwrap_or, List, [], ◌∷◌, length, get_or, set, inl, inr, refl, sym, ◌∙◌, ap, arith}
 use Rattle.std.proofs.lemmas.Bool.{cases_eq}
 use Rattle.std.proofs.lemmas.List.{get_or-set_other, get_or-set_same}
 use Rattle.std.proofs.lemmas.List.FromFn.{fill_by_all}
@@ -17,7 +17,6 @@ use Rattle.rb_eligible.specs.Inboxes.{HoldsArrivals, KeptArrivals, Received, is_
 use Rattle.rb_eligible.specs.Readings.{Says, bytes_of}
 use Rattle.rb_eligible.specs.Takings.{AreAlike, AreOnesOf, AreSaid, AreTakenOf, AreValuesOf}
 use Rattle.rb_eligible.proofs.Alike.{leading_vote}
-use Rattle.rb_eligible.proofs.Onlys.{if_fits, no_values}
 use Rattle.rb_eligible.proofs.Scans.{both_second, not_left}
 use Rattle.rb_eligible.proofs.Sensed.{none_but_soles, read_one, read_value, value_but_soles}
 
@@ -48,6 +47,10 @@ alike_says kept e due k one value taken says alike = record {
   some = alike.some;
   each = λ j h inside. let a = alike.each j h inside in (a.0, rw (a.1, a.2) says);
 }
+
+if_fits : (due : ℕ) (one : Bool) → due < 2 ^ 16 → (if one then due else 0) < 2 ^ 16
+if_fits due true fits = fits
+if_fits due false fits = lit< tt
 
 -- so exactly one message came of each, or of none
 one_of : (kept : KeptArrivals) (e : Expect) (due : ℕ) (one : Bool) (value : Option Heard) (j : ℕ) (taken : List (Option Heard)) (received : List Received) → HoldsArrivals kept received → j < 16
@@ -84,6 +87,11 @@ value_of kept e due one value j taken received shown h soles rest said false out
 pub said_values : (kept : KeptArrivals) (e : Expect) (due : ℕ) (one : Bool) (value : Option Heard) (taken : List (Option Heard)) → ((j : ℕ) → j < 16 → has due j ≡ true → is_sole kept j ≡ true)
     → ((j : ℕ) → j < 16 → has due j ≡ false → get_or taken j None ≡ None) → AreSaid kept e due one value taken → AreValuesOf kept e due taken
 said_values kept e due one value taken soles rest said = λ received shown j h. value_of kept e due one value j taken received shown h soles rest said (has due j) refl
+
+no_values : (taken : List (Option Heard)) → ((j : ℕ) → j < length taken → get_or taken j None ≡ None) → present taken ≡ []
+no_values [] none = refl
+no_values (None ∷ taken) none = no_values taken (λ j h. none (suc j) (omega (arith, h)))
+no_values (Some x ∷ taken) none = let e : Some x ≡ None = none 0 (omega arith) in absurd cc
 
 -- and so is the vote over all
 pub said_vote : (kept : KeptArrivals) (e : Expect) (due : ℕ) (one : Bool) (value : Option Heard) (taken : List (Option Heard)) → length taken ≡ 16

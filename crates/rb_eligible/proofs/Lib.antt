@@ -7,6 +7,5 @@ pub mod Alike
 pub mod Seeing
 pub mod Quiet
 pub mod Forms
-pub mod Onlys
 pub mod Starts
 pub mod Agreeing

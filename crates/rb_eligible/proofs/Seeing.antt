@@ -1,7 +1,7 @@
 -- What is shown of each source while it is written down beside what was taken of it.
-use Rattle.std.proofs.Common.{◌≡◌, ℕ, ◌<◌, Bool, true, false, not, ◌&&◌, Option, None, List, length, map, get_or, set, replicate, inl, inr, refl, sym, ◌∙◌, ap, arith}
+use Rattle.std.proofs.Common.{◌≡◌, ℕ, ◌<◌, Bool, true, false, not, ◌&&◌, Option, None, List, length, map, get_or, set, inl, inr, refl, sym, ◌∙◌, ap, arith}
 use Rattle.std.proofs.lemmas.Bool.{cases_eq}
-use Rattle.std.proofs.lemmas.List.{ext_get_or, get_or-map, get_or-replicate, get_or-set_other, get_or-set_same, length-map}
+use Rattle.std.proofs.lemmas.List.{ext_get_or, get_or-map, get_or-set_other, get_or-set_same, length-map}
 use Rattle.rb_base.specs.Nodes.{has, set_of}
 use Rattle.rb_base.specs.declared.values.Heard.{Heard}
 use Rattle.rb_base.specs.declared.values.See.{See}
@@ -29,13 +29,6 @@ shown_all sees taken all all_taken shown =
 
 pub first_shown : (sees : List See) (taken : List (Option Heard)) → length taken ≡ 16 → sees ≡ map see_value taken → AreShown sees taken
 first_shown sees taken all shown j h = ap (λ xs. get_or xs j Nothing) shown ∙ get_or-map see_value taken j None Nothing (omega arith)
-
-pub blank_sheet : (due : ℕ) (taken : List (Option Heard)) (sees : List See) → taken ≡ replicate 16 None → sees ≡ replicate 16 Nothing → IsSheet due taken sees
-blank_sheet due taken sees taken_are sees_are = record {
-  all = ap length taken_are;
-  shown = sees_are ∙ ap (map see_value) (sym taken_are);
-  rest = λ j h other. ap (λ xs. get_or xs j None) taken_are ∙ get_or-replicate 16 j None None h;
-}
 
 -- where the stale ones are none
 pub same_sheet : (written due stale : ℕ) (taken : List (Option Heard)) (sees : List See) → stale ≡ set_of (λ i. has written i && not (has due i)) → stale ≡ 0 → IsSheet written taken sees

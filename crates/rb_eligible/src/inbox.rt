@@ -1,5 +1,5 @@
 //! What came of each source in a window.
-ghost use Rattle.std.specs.Prelude.{◌≡◌, List, [], ◌∷◌, ◌++◌, ◌<◌, ◌≤◌, ℕ};
+ghost use Rattle.std.specs.Prelude.{◌≡◌, List, [], ◌∷◌, ◌++◌, ◌≤◌, ℕ};
 ghost use Rattle.rb_base.specs.Nodes.{set_of};
 ghost use Rattle.rb_rules.specs.Sense.{sense_of};
 ghost use Rattle.rb_frame.specs.Spellings.{len_of};

@@ -4,7 +4,7 @@
 pub use inbox::Inbox;
 pub use rb_rules::{Expect, Sense};
 pub use standing::Standing;
-pub use taking::{Taking, is_quiet, single_of, take_single, take_with_evidence};
+pub use taking::{Taking, is_quiet, take_with_evidence};
 
 pub mod inbox;
 pub mod reading;

@@ -1,5 +1,5 @@
 //! What a node takes in a window, and whom it accuses for what came.
-ghost use Rattle.std.specs.Prelude.{◌≡◌, ℕ, ◌<◌, ◌*◌, ◌^◌, ◌&&◌, ◌==◌, not, true, if◌then◌else◌, None, Some, slice_set, unwrap_or, IfNone, IfSome, IsTrue};
+ghost use Rattle.std.specs.Prelude.{◌≡◌, ℕ, ◌<◌, ◌*◌, ◌^◌, ◌&&◌, ◌==◌, not, true, if◌then◌else◌, Some, slice_set, unwrap_or, IfSome, IsTrue};
 ghost use Rattle.rb_base.specs.Nodes.{has, set_of, size};
 ghost use Rattle.rb_base.specs.declared.values.Heard.{Heard};
 ghost use Rattle.rb_rules.specs.ExactStage.{present, see_value};
@@ -83,54 +83,11 @@ fn make_room<K: Copy>(
     }
 }
 
-// The only node of the set, if it has exactly one.
-#[inline(always)]
-fn only_of<K: Copy>(set: NodeSet<K>) -> Option<NodeId<K>>
-    ensures only { IfSome result (λ source. (j : ℕ) → j < 16 → has set j ≡ (j == source)) }
-    ensures none { IfNone result ((source : ℕ) → source < 16 → ¬ ((j : ℕ) → j < 16 → has set j ≡ (j == source))) }
-{
-    let mut left = set;
-    let Some(first) = left.pop_first() else {
-        return None;
-    };
-    if left.is_empty() { Some(first) } else { None }
-}
-
 // The set, or the empty one.
 fn set_if<K: Copy>(set: NodeSet<K>, stays: bool) -> NodeSet<K>
     ensures { result ≡ (if stays then set else 0) }
 {
     if stays { set } else { NodeSet::empty() }
-}
-
-// Takes what came of the only source of the set.
-#[inline(always)]
-fn take_only<K: Copy>(
-    inbox: &Inbox<K>,
-    due: NodeSet<K>,
-    source: NodeId<K>,
-    expect: &Expect,
-    taken: &mut [Option<Heard>; 16],
-    sees: &mut [See; 16],
-) -> Taking<K>
-    requires fits { due < 2 ^ 16 }
-    requires only { (j : ℕ) → j < 16 → has due j ≡ (j == source) }
-    requires due { (j : ℕ) → j < 16 → has due j ≡ true → is_sole inbox.now j ≡ true }
-    requires sheet { IsSheet due taken.old sees.old }
-    ensures ones { AreOnesOf inbox.now expect.now (has due) result.ones }
-    ensures taken { AreValuesOf inbox.now expect.now due taken.new }
-    ensures alike { IsTrue result.alike → majority_of (present taken.new) ≡ unwrap_or result.value Heard.Fault }
-    ensures sheet { IsSheet due taken.new sees.new }
-{
-    let Said { one, value } = words_of(inbox.sole_at(source), expect);
-    let at = usize::from(source.index());
-    taken[at] = value;
-    sees[at] = see_value(value);
-    Taking {
-        ones: set_if(due, one),
-        alike: true,
-        value,
-    }
 }
 
 // Takes what came of the sources of the set, of each of which there is one arrival.
@@ -305,72 +262,15 @@ fn take_any<K: Copy>(
     }
 }
 
-// The same, where the only source of the set may be known.
-#[inline(always)]
-fn take_due<K: Copy>(
-    inbox: &Inbox<K>,
-    due: NodeSet<K>,
-    only: Option<NodeId<K>>,
-    expect: &Expect,
-    taken: &mut [Option<Heard>; 16],
-    sees: &mut [See; 16],
-) -> Taking<K>
-    requires fits { due < 2 ^ 16 }
-    requires only { IfSome only (λ source. (j : ℕ) → j < 16 → has due j ≡ (j == source)) }
-    requires due { (j : ℕ) → j < 16 → has due j ≡ true → is_sole inbox.now j ≡ true }
-    requires sheet { IsSheet due taken.old sees.old }
-    ensures ones { AreOnesOf inbox.now expect.now (has due) result.ones }
-    ensures taken { AreValuesOf inbox.now expect.now due taken.new }
-    ensures alike { IsTrue result.alike → majority_of (present taken.new) ≡ unwrap_or result.value Heard.Fault }
-    ensures sheet { IsSheet due taken.new sees.new }
-{
-    match only {
-        Some(source) => take_only(inbox, due, source, expect, taken, sees),
-        None => take_some(inbox, due, expect, taken, sees),
-    }
-}
-
-// The same of the sources of a set, where there may be no such arrivals.
-#[inline(always)]
-fn take_each<K: Copy>(
-    inbox: &Inbox<K>,
-    takable: NodeSet<K>,
-    only: Option<NodeId<K>>,
-    expect: &Expect,
-    written: &mut NodeSet<K>,
-    taken: &mut [Option<Heard>; 16],
-    sees: &mut [See; 16],
-) -> Taking<K>
-    requires only { IfSome only (λ source. (j : ℕ) → j < 16 → (has takable j && is_sole inbox.now j) ≡ (j == source)) }
-    requires sheet { IsSheet written.old taken.old sees.old }
-    ensures ones { AreOnesOf inbox.now expect.now (has takable) result.ones }
-    ensures taken { AreValuesOf inbox.now expect.now takable taken.new }
-    ensures alike { IsTrue result.alike → majority_of (present taken.new) ≡ unwrap_or result.value Heard.Fault }
-    ensures sheet { IsSheet written.new taken.new sees.new }
-{
-    let due = takable.intersection(inbox.soles());
-    make_room(due, written, taken, sees);
-    take_due(inbox, due, only, expect, taken, sees)
-}
-
 // The sources of the set of which exactly one message came that is meant for the window.
 #[inline(never)]
 fn ones_among<K: Copy>(inbox: &Inbox<K>, set: NodeSet<K>, expect: &Expect) -> NodeSet<K>
     ensures { AreOnesOf inbox.now expect.now (has set) result }
 {
-    let mut written = NodeSet::empty();
+    let due = set.intersection(inbox.soles());
     let mut taken = [None; 16];
     let mut sees = [See::Nothing; 16];
-    take_each(
-        inbox,
-        set,
-        None,
-        expect,
-        &mut written,
-        &mut taken,
-        &mut sees,
-    )
-    .ones
+    take_some(inbox, due, expect, &mut taken, &mut sees).ones
 }
 
 // The same of the sources that are expected and accused already.
@@ -401,33 +301,6 @@ fn accuse_by<K: Copy>(
     let ones = ones.union(ones_barred(inbox, barred, expect));
     let evidence = standing.evidence(expected, ones, inbox.came());
     standing.accuse_each(evidence);
-}
-
-// Takes and accuses.
-#[inline(always)]
-fn take_all<K: Copy>(
-    inbox: &Inbox<K>,
-    standing: &mut Standing<K>,
-    expect: &Expect,
-    expected: NodeSet<K>,
-    only: Option<NodeId<K>>,
-    written: &mut NodeSet<K>,
-    taken: &mut [Option<Heard>; 16],
-    sees: &mut [See; 16],
-) -> Taking<K>
-    requires only { IfSome only (λ source. (j : ℕ) → j < 16
-        → ((has expected j && is_eligible (standing_of standing.old) j) && is_sole inbox.now j) ≡ (j == source)) }
-    requires sheet { IsSheet written.old taken.old sees.old }
-    ensures ones { AreOnesOf inbox.now expect.now (λ j. has expected j && is_eligible (standing_of standing.old) j) result.ones }
-    ensures taken { AreTakenOf inbox.now (standing_of standing.old) expect.now expected taken.new }
-    ensures accused { AccusesBy inbox.now (standing_of standing.old) expect.now expected (standing_of standing.new) }
-    ensures alike { IsTrue result.alike → majority_of (present taken.new) ≡ unwrap_or result.value Heard.Fault }
-    ensures sheet { IsSheet written.new taken.new sees.new }
-{
-    let takable = standing.eligible_of(expected);
-    let taking = take_each(inbox, takable, only, expect, written, taken, sees);
-    accuse_by(inbox, standing, expect, expected, taking.ones);
-    taking
 }
 
 // The sources of which something may be taken: they are expected and eligible, and of each there is one arrival.
@@ -478,30 +351,6 @@ fn all_alike<K: Copy>(ones: NodeSet<K>, word: u32) -> Taking<K>
     }
 }
 
-/// The only source of which something may be taken in a window. None exactly where there is none or more than one, or where
-/// somebody who is expected is accused directly.
-#[inline(always)]
-pub fn single_of<K: Copy>(
-    inbox: &Inbox<K>,
-    standing: &Standing<K>,
-    expected: NodeSet<K>,
-) -> Option<NodeId<K>>
-    ensures only { IfSome result (λ source. (j : ℕ) → j < 16
-        → ((has expected j && is_eligible (standing_of standing.now) j) && is_sole inbox.now j) ≡ (j == source)) }
-    ensures barred { IfSome result (λ _. set_of (λ j. has expected j && has standing.now.direct j) ≡ 0) }
-    ensures none { IfNone result (set_of (λ j. has expected j && has standing.now.direct j) ≡ 0 → (source : ℕ) → source < 16
-        → ¬ ((j : ℕ) → j < 16
-        → ((has expected j && is_eligible (standing_of standing.now) j) && is_sole inbox.now j) ≡ (j == source))) }
-{
-    let eligible = standing.eligible_of(expected);
-    let due = eligible.intersection(inbox.soles());
-    if expected.intersection(standing.direct).is_empty() {
-        only_of(due)
-    } else {
-        None
-    }
-}
-
 /// Takes what came in a window of each source that is expected and eligible, if exactly one message came and it is meant for
 /// the window: `taken` is by source the value of that message, which a call to resynchronise has not, and `sees` is what is
 /// shown of it. Then each trusted source is accused that was expected and of which not exactly that came, or that wasn't
@@ -533,39 +382,6 @@ pub fn take_with_evidence<K: Copy>(
         }
         None => take_mixed(inbox, standing, expect, expected, due, taken, sees),
     }
-}
-
-/// The same, quicker, where `source` is the only one of which something may be taken, as `single_of` gives it.
-#[inline(always)]
-pub fn take_single<K: Copy>(
-    inbox: &Inbox<K>,
-    standing: &mut Standing<K>,
-    expect: &Expect,
-    expected: NodeSet<K>,
-    source: NodeId<K>,
-    written: &mut NodeSet<K>,
-    taken: &mut [Option<Heard>; 16],
-    sees: &mut [See; 16],
-) -> Taking<K>
-    requires only { (j : ℕ) → j < 16
-        → ((has expected j && is_eligible (standing_of standing.old) j) && is_sole inbox.now j) ≡ (j == source) }
-    requires sheet { IsSheet written.old taken.old sees.old }
-    ensures ones { AreOnesOf inbox.now expect.now (λ j. has expected j && is_eligible (standing_of standing.old) j) result.ones }
-    ensures taken { AreTakenOf inbox.now (standing_of standing.old) expect.now expected taken.new }
-    ensures accused { AccusesBy inbox.now (standing_of standing.old) expect.now expected (standing_of standing.new) }
-    ensures alike { IsTrue result.alike → majority_of (present taken.new) ≡ unwrap_or result.value Heard.Fault }
-    ensures sheet { IsSheet written.new taken.new sees.new }
-{
-    take_all(
-        inbox,
-        standing,
-        expect,
-        expected,
-        Some(source),
-        written,
-        taken,
-        sees,
-    )
 }
 
 /// Whether a window is quiet: nothing came, and no trusted source is expected. Then nothing is taken, and nobody accused.

@@ -1,15 +1,16 @@
 -- The latest rule of a pair gives the delay at each place that it has.
-use Rattle.std.proofs.Common.{◌≡◌, ℕ, ◌+◌, ◌<◌, Bool, true, false, cond, ◌&&◌, ◌==◌, length, List, [], ◌∷◌, ◌++◌, Some, None, reverse, slice_get, get_or, refl, sym, ap, subst, inl, inr, ◌∙◌, arith, length-append}
+use Rattle.std.proofs.Common.{◌≡◌, ℕ, ◌+◌, ◌<◌, ◌≤◌, nat_le, Bool, true, false, cond, ◌&&◌, ◌==◌, length, List, [], ◌∷◌, ◌++◌, Option, Some, None, reverse, slice_get, get_or, refl, sym, ap, subst, inl, inr, ◌∙◌, arith, length-append}
 use Rattle.std.proofs.Math.Seq.{get_or-append_seam}
-use Rattle.std.proofs.lemmas.Bool.{cases_lt, eqb-true}
+use Rattle.std.proofs.lemmas.Bool.{cases_lt, eqb-true, le-leb}
 use Rattle.std.proofs.lemmas.List.{get_or_append_left}
 use Rattle.std.proofs.lemmas.Option.{get_or_from_slice_get, slice_get-get_or, slice_get_within}
 use Rattle.std.specs.List.{find}
 use Rattle.rb_base.specs.declared.node.NodeName.{NodeName}
 use Rattle.rb_base.specs.declared.values.Place.{Place}
 use Rattle.rb_rules.specs.declared.link.Rule.{Rule}
-use Rattle.rb_rules.specs.Links.{applies, covers, delay_after}
-use Rattle.rb_link.specs.Pairs.{AreLatest, IsLatest, delay_or, is_between, receiver_of, sender_of}
+use Rattle.rb_rules.specs.Links.{applies, covers, delay_after, is_in_range}
+use Rattle.rb_link.specs.Pairs.{AreLatest, IsLatest, delay_or, is_between, receiver_of, rule_or_base, sender_of}
+use Rattle.rb_link.specs.Rows.{PlaceFits, latest_has, rule_has}
 use Rattle.rb_link.proofs.LastRules.{last_of_all}
 
 -- the first that passes one test, and the other too, is the first that passes both
@@ -42,22 +43,58 @@ find_neither first second (x ∷ xs) is = go (first x) refl (find_neither first 
         ap (λ b. cond (b && second x) (Some x) (find (λ y. first y && second y) xs)) e ∙ rest later
 
 -- the last of the rules for the pair
-pub latest_found : (base : ℕ) (rules : List Rule) (from to : NodeName) (rule : Rule) → Some rule ≡ find (is_between from to) (reverse rules)
-    → IsLatest base rules from to rule
-latest_found base rules from to rule is place has =
+last_delay : (base : ℕ) (rules : List Rule) (from to : NodeName) (rule : Rule) (place : Place) → find (is_between from to) (reverse rules) ≡ Some rule
+    → covers rule.frames rule.slots rule.stages place ≡ true → rule.delay ≡ delay_after base rules from to place
+last_delay base rules from to rule place is has =
     let both : find (λ r. applies r from to place) (reverse rules) ≡ Some rule =
-    find_both (is_between from to) (λ r. covers r.frames r.slots r.stages place) (reverse rules) rule (sym is) has in
+    find_both (is_between from to) (λ r. covers r.frames r.slots r.stages place) (reverse rules) rule is has in
     sym (ap (delay_or base) both) ∙ last_of_all base rules from to place
 
 -- where there is none, the base is the delay at each place
-pub latest_of_none : (base : ℕ) (rules : List Rule) (from to : NodeName) (place : Place) → None ≡ find (is_between from to) (reverse rules)
+base_delay : (base : ℕ) (rules : List Rule) (from to : NodeName) (place : Place) → find (is_between from to) (reverse rules) ≡ None
     → base ≡ delay_after base rules from to place
-latest_of_none base rules from to place is =
+base_delay base rules from to place is =
     let neither : find (λ r. applies r from to place) (reverse rules) ≡ None =
-    find_neither (is_between from to) (λ r. covers r.frames r.slots r.stages place) (reverse rules) (sym is) in
+    find_neither (is_between from to) (λ r. covers r.frames r.slots r.stages place) (reverse rules) is in
     sym (ap (delay_or base) neither) ∙ last_of_all base rules from to place
 
-pub ruleset finding = (latest_found, latest_of_none)
+-- at each place that the latest rule has, its delay is that of the messages
+pub latest_delay_is : (base : ℕ) (rules : List Rule) (from to : NodeName) (rule : Rule) (place : Place) → IsLatest base rules from to rule
+    → covers rule.frames rule.slots rule.stages place ≡ true → rule.delay ≡ delay_after base rules from to place
+latest_delay_is base rules from to rule place is has = go (find (is_between from to) (reverse rules)) refl
+  where
+    go : (o : Option Rule) → find (is_between from to) (reverse rules) ≡ o → rule.delay ≡ delay_after base rules from to place
+    go (Some r) e =
+        let same : rule ≡ r = is ∙ ap (rule_or_base base from to) e in
+        last_delay base rules from to rule place (e ∙ ap Some (sym same)) has
+    go None e = ap (λ r. r.delay) (is ∙ ap (rule_or_base base from to) e) ∙ base_delay base rules from to place e
+
+-- ---- the places that it has
+
+in_all : (most n : ℕ) → n ≤ most → is_in_range (0, most) n ≡ true
+in_all most n le = ap (λ b. b && nat_le n most) (le-leb 0 n (omega arith)) ∙ le-leb n most le
+
+-- those of every message
+pub every_place : (frames slots stages : ℕ) (place : Place) → place.frame ≤ frames → place.slot ≤ slots → place.stage ≤ stages
+    → covers (0, frames) (0, slots) (0, stages) place ≡ true
+every_place frames slots stages place frame slot stage =
+    ap (λ b. b && is_in_range (0, slots) place.slot && is_in_range (0, stages) place.stage) (in_all frames place.frame frame)
+    ∙ ap (λ b. b && is_in_range (0, stages) place.stage) (in_all slots place.slot slot)
+    ∙ in_all stages place.stage stage
+
+pub latest_places_are : (base : ℕ) (rules : List Rule) (from to : NodeName) (rule : Rule) (place : Place) → IsLatest base rules from to rule
+    → PlaceFits place → covers rule.frames rule.slots rule.stages place ≡ latest_has rules from to place
+latest_places_are base rules from to rule place is fits =
+    ap (λ r. covers r.frames r.slots r.stages place) is ∙ go (find (is_between from to) (reverse rules))
+  where
+    all : covers (0, 4294967295) (0, 65535) (0, 255) place ≡ true
+    all = every_place 4294967295 65535 255 place (omega (arith, fits.frame)) (omega (arith, fits.slot)) (omega (arith, fits.stage))
+
+    go : (o : Option Rule) → covers (rule_or_base base from to o).frames (rule_or_base base from to o).slots (rule_or_base base from to o).stages place ≡ rule_has o place
+    go (Some r) = refl
+    go None = all
+
+-- ---- pair by pair
 
 pub latest_at_none : (base : ℕ) (rules : List Rule) → AreLatest base rules []
 latest_at_none base rules = record { each = λ pair rule at. let never : None ≡ Some rule = at in absurd cc }
@@ -93,7 +130,8 @@ base_alone base rules from to place none = subst (λ rs. base ≡ delay_after ba
 pub by_latest : (latest : List Rule) (pair : ℕ) (rule : Rule) (place : Place) → Some rule ≡ slice_get latest pair
     → covers rule.frames rule.slots rule.stages place ≡ true
     → (base : ℕ) → (rules : List Rule) → AreLatest base rules latest → rule.delay ≡ delay_after base rules (sender_of pair) (receiver_of pair) place
-by_latest latest pair rule place at has base rules are = are.each pair rule (sym at) place has
+by_latest latest pair rule place at has base rules are =
+    latest_delay_is base rules (sender_of pair) (receiver_of pair) rule place (are.each pair rule (sym at)) has
 
 -- there are none where their number is 0
 pub none_there : (rules : List Rule) (empty : Bool) → empty ≡ (length rules == 0) → empty ≡ true → rules ≡ []

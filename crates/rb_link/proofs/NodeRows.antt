@@ -1,41 +1,108 @@
 -- The rows of delays: where a place is in a sender's ranges, each of its latest rules has it.
-use Rattle.std.proofs.Common.{◌≡◌, ℕ, zero, suc, ◌*◌, ◌+◌, ◌-◌, ◌<◌, ◌≤◌, ◌/◌, ◌%◌, nat_le, nat_lt, Bool, true, false, ◌&&◌, if◌then◌else◌, IfSome, length, List, [], ◌∷◌, ◌++◌, Option, Some, None, drop, take, map, slice_get, get_or, refl, sym, ap, subst, inl, inr, ◌∙◌, arith, length-append}
+use Rattle.std.proofs.Common.{◌≡◌, ℕ, zero, suc, add-one, max, min, ◌*◌, ◌+◌, ◌-◌, ◌<◌, ◌≤◌, ◌/◌, ◌%◌, nat_le, nat_lt, Bool, true, false, ◌&&◌, if◌then◌else◌, length, List, [], ◌∷◌, ◌++◌, Option, Some, None, drop, take, map, slice_get, get_or, refl, sym, ap, subst, inl, inr, ◌∙◌, arith, length-append}
 use Rattle.std.proofs.Math.Seq.{get_or-append_seam}
-use Rattle.std.proofs.lemmas.Bool.{and_parts, cases_lt, le-leb, le-ltb, leb-true, lt-ltb}
-use Rattle.std.proofs.lemmas.List.{get_or_append_left}
+use Rattle.std.proofs.lemmas.Bool.{and_from, and_parts, cases_lt, le-leb, le-ltb, leb-true, lt-ltb}
+use Rattle.std.proofs.lemmas.List.{get_or_append_left, length-map}
 use Rattle.std.proofs.lemmas.Option.{get_or_from_slice_get, slice_get-get_or, slice_get_within}
+use Rattle.std.proofs.lemmas.List.Edits.{length-between}
 use Rattle.std.specs.List.{slice_range}
 use Rattle.rb_base.specs.Nodes.{other}
 use Rattle.rb_base.specs.declared.node.NodeName.{NodeName}
 use Rattle.rb_base.specs.declared.node.NodeName.TheVariants.{Biu, Rmu}
 use Rattle.rb_base.specs.declared.values.Place.{Place}
 use Rattle.rb_rules.specs.declared.link.Rule.{Rule}
-use Rattle.rb_rules.specs.Links.{covers, delay_after, is_in_range}
+use Rattle.rb_rules.specs.Lawful.{kind_of}
+use Rattle.rb_rules.specs.Links.{DelayRules, covers, is_in_range, name_of}
 use Rattle.rb_link.specs.Pairs.{AreLatest, receiver_of, sender_of}
-use Rattle.rb_link.specs.Rows.{AreRows, AreShared, CoversLess, IsNarrower, IsRowOf, IsSender, IsShared, delay_of_rule}
+use Rattle.rb_link.specs.Rows.{AreRows, AreShared, PlaceFits, IsRowOf, IsSender, IsShared, all_below, all_latest_have, delay_of_rule, has_row, is_numbered, latest_has, rule_has}
 use Rattle.rb_link.specs.declared.rows.Ranges.{Ranges}
+use Rattle.rb_link.proofs.Latest.{every_place, latest_delay_is, latest_places_are}
+
+-- ---- tests
+
+-- what is true alike is alike
+same_tests : (a b : Bool) → (a ≡ true → b ≡ true) → (b ≡ true → a ≡ true) → a ≡ b
+same_tests true b there back = sym (there refl)
+same_tests false true there back = back refl
+same_tests false false there back = refl
+
+below-more : (n : ℕ) (passes : ℕ → Bool) → all_below (n + 1) passes ≡ (all_below n passes && passes n)
+unfolding all_below
+below-more n passes = ap (λ m. all_below m passes) (add-one n)
+
+below-same : (n : ℕ) (p q : ℕ → Bool) → ((i : ℕ) → i < n → p i ≡ q i) → all_below n p ≡ all_below n q
+unfolding all_below
+below-same zero p q same = refl
+below-same (suc n) p q same =
+    ap (λ b. b && p n) (below-same n p q (λ i less. same i (omega (arith, less)))) ∙ ap (λ b. all_below n q && b) (same n (omega arith))
+
+below_at : (n : ℕ) (passes : ℕ → Bool) (i : ℕ) → all_below n passes ≡ true → i < n → passes i ≡ true
+unfolding all_below
+below_at zero passes i all less = absurd (omega arith)
+below_at (suc n) passes i all less =
+    let parts = and_parts (all_below n passes) (passes n) all in
+    elim (cases_lt i n) [
+      | inl earlier ↦ below_at n passes i parts.0 earlier
+      | inr later ↦ let last : i ≡ n = omega (arith, less, later) in ap passes last ∙ parts.1
+    ]
+
+below_none : (passes : ℕ → Bool) → all_below 0 passes ≡ true
+unfolding all_below
+below_none passes = refl
 
 -- ---- ranges
 
--- a number that is in the narrower range is in the wider one
-in_wider : (narrow wide : ℕ × ℕ) (n : ℕ) → wide.0 ≤ narrow.0 → narrow.1 ≤ wide.1 → is_in_range narrow n ≡ true → is_in_range wide n ≡ true
-in_wider narrow wide n low high is =
-    let parts = and_parts (nat_le narrow.0 n) (nat_le n narrow.1) is in
-    let least : narrow.0 ≤ n = leb-true narrow.0 n parts.0 in
-    let greatest : n ≤ narrow.1 = leb-true n narrow.1 parts.1 in
-    ap (λ b. b && nat_le n wide.1) (le-leb wide.0 n (omega (arith, least, low)))
-    ∙ le-leb n wide.1 (omega (arith, greatest, high))
+pub in_both : (low low2 high high2 least most n : ℕ) → least ≡ max low low2 → most ≡ min high high2
+    → is_in_range (least, most) n ≡ (is_in_range (low, high) n && is_in_range (low2, high2) n)
+in_both low low2 high high2 least most n least_is most_is = same_tests _ _ there back
+  where
+    inside : (a b : ℕ) → a ≤ n → n ≤ b → is_in_range (a, b) n ≡ true
+    inside a b from to = and_from (nat_le a n) (nat_le n b) (le-leb a n from) (le-leb n b to)
 
-pub covers_wider : (f g s t a b : ℕ × ℕ) (place : Place) → g.0 ≤ f.0 → f.1 ≤ g.1 → t.0 ≤ s.0 → s.1 ≤ t.1 → b.0 ≤ a.0 → a.1 ≤ b.1
-    → covers f s a place ≡ true → covers g t b place ≡ true
-covers_wider f g s t a b place f0 f1 s0 s1 a0 a1 is =
-    let last = and_parts (is_in_range f place.frame && is_in_range s place.slot) (is_in_range a place.stage) is in
-    let first = and_parts (is_in_range f place.frame) (is_in_range s place.slot) last.0 in
-    ap (λ x. x && is_in_range t place.slot && is_in_range b place.stage) (in_wider f g place.frame f0 f1 first.0)
-    ∙ ap (λ x. x && is_in_range b place.stage) (in_wider s t place.slot s0 s1 first.1)
-    ∙ in_wider a b place.stage a0 a1 last.1
+    parts : (a b : ℕ) → is_in_range (a, b) n ≡ true → (a ≤ n) × (n ≤ b)
+    parts a b is = let both = and_parts (nat_le a n) (nat_le n b) is in (leb-true a n both.0, leb-true n b both.1)
 
-pub ruleset narrowing = (covers_wider)
+    there : is_in_range (least, most) n ≡ true → (is_in_range (low, high) n && is_in_range (low2, high2) n) ≡ true
+    there is =
+        let both = parts least most is in
+        and_from (is_in_range (low, high) n) (is_in_range (low2, high2) n)
+        (inside low high (omega (arith, both.0, least_is)) (omega (arith, both.1, most_is)))
+        (inside low2 high2 (omega (arith, both.0, least_is)) (omega (arith, both.1, most_is)))
+
+    back : (is_in_range (low, high) n && is_in_range (low2, high2) n) ≡ true → is_in_range (least, most) n ≡ true
+    back is =
+        let both = and_parts (is_in_range (low, high) n) (is_in_range (low2, high2) n) is in
+        let one = parts low high both.0 in
+        let other = parts low2 high2 both.1 in
+        inside least most (omega (arith, one.0, other.0, least_is)) (omega (arith, one.1, other.1, most_is))
+
+-- three tests twice
+regrouped : (a b c d e f : Bool) → ((a && d) && (b && e) && (c && f)) ≡ ((a && b && c) && (d && e && f))
+regrouped true true true d e f = refl
+regrouped true true false true true f = refl
+regrouped true true false true false f = refl
+regrouped true true false false e f = refl
+regrouped true false c true e f = refl
+regrouped true false c false e f = refl
+regrouped false b c d e f = refl
+
+pub covers_both : (f g h s t u a b c : ℕ × ℕ) (place : Place)
+    → ((n : ℕ) → is_in_range f n ≡ (is_in_range g n && is_in_range h n))
+    → ((n : ℕ) → is_in_range s n ≡ (is_in_range t n && is_in_range u n))
+    → ((n : ℕ) → is_in_range a n ≡ (is_in_range b n && is_in_range c n))
+    → covers f s a place ≡ (covers g t b place && covers h u c place)
+covers_both f g h s t u a b c place frames slots stages =
+    ap (λ x. x && is_in_range s place.slot && is_in_range a place.stage) (frames place.frame)
+    ∙ ap (λ x. (is_in_range g place.frame && is_in_range h place.frame) && x && is_in_range a place.stage) (slots place.slot)
+    ∙ ap (λ x. (is_in_range g place.frame && is_in_range h place.frame) && (is_in_range t place.slot && is_in_range u place.slot) && x) (stages place.stage)
+    ∙ regrouped (is_in_range g place.frame) (is_in_range t place.slot) (is_in_range b place.stage)
+    (is_in_range h place.frame) (is_in_range u place.slot) (is_in_range c place.stage)
+
+-- no rule has less
+pub covers_alone : (f s a : ℕ × ℕ) (place : Place) → covers f s a place ≡ (covers f s a place && true)
+covers_alone f s a place = elim (covers f s a place) as (λ b. b ≡ (b && true)) [ true ↦ refl | false ↦ refl ]
+
+pub ruleset narrowing = (covers_both, covers_alone)
 
 -- ---- senders
 
@@ -68,13 +135,38 @@ delay_at [] n delay at = let never : None ≡ Some delay = at in absurd cc
 delay_at (r ∷ rs) zero delay at = let same : Some r.delay ≡ Some delay = at in (r, refl, cc)
 delay_at (r ∷ rs) (suc n) delay at = delay_at rs n delay at
 
+at_within : (latest : List Rule) (n : ℕ) → n < length latest → (rule : Rule) × (slice_get latest n ≡ Some rule)
+at_within [] n less = absurd (omega arith)
+at_within (r ∷ rs) zero less = (r, refl)
+at_within (r ∷ rs) (suc n) less = at_within rs n (omega (arith, less))
+
 pub rows_of : (base : ℕ) (rules latest : List Rule) (shared : List Ranges) (flat : List ℕ) → AreLatest base rules latest → AreShared latest shared
-    → flat ≡ map delay_of_rule latest → AreRows base rules shared flat
-rows_of base rules latest shared flat are share is = record {
-  each = λ sender i ranges delay place few at has here.
-      let found = delay_at latest (16 * sender + i) delay (ap (λ l. slice_get l (16 * sender + i)) (sym is) ∙ here) in
-      found.2 ∙ are.each (16 * sender + i) found.0 found.1 place (share.each sender ranges at i found.0 few found.1 place has);
+    → length latest ≡ 512 → length shared ≡ 32 → flat ≡ map delay_of_rule latest → AreRows base rules shared flat
+rows_of base rules latest shared flat are share pairs senders is = record {
+  senders = senders;
+  pairs = ap length is ∙ length-map latest delay_of_rule ∙ pairs;
+  kept = λ sender ranges place fits at.
+      let few : sender < length shared = slice_get_within shared sender ranges at in
+      share.each sender ranges at place fits
+      ∙ below-same 16 _ _ (λ i less. one sender i place fits (omega (arith, few, senders)) less);
+  each = λ sender i ranges delay place fits few at has here.
+      let n : ℕ = 16 * sender + i in
+      let found = delay_at latest n delay (ap (λ l. slice_get l n) (sym is) ∙ here) in
+      let all : all_below 16 (λ k. rule_has (slice_get latest (16 * sender + k)) place) ≡ true = sym (share.each sender ranges at place fits) ∙ has in
+      let its : rule_has (slice_get latest n) place ≡ true = below_at 16 (λ k. rule_has (slice_get latest (16 * sender + k)) place) i all few in
+      found.2
+      ∙ latest_delay_is base rules (sender_of n) (receiver_of n) found.0 place (are.each n found.0 found.1)
+      (sym (ap (λ o. rule_has o place) found.1) ∙ its);
 }
+  where
+    one : (sender i : ℕ) (place : Place) → PlaceFits place → sender < 32 → i < 16
+        → rule_has (slice_get latest (16 * sender + i)) place ≡ latest_has rules (sender_of (16 * sender + i)) (receiver_of (16 * sender + i)) place
+    one sender i place fits few less =
+        let n : ℕ = 16 * sender + i in
+        let within : n < length latest = omega (arith, few, less, pairs) in
+        let found = at_within latest n within in
+        ap (λ o. rule_has o place) found.1
+        ∙ latest_places_are base rules (sender_of n) (receiver_of n) found.0 place (are.each n found.0 found.1) fits
 
 at_drop : (xs : List ℕ) (n i : ℕ) → slice_get (drop n xs) i ≡ slice_get xs (n + i)
 at_drop xs zero i = let e : 0 + i ≡ i = omega arith in ap (slice_get xs) (sym e)
@@ -96,31 +188,70 @@ at_sixteen xs first i x at =
     (parts.0, sym (at_drop xs first i) ∙ parts.1)
 
 pub row_of_sixteen : (base : ℕ) (rules : List Rule) (shared : List Ranges) (flat row : List ℕ) (sender : ℕ) (place : Place) (ranges : Ranges)
-    → AreRows base rules shared flat → Some ranges ≡ slice_get shared sender → covers ranges.frames ranges.slots ranges.stages place ≡ true
+    → AreRows base rules shared flat → PlaceFits place → Some ranges ≡ slice_get shared sender → covers ranges.frames ranges.slots ranges.stages place ≡ true
     → row ≡ slice_range flat (16 * sender) (16 * sender + 16) → IsRowOf base rules sender place row
-row_of_sixteen base rules shared flat row sender place ranges are at has is i delay here =
+row_of_sixteen base rules shared flat row sender place ranges are fits at has is i delay here =
     let found = at_sixteen flat (16 * sender) i delay (ap (λ l. slice_get l i) (sym is) ∙ here) in
-    (found.0, are.each sender i ranges delay place found.0 (sym at) has found.1)
+    (found.0, are.each sender i ranges delay place fits found.0 (sym at) has found.1)
 
 pub empty_row : (base : ℕ) (rules : List Rule) (sender : ℕ) (place : Place) → IsRowOf base rules sender place []
 empty_row base rules sender place i delay at = let never : None ≡ Some delay = at in absurd cc
 
 pub ruleset row_found = (empty_row)
 
+-- it has sixteen delays
+pub sixteen_there : (base : ℕ) (rules : List Rule) (shared : List Ranges) (flat row : List ℕ) (sender : ℕ) (place : Place) (ranges : Ranges)
+    → AreRows base rules shared flat → PlaceFits place → sender < 32 → Some ranges ≡ slice_get shared sender
+    → covers ranges.frames ranges.slots ranges.stages place ≡ true → row ≡ slice_range flat (16 * sender) (16 * sender + 16)
+    → length row ≡ (if all_latest_have rules sender place then 16 else 0)
+sixteen_there base rules shared flat row sender place ranges are fits few at has is =
+    let long : length (slice_range flat (16 * sender) (16 * sender + 16)) ≡ 16 * sender + 16 - 16 * sender =
+    length-between flat (16 * sender) (16 * sender + 16) (omega (arith, few, are.pairs)) in
+    let sixteen : length row ≡ 16 = ap length is ∙ long ∙ omega arith in
+    let all : all_latest_have rules sender place ≡ true = sym (are.kept sender ranges place fits (sym at)) ∙ has in
+    sixteen ∙ ap (λ b. if b then 16 else 0) (sym all)
+
+-- so by the node
+pub there_by_sender : (base : ℕ) (rules : List Rule) (from : NodeName) (sender : ℕ) (place : Place) (row : List ℕ) → IsSender sender from
+    → true ≡ is_numbered from → length row ≡ (if all_latest_have rules sender place then 16 else 0)
+    → length row ≡ (if has_row (record { base = base; rules = rules }) from place then 16 else 0)
+unfolding has_row
+there_by_sender base rules from sender place row nodes numbered is =
+    let to : ℕ → NodeName = name_of (other (kind_of from)) in
+    let alike : all_below 16 (λ i. latest_has rules from (to i) place) ≡ all_latest_have rules sender place =
+    below-same 16 _ _ (λ i less.
+    ap (λ n. latest_has rules n (to i) place) (sym (nodes i less).0)
+    ∙ ap (λ n. latest_has rules (sender_of (16 * sender + i)) n place) (sym (nodes i less).1)) in
+    let all : (is_numbered from && all_below 16 (λ i. latest_has rules from (to i) place)) ≡ all_latest_have rules sender place =
+    ap (λ b. b && all_below 16 (λ i. latest_has rules from (to i) place)) (sym numbered) ∙ alike in
+    is ∙ ap (λ b. if b then 16 else 0) (sym all)
+
+pub none_past_sixteen : (delays : DelayRules) (from : NodeName) (place : Place) (row : List ℕ) → false ≡ is_numbered from → length row ≡ 0
+    → length row ≡ (if has_row delays from place then 16 else 0)
+unfolding has_row
+none_past_sixteen delays from place row numbered empty =
+    empty
+    ∙ ap (λ b. if b && all_below 16 (λ i. latest_has delays.rules from (name_of (other (kind_of from)) i) place) then 16 else 0) numbered
+
 -- ---- pair by pair
 
 -- the ranges are those of one pair more
 pub one_rule_more : (latest : List Rule) (sender k : ℕ) (before after : Ranges) (found : Option Rule) → found ≡ slice_get latest (16 * sender + k)
-    → IsShared latest sender k before → CoversLess after before → IfSome found (λ r. IsNarrower after r) → IsShared latest sender (k + 1) after
-one_rule_more latest sender k before after found is are less has i rule lt at place in_after =
-    elim (cases_lt i k) [
-      | inl earlier ↦ are i rule earlier at place (less place in_after)
-      | inr later ↦
-          let same : i ≡ k = omega (arith, lt, later) in
-          let here : found ≡ Some rule = is ∙ ap (λ n. slice_get latest (16 * sender + n)) (sym same) ∙ at in
-          let narrow : IsNarrower after rule = subst (λ o. IfSome o (λ r. IsNarrower after r)) here has in
-          narrow place in_after
-    ]
+    → IsShared latest sender k before
+    → ((place : Place) → covers after.frames after.slots after.stages place ≡ (covers before.frames before.slots before.stages place && rule_has found place))
+    → IsShared latest sender (k + 1) after
+one_rule_more latest sender k before after found is are narrow place fits =
+    let has : ℕ → Bool = λ i. rule_has (slice_get latest (16 * sender + i)) place in
+    narrow place
+    ∙ ap (λ b. b && rule_has found place) (are place fits)
+    ∙ ap (λ o. all_below k has && rule_has o place) is
+    ∙ sym (below-more k has)
+
+-- at first they have each place
+pub no_rule_yet : (latest : List Rule) (sender : ℕ) → IsShared latest sender 0 (record { frames = (0, 4294967295); slots = (0, 4294967295); stages = (0, 4294967295) })
+no_rule_yet latest sender place fits =
+    every_place 4294967295 4294967295 4294967295 place (omega (arith, fits.frame)) (omega (arith, fits.slot)) (omega (arith, fits.stage))
+    ∙ sym (below_none (λ i. rule_has (slice_get latest (16 * sender + i)) place))
 
 -- ---- sender by sender
 

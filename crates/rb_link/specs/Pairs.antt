@@ -1,10 +1,11 @@
 -- The rules by the pair of nodes that they are for.
-use Rattle.std.specs.Prelude.{ℕ, true, ◌≡◌, ◌+◌, ◌-◌, ◌/◌, ◌%◌, ◌<◌, nat_lt, ◌&&◌, Bool, cond, if◌then◌else◌, List, [], ◌∷◌, length, slice_get, slice_index, slice_range, Option, Some, None}
+use Rattle.std.specs.Prelude.{ℕ, ◌≡◌, ◌+◌, ◌-◌, ◌/◌, ◌%◌, ◌<◌, nat_lt, ◌&&◌, Bool, cond, if◌then◌else◌, List, [], ◌∷◌, length, reverse, slice_get, slice_index, slice_range, Option, Some, None}
+use Rattle.std.specs.List.{find}
 use Rattle.rb_base.specs.declared.node.NodeName.{NodeName}
 use Rattle.rb_base.specs.declared.node.NodeName.TheVariants.{Biu, Rmu}
-use Rattle.rb_base.specs.declared.values.Place.{Place}
+use Rattle.rb_rules.specs.declared.link.Pattern.TheVariants.{One}
 use Rattle.rb_rules.specs.declared.link.Rule.{Rule}
-use Rattle.rb_rules.specs.Links.{covers, delay_after, stands_for}
+use Rattle.rb_rules.specs.Links.{stands_for}
 
 -- the rule is for messages from the one node to the other
 abbrev pub is_between : NodeName → NodeName → Rule → Bool
@@ -40,10 +41,14 @@ abbrev pub delay_or : ℕ → Option Rule → ℕ
 delay_or base None = base
 delay_or base (Some rule) = rule.delay
 
--- at each place that the rule has, its delay is that of the messages from the one node to the other
+-- the rule that was found, else one for all places with the base as its delay
+abbrev pub rule_or_base : ℕ → NodeName → NodeName → Option Rule → Rule
+rule_or_base base from to None = record { from = One from; to = One to; frames = (0, 4294967295); slots = (0, 65535); stages = (0, 255); delay = base }
+rule_or_base base from to (Some rule) = rule
+
+-- the rule is the last of those that are for messages from the one node to the other
 abbrev pub IsLatest : ℕ → List Rule → NodeName → NodeName → Rule → Type 0
-IsLatest base rules from to latest =
-    (place : Place) → covers latest.frames latest.slots latest.stages place ≡ true → latest.delay ≡ delay_after base rules from to place
+IsLatest base rules from to latest = latest ≡ rule_or_base base from to (find (is_between from to) (reverse rules))
 
 -- each pair has its latest rule at its number
 pub record AreLatest (base : ℕ) (rules latest : List Rule) : Type 0 where

@@ -1,12 +1,12 @@
 //! How long each message of a bus is on its way. Rules on delays are this project's own.
 #![tactic(auto)]
 
-ghost use Rattle.std.specs.Prelude.{◌≡◌, ℕ, List, ◌+◌, ◌<◌, ◌≤◌, ◌++◌, ◌∷◌, [], cond, IfOk, IfSome, IsTrue, length, reverse, slice_get};
+ghost use Rattle.std.specs.Prelude.{◌≡◌, ℕ, List, ◌+◌, ◌<◌, ◌≤◌, ◌++◌, ◌∷◌, [], cond, IfOk, IfSome, IsTrue, if◌then◌else◌, length, reverse, slice_get};
 ghost use Rattle.rb_rules.specs.declared.link.Rule.{Rule as KeptRule};
 ghost use Rattle.std.specs.List.{filter_map, find};
 ghost use Rattle.rb_rules.specs.Links.{applies, covers, delay_after, delay_of, is_in_range, same_node, stands_for};
 ghost use Rattle.rb_link.specs.Pairs.{AreLatest, IsIndex, IsLatest, delay_or, is_between, places_from, places_of, receiver_of, sender_of};
-ghost use Rattle.rb_link.specs.Rows.{IsRow};
+ghost use Rattle.rb_link.specs.Rows.{IsRow, has_row};
 
 mod rows;
 
@@ -180,11 +180,12 @@ impl Delays {
     }
 
     /// The delays, in reference units, of a message of this place from the node to the nodes of the other kind, at their numbers.
-    /// Empty where they are not kept for this place: where the latest rules for messages from the node don't all have it, and
-    /// for a number that no node has.
+    /// There are 16, where the node's number is below 16 and the place is one that, for each of these 16 nodes, the latest of the
+    /// rules for messages from the one to the other has, if there are any for them. Else the row is empty.
     #[inline]
     pub fn row(&self, from: NodeName, place: Place) -> &[u32]
-        ensures { IsRow self.now from place result.now }
+        ensures delays { IsRow self.now from place result.now }
+        ensures there { length result.now ≡ (if has_row self.now from place then 16 else 0) }
     {
         match sender_number(from) {
             Some(sender) => row_at(&self.shared, &self.flat, sender, place),
@@ -243,7 +244,8 @@ fn is_empty(rules: &[Rule]) -> bool
 
 // The latest rule of each pair.
 fn latest_rules(alloc: Global, base: u32, rules: &[Rule]) -> Result<Vec<Rule>, OutOfMemory>
-    ensures { IfOk result (λ latest. AreLatest base rules.now latest.items) }
+    ensures latest { IfOk result (λ latest. AreLatest base rules.now latest.items) }
+    ensures many { IfOk result (λ latest. length latest.items ≡ PAIRS) }
 {
     let mut latest = Vec::with_capacity(alloc, usize::from(PAIRS))?;
     for pair in 0..PAIRS {
@@ -255,7 +257,6 @@ fn latest_rules(alloc: Global, base: u32, rules: &[Rule]) -> Result<Vec<Rule>, O
 
 // The last of the rules that is for messages from the one node to the other. Where there is none it is one for all places,
 // with the base as its delay.
-#[tactic(auto, using(crate::proofs::Latest::finding))]
 fn latest_rule(base: u32, rules: &[Rule], from: NodeName, to: NodeName) -> Rule
     ensures { IsLatest base rules.now from to result }
 {

@@ -1,10 +1,11 @@
 //! The delays of the messages from each node, one a receiver. At the places that the latest rules for these messages all have,
 //! they are read with no look at the rules.
-ghost use Rattle.std.specs.Prelude.{◌≡◌, ℕ, List, ◌+◌, ◌<◌, ◌≤◌, IfOk, IfSome, map, slice_get};
+ghost use Rattle.std.specs.Prelude.{◌≡◌, ℕ, List, ◌+◌, ◌<◌, ◌≤◌, ◌&&◌, IfNone, IfOk, IfSome, if◌then◌else◌, is_some, length, map, slice_get};
 ghost use Rattle.std.specs.List.{slice_range};
+ghost use Rattle.rb_base.specs.declared.values.Place.{Place as KeptPlace};
 ghost use Rattle.rb_rules.specs.declared.link.Rule.{Rule as KeptRule};
-ghost use Rattle.rb_rules.specs.Links.{covers};
-ghost use Rattle.rb_link.specs.Rows.{AreRows, AreShared, CoversLess, IsNarrower, IsRowOf, IsSender, IsShared, delay_of_rule};
+ghost use Rattle.rb_rules.specs.Links.{covers, is_in_range};
+ghost use Rattle.rb_link.specs.Rows.{AreRows, AreShared, IsRowOf, IsSender, IsShared, PlaceFits, all_latest_have, delay_of_rule, is_numbered, rule_has};
 
 use crate::{PAIRS, add, rule_at};
 use rb_base::{NodeName, OutOfMemory, Place};
@@ -24,7 +25,8 @@ pub(crate) struct Ranges {
 
 // The places that a sender's latest rules all have.
 pub(crate) fn shared_ranges(alloc: Global, latest: &[Rule]) -> Result<Vec<Ranges>, OutOfMemory>
-    ensures { IfOk result (λ shared. AreShared latest.now shared.items) }
+    ensures shared { IfOk result (λ shared. AreShared latest.now shared.items) }
+    ensures many { IfOk result (λ shared. length shared.items ≡ SENDERS) }
 {
     let mut shared = Vec::with_capacity(alloc, usize::from(SENDERS))?;
     for sender in 0..SENDERS {
@@ -53,8 +55,8 @@ fn shared_by(latest: &[Rule], sender: u16) -> Ranges
 // The places that are in the ranges and that the rule has, if there is one.
 #[tactic(auto, using(crate::proofs::NodeRows::narrowing))]
 fn narrowed(ranges: Ranges, rule: Option<Rule>) -> Ranges
-    ensures same { CoversLess result ranges }
-    ensures with_rule { IfSome rule (λ r. IsNarrower result r) }
+    ensures { (place : KeptPlace) → covers result.frames result.slots result.stages place
+        ≡ (covers ranges.frames ranges.slots ranges.stages place && rule_has rule place) }
 {
     let Some(rule) = rule else {
         return ranges;
@@ -73,9 +75,9 @@ fn narrowed(ranges: Ranges, rule: Option<Rule>) -> Ranges
 }
 
 // The numbers that are in both ranges.
+#[tactic(auto, using(crate::proofs::NodeRows::in_both))]
 fn both(range: (u32, u32), other: (u32, u32)) -> (u32, u32)
-    ensures low { (range.0 ≤ result.0) × (other.0 ≤ result.0) }
-    ensures high { (result.1 ≤ range.1) × (result.1 ≤ other.1) }
+    ensures { (n : ℕ) → is_in_range result n ≡ (is_in_range range n && is_in_range other n) }
 {
     (range.0.max(other.0), range.1.min(other.1))
 }
@@ -95,6 +97,7 @@ pub(crate) fn flat_delays(alloc: Global, latest: &[Rule]) -> Result<Vec<u32>, Ou
 #[inline]
 #[tactic(auto, using(crate::proofs::NodeRows::senders))]
 pub(crate) fn sender_number(from: NodeName) -> Option<u16>
+    ensures there { is_some result ≡ is_numbered from }
     ensures few { IfSome result (λ sender. sender < SENDERS) }
     ensures is { IfSome result (λ sender. IsSender sender from) }
 {
@@ -110,7 +113,9 @@ pub(crate) fn sender_number(from: NodeName) -> Option<u16>
 #[tactic(auto, using(crate::proofs::NodeRows::row_found))]
 pub(crate) fn row_at<'a>(shared: &[Ranges], flat: &'a [u32], sender: u16, place: Place) -> &'a [u32]
     requires { sender < SENDERS }
-    ensures { (base : ℕ) → (rules : List KeptRule) → AreRows base rules shared.now flat.now → IsRowOf base rules sender place result.now }
+    ensures delays { (base : ℕ) → (rules : List KeptRule) → AreRows base rules shared.now flat.now → IsRowOf base rules sender place result.now }
+    ensures there { (base : ℕ) → (rules : List KeptRule) → AreRows base rules shared.now flat.now
+        → length result.now ≡ (if all_latest_have rules sender place then 16 else 0) }
 {
     let Some(ranges) = ranges_at(shared, sender) else {
         return &[];
@@ -137,7 +142,8 @@ fn ranges_at(shared: &[Ranges], sender: u16) -> Option<Ranges>
 #[inline]
 fn sixteen_from(flat: &[u32], first: u16) -> Option<&[u32]>
     requires { first ≤ PAIRS }
-    ensures { IfSome result (λ row. row.now ≡ slice_range flat.now first (first + 16)) }
+    ensures found { IfSome result (λ row. row.now ≡ slice_range flat.now first (first + 16)) }
+    ensures none { IfNone result (length flat.now < first + 16) }
 {
     flat.get(usize::from(first)..usize::from(first) + 16)
 }
@@ -145,7 +151,8 @@ fn sixteen_from(flat: &[u32], first: u16) -> Option<&[u32]>
 // Whether the place is in the ranges.
 #[inline]
 fn has_place(ranges: Ranges, place: Place) -> bool
-    ensures { result ≡ covers ranges.frames ranges.slots ranges.stages place }
+    ensures is { result ≡ covers ranges.frames ranges.slots ranges.stages place }
+    ensures fits { PlaceFits place }
 {
     let slot = u32::from(place.slot);
     let stage = u32::from(place.stage);

@@ -31,7 +31,8 @@ abbrev pub AreRestless : List (Option (ℕ × ℕ)) → KeptSayings → Side →
 AreRestless onsets sayings me count nodes =
     (i : ℕ) → i < count → IsRestless onsets sayings me i (get_or nodes i (record { first = 0; last = 0 }))
 
--- in this frame and in the next the node is good in every slot, and nothing is said to it
+-- this frame and the next both come before all frames in which the node may not be good or an entry for it may speak, or both come after
+-- them. So in both the node is good in every slot, and nothing is said to it
 abbrev pub is_calm : Scenario → Side → ℕ → ℕ → Bool
 is_calm sc me i frame =
     is_outside (first_restless (get_or (onsets_of me sc) i None) (first_frame (entries_for (kept_of sc) (name_of me i))))

@@ -13,9 +13,9 @@ invariant_of-result c =
     subst (λ rules. ArePrepared c.args.base rules latest c.in_ok-index.index.starts.items c.in_ok-index.index.places.items shared flat)
     (sym c.in_ok-rules.ensures.items)
     (record {
-      latest_are = c.in_ok-latest.ensures;
+      latest_are = c.in_ok-latest.ensures.latest;
       index_is = c.in_ok-index.ensures;
-      rows_are = rows_of c.args.base c.args.rules.now latest shared flat c.in_ok-latest.ensures
-          (subst (λ l. AreShared l shared) c.deref.ensures.value c.in_ok-shared.ensures)
+      rows_are = rows_of c.args.base c.args.rules.now latest shared flat c.in_ok-latest.ensures.latest
+          (subst (λ l. AreShared l shared) c.deref.ensures.value c.in_ok-shared.ensures.shared) c.in_ok-latest.ensures.many c.in_ok-shared.ensures.many
           (c.in_ok-flat.ensures ∙ ap (map delay_of_rule) c.deref-2.ensures.value);
     })
