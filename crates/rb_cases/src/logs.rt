@@ -1,7 +1,9 @@
 //! Logs: what `record` writes, and what `replay` makes of it, whole or spoilt.
 use crate::tables::*;
-use crate::trial::{answer_to, joined};
+use crate::trial::{answer_to, call, joined};
+use rb_outside::{MemSink, MemSource};
 use rb_top::Status;
+use rb_world::FirstDrive;
 use std::alloc::{AllocError, Global};
 use std::test::Fail;
 
@@ -126,6 +128,30 @@ fn whole_logs(rt: HostRuntime) -> Result<(), Fail> {
             lines.as_bytes(),
             "{words} on {document:?}"
         );
+    }
+    Ok(())
+}
+
+// How many bytes of R0's log are written where this write fails, counted from 1: none, the header, all but the end.
+const HELD_OF_R0: [usize; 3] = [0, 50, 202];
+
+#[test]
+fn a_write_fails(rt: HostRuntime) -> Result<(), Fail> {
+    let alloc = rt.alloc();
+    let mut failing = 1u64;
+    for held in HELD_OF_R0 {
+        let mut log = bytes_of(alloc, LOG_OF_R0)?;
+        log.truncate(held);
+        let mut source = MemSource::new(joined(alloc, &[SMALLEST])?, vec![in alloc]?);
+        let mut sink = MemSink::new(alloc, 1000, vec![in alloc; failing]?).map_err(
+            |_| "no memory",
+        )?;
+        let drive = &mut FirstDrive::new();
+        let status = call(alloc, "record R0", &mut source, &mut sink, drive)?;
+        assert_eq!(rt; status, Status::WriteFault, "write {failing}");
+        assert_eq!(rt; sink.calls(), failing, "write {failing}");
+        assert_eq!(rt; sink.bytes(), log.as_slice(), "write {failing}");
+        failing = failing.saturating_add(1);
     }
     Ok(())
 }
@@ -265,109 +291,106 @@ fn a_byte_after_the_end(rt: HostRuntime) -> Result<(), Fail> {
     Ok(())
 }
 
+// A BIU and an RMU say different things to different receivers, which breaks the premise.
+const TWO_KINDS_LIE: &[&str] = &[
+    ONE_EACH,
+    "fault = [{ node = 'B1', frame = 0, slot = 5 }, { node = 'R2', frame = 0, slot = 6 }]\n",
+    "say = [\n",
+    B1_SAYS_1_2_2,
+    "{ from = 'R2', to = 'B0', frames = [0, 0], slots = [6, 6], stages = [2, 2], word = 5 },\n",
+    "{ from = 'R2', to = 'B2', frames = [0, 0], slots = [6, 6], stages = [2, 2], word = 6 },\n",
+    "]\n",
+];
+
+// Words, document, and what is wanted: status, number of bytes, checksum.
+const OTHER_RUNS: [(&str, &[&str], Status, usize, u64); 10] = [
+    // A word wanted of a BIU.
+    (
+        "record B3",
+        &[ORDINARY],
+        Status::Done,
+        1083,
+        15912073986092402517,
+    ),
+    // Slow and quick clocks.
+    (
+        "record R1",
+        &[ORDINARY, DRIFTING],
+        Status::Done,
+        1218,
+        15762626114432678486,
+    ),
+    // A node that is never good has no events.
+    (
+        "record R2",
+        &[ORDINARY, R2_FROM_SLOT_0],
+        Status::Done,
+        51,
+        4623583266245599120,
+    ),
+    // One that turns faulty has none from there on.
+    (
+        "record B1",
+        &[ONE_EACH, B1_FROM_SLOT_5, "say = [\n", B1_SAYS_1_2_2, "]\n"],
+        Status::Done,
+        301,
+        11203474367513154869,
+    ),
+    // Up to a breach.
+    (
+        "record R0",
+        TWO_KINDS_LIE,
+        Status::Breach,
+        433,
+        17999920842423993677,
+    ),
+    (
+        "record B3",
+        TWO_KINDS_LIE,
+        Status::Breach,
+        381,
+        16360919807884160260,
+    ),
+    // Up to a breach in the first stage, after six ticks and the request.
+    (
+        "record B0",
+        &[SMALLEST, "fault = [{ node = 'R0', frame = 0, slot = 0 }]\n"],
+        Status::Breach,
+        66,
+        18241673162088731041,
+    ),
+    // Up to a breach that comes at once.
+    (
+        "record B0",
+        &[
+            ORDINARY,
+            "fault = [{ node = 'B0', frame = 0, slot = 0 }, { node = 'B1', frame = 0, slot = 0 }, { node = 'B2', frame = 0, slot = 0 }, { node = 'B3', frame = 0, slot = 0 }, { node = 'R0', frame = 0, slot = 0 }, { node = 'R1', frame = 0, slot = 0 }, { node = 'R2', frame = 0, slot = 0 }]\n",
+        ],
+        Status::Breach,
+        51,
+        5249670475951387173,
+    ),
+    // In the second form.
+    (
+        "record R0",
+        &["probation = 1\n", ONE_SLIP],
+        Status::Done,
+        3062,
+        4579982976776123122,
+    ),
+    (
+        "record B1",
+        &["probation = 1\n", ONE_SLIP],
+        Status::Done,
+        235,
+        15124674674474645811,
+    ),
+];
+
 #[test]
 fn logs_of_other_runs(rt: HostRuntime) -> Result<(), Fail> {
     let alloc = rt.alloc();
-    // Words, document, and what is wanted: status, number of bytes, checksum.
-    for (words, document, status, length, sum) in [
-        // A word wanted of a BIU.
-        (
-            "record B3",
-            &[ORDINARY] as &[&str],
-            Status::Done,
-            1083,
-            15912073986092402517,
-        ),
-        // Slow and quick clocks.
-        (
-            "record R1",
-            &[ORDINARY, DRIFTING] as &[&str],
-            Status::Done,
-            1218,
-            15762626114432678486,
-        ),
-        // A node that is never good has no events.
-        (
-            "record R2",
-            &[ORDINARY, R2_FROM_SLOT_0] as &[&str],
-            Status::Done,
-            51,
-            4623583266245599120,
-        ),
-        // One that turns faulty has none from there on.
-        (
-            "record B1",
-            &[ONE_EACH, B1_FROM_SLOT_5, "say = [\n", B1_SAYS_1_2_2, "]\n"] as &[&str],
-            Status::Done,
-            301,
-            11203474367513154869,
-        ),
-        // Up to a breach.
-        (
-            "record R0",
-            &[
-                ONE_EACH,
-                "fault = [{ node = 'B1', frame = 0, slot = 5 }, { node = 'R2', frame = 0, slot = 6 }]\n",
-                "say = [\n",
-                B1_SAYS_1_2_2,
-                "{ from = 'R2', to = 'B0', frames = [0, 0], slots = [6, 6], stages = [2, 2], word = 5 },\n",
-                "{ from = 'R2', to = 'B2', frames = [0, 0], slots = [6, 6], stages = [2, 2], word = 6 },\n",
-                "]\n",
-            ] as &[&str],
-            Status::Breach,
-            433,
-            17999920842423993677,
-        ),
-        (
-            "record B3",
-            &[
-                ONE_EACH,
-                "fault = [{ node = 'B1', frame = 0, slot = 5 }, { node = 'R2', frame = 0, slot = 6 }]\n",
-                "say = [\n",
-                B1_SAYS_1_2_2,
-                "{ from = 'R2', to = 'B0', frames = [0, 0], slots = [6, 6], stages = [2, 2], word = 5 },\n",
-                "{ from = 'R2', to = 'B2', frames = [0, 0], slots = [6, 6], stages = [2, 2], word = 6 },\n",
-                "]\n",
-            ] as &[&str],
-            Status::Breach,
-            381,
-            16360919807884160260,
-        ),
-        // Up to a breach in the first stage, after six ticks and the request.
-        (
-            "record B0",
-            &[SMALLEST, "fault = [{ node = 'R0', frame = 0, slot = 0 }]\n"] as &[&str],
-            Status::Breach,
-            66,
-            18241673162088731041,
-        ),
-        // Up to a breach that comes at once.
-        (
-            "record B0",
-            &[
-                ORDINARY,
-                "fault = [{ node = 'B0', frame = 0, slot = 0 }, { node = 'B1', frame = 0, slot = 0 }, { node = 'B2', frame = 0, slot = 0 }, { node = 'B3', frame = 0, slot = 0 }, { node = 'R0', frame = 0, slot = 0 }, { node = 'R1', frame = 0, slot = 0 }, { node = 'R2', frame = 0, slot = 0 }]\n",
-            ] as &[&str],
-            Status::Breach,
-            51,
-            5249670475951387173,
-        ),
-        // In the second form.
-        (
-            "record R0",
-            &["probation = 1\n", ONE_SLIP] as &[&str],
-            Status::Done,
-            3062,
-            4579982976776123122,
-        ),
-        (
-            "record B1",
-            &["probation = 1\n", ONE_SLIP] as &[&str],
-            Status::Done,
-            235,
-            15124674674474645811,
-        ),
-    ] {
+    for (words, document, status, length, sum) in OTHER_RUNS {
         let recorded = answer_to(alloc, words, joined(alloc, document)?)?;
         assert_eq!(rt; recorded.status, status, "{words} on {document:?}");
         assert_eq!(rt; recorded.bytes.len(), length, "{words} on {document:?}");

@@ -4,6 +4,7 @@ pub mod Ends
 pub mod Comings
 pub mod Ticks
 pub mod ToldGiven
+pub mod Passing
 pub mod Writing
 pub mod Finish
 pub mod Observed

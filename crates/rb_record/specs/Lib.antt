@@ -1,3 +1,4 @@
+pub mod Buffering
 pub mod Recording
 pub mod Observing
 pub mod Laws

@@ -1,10 +1,12 @@
 -- What is written of a log by whom a run tells what a node is given.
 use Rattle.std.specs.Prelude.{ℕ, ◌≡◌, nat_lt, if◌then◌else◌, Option, List, [], ◌∷◌, ◌++◌, IsErr, IsOk, MatchResult}
 use Rattle.rb_base.specs.declared.event.Event.{Event}
+use Rattle.rb_outside.specs.Bytes.{AppendsPart}
 use Rattle.rb_outside.specs.Causes.{HasCause}
 use Rattle.rb_sweep.specs.Told.{Told}
 use Rattle.rb_record.specs.declared.recorder.Recorder.{Recorder}
-use Rattle.rb_record.specs.Recording.{MayTell, WritesNext, WritesPartOf}
+use Rattle.rb_record.specs.Buffering.{PassesOn}
+use Rattle.rb_record.specs.Recording.{MayTell, PassesNext, PassesPartOf}
 
 -- what is told, if it is of the log: an event up to the node's first tick of the frame after the last
 abbrev pub of_log : ℕ → Told → List Event
@@ -14,7 +16,7 @@ abbrev pub all_of_log : ℕ → List Told → List Event
 all_of_log frames [] = []
 all_of_log frames (t ∷ ts) = of_log frames t ++ all_of_log frames ts
 
--- Who writes the log was told these events of it. They were written, if no write had failed before, or a write failed at one of them.
+-- Who writes the log was told these events of it. They were passed on, if no write had failed before, or a write failed at one of them.
 -- Where one had failed before, nothing was written
 pub record Records {K : Type 0} (held : K → Option (List ℕ)) (faults : K → ℕ) (before : Recorder K) (events : List Event) (after : Recorder K) : Type 0 where
   pub same_output : after.output.ghost_name ≡ before.output.ghost_name
@@ -22,9 +24,21 @@ pub record Records {K : Type 0} (held : K → Option (List ℕ)) (faults : K →
   pub failed : IsErr before.written → after ≡ before
   pub cause : IsOk before.written → HasCause (faults before.output.now) (faults after.output.now) after.written
   pub next : IsOk before.written → MayTell before.log.ticks events → MatchResult after.written
-      (λ _. WritesNext before.log after.log events (held before.output.now) (held after.output.now))
-      (λ _. WritesPartOf before.log events (held before.output.now) (held after.output.now))
+      (λ _. PassesNext before.log after.log before.waiting after.waiting events (held before.output.now) (held after.output.now))
+      (λ _. PassesPartOf before.log before.waiting events (held before.output.now) (held after.output.now))
 
 -- so with what it is told next
 abbrev pub RecordsNext : {K : Type 0} → (K → Option (List ℕ)) → (K → ℕ) → Recorder K → Told → Recorder K → Type 0
 RecordsNext held faults before t after = Records held faults before (of_log before.frames t) after
+
+-- Of what waited the first bytes were written, if no write had failed before, or that write failed. Where one had failed before, nothing
+-- was written
+pub record Settles {K : Type 0} (held : K → Option (List ℕ)) (faults : K → ℕ) (before after : Recorder K) : Type 0 where
+  pub same_output : after.output.ghost_name ≡ before.output.ghost_name
+  pub frames : after.frames ≡ before.frames
+  pub log : after.log ≡ before.log
+  pub failed : IsErr before.written → after ≡ before
+  pub cause : IsOk before.written → HasCause (faults before.output.now) (faults after.output.now) after.written
+  pub next : IsOk before.written → MatchResult after.written
+      (λ _. PassesOn before.waiting after.waiting [] (held before.output.now) (held after.output.now))
+      (λ _. AppendsPart (held before.output.now) (held after.output.now) before.waiting)

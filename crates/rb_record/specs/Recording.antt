@@ -11,6 +11,7 @@ use Rattle.rb_log.specs.Writing.{HasBytes, Tally, ticks_given, written}
 use Rattle.rb_plan.specs.Timetable.{Timetable}
 use Rattle.rb_outside.specs.Bytes.{AppendsPart}
 use Rattle.rb_world.specs.Worlds.{KeptWorld, Stands}
+use Rattle.rb_record.specs.Buffering.{PassesOn}
 
 -- the numbers of a bus
 abbrev pub timetable_of : Scenario → Timetable
@@ -48,15 +49,15 @@ pub record IsTold (before after : Tally) (events : List Event) (bytes : List ℕ
   pub text : (others : List Event) → written before.waiting (events ++ others) ≡ bytes ++ written after.waiting others
   pub ticks : after.ticks ≡ before.ticks + ticks_in events
 
--- and these bytes were written
-pub record WritesNext (before after : Tally) (events : List Event) (held since : Option (List ℕ)) : Type 0 where
+-- these events come next in the log, and the bytes that are complete with them were passed on
+pub record PassesNext (log later : Tally) (before after : List ℕ) (events : List Event) (held since : Option (List ℕ)) : Type 0 where
   pub bytes : List ℕ
-  pub told : IsTold before after events bytes
-  pub text : Appends held since bytes
+  pub told : IsTold log later events bytes
+  pub passed : PassesOn before after bytes held since
 
--- or a first part of what is written where these events come next, whatever follows
-abbrev pub WritesPartOf : Tally → List Event → Option (List ℕ) → Option (List ℕ) → Type 0
-WritesPartOf before events held since = (others : List Event) → AppendsPart held since (written before.waiting (events ++ others))
+-- or a write failed: a first part was written of what waited and of what is written where these events come next, whatever follows
+abbrev pub PassesPartOf : Tally → List ℕ → List Event → Option (List ℕ) → Option (List ℕ) → Type 0
+PassesPartOf log before events held since = (others : List Event) → AppendsPart held since (before ++ written log.waiting (events ++ others))
 
 -- From the begin of the run.
 
@@ -64,25 +65,25 @@ WritesPartOf before events held since = (others : List Event) → AppendsPart he
 abbrev pub fresh_log : Tally
 fresh_log = record { ticks = 0; waiting = 0 }
 
--- the world has had so many steps, the first due event taken each time, and of the log's records all was written that is complete with
--- what the node was given
-pub record IsRecorded (sc : Scenario) (name : NodeName) (n : ℕ) (k : KeptWorld) (log : Tally) (held since : Option (List ℕ)) : Type 0 where
+-- the world has had so many steps, the first due event taken each time, and of the log's records all was written or waits that is complete
+-- with what the node was given
+pub record IsRecorded (sc : Scenario) (name : NodeName) (n : ℕ) (k : KeptWorld) (log : Tally) (waiting : List ℕ) (held since : Option (List ℕ)) : Type 0 where
   pub bus : k.bus ≡ sc
   pub stands : Stands k (first_run sc n)
-  pub written : WritesNext fresh_log log (given_in sc name n) held since
+  pub passes : PassesNext fresh_log log [] waiting (given_in sc name n) held since
 
 -- so it is after so many records and at least as many steps, and the run goes on
-pub record IsRecordedSoFar (sc : Scenario) (name : NodeName) (records : ℕ) (k : KeptWorld) (log : Tally) (held since : Option (List ℕ)) : Type 0 where
+pub record IsRecordedSoFar (sc : Scenario) (name : NodeName) (records : ℕ) (k : KeptWorld) (log : Tally) (waiting : List ℕ) (held since : Option (List ℕ)) : Type 0 where
   pub steps : ℕ
   pub many : records ≤ steps
   pub going : (first_run sc steps).book.ended ≡ false
-  pub recorded : IsRecorded sc name steps k log held since
+  pub recorded : IsRecorded sc name steps k log waiting held since
 
--- the run has ended, and all is written but the log's end
-pub record IsRecordedWhole (sc : Scenario) (name : NodeName) (k : KeptWorld) (log : Tally) (held since : Option (List ℕ)) : Type 0 where
+-- the run has ended, and all is written or waits but the log's end
+pub record IsRecordedWhole (sc : Scenario) (name : NodeName) (k : KeptWorld) (log : Tally) (waiting : List ℕ) (held since : Option (List ℕ)) : Type 0 where
   pub steps : ℕ
   pub over : (first_run sc steps).book.ended ≡ true
-  pub recorded : IsRecorded sc name steps k log held since
+  pub recorded : IsRecorded sc name steps k log waiting held since
 
 -- a first part was written of the records of all that the node is given
 pub record IsRecordedInPart (sc : Scenario) (name : NodeName) (held since : Option (List ℕ)) : Type 0 where

@@ -1,6 +1,7 @@
 //! What one node is given in a run, written as a log.
 #![tactic(auto)]
 
+mod buffer;
 mod counted;
 mod laws;
 mod recorder;

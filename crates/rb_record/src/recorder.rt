@@ -1,37 +1,43 @@
 //! Who writes down what is told of a node.
-ghost use Rattle.std.specs.Prelude.{◌≡◌, ◌∷◌, [], IsOk, MatchResult, OnErr, OnOk};
+ghost use Rattle.std.specs.Prelude.{◌≡◌, ◌++◌, ◌∷◌, [], IsErr, IsOk, MatchResult, OnErr, OnOk};
 ghost use Rattle.std.specs.Io.KnownBytes.{Appends};
 ghost use Rattle.rb_log.specs.Writing.{written};
 ghost use Rattle.rb_outside.specs.Bytes.{AppendsPart};
 ghost use Rattle.rb_outside.specs.Causes.{HasCause};
-ghost use Rattle.rb_record.specs.Observing.{RecordsNext};
-ghost use Rattle.rb_record.specs.Recording.{MayTell, WritesNext, WritesPartOf, fresh_log};
+ghost use Rattle.rb_record.specs.Observing.{RecordsNext, Settles};
+ghost use Rattle.rb_record.specs.Recording.{MayTell, PassesNext, PassesPartOf, fresh_log};
 
+use crate::buffer::Buffer;
 use crate::counted::CountedLog;
 use rb_base::Event;
-use rb_outside::{Failed, Sink, write_all};
-use rb_world::Observer;
+use rb_outside::{Failed, Sink};
+use rb_world::{Observer, Turn};
 
-// Writes what is complete of the log with this event. Where the log has no room for it, it is left out: so it is with no event of a
-// run.
-fn write_event<K: Sink>(log: &mut CountedLog, event: &Event, output: &mut K) -> Result<(), Failed>
+// Passes on what is complete of the log with this event. Where the log has no room for it, it is left out: so it is with no event of
+// a run.
+fn pass_event<K: Sink>(
+    log: &mut CountedLog,
+    event: &Event,
+    waiting: &mut Buffer,
+    output: &mut K,
+) -> Result<(), Failed>
     ensures next { MayTell log.old.ticks (event.now ∷ []) → MatchResult result
-        (λ _. WritesNext log.old log.new (event.now ∷ []) (K.held output.old) (K.held output.new))
-        (λ _. WritesPartOf log.old (event.now ∷ []) (K.held output.old) (K.held output.new)) }
+        (λ _. PassesNext log.old log.new waiting.old waiting.new (event.now ∷ []) (K.held output.old) (K.held output.new))
+        (λ _. PassesPartOf log.old waiting.old (event.now ∷ []) (K.held output.old) (K.held output.new)) }
     ensures cause { HasCause (K.faults output.old) (K.faults output.new) result }
 {
     if !log.has_room(event) {
         return Ok(());
     }
-    let bytes = log.event(event);
-    write_all(output, bytes.as_slice())
+    waiting.push(&log.event(event), output)
 }
 
-/// Writes each event of a node that it is told, as soon as it is complete, up to the node's first tick of the frame after the last.
-/// After a write that failed it writes nothing more.
+/// Takes down each event of a node that it is told, up to the node's first tick of the frame after the last. What is complete of the
+/// log waits until a frame begins, or until there is no room for more. After a write that failed it writes nothing more.
 #[derive(Drop)]
 pub(crate) struct Recorder<'a, K> {
     output: &'a mut K,
+    waiting: Buffer,
     log: CountedLog,
     frames: u32,
     written: Result<(), Failed>,
@@ -42,34 +48,42 @@ impl<'a, K: Sink> Recorder<'a, K> {
     pub(crate) fn new(output: &'a mut K, frames: u32) -> Recorder<'a, K>
         ensures same_output { result.output.ghost_name ≡ output.entry.ghost_name }
         ensures output { result.output.now ≡ output.old }
+        ensures waiting { result.waiting ≡ [] }
         ensures log { result.log ≡ fresh_log }
         ensures frames { result.frames ≡ frames }
         ensures written { IsOk result.written }
     {
         Recorder {
             output,
+            waiting: Buffer::new(),
             log: CountedLog::new(),
             frames,
             written: Ok(()),
         }
     }
 
-    /// Whether all was written so far.
-    pub(crate) fn written(&self) -> Result<(), Failed>
-        ensures { result ≡ self.now.written }
+    /// Writes what waits, where a frame begins with this turn, and tells whether each write succeeded so far.
+    pub(crate) fn settle(&mut self, turn: &Turn) -> Result<(), Failed>
+        ensures settles { Settles K.held K.faults self.old self.new }
+        ensures told { result ≡ self.new.written }
     {
+        if self.written.is_ok() && matches!(turn, Turn::Frame(_)) {
+            self.written = self.waiting.flush(self.output);
+        }
         self.written
     }
 
-    /// Writes the end of the log.
+    /// Writes what waits, and the end of the log.
     pub(crate) fn end(&mut self) -> Result<(), Failed>
         ensures same_output { self.new.output.ghost_name ≡ self.old.output.ghost_name }
-        ensures all { OnOk result (Appends (K.held self.old.output.now) (K.held self.new.output.now) (written self.old.log.waiting [])) }
-        ensures part { OnErr result (AppendsPart (K.held self.old.output.now) (K.held self.new.output.now) (written self.old.log.waiting [])) }
+        ensures all { OnOk result (Appends (K.held self.old.output.now) (K.held self.new.output.now)
+            (self.old.waiting ++ written self.old.log.waiting [])) }
+        ensures part { OnErr result (AppendsPart (K.held self.old.output.now) (K.held self.new.output.now)
+            (self.old.waiting ++ written self.old.log.waiting [])) }
         ensures cause { HasCause (K.faults self.old.output.now) (K.faults self.new.output.now) result }
     {
-        let end = self.log.end();
-        write_all(self.output, end.as_slice())
+        self.waiting.push(&self.log.end(), self.output)?;
+        self.waiting.flush(self.output)
     }
 }
 
@@ -80,6 +94,6 @@ impl<K: Sink> Observer for Recorder<'_, K> {
         if self.written.is_err() || frame >= self.frames {
             return;
         }
-        self.written = write_event(&mut self.log, event, self.output);
+        self.written = pass_event(&mut self.log, event, &mut self.waiting, self.output);
     }
 }

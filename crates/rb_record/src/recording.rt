@@ -1,5 +1,5 @@
 //! Taking a run to its end, and writing what one node is given in it.
-ghost use Rattle.std.specs.Prelude.{◌≡◌, Option, Some, IfOk, IsOk, MatchResult, OnErr, OnOk};
+ghost use Rattle.std.specs.Prelude.{◌≡◌, [], Option, Some, IfOk, IsOk, MatchResult, OnErr, OnOk};
 ghost use Rattle.std.specs.Io.KnownBytes.{Appends};
 ghost use Rattle.rb_book.specs.Records.{record_of};
 ghost use Rattle.rb_log.specs.Header.{header_of};
@@ -52,9 +52,10 @@ fn record_run<K: Sink>(
     requires node { IsNodeOf world.old.bus.sizes node }
     requires log { recorder.old.log ≡ fresh_log }
     requires frames { recorder.old.frames ≡ world.old.bus.frames }
+    requires waiting { recorder.old.waiting ≡ [] }
     requires written { IsOk recorder.old.written }
     ensures recorded { MatchResult result
-        (λ _. IsRecordedWhole world.old.bus node world.new recorder.new.log (K.held recorder.old.output.now) (K.held recorder.new.output.now))
+        (λ _. IsRecordedWhole world.old.bus node world.new recorder.new.log recorder.new.waiting (K.held recorder.old.output.now) (K.held recorder.new.output.now))
         (λ _. IsRecordedInPart world.old.bus node (K.held recorder.old.output.now) (K.held recorder.new.output.now)) }
     ensures ending { IfOk result (EndsWith world.old.bus) }
     ensures cause { HasCause (K.faults recorder.old.output.now) (K.faults recorder.new.output.now) result }
@@ -63,7 +64,7 @@ fn record_run<K: Sink>(
 {
     for passed in 0..u64::MAX {
         let turn = world.next_observed(apps, node, recorder);
-        recorder.written()?;
+        recorder.settle(&turn)?;
         if let Some(ending) = ending_at(&turn) {
             return Ok(ending);
         }
@@ -72,10 +73,11 @@ fn record_run<K: Sink>(
 }
 
 /// Takes a run from its begin to its end, each time the event that is due first, and writes the log of what a node of the bus is
-/// given in it: the header, each piece of the records as soon as it is complete, and the end. The log has the node's events up to
-/// its first tick of the frame after the last; with a breach, and at a node that turns faulty, it ends where those end before.
-/// `Failed` comes only where a write failed; a first part of the log has then been written. The world must be as `World::open`
-/// gives it. Nothing is kept of what is written, and no memory is taken.
+/// given in it: the header, the records of the events, and the end. What is complete of the log waits until a frame of the run begins,
+/// or until it is more than 4,096 bytes, and is then written at once. The log has the node's events up to its first tick of the frame
+/// after the last; with a breach, and at a node that turns faulty, it ends where those end before. `Failed` comes only where a write
+/// failed; a first part of the log has then been written. The world must be as `World::open` gives it. Nothing is kept of what is
+/// written, and no memory is taken.
 pub fn record<K: Sink>(
     world: &mut World,
     apps: &Apps,

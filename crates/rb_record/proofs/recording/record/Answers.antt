@@ -28,7 +28,7 @@ returns-in_err-end-clause-part g c =
     c.new-recorder.ensures.output c.in_ok-write_header.ensures.all in
     on-err c.from_residual-in_err-end.result
     (held-as g.K.Sink.held (WritesPart c.args.world.now.bus c.args.node held) _ c.end.new.self.output.now (search rules)
-    (end-part c.args.world.now.bus c.args.node c.record_run.new.world c.record_run.new.recorder.log held
+    (end-part c.args.world.now.bus c.args.node c.record_run.new.world c.record_run.new.recorder.log c.record_run.new.recorder.waiting held
     (g.K.Sink.held c.new-recorder.result.output.now) (g.K.Sink.held c.record_run.new.recorder.output.now) (g.K.Sink.held c.end.new.self.output.now)
     header c.in_ok-ending.ensures.recorded c.in_err-end.ensures.part))
 
@@ -39,6 +39,6 @@ returns-clause-all g c =
     held-as g.K.Sink.held (λ since. Appends held since (header_of (timetable_of c.args.world.now.bus) c.args.node)) c.new-recorder.result.output.now c.write_header.new.output
     c.new-recorder.ensures.output c.in_ok-write_header.ensures.all in
     held-as g.K.Sink.held (WritesAll c.args.world.now.bus c.args.node held) _ c.end.new.self.output.now (search rules)
-    (all-written c.args.world.now.bus c.args.node c.record_run.new.world c.record_run.new.recorder.log held
+    (all-written c.args.world.now.bus c.args.node c.record_run.new.world c.record_run.new.recorder.log c.record_run.new.recorder.waiting held
     (g.K.Sink.held c.new-recorder.result.output.now) (g.K.Sink.held c.record_run.new.recorder.output.now) (g.K.Sink.held c.end.new.self.output.now)
     header c.in_ok-ending.ensures.recorded c.in_ok-end.ensures.all)

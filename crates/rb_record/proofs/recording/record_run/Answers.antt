@@ -8,7 +8,9 @@ use Rattle.rb_record.proofs.recording.record_run.Goals as goal
 
 pub loop-passed-init : goal.loop-passed-init
 loop-passed-init g c = record {
-  recorded = none-yet c.args.world.now.bus c.args.node c.args.world.now c.args.recorder.now.log (g.K.Sink.held c.args.recorder.now.output.now) refl c.requires.begin c.requires.log;
+  recorded =
+      none-yet c.args.world.now.bus c.args.node c.args.world.now c.args.recorder.now.log c.args.recorder.now.waiting (g.K.Sink.held c.args.recorder.now.output.now) refl
+      c.requires.begin c.requires.log c.requires.waiting;
   written = c.requires.written;
   frames = c.requires.frames;
   later = omega arith;
@@ -16,19 +18,19 @@ loop-passed-init g c = record {
   bus = refl;
 }
 
-pub returns-in_err-written : goal.returns-in_err-written
-returns-in_err-written g c =
+pub returns-in_err-settle : goal.returns-in_err-settle
+returns-in_err-settle g c =
     let next =
-    comes-to-next g.K.Sink.held g.K.Sink.faults c.args.world.now.bus c.args.node c.loop-passed.passed c.loop-passed.recorder c.next_observed-turn.new.observer c.loop-passed.world
+    comes-to-next g.K.Sink.held g.K.Sink.faults c.args.world.now.bus c.args.node c.loop-passed.passed c.loop-passed.recorder c.next_observed-turn.new.observer c.settle.new.self c.loop-passed.world
     c.next_observed-turn.new.self c.next_observed-turn.result (g.K.Sink.held c.args.recorder.now.output.now) c.loop-passed.invariant.bus c.loop-passed.invariant.recorded
-    c.loop-passed.invariant.frames c.loop-passed.invariant.written c.next_observed-turn.ensures.bus c.next_observed-turn.ensures.told in
-    let failed : IsErr c.next_observed-turn.new.observer.written = is-err c.next_observed-turn.new.observer.written _ c.in_err-written.ensures in
+    c.loop-passed.invariant.frames c.loop-passed.invariant.written c.next_observed-turn.ensures.bus c.next_observed-turn.ensures.told c.settle.ensures.settles in
+    let failed : IsErr c.settle.new.self.written = is-err c.settle.new.self.written _ c.in_err-settle.ensures.told in
     record {
-      recorded = part-then g.K.Sink.held g.K.Sink.faults c.args.world.now.bus c.args.node c.loop-passed.passed c.loop-passed.recorder c.next_observed-turn.new.observer
+      recorded = part-then g.K.Sink.held g.K.Sink.faults c.args.world.now.bus c.args.node c.loop-passed.passed c.loop-passed.recorder c.settle.new.self
           c.next_observed-turn.new.self c.next_observed-turn.result (g.K.Sink.held c.args.recorder.now.output.now) c.from_residual.result next failed c.from_residual.ensures.0;
       ending = if-err (EndsWith c.args.world.now.bus) c.from_residual.result c.from_residual.ensures.0;
-      cause = cause-err (g.K.Sink.faults c.args.recorder.now.output.now) (g.K.Sink.faults c.loop-passed.recorder.output.now) (g.K.Sink.faults c.next_observed-turn.new.observer.output.now)
-          c.next_observed-turn.new.observer.written c.from_residual.result c.loop-passed.invariant.later failed next.cause;
+      cause = cause-err (g.K.Sink.faults c.args.recorder.now.output.now) (g.K.Sink.faults c.loop-passed.recorder.output.now) (g.K.Sink.faults c.settle.new.self.output.now)
+          c.settle.new.self.written c.from_residual.result c.loop-passed.invariant.later failed next.cause;
       same_output = next.same_output ∙ c.loop-passed.invariant.same_output;
       bus = c.next_observed-turn.ensures.bus ∙ c.loop-passed.invariant.bus;
     }
@@ -36,16 +38,17 @@ returns-in_err-written g c =
 pub returns-in-Some : goal.returns-in-Some
 returns-in-Some g c =
     let next =
-    comes-to-next g.K.Sink.held g.K.Sink.faults c.args.world.now.bus c.args.node c.loop-passed.passed c.loop-passed.recorder c.next_observed-turn.new.observer c.loop-passed.world
+    comes-to-next g.K.Sink.held g.K.Sink.faults c.args.world.now.bus c.args.node c.loop-passed.passed c.loop-passed.recorder c.next_observed-turn.new.observer c.settle.new.self c.loop-passed.world
     c.next_observed-turn.new.self c.next_observed-turn.result (g.K.Sink.held c.args.recorder.now.output.now) c.loop-passed.invariant.bus c.loop-passed.invariant.recorded
-    c.loop-passed.invariant.frames c.loop-passed.invariant.written c.next_observed-turn.ensures.bus c.next_observed-turn.ensures.told in
+    c.loop-passed.invariant.frames c.loop-passed.invariant.written c.next_observed-turn.ensures.bus c.next_observed-turn.ensures.told c.settle.ensures.settles in
+    let well : IsOk c.settle.new.self.written = is-ok c.settle.new.self.written _ c.in_ok-settle.ensures.told in
     record {
-      recorded = comes-to-end g.K.Sink.held g.K.Sink.faults c.args.world.now.bus c.args.node c.loop-passed.passed c.loop-passed.recorder c.next_observed-turn.new.observer
-          c.next_observed-turn.new.self c.next_observed-turn.result c.in-Some.ending (g.K.Sink.held c.args.recorder.now.output.now) next (is-ok c.next_observed-turn.new.observer.written _ c.in_ok-written.ensures) (sym c.ending_at.ensures ∙ c.in-Some.is);
-      ending = ends-with g.K.Sink.held g.K.Sink.faults c.args.world.now.bus c.args.node c.loop-passed.passed c.loop-passed.recorder c.next_observed-turn.new.observer
+      recorded = comes-to-end g.K.Sink.held g.K.Sink.faults c.args.world.now.bus c.args.node c.loop-passed.passed c.loop-passed.recorder c.settle.new.self
+          c.next_observed-turn.new.self c.next_observed-turn.result c.in-Some.ending (g.K.Sink.held c.args.recorder.now.output.now) next well (sym c.ending_at.ensures ∙ c.in-Some.is);
+      ending = ends-with g.K.Sink.held g.K.Sink.faults c.args.world.now.bus c.args.node c.loop-passed.passed c.loop-passed.recorder c.settle.new.self
           c.next_observed-turn.new.self c.next_observed-turn.result c.in-Some.ending (g.K.Sink.held c.args.recorder.now.output.now) next (sym c.ending_at.ensures ∙ c.in-Some.is);
-      cause = cause-ok (g.K.Sink.faults c.args.recorder.now.output.now) (g.K.Sink.faults c.loop-passed.recorder.output.now) (g.K.Sink.faults c.next_observed-turn.new.observer.output.now)
-          c.next_observed-turn.new.observer.written c.in-Some.ending c.loop-passed.invariant.later next.cause;
+      cause = cause-ok (g.K.Sink.faults c.args.recorder.now.output.now) (g.K.Sink.faults c.loop-passed.recorder.output.now) (g.K.Sink.faults c.settle.new.self.output.now)
+          c.settle.new.self.written c.in-Some.ending c.loop-passed.invariant.later next.cause;
       same_output = next.same_output ∙ c.loop-passed.invariant.same_output;
       bus = c.next_observed-turn.ensures.bus ∙ c.loop-passed.invariant.bus;
     }
@@ -53,14 +56,14 @@ returns-in-Some g c =
 pub loop-passed-preserved : goal.loop-passed-preserved
 loop-passed-preserved g c =
     let next =
-    comes-to-next g.K.Sink.held g.K.Sink.faults c.args.world.now.bus c.args.node c.loop-passed.passed c.loop-passed.recorder c.next_observed-turn.new.observer c.loop-passed.world
+    comes-to-next g.K.Sink.held g.K.Sink.faults c.args.world.now.bus c.args.node c.loop-passed.passed c.loop-passed.recorder c.next_observed-turn.new.observer c.settle.new.self c.loop-passed.world
     c.next_observed-turn.new.self c.next_observed-turn.result (g.K.Sink.held c.args.recorder.now.output.now) c.loop-passed.invariant.bus c.loop-passed.invariant.recorded
-    c.loop-passed.invariant.frames c.loop-passed.invariant.written c.next_observed-turn.ensures.bus c.next_observed-turn.ensures.told in
-    let well : IsOk c.next_observed-turn.new.observer.written = is-ok c.next_observed-turn.new.observer.written _ c.in_ok-written.ensures in
+    c.loop-passed.invariant.frames c.loop-passed.invariant.written c.next_observed-turn.ensures.bus c.next_observed-turn.ensures.told c.settle.ensures.settles in
+    let well : IsOk c.settle.new.self.written = is-ok c.settle.new.self.written _ c.in_ok-settle.ensures.told in
     let before = c.loop-passed.invariant.later in
     let more = next.cause.later in
     record {
-      recorded = goes-further g.K.Sink.held g.K.Sink.faults c.args.world.now.bus c.args.node c.loop-passed.passed c.loop-passed.recorder c.next_observed-turn.new.observer
+      recorded = goes-further g.K.Sink.held g.K.Sink.faults c.args.world.now.bus c.args.node c.loop-passed.passed c.loop-passed.recorder c.settle.new.self
           c.next_observed-turn.new.self c.next_observed-turn.result (g.K.Sink.held c.args.recorder.now.output.now) next well (sym c.ending_at.ensures ∙ c.in_default.is);
       written = well;
       frames = next.frames;
