@@ -21,7 +21,7 @@ SEED = 1
 
 run:
 	@test -n "$(SCENARIO)" || { echo "usage: make run SCENARIO=examples/one_silent_rmu.toml (or another of examples/)" >&2; exit 2; }
-	@tools/run "$(SCENARIO)"
+	@status=0; tools/run "$(SCENARIO)" || status=$$?; test $$status -le 1 || exit $$status
 
 picture:
 	@test -n "$(SCENARIO)" || { echo "usage: make picture SCENARIO=examples/one_silent_rmu.toml > run.svg (or another of examples/)" >&2; exit 2; }
@@ -29,7 +29,7 @@ picture:
 
 bridge:
 	@test -n "$(SCENARIO)" || { echo "usage: make bridge SCENARIO=examples/bridges/carried_words.toml (or another of examples/bridges/)" >&2; exit 2; }
-	@tools/bridge "$(SCENARIO)"
+	@status=0; tools/bridge "$(SCENARIO)" || status=$$?; test $$status -le 1 || exit $$status
 
 build:
 	tools/proved $(ROBUS) || (cd crates/robus && rt run -- run < stdin > /dev/null)

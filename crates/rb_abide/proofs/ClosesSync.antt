@@ -30,6 +30,7 @@ use Rattle.rb_order.proofs.TurnTicks.{no-next, not-yet}
 use Rattle.rb_follow.specs.Following.{follow}
 use Rattle.rb_track.proofs.Tracking.{Held}
 use Rattle.rb_attune.specs.Ears.{Ear}
+use Rattle.rb_attune.proofs.SyncStages.{StageIs, stage_is}
 use Rattle.rb_abide.specs.Following.{ClosesAsTheBus, ClosesAt, delivery_by}
 use Rattle.rb_abide.proofs.ClosesExact.{IsShared}
 use Rattle.rb_abide.proofs.ExactPasses.{IsHeldTo, StandsAt}
@@ -38,7 +39,7 @@ use Rattle.rb_abide.proofs.FollowerRuns.{ClosesWindow, IsWindow, Stands, closes_
 use Rattle.rb_abide.proofs.LatePasses.{StandsAtThird, next_epoch_of, third_span}
 use Rattle.rb_abide.proofs.SecondSteps.{second_span}
 use Rattle.rb_abide.proofs.SeenPremise.{place_synced}
-use Rattle.rb_abide.proofs.SyncPasses.{IsInSync, PassesAtSecond, StageIs, StandsAtSecond, in_sync, second_shared, stage_is, sync_moment, to_second}
+use Rattle.rb_abide.proofs.SyncPasses.{IsInSync, PassesAtSecond, StandsAtSecond, in_sync, second_shared, sync_moment, to_second}
 use Rattle.rb_abide.proofs.SyncRuns.{held_in_sync, held_like}
 use Rattle.rb_abide.proofs.Tellings.{tells_close}
 

@@ -146,7 +146,7 @@ passes_exact sc hands ear learned records f last w epoch low h x below running l
         (let v : (moment sc hands (suc n)).window ≡ suc w = ap (λ k. (moment sc hands k).window) e ∙ next_at.window_is in omega (arith, v))
 
     premise : IsPremise sc hands ear (w + first_of_frame sc (suc f)) epoch x.st (w / 3) (w % 3) (seen_following sc ear (suc f))
-    premise = record { most = most_stay sc hands ear x.abides.beside.run (moment sc hands n); none = judged; saw = λ votes. saw }
+    premise = record { most = most_stay sc hands ear set.law x.abides.beside.run n (omega (arith, window, below)) running; none = judged; saw = λ votes. saw }
 
     through : GoesThrough sc hands ear (w + first_of_frame sc (suc f)) epoch x.before x.st (w / 3) (w % 3)
     through = goes_through sc hands ear n epoch low x.shared (w / 3) (w % 3) x.before x.st x.abides set (seen_following sc ear (suc f)) premise time

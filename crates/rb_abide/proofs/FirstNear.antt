@@ -15,7 +15,7 @@ use Rattle.rb_rules.specs.Goodness.{Scenario, clock_of, is_good}
 use Rattle.rb_rules.specs.Hearing.{judged_see, sending}
 use Rattle.rb_rules.specs.Judging.{JudgedStage, good_now, is_suspect}
 use Rattle.rb_rules.specs.Lawful.{IsDelay, IsLawful}
-use Rattle.rb_rules.specs.Moments.{IsComplete, IsGoodBefore, IsRunning, before_stage, time_in_frame}
+use Rattle.rb_rules.specs.Moments.{IsComplete, IsGoodBefore, IsRunning, before_slot, before_stage, time_in_frame}
 use Rattle.rb_rules.specs.NodeState.{NodeState, trusted_of}
 use Rattle.rb_rules.specs.NodeSteps.{message_said}
 use Rattle.rb_rules.specs.Plan.{shortest_of}
@@ -140,12 +140,12 @@ learned-none sc ear learned frame records stages is h =
 
 -- More than half of all RMUs are good.
 
-most-good : (sc : Scenario) (hands : List HandIn) (ear : Ear) → HearsTheRun sc hands ear → (frame : ℕ) → AreMostGood sc frame
-most-good sc hands ear run frame =
-    let most : sc.sizes.rmus < 2 * size (set_of (is_always_good sc)) = less_from sc.sizes.rmus (2 * size (set_of (is_always_good sc))) run.most_good in
-    let fewer : size (set_of (is_always_good sc)) ≤ size (set_of (λ j. is_good sc Rmu j frame (sync_slot_of sc.sizes))) =
-    size_within (set_of (is_always_good sc)) (set_of (λ j. is_good sc Rmu j frame (sync_slot_of sc.sizes))) (λ j below h.
-    has-set_of j (λ j. is_good sc Rmu j frame (sync_slot_of sc.sizes)) below ∙ always-good-in sc j frame (sync_slot_of sc.sizes) (sym (has-set_of j (is_always_good sc) below) ∙ h)) in
+most-good : (sc : Scenario) (hands : List HandIn) (ear : Ear) → IsLawful sc → HearsTheRun sc hands ear → (frame : ℕ) → IsRunning (before_slot sc hands frame (sync_slot_of sc.sizes)) → AreMostGood sc frame
+most-good sc hands ear law run frame running =
+    let most : sc.sizes.rmus < 2 * size (set_of (is_always_good sc hands)) = less_from sc.sizes.rmus (2 * size (set_of (is_always_good sc hands))) run.most_good in
+    let fewer : size (set_of (is_always_good sc hands)) ≤ size (set_of (λ j. is_good sc Rmu j frame (sync_slot_of sc.sizes))) =
+    size_within (set_of (is_always_good sc hands)) (set_of (λ j. is_good sc Rmu j frame (sync_slot_of sc.sizes))) (λ j below h.
+    has-set_of j (λ j. is_good sc Rmu j frame (sync_slot_of sc.sizes)) below ∙ always-good-in sc hands law j frame (sync_slot_of sc.sizes) running (sym (has-set_of j (is_always_good sc hands) below) ∙ h)) in
     omega (arith, most, fewer)
 
 -- before stage 2 of the sync slot of a frame after the first all windows of the frame before it were judged
@@ -333,7 +333,7 @@ first_near sc hands law ear is run learned tick s decides calm first l = record 
     near me i st h =
         let b : HasBegun sc hands learned me i st = has_begun sc hands law learned calm.complete me i st h in
         let together : LieWithin sc.plan.p (time_of ear.clock (l.middle + sc.plan.v + sc.plan.z + sc.plan.c)) (time_of (clock_of sc me i) b.epoch) =
-        frames_near sc hands law learned calm.complete (most-good sc hands ear run learned) ear.clock is.clock (taken_learned sc s.lesson.records) (time_learned sc ear learned s.lesson.records) takes
+        frames_near sc hands law learned calm.complete (most-good sc hands ear law run learned (complete_before sc hands learned (sync_slot_of sc.sizes) 1 (omega arith) calm.complete)) ear.clock is.clock (taken_learned sc s.lesson.records) (time_learned sc ear learned s.lesson.records) takes
         (only_of (trusted_rmus sc.sizes s.lesson.records) (seen_learned sc ear learned s.lesson.records)) none saw l.middle l.middle_is me i b.st b.after b.epoch b.known in
         let epoch : b.epoch ≡ st.epoch + 0 = omega (arith, b.epoch_is) in
         subst (λ x. LieWithin sc.plan.p (time_of ear.clock x) (time_of (clock_of sc me i) (st.epoch + 0))) (sym l.epoch_is)

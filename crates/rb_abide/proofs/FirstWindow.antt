@@ -1,7 +1,6 @@
 -- A listener goes through the first window of its first frame. What comes with the stamp of the frame's first tick it does not keep.
 use Rattle.std.proofs.Common.{◌≡◌, ℕ, zero, suc, ◌+◌, ◌-◌, ◌*◌, ◌^◌, ◌<◌, ◌≤◌, ◌==◌, ◌&&◌, not, Bool, true, false, List, [], Option, Some, None, option_and_then, option_map, refl, sym, ◌∙◌, ap, subst, arith}
 use Rattle.std.proofs.lemmas.Bool.Decides.{nat_tests}
-use Rattle.rb_base.specs.Nodes.{set_of, size}
 use Rattle.rb_base.specs.Nodes.Side.{Biu, Rmu}
 use Rattle.rb_base.specs.Sizes.{Sizes, sync_slot_of}
 use Rattle.rb_base.specs.declared.values.Heard.{Heard}
@@ -19,7 +18,7 @@ use Rattle.rb_rules.specs.Moments.{IsRunning}
 use Rattle.rb_rules.specs.NodeState.{NodeState, sender_at}
 use Rattle.rb_rules.specs.NodeSteps.{close, expect_of, message_said}
 use Rattle.rb_rules.specs.Ports.{HandIn}
-use Rattle.rb_rules.specs.Rounds.{Moment, after_window, moment}
+use Rattle.rb_rules.specs.Rounds.{after_window, moment}
 use Rattle.rb_rules.specs.Sense.{sense_of}
 use Rattle.rb_rules.specs.Slots.{Sender, listens, role_of}
 use Rattle.rb_rules.specs.Slots.Sender.{EachTrusted, Node, Nobody}
@@ -29,12 +28,10 @@ use Rattle.rb_agree.proofs.Agreement.{IsAgreed, agreement}
 use Rattle.rb_agree.proofs.ExactAgrees.{has_ticks}
 use Rattle.rb_agree.proofs.ExactWindows.{IsSenseOf}
 use Rattle.rb_agree.proofs.Invariant.{IsGoodNode, Shared, slot_numbered}
-use Rattle.rb_agree.proofs.NextMoments.{next}
 use Rattle.rb_agree.proofs.NodeWindows.{Windows, exact_windows, word_at}
-use Rattle.rb_agree.proofs.Numbers.{how_many-is, how_many-le}
 use Rattle.rb_agree.proofs.Settings.{Setting, stages_with}
 use Rattle.rb_agree.proofs.SlotRuns.{next-window}
-use Rattle.rb_agree.proofs.Tests.{less_from, less_true}
+use Rattle.rb_agree.proofs.Tests.{less_true}
 use Rattle.rb_sync.proofs.StageCalls.{IsAt, exact_at}
 use Rattle.rb_sync.proofs.SyncSteps.{near_exact}
 use Rattle.rb_sync.proofs.Synchronous.{Synchronous}
@@ -45,11 +42,10 @@ use Rattle.rb_order.proofs.TurnTicks.{no-next}
 use Rattle.rb_follow.specs.Following.{follow}
 use Rattle.rb_listen.specs.Listening.{followed, heed}
 use Rattle.rb_listen.specs.Listening as now
-use Rattle.rb_attune.specs.Ears.{Ear, HearsTheRun, SendsIn, hears, is_always_good, listening_at}
+use Rattle.rb_attune.specs.Ears.{Ear, SendsIn, hears, listening_at}
 use Rattle.rb_attune.proofs.CallsSent.{sends-at}
-use Rattle.rb_attune.proofs.Fresh.{always-good-in}
 use Rattle.rb_track.specs.Judged.{verdict_with}
-use Rattle.rb_track.proofs.Tracking.{MostStay, Tracks, stays_good}
+use Rattle.rb_track.proofs.Tracking.{Tracks, stays_good}
 use Rattle.rb_track.proofs.WindowSteps.{IsWatched, closed_by, tracks_after}
 use Rattle.rb_abide.proofs.Arrivals.{none_collected, none_with_stamp}
 use Rattle.rb_abide.proofs.ExactRuns.{GoesOn, goes_on, setting_at}
@@ -57,7 +53,7 @@ use Rattle.rb_abide.proofs.ExactSteps.{Abides}
 use Rattle.rb_abide.proofs.FollowerRuns.{ClosesWindow, IsWindow, Stands, closes_window, closing, collected, state_before}
 use Rattle.rb_abide.proofs.FollowerWindows.{closes_there, is_window}
 use Rattle.rb_abide.proofs.HeardExact.{Beside, IsOwn, only_own}
-use Rattle.rb_abide.proofs.SeenPremise.{place_closed}
+use Rattle.rb_abide.proofs.SeenPremise.{most_stay, place_closed}
 use Rattle.rb_abide.proofs.SeenWindows.{NoneSeen, sees_window}
 
 -- with its first tick it has turned to following, and stands beside the run before the frame's first window
@@ -155,15 +151,6 @@ sending-none sizes plan some j source word =
 votes-none : (b : Bool) → (b && not (1 == 1)) ≡ true → ⊥
 votes-none true h = cc
 votes-none false h = cc
-
-most-stay : (sc : Scenario) (hands : List HandIn) (ear : Ear) → HearsTheRun sc hands ear → (m : Moment) → MostStay sc m
-most-stay sc hands ear run m =
-    omega (
-      arith,
-      less_from sc.sizes.rmus (2 * size (set_of (is_always_good sc))) run.most_good,
-      how_many-is (is_always_good sc),
-      how_many-le (is_always_good sc) (stays_good sc m) (λ j below good. always-good-in sc j (next sc m).frame (slot_numbered sc.sizes (next sc m).window) good),
-    )
 
 exact_keeps : (sizes : Sizes) (plan : Plan) (st : NodeState) (slot stage : ℕ) (sense : ℕ → Sense) → new_epoch_of plan Biu (close_exact sizes Biu 16 st slot stage sense).state ≡ new_epoch_of plan Biu st
 unfolding close_exact outcome_of
@@ -350,7 +337,7 @@ passes_window sc hands ear n epoch low s st x running seen none in_time = record
 
     watched : IsWatched sc (moment sc hands n) 0 0 st (sense_first sc ear epoch st) seen
     watched = record {
-      most = most-stay sc hands ear x.beside.run (moment sc hands n);
+      most = most_stay sc hands ear x.beside.law x.beside.run n (omega (arith, x.window)) running;
       tracks = x.tracks;
       senses = λ j source there stays. silent j source there stays (says sc.sizes Rmu j source 0 1 (word_at sc (moment sc hands n) 0 j))
           (says-none sc.sizes x.beside.law.sizes.some_biu j source (word_at sc (moment sc hands n) 0 j));

@@ -1,5 +1,5 @@
 -- What a listener hears of good RMUs in a window below the sync slot: what they send in it, and nothing else.
-use Rattle.std.proofs.Common.{◌≡◌, ℕ, ◌+◌, ◌-◌, ◌*◌, ◌/◌, ◌%◌, ◌<◌, ◌≤◌, ◌==◌, ◌&&◌, ◌||◌, nat_lt, true, false, List, length, Some, None, get_or, ◌⊎◌, inl, inr, refl, sym, ◌∙◌, ap, subst, arith}
+use Rattle.std.proofs.Common.{◌≡◌, ℕ, ◌+◌, ◌-◌, ◌*◌, ◌/◌, ◌%◌, ◌<◌, ◌≤◌, ◌==◌, ◌&&◌, ◌||◌, nat_lt, true, false, List, Some, None, get_or, ◌⊎◌, inl, inr, refl, sym, ◌∙◌, ap, subst, arith}
 use Rattle.std.proofs.lemmas.Bool.{cases_lt, cases_order}
 use Rattle.std.proofs.lemmas.Bool.Decides.{nat_tests}
 use Rattle.std.proofs.Math.Nat.{mul-le-mul_left, mul-le-mul_right}
@@ -9,8 +9,9 @@ use Rattle.rb_base.specs.Sizes.{sync_slot_of}
 use Rattle.rb_rules.specs.declared.role.Role.TheVariants.{Sync}
 use Rattle.rb_rules.specs.Clock.{IsStamp, time_of}
 use Rattle.rb_rules.specs.Goodness.{Scenario, clock_of, is_before, is_good}
+use Rattle.rb_rules.specs.Headline.{stated_skew}
 use Rattle.rb_rules.specs.Hearing.{Coming, Sending, sending}
-use Rattle.rb_rules.specs.Lawful.{IsDelay, IsLawful, IsOnsetOf}
+use Rattle.rb_rules.specs.Lawful.{IsDelay, IsLawful}
 use Rattle.rb_rules.specs.Moments.{IsRunning}
 use Rattle.rb_rules.specs.NodeState.{NodeState}
 use Rattle.rb_rules.specs.Plan.{f0_of, shortest_of, tail_start_of}
@@ -38,7 +39,9 @@ use Rattle.rb_sync.proofs.TimelyWindows.{IsSent, sent_parts}
 use Rattle.rb_sync.proofs.Times.{Steady, lawful_fits, plan_fits, tick_le}
 use Rattle.rb_attune.specs.Ears.{Ear, HearsTheRun, IsEar, IsHeard, IsOfFaulty, IsOfGood, SendsIn, coming_to}
 use Rattle.rb_attune.proofs.Apart.{WasAt, all-were-at}
+use Rattle.rb_attune.proofs.Begins.{skew-fits}
 use Rattle.rb_attune.proofs.CallsSent.{sends-at}
+use Rattle.rb_attune.proofs.Fresh.{onset-in}
 use Rattle.rb_attune.proofs.Together.{steady-ear}
 
 -- ---- when an RMU sends
@@ -117,10 +120,10 @@ too_early : (low p z u d most f h l v x before : ℕ) → p + d * (f + h) + 3 * 
 too_early low p z u d most f h l v x before c6 sent at = omega (arith, c6, sent, at)
 
 -- what a node says that has just turned faulty comes after it too
-too_soon : (low p a f h l u d most x t k : ℕ) → a + l ≤ f → p + d * (f + h) + most + (1 + h) * u ≤ l * u → low + (a + l + l) * u ≤ x → x < t + u → t ≤ k
-    → k + (u + d) ≤ low + p + (a + l) * (u + d) → ⊥
-too_soon low p a f h l u d most x t k le c2 sent reached at last =
-    absurd (omega (arith, c2, sent, reached, at, last, mul-le-mul_left d le))
+too_soon : (low p a f h l u d least most skew x t k : ℕ) → a + l ≤ f → least ≤ most → skew + d * h ≤ h * u + least → p + d * (f + h) + most + (1 + h) * u ≤ l * u
+    → low + (a + l + l) * u ≤ x → x < t + u + skew → t ≤ k → k + (u + d) ≤ low + p + (a + l) * (u + d) → ⊥
+too_soon low p a f h l u d least most skew x t k le delays fits c2 sent reached at last =
+    absurd (omega (arith, delays, fits, c2, sent, reached, at, last, mul-le-mul_left d le))
 
 -- ---- a listener beside the run
 
@@ -421,8 +424,9 @@ not_faulty : (sc : Scenario) (hands : List HandIn) (ear : Ear) (n epoch low : �
     → (c : Coming) → is_good sc Rmu c.from (moment sc hands n).frame (slot_numbered sc.sizes ((moment sc hands n).window + 1)) ≡ true → IsOfFaulty sc hands c
     → (k : ℕ) → IsStamp ear.clock c.time k → IsTickOf sc epoch (moment sc hands n).window k → ⊥
 not_faulty sc hands ear n epoch low s b below c good faulty k stamp in_it =
-    too_soon low sc.plan.p a (f0_of sc.sizes sc.plan) sc.plan.h sc.plan.l (shortest_of sc.plan) (drift_of sc.plan) sc.plan.dmax (time_of (clock_of sc faulty.me faulty.i) (faulty.state.epoch + 3 * faulty.slot * sc.plan.l))
-    c.time (time_of ear.clock k) (window_within sc (moment sc hands n).window below) fit.after_1 (omega (arith, rises, at.least)) faulty.not_early stamp.reached
+    too_soon low sc.plan.p a (f0_of sc.sizes sc.plan) sc.plan.h sc.plan.l (shortest_of sc.plan) (drift_of sc.plan) sc.plan.dmin sc.plan.dmax (stated_skew sc.plan (3 * faulty.slot * sc.plan.l))
+    (time_of (clock_of sc faulty.me faulty.i) (faulty.state.epoch + 3 * faulty.slot * sc.plan.l))
+    c.time (time_of ear.clock k) (window_within sc (moment sc hands n).window below) b.law.plan.dmin.1 (skew-fits sc b.law faulty.slot slot_le) fit.after_1 (omega (arith, rises, at.least)) faulty.not_early stamp.reached
     (last_time sc hands ear n epoch low s b a k in_it.1 b.law.plan.l.0)
   where
     fit : plan_fits sc
@@ -441,10 +445,7 @@ not_faulty sc hands ear n epoch low s b below c good faulty k stamp in_it =
         ∙ and_second (nat_lt c.from sc.sizes.rmus) (is_before (get_or sc.rmu_onsets c.from None) (moment sc hands n).frame (slot_numbered sc.sizes ((moment sc hands n).window + 1))) good)
 
     slot_le : faulty.slot ≤ sync_slot_of sc.sizes
-    slot_le =
-        let onset : get_or sc.rmu_onsets c.from None ≡ Some (faulty.frame, faulty.slot) = faulty.onset in
-        let enough : sc.sizes.rmus ≤ length sc.rmu_onsets = b.law.rmu_onsets.enough in
-        (subst (IsOnsetOf sc) onset (b.law.rmu_onsets.each c.from None (omega (arith, counted, enough)))).1
+    slot_le = onset-in sc b.law c.from faulty.frame faulty.slot counted faulty.onset
 
     n1 : ℕ
     n1 = faulty.frame * (windows_in sc.sizes + 1) + 3 * faulty.slot + 1 - 1

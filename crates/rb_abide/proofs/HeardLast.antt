@@ -1,5 +1,5 @@
 -- What a listener hears of RMUs that are good in the next frame, too, in stage 3 of the sync slot and in the tail: nothing.
-use Rattle.std.proofs.Common.{◌≡◌, ℕ, ◌+◌, ◌-◌, ◌*◌, ◌<◌, ◌≤◌, nat_lt, true, List, length, Some, None, get_or, ◌⊎◌, inl, inr, refl, sym, ◌∙◌, ap, subst, arith}
+use Rattle.std.proofs.Common.{◌≡◌, ℕ, ◌+◌, ◌-◌, ◌*◌, ◌<◌, ◌≤◌, nat_lt, true, List, None, get_or, ◌⊎◌, inl, inr, refl, sym, ◌∙◌, ap, subst, arith}
 use Rattle.std.proofs.lemmas.Bool.{cases_order}
 use Rattle.std.proofs.Math.Nat.{mul-le-mul_right}
 use Rattle.rb_base.specs.Nodes.{Side}
@@ -7,8 +7,8 @@ use Rattle.rb_base.specs.Nodes.Side.{Rmu}
 use Rattle.rb_base.specs.Sizes.{sync_slot_of}
 use Rattle.rb_rules.specs.Clock.{IsStamp, time_of}
 use Rattle.rb_rules.specs.Goodness.{Scenario, clock_of, is_before, is_good}
+use Rattle.rb_rules.specs.Headline.{stated_skew}
 use Rattle.rb_rules.specs.Hearing.{Coming, Sending}
-use Rattle.rb_rules.specs.Lawful.{IsOnsetOf}
 use Rattle.rb_rules.specs.Moments.{IsRunning}
 use Rattle.rb_rules.specs.NodeState.{NodeState}
 use Rattle.rb_rules.specs.Plan.{f0_of, shortest_of, tail_start_of}
@@ -26,6 +26,8 @@ use Rattle.rb_sync.proofs.StageCalls.{clock_now}
 use Rattle.rb_sync.proofs.Times.{Steady, lawful_fits, plan_fits}
 use Rattle.rb_attune.specs.Ears.{Ear, IsHeard, IsOfFaulty, IsOfGood, SendsIn, coming_to}
 use Rattle.rb_attune.proofs.Apart.{WasAt}
+use Rattle.rb_attune.proofs.Begins.{skew-fits}
+use Rattle.rb_attune.proofs.Fresh.{onset-in}
 use Rattle.rb_attune.proofs.Together.{steady-ear}
 use Rattle.rb_abide.proofs.HeardExact.{Beside, IsEarlier, SendsThen, comes, earlier_stamp, onset_after, place_order, sends_then, tail-start, was_at, window_within}
 
@@ -53,8 +55,9 @@ sent_late : (later p f h u d least x t : ℕ) → p + d * (f + h) ≤ h * u + le
 sent_late later p f h u d least x t c1 sent reached at = absurd (omega (arith, c1, sent, reached, at))
 
 -- and what is said by one that turns faulty in it too
-said_late : (later p f h l u d most x t c : ℕ) → p + d * (f + h) + most + (1 + h) * u ≤ l * u → later + l * u ≤ x → x < c + u → c ≤ t → t < later + p → ⊥
-said_late later p f h l u d most x t c c2 sent reached at last = absurd (omega (arith, c2, sent, reached, at, last))
+said_late : (later p f h l u d least most skew x t c : ℕ) → least ≤ most → skew + d * h ≤ h * u + least → p + d * (f + h) + most + (1 + h) * u ≤ l * u → later + l * u ≤ x → x < c + u + skew → c ≤ t
+    → t < later + p → ⊥
+said_late later p f h l u d least most skew x t c delays fits c2 sent reached at last = absurd (omega (arith, delays, fits, c2, sent, reached, at, last))
 
 -- a node that is good in a later frame, when it began the next one
 record BegunAt (sc : Scenario) (me : Side) (i later epoch : ℕ) : Type 0 where
@@ -201,10 +204,7 @@ nothing_late sc hands ear n epoch low s next_epoch later b at next second c st n
         counted = less_from c.from sc.sizes.rmus (and_first (nat_lt c.from sc.sizes.rmus) (is_before (get_or sc.rmu_onsets c.from None) ((moment sc hands n).frame + 1) 0) good)
 
         slot_le : faulty.slot ≤ sync_slot_of sc.sizes
-        slot_le =
-            let onset : get_or sc.rmu_onsets c.from None ≡ Some (faulty.frame, faulty.slot) = faulty.onset in
-            let enough : sc.sizes.rmus ≤ length sc.rmu_onsets = b.law.rmu_onsets.enough in
-            (subst (IsOnsetOf sc) onset (b.law.rmu_onsets.each c.from None (omega (arith, counted, enough)))).1
+        slot_le = onset-in sc b.law c.from faulty.frame faulty.slot counted faulty.onset
 
         place : IsPlaced sc hands faulty.frame faulty.slot 1
         place = placed sc hands b.law faulty.frame faulty.slot 1 slot_le (omega arith) (omega arith) faulty.running
@@ -222,8 +222,9 @@ nothing_late sc hands ear n epoch low s next_epoch later b at next second c st n
             let step : time_of (clock_of sc faulty.me faulty.i) e + sc.plan.l * shortest_of sc.plan ≤ time_of (clock_of sc faulty.me faulty.i) (e + sc.plan.l) = clock.not_early e sc.plan.l in
             let up : time_of (clock_of sc faulty.me faulty.i) (e + sc.plan.l) ≤ time_of (clock_of sc faulty.me faulty.i) (faulty.state.epoch + 3 * faulty.slot * sc.plan.l) =
             times_rise_to (clock_of sc faulty.me faulty.i) (e + sc.plan.l) (faulty.state.epoch + 3 * faulty.slot * sc.plan.l) le in
-            said_late later sc.plan.p (f0_of sc.sizes sc.plan) sc.plan.h sc.plan.l (shortest_of sc.plan) (drift_of sc.plan) sc.plan.dmax
-            (time_of (clock_of sc faulty.me faulty.i) (faulty.state.epoch + 3 * faulty.slot * sc.plan.l)) (time_of ear.clock k) c.time fit.after_1
+            said_late later sc.plan.p (f0_of sc.sizes sc.plan) sc.plan.h sc.plan.l (shortest_of sc.plan) (drift_of sc.plan) sc.plan.dmin sc.plan.dmax (stated_skew sc.plan (3 * faulty.slot * sc.plan.l))
+            (time_of (clock_of sc faulty.me faulty.i) (faulty.state.epoch + 3 * faulty.slot * sc.plan.l)) (time_of ear.clock k) c.time
+            b.law.plan.dmin.1 (skew-fits sc b.law faulty.slot slot_le) fit.after_1
             (omega (arith, time, step, up)) faulty.not_early (b.is.stamps k c in_time heard).reached early
 
         by_order : ((moment sc hands n).frame + 1 < faulty.frame) ⊎ (((moment sc hands n).frame + 1 ≡ faulty.frame) × (0 < faulty.slot)) → ⊥

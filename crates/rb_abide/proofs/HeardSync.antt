@@ -1,5 +1,5 @@
 -- What a listener hears of good RMUs in the first two stages of the sync slot: nothing in stage 1, and in stage 2 their calls.
-use Rattle.std.proofs.Common.{◌≡◌, ℕ, suc, ◌+◌, ◌-◌, ◌*◌, ◌<◌, ◌≤◌, nat_lt, true, List, length, Some, None, get_or, inl, inr, refl, sym, ◌∙◌, ap, subst, arith}
+use Rattle.std.proofs.Common.{◌≡◌, ℕ, suc, ◌+◌, ◌-◌, ◌*◌, ◌<◌, ◌≤◌, nat_lt, true, List, None, get_or, inl, inr, refl, sym, ◌∙◌, ap, subst, arith}
 use Rattle.std.proofs.lemmas.Bool.{cases_order}
 use Rattle.std.proofs.Math.Nat.{mul-le-mul_right}
 use Rattle.rb_base.specs.Nodes.{Side}
@@ -7,8 +7,9 @@ use Rattle.rb_base.specs.Nodes.Side.{Rmu}
 use Rattle.rb_base.specs.Sizes.{sync_slot_of}
 use Rattle.rb_rules.specs.Clock.{IsStamp, time_of}
 use Rattle.rb_rules.specs.Goodness.{Scenario, clock_of, is_before, is_good}
+use Rattle.rb_rules.specs.Headline.{stated_skew}
 use Rattle.rb_rules.specs.Hearing.{Coming, Sending}
-use Rattle.rb_rules.specs.Lawful.{IsLawful, IsOnsetOf}
+use Rattle.rb_rules.specs.Lawful.{IsLawful}
 use Rattle.rb_rules.specs.NodeState.{NodeState}
 use Rattle.rb_rules.specs.Plan.{f0_of, shortest_of}
 use Rattle.rb_rules.specs.Ports.{HandIn}
@@ -33,7 +34,9 @@ use Rattle.rb_sync.proofs.TakenCalls.{call_sent}
 use Rattle.rb_sync.proofs.Times.{Steady, lawful_fits, plan_fits, tick_le}
 use Rattle.rb_attune.specs.Ears.{Ear, IsHeard, IsOfFaulty, IsOfGood, SendsIn, coming_to}
 use Rattle.rb_attune.proofs.Apart.{WasAt}
+use Rattle.rb_attune.proofs.Begins.{skew-fits}
 use Rattle.rb_attune.proofs.CallsSent.{sends-at}
+use Rattle.rb_attune.proofs.Fresh.{onset-in}
 use Rattle.rb_attune.proofs.Together.{steady-ear}
 use Rattle.rb_abide.proofs.HeardExact.{Beside, IsEarlier, IsOwn, SendsThen, comes, ear_time, earlier_stamp, one_more, onset_after, place_order, sends_then, tail-start, was_at, window_within}
 
@@ -45,9 +48,10 @@ frame_late : (low p f h l v z u d most least x t : ℕ) → 1 ≤ u → p + d * 
 frame_late low p f h l v z u d most least x t some c6 sent reached last = absurd (omega (arith, some, c6, sent, reached, last))
 
 -- and so does what a node says that is not good from there on
-frame_soon : (low p f h l v z u d most x t c : ℕ) → p + d * (f + h) + 3 * most + 2 * (u + d) + d * (l + v) + (1 + h) * u ≤ z * u → low + (f + l + v + z) * u ≤ x → x < c + u → c ≤ t
+frame_soon : (low p f h l v z u d least most skew x t c : ℕ) → least ≤ most → skew + d * h ≤ h * u + least
+    → p + d * (f + h) + 3 * most + 2 * (u + d) + d * (l + v) + (1 + h) * u ≤ z * u → low + (f + l + v + z) * u ≤ x → x < c + u + skew → c ≤ t
     → t + (u + d) ≤ low + p + (f + l + v) * (u + d) → ⊥
-frame_soon low p f h l v z u d most x t c c6 sent reached at last = absurd (omega (arith, c6, sent, reached, at, last))
+frame_soon low p f h l v z u d least most skew x t c delays fits c6 sent reached at last = absurd (omega (arith, delays, fits, c6, sent, reached, at, last))
 
 -- ---- later frames
 
@@ -94,8 +98,9 @@ no_onset : (sc : Scenario) (hands : List HandIn) (ear : Ear) (n epoch low : ℕ)
     → (c : Coming) → is_good sc Rmu c.from (moment sc hands n).frame (sync_slot_of sc.sizes) ≡ true → IsOfFaulty sc hands c
     → (k : ℕ) → IsStamp ear.clock c.time k → IsEarly sc epoch k → ⊥
 no_onset sc hands ear n epoch low s b c good faulty k stamp early =
-    frame_soon low sc.plan.p (f0_of sc.sizes sc.plan) sc.plan.h sc.plan.l sc.plan.v sc.plan.z (shortest_of sc.plan) (drift_of sc.plan) sc.plan.dmax
-    (time_of (clock_of sc faulty.me faulty.i) (faulty.state.epoch + 3 * faulty.slot * sc.plan.l)) (time_of ear.clock k) c.time fit.after_3
+    frame_soon low sc.plan.p (f0_of sc.sizes sc.plan) sc.plan.h sc.plan.l sc.plan.v sc.plan.z (shortest_of sc.plan) (drift_of sc.plan) sc.plan.dmin sc.plan.dmax
+    (stated_skew sc.plan (3 * faulty.slot * sc.plan.l)) (time_of (clock_of sc faulty.me faulty.i) (faulty.state.epoch + 3 * faulty.slot * sc.plan.l)) (time_of ear.clock k) c.time
+    b.law.plan.dmin.1 (skew-fits sc b.law faulty.slot slot_le) fit.after_3
     (frame_time sc hands ear n epoch low s b n1 faulty.me faulty.i faulty.state was later_frame (faulty.state.epoch + 3 * faulty.slot * sc.plan.l) (omega arith)) faulty.not_early stamp.reached
     (early_time sc hands ear n epoch low s b k early)
   where
@@ -106,10 +111,7 @@ no_onset sc hands ear n epoch low s b c good faulty k stamp early =
     counted = less_from c.from sc.sizes.rmus (and_first (nat_lt c.from sc.sizes.rmus) (is_before (get_or sc.rmu_onsets c.from None) (moment sc hands n).frame (sync_slot_of sc.sizes)) good)
 
     slot_le : faulty.slot ≤ sync_slot_of sc.sizes
-    slot_le =
-        let onset : get_or sc.rmu_onsets c.from None ≡ Some (faulty.frame, faulty.slot) = faulty.onset in
-        let enough : sc.sizes.rmus ≤ length sc.rmu_onsets = b.law.rmu_onsets.enough in
-        (subst (IsOnsetOf sc) onset (b.law.rmu_onsets.each c.from None (omega (arith, counted, enough)))).1
+    slot_le = onset-in sc b.law c.from faulty.frame faulty.slot counted faulty.onset
 
     later : (moment sc hands n).frame < faulty.frame
     later =

@@ -37,6 +37,7 @@ use Rattle.rb_sync.proofs.Times.{Steady}
 use Rattle.rb_track.proofs.NextEpochs.{BeginTogether, MiddleIsNear, begin_together}
 use Rattle.rb_track.proofs.SyncTracks.{IsLike}
 use Rattle.rb_attune.specs.Ears.{Ear, SendsIn, coming_to}
+use Rattle.rb_attune.proofs.SyncStages.{StageIs, stage_is}
 use Rattle.rb_attune.proofs.Together.{steady-ear}
 use Rattle.rb_abide.proofs.ExactPasses.{IsHeldTo}
 use Rattle.rb_abide.proofs.FirstCalls.{IsSpan, sense_span, span_window}
@@ -47,7 +48,7 @@ use Rattle.rb_abide.proofs.HeardSync.{called_between, calls_in_time}
 use Rattle.rb_abide.proofs.LateSteps.{CallsAreOver, IsDeaf, PassesLate, SparesNext, StandsLate, passes_late}
 use Rattle.rb_abide.proofs.NextBegin.{next_begins}
 use Rattle.rb_abide.proofs.SeenWindows.{NoneSeen}
-use Rattle.rb_abide.proofs.SyncPasses.{IsInSync, PassesAtSecond, SpanSees, StageIs, StandsAtSecond, in_sync, span_sees, stage_is, sync_moment}
+use Rattle.rb_abide.proofs.SyncPasses.{IsInSync, PassesAtSecond, SpanSees, StandsAtSecond, in_sync, span_sees, sync_moment}
 
 -- ---- the frame that it is in
 

@@ -1,5 +1,5 @@
 -- In a frame after the one that it learned, a listener sees what it takes, and the premise with it is that of its windows.
-use Rattle.std.proofs.Common.{◌≡◌, ℕ, zero, suc, ◌+◌, ◌*◌, ◌<◌, ◌≤◌, ◌==◌, if◌then◌else◌, Bool, true, false, List, [], ◌∷◌, map, Option, Some, None, get_or, refl, ◌∙◌, ap, subst, arith}
+use Rattle.std.proofs.Common.{◌≡◌, ℕ, zero, suc, ◌+◌, ◌*◌, ◌<◌, ◌≤◌, ◌==◌, if◌then◌else◌, Bool, true, false, List, [], ◌∷◌, map, Option, Some, None, get_or, refl, sym, ◌∙◌, ap, subst, arith}
 use Rattle.std.proofs.lemmas.Bool.Decides.{nat_tests}
 use Rattle.std.proofs.lemmas.List.FromFn.{get_or-map-range_with_len}
 use Rattle.rb_base.specs.Nodes.{set_of, size}
@@ -13,14 +13,15 @@ use Rattle.rb_rules.specs.ExactStage.{Outcome, close_exact, each_node, outcome_o
 use Rattle.rb_rules.specs.Goodness.{Scenario}
 use Rattle.rb_rules.specs.Hearing.{judged_see}
 use Rattle.rb_rules.specs.Judging.{JudgedStage}
+use Rattle.rb_rules.specs.Lawful.{IsLawful}
+use Rattle.rb_rules.specs.Moments.{IsRunning}
 use Rattle.rb_rules.specs.NodeState.{NodeState}
 use Rattle.rb_rules.specs.NodeSteps.{close}
 use Rattle.rb_rules.specs.Ports.{HandIn}
-use Rattle.rb_rules.specs.Rounds.{Moment, moment}
+use Rattle.rb_rules.specs.Rounds.{moment, windows_in}
 use Rattle.rb_rules.specs.SyncStage.{close_sync, see_time, sync_outcome_of}
 use Rattle.rb_agree.proofs.ExactWindows.{take_at}
 use Rattle.rb_agree.proofs.Invariant.{is_good_now}
-use Rattle.rb_agree.proofs.NextMoments.{next}
 use Rattle.rb_agree.proofs.Numbers.{how_many, how_many-is, how_many-le}
 use Rattle.rb_agree.proofs.Tests.{less_from}
 use Rattle.rb_track.specs.Judged.{verdict_with}
@@ -28,7 +29,8 @@ use Rattle.rb_track.proofs.Tracking.{MostStay, stays_good}
 use Rattle.rb_track.proofs.WindowSteps.{closed_by, closes_parts}
 use Rattle.rb_attune.specs.Ears.{Ear, HearsTheRun, is_always_good}
 use Rattle.rb_attune.specs.Receivers.{HoldsTo, call_time, seen_by, seen_closed, seen_in, seen_learned, stamp_seen, timed_see}
-use Rattle.rb_attune.proofs.Fresh.{always-good-in}
+use Rattle.rb_attune.proofs.TrustedSets.{good-at-moment}
+use Rattle.rb_abide.proofs.ExactRuns.{GoesOn, goes_on}
 
 -- ---- the premise
 
@@ -54,18 +56,22 @@ holds_following sc hands ear learned records last holds k frame le is later some
     (subst (λ f. verdict_with (seen_in sc ear learned records f) (moment sc hands k).book.stages ≡ None) is (holds k le (omega (arith, is, later)) some))
 
 -- most RMUs stay good
-pub most_stay : (sc : Scenario) (hands : List HandIn) (ear : Ear) → HearsTheRun sc hands ear → (m : Moment) → MostStay sc m
-most_stay sc hands ear run m =
-    let most : sc.sizes.rmus < 2 * how_many (is_always_good sc) = omega (arith, less_from sc.sizes.rmus (2 * size (set_of (is_always_good sc))) run.most_good, how_many-is (is_always_good sc)) in
-    let le : how_many (is_always_good sc) ≤ how_many (stays_good sc m) =
-    how_many-le (is_always_good sc) (stays_good sc m) (λ i below good. always-good-in sc i (next sc m).frame _ good) in
+pub most_stay : (sc : Scenario) (hands : List HandIn) (ear : Ear) → IsLawful sc → HearsTheRun sc hands ear → (n : ℕ) → (moment sc hands n).window < windows_in sc.sizes → IsRunning (moment sc hands (suc n))
+    → MostStay sc (moment sc hands n)
+most_stay sc hands ear law run n inside running =
+    let on : GoesOn sc hands n = goes_on sc hands n inside running in
+    let most : sc.sizes.rmus < 2 * how_many (is_always_good sc hands) = omega (arith, less_from sc.sizes.rmus (2 * size (set_of (is_always_good sc hands))) run.most_good, how_many-is (is_always_good sc hands)) in
+    let le : how_many (is_always_good sc hands) ≤ how_many (stays_good sc (moment sc hands n)) =
+    how_many-le (is_always_good sc hands) (stays_good sc (moment sc hands n)) (λ i below good.
+    subst (λ m. is_good_now sc m Rmu i ≡ true) (sym on.next_is) (good-at-moment sc hands law i (suc n) running good)) in
     omega (arith, most, le)
 
-pub most_now : (sc : Scenario) (hands : List HandIn) (ear : Ear) → HearsTheRun sc hands ear → (m : Moment) → sc.sizes.rmus < 2 * how_many (is_good_now sc m Rmu)
-most_now sc hands ear run m =
-    let most : sc.sizes.rmus < 2 * how_many (is_always_good sc) = omega (arith, less_from sc.sizes.rmus (2 * size (set_of (is_always_good sc))) run.most_good, how_many-is (is_always_good sc)) in
-    let le : how_many (is_always_good sc) ≤ how_many (is_good_now sc m Rmu) =
-    how_many-le (is_always_good sc) (is_good_now sc m Rmu) (λ i below good. always-good-in sc i m.frame _ good) in
+pub most_now : (sc : Scenario) (hands : List HandIn) (ear : Ear) → IsLawful sc → HearsTheRun sc hands ear → (n : ℕ) → IsRunning (moment sc hands n)
+    → sc.sizes.rmus < 2 * how_many (is_good_now sc (moment sc hands n) Rmu)
+most_now sc hands ear law run n running =
+    let most : sc.sizes.rmus < 2 * how_many (is_always_good sc hands) = omega (arith, less_from sc.sizes.rmus (2 * size (set_of (is_always_good sc hands))) run.most_good, how_many-is (is_always_good sc hands)) in
+    let le : how_many (is_always_good sc hands) ≤ how_many (is_good_now sc (moment sc hands n) Rmu) =
+    how_many-le (is_always_good sc hands) (is_good_now sc (moment sc hands n) Rmu) (λ i below good. good-at-moment sc hands law i n running good) in
     omega (arith, most, le)
 
 -- ---- what a close shows

@@ -1,5 +1,5 @@
 -- In the first two stages of the sync slot of a frame that it follows, a listener goes from one to the next, and keeps the middle of the calls.
-use Rattle.std.proofs.Common.{◌≡◌, ℕ, suc, ◌+◌, ◌-◌, ◌*◌, ◌/◌, ◌%◌, ◌<◌, ◌≤◌, false, List, length, map, Some, None, get_or, inl, inr, refl, sym, ◌∙◌, ap, subst, arith}
+use Rattle.std.proofs.Common.{◌≡◌, ℕ, suc, ◌+◌, ◌-◌, ◌*◌, ◌/◌, ◌%◌, ◌<◌, ◌≤◌, List, length, map, Some, None, get_or, refl, sym, ◌∙◌, ap, subst, arith}
 use Rattle.rb_base.specs.Nodes.Side.{Biu}
 use Rattle.rb_base.specs.Sizes.{Sizes, sync_slot_of}
 use Rattle.rb_base.specs.declared.values.See.TheVariants.{Nothing}
@@ -18,21 +18,17 @@ use Rattle.rb_rules.specs.Sense.{stamp_in}
 use Rattle.rb_rules.specs.Standing.{taken_of}
 use Rattle.rb_rules.specs.SyncStage.{close_sync, expects_call, see_time, sync_outcome_of}
 use Rattle.rb_rules.proofs.RoundStates.{HasTicks}
-use Rattle.rb_agree.proofs.Agreement.{step_is}
 use Rattle.rb_agree.proofs.ExactAgrees.{has_ticks}
-use Rattle.rb_agree.proofs.Invariant.{Agree, Shared}
-use Rattle.rb_agree.proofs.JudgedWindows.{IsPassed, passed, rows_of}
-use Rattle.rb_agree.proofs.NextMoments.{next}
-use Rattle.rb_agree.proofs.NodeWindows.{sync_windows_are}
+use Rattle.rb_agree.proofs.Invariant.{Shared}
 use Rattle.rb_agree.proofs.Places.{running_earlier}
-use Rattle.rb_agree.proofs.SyncAgrees.{SyncSetting, agree_sync, book_sync, stage_setting}
+use Rattle.rb_agree.proofs.SyncAgrees.{stage_setting}
 use Rattle.rb_sync.proofs.CallSights.{stages_with}
-use Rattle.rb_sync.proofs.SyncSteps.{IsPassedStage, passed_stage}
 use Rattle.rb_track.specs.Judged.{verdict_with}
 use Rattle.rb_track.proofs.ListenerNear.{SawTimes}
 use Rattle.rb_attune.specs.Ears.{Ear}
 use Rattle.rb_attune.specs.Receivers.{seen_by, seen_closed, timed_see}
 use Rattle.rb_attune.proofs.FrameStages.{IsAtWindow, at-window, first_of_frame}
+use Rattle.rb_attune.proofs.SyncStages.{StageIs, stage_is}
 use Rattle.rb_abide.proofs.CallTimes.{has_times, time_second}
 use Rattle.rb_abide.proofs.ExactPasses.{IsHeldTo, StandsAt}
 use Rattle.rb_abide.proofs.FirstCalls.{IsSpan, PassesFirst, first_span, passes_first, sense_span, span_closing, span_window}
@@ -42,41 +38,6 @@ use Rattle.rb_abide.proofs.SecondSteps.{PassesSecond, StandsSecond, passes_secon
 use Rattle.rb_abide.proofs.SeenPremise.{holds_following, most_now, place_synced, seen_following, sees_times}
 use Rattle.rb_abide.proofs.SeenWindows.{IsPlaceOf, NoneSeen, SeesWindow, seen_stays, sees_window}
 use Rattle.rb_abide.proofs.SyncRuns.{held_in_sync, stands_second}
-
--- ---- a stage of the sync slot that passes
-
-pub record StageIs (sc : Scenario) (hands : List HandIn) (k : ℕ) (s : Shared) (q : ℕ) : Type 0 where
-  pub next_is : next sc (moment sc hands k) ≡ moment sc hands (suc k)
-  pub through : IsPassed sc (record { frame = (moment sc hands k).frame; slot = sync_slot_of sc.sizes; stage = q + 1 }) (rows_of sc (moment sc hands k)) (moment sc hands k).book
-  pub passes : IsPassedStage sc hands k (moment sc hands k) s q
-  pub set : SyncSetting sc hands k (moment sc hands k) s q (sync_windows_are sc (moment sc hands k) q passes.stage.small passes.stage.at)
-  pub agree : Agree sc hands (suc k) (moment sc hands (suc k)) s
-
-pub stage_is : (sc : Scenario) (hands : List HandIn) → IsLawful sc → (k : ℕ) (s : Shared) (q : ℕ) → Agree sc hands k (moment sc hands k) s → q < 3
-    → (moment sc hands k).window ≡ 3 * sync_slot_of sc.sizes + q → IsRunning (moment sc hands (suc k)) → StageIs sc hands k s q
-stage_is sc hands law k s q agree small at running =
-    elim (step_is sc hands (moment sc hands k) running) [
-      | inl window ↦ by (sym window.1)
-      | inr turn ↦ let over : windows_in sc.sizes ≤ (moment sc hands k).window = turn.0 in absurd (omega (arith, over, at, small))
-    ]
-  where
-    by : next sc (moment sc hands k) ≡ moment sc hands (suc k) → StageIs sc hands k s q
-    by next_is =
-        let goes : (next sc (moment sc hands k)).book.ended ≡ false = ap (λ x. x.book.ended) next_is ∙ running in
-        let through : IsPassed sc (record { frame = (moment sc hands k).frame; slot = sync_slot_of sc.sizes; stage = q + 1 }) (rows_of sc (moment sc hands k)) (moment sc hands k).book =
-        passed sc (record { frame = (moment sc hands k).frame; slot = sync_slot_of sc.sizes; stage = q + 1 }) (rows_of sc (moment sc hands k)) (moment sc hands k).book
-        (ap (λ b. b.ended) (sym (book_sync sc (moment sc hands k) q small at)) ∙ goes) in
-        let passes : IsPassedStage sc hands k (moment sc hands k) s q = passed_stage sc hands k (moment sc hands k) s q (record { law = law; agree = agree; small = small; at = at }) through in
-        let set : SyncSetting sc hands k (moment sc hands k) s q (sync_windows_are sc (moment sc hands k) q passes.stage.small passes.stage.at) =
-        stage_setting sc hands k (moment sc hands k) s q passes.stage.small passes.stage.at law agree through in
-        record {
-          next_is = next_is;
-          through = through;
-          passes = passes;
-          set = set;
-          agree = subst (λ m. Agree sc hands (suc k) m s) next_is
-              (agree_sync sc hands k (moment sc hands k) s q (sync_windows_are sc (moment sc hands k) q passes.stage.small passes.stage.at) set next_is);
-        }
 
 -- the moment before a stage of the sync slot of a frame, or before its tail
 pub record IsInSync (sc : Scenario) (hands : List HandIn) (frame k q : ℕ) : Type 0 where
@@ -320,5 +281,5 @@ through_second sc hands ear learned records f last epoch low h x complete le = r
     through : PassesSecond sc hands ear (suc (sync_moment sc (suc f))) epoch x.st
     through =
         passes_second sc hands ear n epoch low x.shared x.st x.second (stage_setting sc hands n (moment sc hands n) x.shared 1 x.second.passed.stage.small x.second.passed.stage.at law x.second.beside.agree stage.through)
-        (most_now sc hands ear x.second.beside.run (moment sc hands n)) stage.through.no_cause (time_second sc ear epoch x.st) (has_times sc hands ear n epoch low x.shared x.st x.second)
+        (most_now sc hands ear law x.second.beside.run n at.running) stage.through.no_cause (time_second sc ear epoch x.st) (has_times sc hands ear n epoch low x.shared x.st x.second)
         (seen_following sc ear (suc f)) judged saw

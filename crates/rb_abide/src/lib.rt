@@ -3,6 +3,15 @@
 
 ghost use Rattle.rb_abide.specs.Following.{ListenersFollowTheBus};
 ghost use Rattle.rb_abide.specs.Laws.{FirstFramesBeginNear, RmusAreHeardInTime};
+ghost use Rattle.std.specs.Prelude.{[]};
+ghost use Rattle.rb_attune.specs.Beside.{decided, ear, two_frames};
+ghost use Rattle.rb_abide.specs.Following.{IsReachedWell};
+
+/// An instance, computed: the frame after the one that the listener of `a_listener_beside_a_run` in `rb_attune` learns begins before the first
+/// breach of the premise with the listener.
+pub fn a_frame_after_the_learned_one()
+    ensures { IsReachedWell two_frames [] ear 1 decided.lesson.records 2 }
+{}
 
 /// A listener that begins a frame at most `p` reference units from each good node hears in its window of each stage below the sync slot what good
 /// RMUs send in that stage, and nothing else of them.

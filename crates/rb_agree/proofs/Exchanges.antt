@@ -60,7 +60,7 @@ far-held sc m s me st h = far-trusted me st ∙ h.trusted (other me)
 
 -- What is heard of a good source.
 
-not-sync : (slot sync : ℕ) → slot < sync → (slot == sync) ≡ false
+pub not-sync : (slot sync : ℕ) → slot < sync → (slot == sync) ≡ false
 not-sync slot sync h = grind (arith, nat_tests)
 
 kept-frame : (sc : Scenario) (m : Moment) (slot stage : ℕ) (me : Side) (i : ℕ) (st : NodeState) → (kept_in sc m slot stage me i st).frame ≡ st.frame
@@ -89,7 +89,7 @@ pub record IsHeard (sc : Scenario) (m : Moment) (slot stage : ℕ) (ws : Windows
   pub takes : take_at sc.sizes me st slot stage (sense_in sc m slot stage ws me i st) j ≡ says sc.sizes (other me) j source slot stage (word_at sc m slot j)
   pub right : does_wrong (expected_at sc.sizes me st slot stage j) (sense_in sc m slot stage ws me i st j) ≡ false
 
-eligible : (s : Standing) (j : ℕ) → has s.trusted j ≡ true → has s.direct j ≡ false → is_eligible s j ≡ true
+pub eligible : (s : Standing) (j : ℕ) → has s.trusted j ≡ true → has s.direct j ≡ false → is_eligible s j ≡ true
 eligible s j t d = rw (t, d) refl
 
 pub good_heard : (sc : Scenario) (m : Moment) (s : Shared) (slot q : ℕ) (ws : Windows sc m slot (q + 1)) (me : Side) (i j : ℕ) (st source : NodeState)
@@ -118,7 +118,7 @@ good_heard sc m s slot q ws me i j st source shape below small here there is goo
 
 -- What is seen.
 
-close-exact : (sizes : Sizes) (me : Side) (i : ℕ) (st : NodeState) (slot stage first : ℕ) (sense : ℕ → Sense) → (slot == sync_slot_of sizes) ≡ false
+pub close-exact : (sizes : Sizes) (me : Side) (i : ℕ) (st : NodeState) (slot stage first : ℕ) (sense : ℕ → Sense) → (slot == sync_slot_of sizes) ≡ false
     → close sizes me i st slot stage first sense ≡ close_exact sizes me i st slot stage sense
 close-exact sizes me i st slot stage first sense away = go (slot == sync_slot_of sizes) away
   where

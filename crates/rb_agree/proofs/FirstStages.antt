@@ -52,7 +52,7 @@ get-past [] i d h = refl
 get-past (x ∷ xs) zero d h = absurd (omega arith)
 get-past (x ∷ xs) (suc i) d h = get-past xs i d (omega arith)
 
-nothing-past : (s : Standing) (expected : ℕ → Bool) (sense : ℕ → Sense) (p : ℕ) → 16 ≤ p → at_source (closing_of s expected sense).taken p ≡ None
+pub nothing-past : (s : Standing) (expected : ℕ → Bool) (sense : ℕ → Sense) (p : ℕ) → 16 ≤ p → at_source (closing_of s expected sense).taken p ≡ None
 nothing-past s expected sense p h =
     let long : length (closing_of s expected sense).taken ≡ 16 = length-map-range_with_len (taken_of value_in s expected sense) 0 16 in
     get-past (closing_of s expected sense).taken p None (omega arith)

@@ -16,6 +16,8 @@ pub mod FirstStages
 pub mod Senders
 pub mod SecondStages
 pub mod ThirdStages
+pub mod OneSlotStages
+pub mod OneSlotAgrees
 pub mod Schedules
 pub mod ExactAgrees
 pub mod SyncWindows

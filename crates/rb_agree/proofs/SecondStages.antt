@@ -307,7 +307,7 @@ votes_2 sc hands n m s slot c = go (sender_of sc.sizes s slot) refl
 
 -- No good node is accused by mismatch in stage 2.
 
-sender-is : (me : Side) (i : ℕ) (role : Role) (sender : Sender) → is_sender me i role sender ≡ true → (sender ≡ Node i) × (me ≡ sender_kind role)
+pub sender-is : (me : Side) (i : ℕ) (role : Role) (sender : Sender) → is_sender me i role sender ≡ true → (sender ≡ Node i) × (me ≡ sender_kind role)
 sender-is me i role Nobody h = cc
 sender-is me i role EachTrusted h = cc
 sender-is me i role (Node p) h =

@@ -150,7 +150,7 @@ finished_next sc hands n m s slot q c t value before f = record {
 }
 
 -- a node of the other kind votes where there is a third stage
-third-voted : (role : Role) → (if has_third_stage role then true else same_side (other (sender_kind role)) Biu) ≡ true → has_third_stage role ≡ true
+pub third-voted : (role : Role) → (if has_third_stage role then true else same_side (other (sender_kind role)) Biu) ≡ true → has_third_stage role ≡ true
 third-voted (Schedule i) h = refl
 third-voted (Data n) h = cc
 third-voted (DiagBiu i) h = refl

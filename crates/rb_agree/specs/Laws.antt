@@ -100,14 +100,16 @@ IsAccusedByAll sc hands frame accused j =
     → slice_get (of_kind (other accused) (before_slot sc hands frame (vector_slot_of sc (other accused) i)).nodes) i ≡ Some st
     → Accuses st.far j
 
--- whoever all accuse is convicted when the frame has ended
-abbrev pub AccusedByAllIsConvicted : Type 0
-AccusedByAllIsConvicted =
-    (sc : Scenario) (hands : List HandIn) → IsLawful sc
-    → (frame : ℕ) → IsComplete sc hands frame (sync_slot_of sc.sizes)
+-- whoever all good nodes of the other kind accuse is convicted when the frame has ended
+abbrev pub ConvictWhomAllAccuse : Scenario → List HandIn → Type 0
+ConvictWhomAllAccuse sc hands =
+    (frame : ℕ) → IsComplete sc hands frame (sync_slot_of sc.sizes)
     → (accused : Side) (j : ℕ) → j < count_of accused sc.sizes → IsAccusedByAll sc hands frame accused j
     → (me : Side) (i : ℕ) (st : NodeState) → IsGoodBefore sc hands (frame + 1) 0 me i st
     → has (convicted_of sc.sizes accused me st) j ≡ true
+
+abbrev pub AccusedByAllIsConvicted : Type 0
+AccusedByAllIsConvicted = (sc : Scenario) (hands : List HandIn) → IsLawful sc → ConvictWhomAllAccuse sc hands
 
 -- Ports.
 
@@ -119,13 +121,15 @@ PortsFollowTheBus =
     → (i : ℕ) → is_good sc Biu i frame slot ≡ true
     → port_at sc (after_slot sc hands frame slot).ports i ≡ port_through sc hands frame (suc slot) (port_begun sc hands i frame)
 
--- so good BIUs that are alike have equal ports
-abbrev pub PortsHoldOneState : Type 0
-PortsHoldOneState =
-    (sc : Scenario) (hands : List HandIn) → IsLawful sc
-    → (frame slot : ℕ) → slot ≤ sync_slot_of sc.sizes → IsComplete sc hands frame slot
+-- after each complete slot good BIUs with one application, one first word and equal hand-ins have equal ports
+abbrev pub GoodPortsAgree : Scenario → List HandIn → Type 0
+GoodPortsAgree sc hands =
+    (frame slot : ℕ) → slot ≤ sync_slot_of sc.sizes → IsComplete sc hands frame slot
     → (i j : ℕ) → is_good sc Biu i frame slot ≡ true → is_good sc Biu j frame slot ≡ true → AreAlike sc hands i j
     → port_at sc (after_slot sc hands frame slot).ports i ≡ port_at sc (after_slot sc hands frame slot).ports j
+
+abbrev pub PortsHoldOneState : Type 0
+PortsHoldOneState = (sc : Scenario) (hands : List HandIn) → IsLawful sc → GoodPortsAgree sc hands
 
 -- The abstract bus.
 

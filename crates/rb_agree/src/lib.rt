@@ -3,6 +3,26 @@
 #![tactic(auto)]
 
 ghost use Rattle.rb_agree.specs.Laws.{AccusedByAllIsConvicted, DeliveriesAreRight, GoodNodesAgree, GoodNodesHoldOneSchedule, GoodSendersAreHeard, NoGoodNodeIsAccused, NoGoodNodeIsConvicted, PortsFollowTheBus, PortsHoldOneState, RoundsStepTheBus, TimeIsAllThatIsLeft, TimeKeepsThePromise, UnheardNodesHaveNoVector};
+ghost use Rattle.rb_agree.specs.OneSlot.{OneSlotAgrees, VotesAgree, VotesAreValid};
+
+/// In one stage, whatever comes of the others: where all good sources say one value, and more of what a node takes comes of them than
+/// of others, that is its vote.
+pub fn votes_are_valid()
+    ensures { VotesAreValid }
+{}
+
+/// Two nodes that take the same of each source vote alike.
+pub fn votes_agree()
+    ensures { VotesAgree }
+{}
+
+/// In one slot below the sync slot, whatever comes of the nodes that are not good: all good nodes that vote on it vote alike, for what
+/// the sender says where that is good; in a data slot each good BIU delivers that vote; and no good node accuses a good one. The premise is
+/// that in stages 2 and 3 more of what each good node takes comes of good sources than of others, and that of one kind no node is
+/// asymmetric.
+pub fn one_slot_agrees()
+    ensures { OneSlotAgrees }
+{}
 
 /// The good nodes that vote on a slot hold one vote, and each good BIU delivers that in an owned data slot.
 pub fn good_nodes_agree()

@@ -1,5 +1,5 @@
 -- The first frame of a listener begins after the tick at which it decides.
-use Rattle.std.proofs.Common.{◌≡◌, ℕ, ◌+◌, ◌-◌, ◌*◌, ◌<◌, ◌≤◌, ◌==◌, ◌&&◌, not, nat_lt, Bool, true, false, Option, Some, None, is_some, option_map, if◌then◌else◌, List, get_or, refl, sym, ◌∙◌, ap, arith}
+use Rattle.std.proofs.Common.{◌≡◌, ℕ, ◌+◌, ◌-◌, ◌*◌, ◌<◌, ◌≤◌, ◌==◌, ◌&&◌, not, nat_lt, Bool, true, false, Option, Some, None, is_some, option_map, if◌then◌else◌, List, refl, sym, ◌∙◌, ap, arith}
 use Rattle.rb_base.specs.Counting.{count_if, numbers}
 use Rattle.rb_base.specs.Nodes.{has, set_of, size}
 use Rattle.rb_base.specs.Nodes.Side.{Rmu}
@@ -39,7 +39,8 @@ use Rattle.rb_attune.specs.Ears.{Ear, HearsTheRun, IsEar, SendsIn, coming_to, is
 use Rattle.rb_attune.specs.Records.{IsRecorded}
 use Rattle.rb_attune.proofs.Calling.{heard-to-call}
 use Rattle.rb_attune.proofs.Deciding.{IsHeardCall}
-use Rattle.rb_attune.proofs.Fresh.{always-good-in}
+use Rattle.rb_attune.proofs.Fresh.{always-good-at}
+use Rattle.rb_attune.proofs.Seeks.{always-counts}
 use Rattle.rb_attune.proofs.Together.{call-time, min-either, near-stamps, steady-ear}
 use Rattle.rb_attune.proofs.TrustedSets.{GoodThere, IsIn, KnowsAt, good-there, knows-at}
 use Rattle.rb_attune.proofs.Whole.{HasLesson, has-lesson, sync-role}
@@ -158,13 +159,13 @@ finds-first sc hands law ear is run learned tick s decides = record {
     a : IsAgreed sc hands call.n
     a = agreement sc hands law call.n call.sent.running
 
-    trusted : (j : ℕ) → is_always_good sc j ≡ true → has (trusted_rmus sc.sizes s.lesson.records) j ≡ true
+    trusted : (j : ℕ) → is_always_good sc hands j ≡ true → has (trusted_rmus sc.sizes s.lesson.records) j ≡ true
     trusted j good =
         let mine : GoodThere sc hands call.n j = good-there sc hands law call.n j here.running good in
         ap (λ x. has x j) (sym (k.trust call.n here Rmu j mine.st mine.node Rmu) ∙ (a.agree.nodes Rmu j mine.st mine.node).trusted Rmu)
         ∙ a.agree.trusted Rmu j mine.node.good
 
-    stamped : (j : ℕ) → is_always_good sc j ≡ true
+    stamped : (j : ℕ) → is_always_good sc hands j ≡ true
         → HasStamp (at + 1 - reach_of sc.plan) (at + reach_of sc.plan)
         (recorded_of stamp_in s.lesson.records (trusted_rmus sc.sizes s.lesson.records) (sync_slot_of sc.sizes) j)
     stamped j good = record {
@@ -187,13 +188,16 @@ finds-first sc hands law ear is run learned tick s decides = record {
       };
     }
       where
+        in_call : is_good sc Rmu j (moment sc hands call.n).frame (sync_slot_of sc.sizes) ≡ true
+        in_call = always-good-at sc hands law j call.n (sync_slot_of sc.sizes) here.running (omega (arith, call.window_is)) good
+
         good_there : is_good sc Rmu j learned (sync_slot_of sc.sizes) ≡ true
-        good_there = always-good-in sc j learned (sync_slot_of sc.sizes) good
+        good_there = ap (λ f. is_good sc Rmu j f (sync_slot_of sc.sizes)) (sym l.1.frame) ∙ in_call
 
         calls : IsHeardToCall sc hands ear call.n j
         calls =
             heard-to-call sc hands law ear run call.n j here.running call.window_is
-            (always-good-in sc j (moment sc hands call.n).frame (sync_slot_of sc.sizes) good)
+            in_call
 
         parts : (calls.sending.message.slot ≡ sync_slot_of sc.sizes) × (calls.sending.message.stage ≡ 2)
         parts = call-place sc.sizes calls.sending.message calls.call
@@ -206,14 +210,14 @@ finds-first sc hands law ear is run learned tick s decides = record {
             k.whole j good_there call.n calls.sending calls.sent l.1.frame
             (parts.1 ∙ sym (ap (λ t. stage_recorded (role_of sc.sizes t)) parts.0 ∙ ap stage_recorded (sync-role sc.sizes)))
 
-    most : sc.sizes.rmus < 2 * how_many (is_always_good sc)
-    most = omega (arith, less_from sc.sizes.rmus (2 * size (set_of (is_always_good sc))) run.most_good, how_many-is (is_always_good sc))
+    most : sc.sizes.rmus < 2 * how_many (is_always_good sc hands)
+    most = omega (arith, less_from sc.sizes.rmus (2 * size (set_of (is_always_good sc hands))) run.most_good, how_many-is (is_always_good sc hands))
 
-    fewer : count_if (λ j. not (is_always_good sc j) && is_some (recorded_of stamp_in s.lesson.records (trusted_rmus sc.sizes s.lesson.records) (sync_slot_of sc.sizes) j)) (numbers 16)
-        < count_if (is_always_good sc) (numbers 16)
+    fewer : count_if (λ j. not (is_always_good sc hands j) && is_some (recorded_of stamp_in s.lesson.records (trusted_rmus sc.sizes s.lesson.records) (sync_slot_of sc.sizes) j)) (numbers 16)
+        < count_if (is_always_good sc hands) (numbers 16)
     fewer =
-        others_fewer sc.sizes.rmus (is_always_good sc) (λ j. is_some (recorded_of stamp_in s.lesson.records (trusted_rmus sc.sizes s.lesson.records) (sync_slot_of sc.sizes) j)) law.sizes.most_rmus
-        (λ j below good. less_from j sc.sizes.rmus (and_first (nat_lt j sc.sizes.rmus) (not (is_some (get_or sc.rmu_onsets j None))) good))
+        others_fewer sc.sizes.rmus (is_always_good sc hands) (λ j. is_some (recorded_of stamp_in s.lesson.records (trusted_rmus sc.sizes s.lesson.records) (sync_slot_of sc.sizes) j)) law.sizes.most_rmus
+        (λ j below good. always-counts sc hands j good)
         (λ j below some.
         let in_set : has (trusted_rmus sc.sizes s.lesson.records) j ≡ true = if-none (has (trusted_rmus sc.sizes s.lesson.records) j) (stamp_in (record_of s.lesson.records (sync_slot_of sc.sizes) j)) some in
         less_from j sc.sizes.rmus
@@ -222,12 +226,12 @@ finds-first sc hands law ear is run learned tick s decides = record {
     found : (m : ℕ) × (middle_in sc.sizes s.lesson.records (trusted_rmus sc.sizes s.lesson.records) ≡ Some m)
         × IsMiddle m (present (each_node (recorded_of stamp_in s.lesson.records (trusted_rmus sc.sizes s.lesson.records) (sync_slot_of sc.sizes))))
     found =
-        some_middle (recorded_of stamp_in s.lesson.records (trusted_rmus sc.sizes s.lesson.records) (sync_slot_of sc.sizes)) (is_always_good sc) (numbers 16)
+        some_middle (recorded_of stamp_in s.lesson.records (trusted_rmus sc.sizes s.lesson.records) (sync_slot_of sc.sizes)) (is_always_good sc hands) (numbers 16)
         (λ j good. ap is_some (stamped j good).is) fewer
 
     between : IsBetween (at + 1 - reach_of sc.plan) (at + reach_of sc.plan) found.0
     between =
-        middle_within (recorded_of stamp_in s.lesson.records (trusted_rmus sc.sizes s.lesson.records) (sync_slot_of sc.sizes)) (is_always_good sc) (at + 1 - reach_of sc.plan)
+        middle_within (recorded_of stamp_in s.lesson.records (trusted_rmus sc.sizes s.lesson.records) (sync_slot_of sc.sizes)) (is_always_good sc hands) (at + 1 - reach_of sc.plan)
         (at + reach_of sc.plan) found.0 (numbers 16) stamped fewer found.2
 
 pub decides-in-time : (sc : Scenario) (hands : List HandIn) → IsLawful sc → (ear : Ear) → IsEar sc ear → HearsTheRun sc hands ear → (learned tick : ℕ) (s : Search) → DecidesBy sc hands ear learned tick s

@@ -48,7 +48,7 @@ pub record IsAfterCall (sc : Scenario) (hands : List HandIn) (ear : Ear) (number
 
 pub record IsWell (sc : Scenario) (hands : List HandIn) (ear : Ear) (k n : ℕ) (s : Search) : Type 0 where
   pub had : s.had ≡ k
-  pub newest : (j : ℕ) (c : Call) → is_always_good sc j ≡ true → get_or s.newest j None ≡ Some c → IsHeardCall sc hands ear j c.frame c.at × (c.at ≤ k)
+  pub newest : (j : ℕ) (c : Call) → is_always_good sc hands j ≡ true → get_or s.newest j None ≡ Some c → IsHeardCall sc hands ear j c.frame c.at × (c.at ≤ k)
   pub inside : (j : ℕ) → sc.sizes.rmus ≤ j → get_or s.newest j None ≡ None
   pub decides : (tick : ℕ) → s.lesson.decides ≡ Some tick → IsAfterCall sc hands ear s.lesson.frame tick
 
@@ -79,17 +79,17 @@ called-inside sc hands ear k n s h c j below is =
           let both : false ≡ true = sym none ∙ some in absurd (cc)
     ]
 
-pass-after : (sc : Scenario) (hands : List HandIn) (ear : Ear) → IsShape sc.sizes → are_most sc.sizes (set_of (is_always_good sc)) ≡ true → (k n : ℕ) (s : Search)
+pass-after : (sc : Scenario) (hands : List HandIn) (ear : Ear) → IsShape sc.sizes → are_most sc.sizes (set_of (is_always_good sc hands)) ≡ true → (k n : ℕ) (s : Search)
     → IsWell sc hands ear k n s → (frame : ℕ) → pass_of sc.sizes sc.plan s.newest ≡ Some frame → IsAfterCall sc hands ear frame (s.had + reach_of sc.plan)
 unfolding pass_of good-set
 pass-after sc hands ear shape most k n s h frame is = go (pass-begins sc.sizes sc.plan s.newest s.newest frame is)
   where
-    called : (b : Begins sc.sizes sc.plan s.newest frame) (j : ℕ) → j < 16 → has (good-set sc) j ≡ true
+    called : (b : Begins sc.sizes sc.plan s.newest frame) (j : ℕ) → j < 16 → has (good-set sc hands) j ≡ true
         → has (calling (reach_of sc.plan) b.call.frame b.call.at s.newest) j ≡ true → IsAfterCall sc hands ear frame (s.had + reach_of sc.plan)
     called b j below good in_set =
         let calls = falls (reach_of sc.plan) b.call.frame b.call.at (get_or s.newest j None)
         (sym (has-set_of j (λ i. falls_in (reach_of sc.plan) b.call.frame b.call.at (get_or s.newest i None)) below) ∙ in_set) in
-        let known = h.newest j calls.0 (good-rmus sc j below good) calls.1.0 in
+        let known = h.newest j calls.0 (good-rmus sc hands j below good) calls.1.0 in
         record {
           j = j;
           at = calls.0.at;
@@ -99,10 +99,10 @@ pass-after sc hands ear shape most k n s h frame is = go (pass-begins sc.sizes s
 
     go : Begins sc.sizes sc.plan s.newest frame → IsAfterCall sc hands ear frame (s.had + reach_of sc.plan)
     go b =
-        let c : Passing (λ j. has (good-set sc) j && has (calling (reach_of sc.plan) b.call.frame b.call.at s.newest) j) 0 16 =
-        meet sc.sizes (good-set sc) (calling (reach_of sc.plan) b.call.frame b.call.at s.newest) shape.most_rmus (good-inside sc) (called-inside sc hands ear k n s h b.call) most b.most in
-        called b c.at (omega (arith, c.high)) (and_first (has (good-set sc) c.at) (has (calling (reach_of sc.plan) b.call.frame b.call.at s.newest) c.at) c.passes)
-        (and_second (has (good-set sc) c.at) (has (calling (reach_of sc.plan) b.call.frame b.call.at s.newest) c.at) c.passes)
+        let c : Passing (λ j. has (good-set sc hands) j && has (calling (reach_of sc.plan) b.call.frame b.call.at s.newest) j) 0 16 =
+        meet sc.sizes (good-set sc hands) (calling (reach_of sc.plan) b.call.frame b.call.at s.newest) shape.most_rmus (good-inside sc hands) (called-inside sc hands ear k n s h b.call) most b.most in
+        called b c.at (omega (arith, c.high)) (and_first (has (good-set sc hands) c.at) (has (calling (reach_of sc.plan) b.call.frame b.call.at s.newest) c.at) c.passes)
+        (and_second (has (good-set sc hands) c.at) (has (calling (reach_of sc.plan) b.call.frame b.call.at s.newest) c.at) c.passes)
 
 pass-well : (sc : Scenario) (hands : List HandIn) (ear : Ear) (k n frame : ℕ) (s : Search) → IsAfterCall sc hands ear frame (s.had + reach_of sc.plan) → IsWell sc hands ear k n s
     → IsWell sc hands ear k n (with_pass sc.plan frame s)
@@ -127,20 +127,20 @@ pass-well sc hands ear k n frame s after h = by (s.learns && (frame == s.lesson.
     by false e true = h
     by false e false = learning-well sc hands ear k n (frame_after frame) s h
 
-may-pass-well : (sc : Scenario) (hands : List HandIn) (ear : Ear) → IsShape sc.sizes → are_most sc.sizes (set_of (is_always_good sc)) ≡ true → (k n : ℕ) (s : Search)
+may-pass-well : (sc : Scenario) (hands : List HandIn) (ear : Ear) → IsShape sc.sizes → are_most sc.sizes (set_of (is_always_good sc hands)) ≡ true → (k n : ℕ) (s : Search)
     → IsWell sc hands ear k n s → (o : Option ℕ) → pass_of sc.sizes sc.plan s.newest ≡ o → IsWell sc hands ear k n (if_pass sc.plan o s)
 may-pass-well sc hands ear shape most k n s h None e = h
 may-pass-well sc hands ear shape most k n s h (Some frame) e = pass-well sc hands ear k n frame s (pass-after sc hands ear shape most k n s h frame e) h
 
 -- Messages.
 
-pub newest-well : (sc : Scenario) (hands : List HandIn) (ear : Ear) (k n j frame : ℕ) (s : Search) → j < sc.sizes.rmus → (is_always_good sc j ≡ true → IsHeardCall sc hands ear j frame k)
+pub newest-well : (sc : Scenario) (hands : List HandIn) (ear : Ear) (k n j frame : ℕ) (s : Search) → j < sc.sizes.rmus → (is_always_good sc hands j ≡ true → IsHeardCall sc hands ear j frame k)
     → IsWell sc hands ear k n s → IsWell sc hands ear k n (newest_with j frame s)
 newest-well sc hands ear k n j frame s within calls h = record {
   had = h.had;
   newest = λ i c good is.
       elim (set-case s.newest j i (Some call) c is) [
-        | inl both ↦ (mine i c both.0 (some-call c both.1) (calls (subst (λ x. is_always_good sc x ≡ true) both.0 good)), omega (arith, h.had, ap (λ (x : Call). x.at) (some-call c both.1)))
+        | inl both ↦ (mine i c both.0 (some-call c both.1) (calls (subst (λ x. is_always_good sc hands x ≡ true) both.0 good)), omega (arith, h.had, ap (λ (x : Call). x.at) (some-call c both.1)))
         | inr there ↦ h.newest i c good there
       ];
   inside = λ i out. set-other s.newest j i (Some call) (λ same. omega (arith, out, within, same)) ∙ h.inside i out;
@@ -181,8 +181,8 @@ recorded-well sc hands ear k n j m s h = by s.learns
     }
     by false = h
 
-message-well : (sc : Scenario) (hands : List HandIn) (ear : Ear) → IsShape sc.sizes → are_most sc.sizes (set_of (is_always_good sc)) ≡ true → (k n j : ℕ) (o : Option Message) (s : Search)
-    → j < sc.sizes.rmus → ((m : Message) → o ≡ Some m → is_always_good sc j ≡ true → is_call sc.sizes m ≡ true → IsHeardCall sc hands ear j m.frame k)
+message-well : (sc : Scenario) (hands : List HandIn) (ear : Ear) → IsShape sc.sizes → are_most sc.sizes (set_of (is_always_good sc hands)) ≡ true → (k n j : ℕ) (o : Option Message) (s : Search)
+    → j < sc.sizes.rmus → ((m : Message) → o ≡ Some m → is_always_good sc hands j ≡ true → is_call sc.sizes m ≡ true → IsHeardCall sc hands ear j m.frame k)
     → IsWell sc hands ear k n s → IsWell sc hands ear k n (if_message sc.sizes sc.plan j o s)
 unfolding with_message
 message-well sc hands ear shape most k n j None s within calls h = h
@@ -232,7 +232,7 @@ heard-well sc hands law ear is run k n c in_time there s h = by (nat_lt c.from s
     onward : (t : Search) → IsWell sc hands ear k n t → IsWell sc hands ear k (suc n) t
     onward t w = record { had = w.had; newest = w.newest; inside = w.inside; decides = w.decides }
 
-    calls : c.from < sc.sizes.rmus → (m : Message) → message_in sc.plan.version c.bytes ≡ Some m → is_always_good sc c.from ≡ true → is_call sc.sizes m ≡ true
+    calls : c.from < sc.sizes.rmus → (m : Message) → message_in sc.plan.version c.bytes ≡ Some m → is_always_good sc hands c.from ≡ true → is_call sc.sizes m ≡ true
         → IsHeardCall sc hands ear c.from m.frame k
     calls within m reads good call =
         elim (run.only k c in_time (record { nth = n; there = there }) within) [

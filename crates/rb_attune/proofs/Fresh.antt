@@ -1,9 +1,10 @@
 -- A search learns soon after calls of good RMUs: what it has recorded it has from soon after some such call on, and it decides so many
 -- ticks after a tick at which not all such calls of the learned frame had come.
-use Rattle.std.proofs.Common.{◌≡◌, ◌⊎◌, ℕ, ◌+◌, ◌*◌, ◌%◌, ◌<◌, ◌≤◌, ◌==◌, ◌&&◌, not, nat_lt, Bool, true, false, Option, Some, None, is_some, List, length, get_or, slice_set, inl, inr, refl, sym, ◌∙◌, ap, subst, arith}
+use Rattle.std.proofs.Common.{◌≡◌, ◌⊎◌, ℕ, ◌+◌, ◌-◌, ◌*◌, ◌%◌, ◌<◌, ◌≤◌, ◌==◌, ◌&&◌, ◌||◌, not, nat_lt, Bool, true, false, Option, Some, None, List, length, get_or, slice_set, inl, inr, refl, sym, ◌∙◌, ap, subst, arith}
 use Rattle.std.specs.List.{list_any}
-use Rattle.std.proofs.lemmas.Bool.{cases_lt}
+use Rattle.std.proofs.lemmas.Bool.{cases_lt, cases_order}
 use Rattle.std.proofs.lemmas.Bool.Decides.{nat_tests}
+use Rattle.std.proofs.Math.Nat.{mul-le-mul_right}
 use Rattle.rb_base.specs.Counting.{numbers}
 use Rattle.rb_base.specs.Nodes.{has, set_of, size}
 use Rattle.rb_base.specs.Nodes.Side.{Rmu}
@@ -12,13 +13,15 @@ use Rattle.rb_base.proofs.Sets.{has-set_of}
 use Rattle.rb_base.proofs.SetSizes.{size_within}
 use Rattle.rb_rules.specs.Clock.{IsStamp, stamp_of}
 use Rattle.rb_rules.specs.Goodness.{Scenario, is_before, is_good}
-use Rattle.rb_rules.specs.Lawful.{IsLawful}
+use Rattle.rb_rules.specs.Lawful.{IsLawful, IsOnsetOf}
+use Rattle.rb_rules.specs.Moments.{IsRunning, before_slot}
 use Rattle.rb_rules.specs.Ports.{HandIn}
 use Rattle.rb_rules.specs.Rounds.{moment, windows_in}
 use Rattle.rb_rules.proofs.Spellings.{read_back}
 use Rattle.rb_rules.proofs.Stamps.{stamp_of-is}
-use Rattle.rb_agree.proofs.Tests.{Passing, and_both, and_first, and_second, equal_from, less_from, not_false, not_true, passes_at, passing, so_not}
+use Rattle.rb_agree.proofs.Tests.{Passing, and_both, and_first, and_second, equal_from, not_false, not_true, passes_at, passing, so_not}
 use Rattle.rb_agree.proofs.Agreement.{agreement}
+use Rattle.rb_agree.proofs.Places.{running_earlier}
 use Rattle.rb_rules.proofs.Middles.{IsBetween}
 use Rattle.rb_sync.proofs.EpochTicks.{within_run}
 use Rattle.rb_sync.proofs.Middles.{HasLeast, least_of}
@@ -27,7 +30,7 @@ use Rattle.rb_listen.specs.Passes.{are_most, calling, falls_in, pass_of, reach_o
 use Rattle.rb_listen.specs.declared.passes.Call.{Call}
 use Rattle.rb_listen.specs.declared.search.Search.{Search}
 use Rattle.rb_attune.specs.Calling.{IsHeardToCall}
-use Rattle.rb_attune.specs.Ears.{Ear, HearsTheRun, IsEar, IsHeard, SendsIn, coming_to, is_always_good}
+use Rattle.rb_attune.specs.Ears.{Ear, HearsTheRun, IsEar, IsHeard, SendsIn, comes_to, coming_to, is_always_good}
 use Rattle.rb_attune.proofs.Apart.{come-apart}
 use Rattle.rb_attune.proofs.Calling.{heard-to-call}
 use Rattle.rb_attune.proofs.Deciding.{IsHeardCall, IsWell}
@@ -35,14 +38,14 @@ use Rattle.rb_attune.proofs.Latest.{IsCallAt, IsLate}
 use Rattle.rb_attune.proofs.Meeting.{meet}
 use Rattle.rb_attune.proofs.PassSets.{AreOfRmus, BeginsAt, FallsIn, FallsThere, all-falls, begins-pass, in-set, more-than, new-or-old, of-rmus, pass-at}
 use Rattle.rb_attune.proofs.Recorded.{IsEarlier}
-use Rattle.rb_attune.proofs.Seeks.{good-inside, good-rmus, good-set}
+use Rattle.rb_attune.proofs.Seeks.{always-counts, good-inside, good-rmus, good-set}
 use Rattle.rb_attune.proofs.Sendings.{in-place}
 use Rattle.rb_attune.proofs.Together.{come-together, steady-ear}
 
 -- a call of an RMU that is good in the whole run, in a frame of this number, comes with this stamp
 pub record IsGoodCall (sc : Scenario) (hands : List HandIn) (ear : Ear) (number at : ℕ) : Type 0 where
   pub j : ℕ
-  pub good : is_always_good sc j ≡ true
+  pub good : is_always_good sc hands j ≡ true
   pub call : IsHeardCall sc hands ear j number at
 
 -- Frames by their numbers.
@@ -100,19 +103,55 @@ pub record CallsToo (sc : Scenario) (hands : List HandIn) (ear : Ear) (n j at : 
   pub calls : IsHeardToCall sc hands ear n j
   pub stamped : IsStamp ear.clock (coming_to sc ear j (moment sc hands n).frame calls.sending).time at
 
-pub always-good-in : (sc : Scenario) (j frame slot : ℕ) → is_always_good sc j ≡ true → is_good sc Rmu j frame slot ≡ true
-always-good-in sc j frame slot h = by (nat_lt j sc.sizes.rmus) (get_or sc.rmu_onsets j None) h
+-- an onset in a slot that does not come later lies earlier in the run
+not-later : (size sync f s frame slot : ℕ) → 3 * sync < size → s ≤ sync → (nat_lt frame f || ((frame == f) && nat_lt slot s)) ≡ false → f * size + 3 * s + 1 - 1 ≤ frame * size + 3 * slot + 1 - 1
+not-later size sync f s frame slot small le h =
+    elim (cases_order f frame) [
+      | inl same ↦
+          let slots : s ≤ slot = grind (arith, nat_tests) in
+          let frames : f * size ≡ frame * size = ap (λ x. x * size) same in omega (arith, slots, frames)
+      | inr order ↦ elim order [
+        | inl less ↦
+            let frames : (f + 1) * size ≤ frame * size = mul-le-mul_right size (omega (arith, less)) in omega (arith, small, le, frames)
+        | inr more ↦ absurd (let both : true ≡ false = grind (arith, nat_tests) in cc)
+      ]
+    ]
+
+-- the onsets of a lawful scenario are of slots that there are
+pub onset-in : (sc : Scenario) → IsLawful sc → (j frame slot : ℕ) → j < sc.sizes.rmus → get_or sc.rmu_onsets j None ≡ Some (frame, slot) → slot ≤ sync_slot_of sc.sizes
+onset-in sc law j frame slot counted is =
+    let enough : sc.sizes.rmus ≤ length sc.rmu_onsets = law.rmu_onsets.enough in
+    (subst (IsOnsetOf sc) is (law.rmu_onsets.each j None (omega (arith, counted, enough)))).1
+
+-- an RMU that is good in the whole run is so in each slot to which the run comes
+pub always-good-in : (sc : Scenario) (hands : List HandIn) → IsLawful sc → (j frame slot : ℕ) → IsRunning (before_slot sc hands frame slot) → is_always_good sc hands j ≡ true
+    → is_good sc Rmu j frame slot ≡ true
+always-good-in sc hands law j frame slot running good =
+    and_both (nat_lt j sc.sizes.rmus) (is_before (get_or sc.rmu_onsets j None) frame slot)
+    (and_first (nat_lt j sc.sizes.rmus) (not (comes_to sc hands (get_or sc.rmu_onsets j None))) good)
+    (by (get_or sc.rmu_onsets j None) refl
+    (not_true (comes_to sc hands (get_or sc.rmu_onsets j None)) (and_second (nat_lt j sc.sizes.rmus) (not (comes_to sc hands (get_or sc.rmu_onsets j None))) good)))
   where
-    by : (b : Bool) (o : Option (ℕ × ℕ)) → (b && not (is_some o)) ≡ true → (b && is_before o frame slot) ≡ true
-    by true None e = refl
-    by true (Some onset) e = cc
-    by false o e = cc
+    by : (o : Option (ℕ × ℕ)) → get_or sc.rmu_onsets j None ≡ o → comes_to sc hands o ≡ false → is_before o frame slot ≡ true
+    by None is never = refl
+    by (Some onset) is never = not_false (is_before (Some onset) frame slot) (so_not (not (is_before (Some onset) frame slot)) (λ later.
+        let began : IsRunning (before_slot sc hands onset.0 onset.1) =
+        running_earlier sc hands (onset.0 * (windows_in sc.sizes + 1) + 3 * onset.1 + 1 - 1) (frame * (windows_in sc.sizes + 1) + 3 * slot + 1 - 1)
+        (not-later (windows_in sc.sizes + 1) (sync_slot_of sc.sizes) onset.0 onset.1 frame slot (omega arith) (onset-in sc law j onset.0 onset.1 (always-counts sc hands j good) is) (not_true (is_before (Some onset) frame slot) later)) running in
+        let both : true ≡ false = sym (ap not began) ∙ never in cc))
+
+-- and in the slot of each moment of the run, and in those before it in its frame
+pub always-good-at : (sc : Scenario) (hands : List HandIn) → IsLawful sc → (j n slot : ℕ) → IsRunning (moment sc hands n) → 3 * slot ≤ (moment sc hands n).window
+    → is_always_good sc hands j ≡ true → is_good sc Rmu j (moment sc hands n).frame slot ≡ true
+always-good-at sc hands law j n slot running le good =
+    always-good-in sc hands law j (moment sc hands n).frame slot
+    (running_earlier sc hands ((moment sc hands n).frame * (windows_in sc.sizes + 1) + 3 * slot + 1 - 1) n (omega (arith, (agreement sc hands law n running).agree.place, le)) running) good
 
 pub call-at : (sc : Scenario) (hands : List HandIn) → IsLawful sc → (ear : Ear) → IsEar sc ear → HearsTheRun sc hands ear → (i number a : ℕ) (c : IsHeardCall sc hands ear i number a)
-    → (j : ℕ) → is_always_good sc j ≡ true → (at : ℕ) × CallsToo sc hands ear c.n j at
+    → (j : ℕ) → is_always_good sc hands j ≡ true → (at : ℕ) × CallsToo sc hands ear c.n j at
 call-at sc hands law ear is run i number a c j good =
     let calls : IsHeardToCall sc hands ear c.n j =
-    heard-to-call sc hands law ear run c.n j c.sent.running c.window_is (always-good-in sc j (moment sc hands c.n).frame (sync_slot_of sc.sizes) good) in
+    heard-to-call sc hands law ear run c.n j c.sent.running c.window_is (always-good-at sc hands law j c.n (sync_slot_of sc.sizes) c.sent.running (omega (arith, c.window_is)) good) in
     let time : ℕ = (coming_to sc ear j (moment sc hands c.n).frame calls.sending).time in
     (stamp_of ear.clock time, record { calls = calls; stamped = stamp_of-is ear.clock (steady-ear sc law ear is).moves time })
 
@@ -127,7 +166,7 @@ as-call sc hands ear i number a c j at too some =
 -- what is known of them at a tick
 pub record AreKnown (sc : Scenario) (hands : List HandIn) (ear : Ear) (k : ℕ) (newest : List (Option Call)) : Type 0 where
   pub inside : AreOfRmus sc.sizes newest
-  pub known : (j : ℕ) (c : Call) → is_always_good sc j ≡ true → get_or newest j None ≡ Some c → IsHeardCall sc hands ear j c.frame c.at × (c.at ≤ k)
+  pub known : (j : ℕ) (c : Call) → is_always_good sc hands j ≡ true → get_or newest j None ≡ Some c → IsHeardCall sc hands ear j c.frame c.at × (c.at ≤ k)
 
 pub well-known : (sc : Scenario) (hands : List HandIn) (ear : Ear) (k n : ℕ) (s : Search) → IsWell sc hands ear k n s → AreKnown sc hands ear k s.newest
 well-known sc hands ear k n s h = record { inside = h.inside; known = h.newest }
@@ -139,37 +178,37 @@ pub record IsSoon (sc : Scenario) (hands : List HandIn) (ear : Ear) (number k : 
   pub low : at ≤ k
   pub high : k ≤ at + reach_of sc.plan
 
-pub below-16 : (sc : Scenario) → IsShape sc.sizes → (j : ℕ) → is_always_good sc j ≡ true → j < 16
-below-16 sc shape j good = let within_it : j < sc.sizes.rmus = less_from j sc.sizes.rmus (and_first (nat_lt j sc.sizes.rmus) (not (is_some (get_or sc.rmu_onsets j None))) good) in omega (arith, within_it, shape.most_rmus)
+pub below-16 : (sc : Scenario) (hands : List HandIn) → IsShape sc.sizes → (j : ℕ) → is_always_good sc hands j ≡ true → j < 16
+below-16 sc hands shape j good = omega (arith, always-counts sc hands j good, shape.most_rmus)
 
-in-good-set : (sc : Scenario) (j : ℕ) → j < 16 → has (good-set sc) j ≡ true → is_always_good sc j ≡ true
+in-good-set : (sc : Scenario) (hands : List HandIn) (j : ℕ) → j < 16 → has (good-set sc hands) j ≡ true → is_always_good sc hands j ≡ true
 unfolding good-set
-in-good-set sc j below h = good-rmus sc j below h
+in-good-set sc hands j below h = good-rmus sc hands j below h
 
 -- a good RMU of a pass
-pub record GoodInPass (sc : Scenario) (newest : List (Option Call)) (frame from : ℕ) : Type 0 where
+pub record GoodInPass (sc : Scenario) (hands : List HandIn) (newest : List (Option Call)) (frame from : ℕ) : Type 0 where
   pub j : ℕ
-  pub good : is_always_good sc j ≡ true
+  pub good : is_always_good sc hands j ≡ true
   pub there : FallsThere (reach_of sc.plan) frame from (get_or newest j None)
 
-pub good-in-pass : (sc : Scenario) → IsShape sc.sizes → are_most sc.sizes (set_of (is_always_good sc)) ≡ true → (newest : List (Option Call)) (frame : ℕ) → AreOfRmus sc.sizes newest
-    → (b : BeginsAt sc.sizes sc.plan newest frame) → GoodInPass sc newest b.call.frame b.call.at
+pub good-in-pass : (sc : Scenario) (hands : List HandIn) → IsShape sc.sizes → are_most sc.sizes (set_of (is_always_good sc hands)) ≡ true → (newest : List (Option Call)) (frame : ℕ) → AreOfRmus sc.sizes newest
+    → (b : BeginsAt sc.sizes sc.plan newest frame) → GoodInPass sc hands newest b.call.frame b.call.at
 unfolding good-set
-good-in-pass sc shape most newest frame inside b =
-    by (meet sc.sizes (good-set sc) (calling (reach_of sc.plan) b.call.frame b.call.at newest) shape.most_rmus (good-inside sc)
+good-in-pass sc hands shape most newest frame inside b =
+    by (meet sc.sizes (good-set sc hands) (calling (reach_of sc.plan) b.call.frame b.call.at newest) shape.most_rmus (good-inside sc hands)
     (of-rmus sc.sizes (reach_of sc.plan) b.call.frame b.call.at newest inside) most b.most)
   where
-    by : Passing (λ j. has (good-set sc) j && has (calling (reach_of sc.plan) b.call.frame b.call.at newest) j) 0 16 → GoodInPass sc newest b.call.frame b.call.at
+    by : Passing (λ j. has (good-set sc hands) j && has (calling (reach_of sc.plan) b.call.frame b.call.at newest) j) 0 16 → GoodInPass sc hands newest b.call.frame b.call.at
     by c =
         let below : c.at < 16 = omega (arith, c.high) in
         record {
           j = c.at;
-          good = in-good-set sc c.at below (and_first (has (good-set sc) c.at) (has (calling (reach_of sc.plan) b.call.frame b.call.at newest) c.at) c.passes);
-          there = in-set (reach_of sc.plan) b.call.frame b.call.at newest c.at below (and_second (has (good-set sc) c.at) (has (calling (reach_of sc.plan) b.call.frame b.call.at newest) c.at) c.passes);
+          good = in-good-set sc hands c.at below (and_first (has (good-set sc hands) c.at) (has (calling (reach_of sc.plan) b.call.frame b.call.at newest) c.at) c.passes);
+          there = in-set (reach_of sc.plan) b.call.frame b.call.at newest c.at below (and_second (has (good-set sc hands) c.at) (has (calling (reach_of sc.plan) b.call.frame b.call.at newest) c.at) c.passes);
         }
 
 -- where a call makes a pass that was not there
-pub pass-is-soon : (sc : Scenario) (hands : List HandIn) (ear : Ear) → IsShape sc.sizes → are_most sc.sizes (set_of (is_always_good sc)) ≡ true → (k from q : ℕ) (call : Call)
+pub pass-is-soon : (sc : Scenario) (hands : List HandIn) (ear : Ear) → IsShape sc.sizes → are_most sc.sizes (set_of (is_always_good sc hands)) ≡ true → (k from q : ℕ) (call : Call)
     → (newest : List (Option Call)) → from < length newest → call.at ≡ k → AreOfRmus sc.sizes newest → AreKnown sc hands ear k (slice_set newest from (Some call))
     → (pass_of sc.sizes sc.plan newest ≡ Some q → ⊥) → pass_of sc.sizes sc.plan (slice_set newest from (Some call)) ≡ Some q → IsSoon sc hands ear q k
 pass-is-soon sc hands ear shape most k from q call newest within at inside known none is = by (new-or-old sc.sizes sc.plan newest from q call within b)
@@ -177,8 +216,8 @@ pass-is-soon sc hands ear shape most k from q call newest within at inside known
     b : BeginsAt sc.sizes sc.plan (slice_set newest from (Some call)) q
     b = pass-at sc.sizes sc.plan (slice_set newest from (Some call)) q is
 
-    g : GoodInPass sc (slice_set newest from (Some call)) b.call.frame b.call.at
-    g = good-in-pass sc shape most (slice_set newest from (Some call)) q known.inside b
+    g : GoodInPass sc hands (slice_set newest from (Some call)) b.call.frame b.call.at
+    g = good-in-pass sc hands shape most (slice_set newest from (Some call)) q known.inside b
 
     heard : IsHeardCall sc hands ear g.j g.there.call.frame g.there.call.at × (g.there.call.at ≤ k)
     heard = known.known g.j g.there.call g.good g.there.is
@@ -202,8 +241,8 @@ abbrev pub at_of : Option Call → ℕ
 at_of None = 0
 at_of (Some c) = c.at
 
-abbrev pub is_missing : Scenario → List (Option Call) → ℕ → ℕ → Bool
-is_missing sc newest q j = is_always_good sc j && not (is_of q (get_or newest j None))
+abbrev pub is_missing : Scenario → List HandIn → List (Option Call) → ℕ → ℕ → Bool
+is_missing sc hands newest q j = is_always_good sc hands j && not (is_of q (get_or newest j None))
 
 -- the newest call of an RMU is one of this frame
 pub record HasCalled (newest : List (Option Call)) (q j : ℕ) : Type 0 where
@@ -216,8 +255,8 @@ called-of newest q j None e h = cc
 called-of newest q j (Some c) e h = record { call = c; there = e; frame_is = equal_from c.frame q h }
 
 -- where none is missing there is a pass
-none-missing : (sc : Scenario) (hands : List HandIn) → IsLawful sc → (ear : Ear) → IsEar sc ear → are_most sc.sizes (set_of (is_always_good sc)) ≡ true → (k q : ℕ) (newest : List (Option Call))
-    → AreKnown sc hands ear k newest → (i : ℕ) → is_always_good sc i ≡ true → ((j : ℕ) → is_always_good sc j ≡ true → HasCalled newest q j)
+none-missing : (sc : Scenario) (hands : List HandIn) → IsLawful sc → (ear : Ear) → IsEar sc ear → are_most sc.sizes (set_of (is_always_good sc hands)) ≡ true → (k q : ℕ) (newest : List (Option Call))
+    → AreKnown sc hands ear k newest → (i : ℕ) → is_always_good sc hands i ≡ true → ((j : ℕ) → is_always_good sc hands j ≡ true → HasCalled newest q j)
     → pass_of sc.sizes sc.plan newest ≡ Some q
 unfolding good-set
 none-missing sc hands law ear is most k q newest known i good called = by least.held
@@ -228,10 +267,10 @@ none-missing sc hands law ear is most k q newest known i good called = by least.
     time-is : (j : ℕ) (h : HasCalled newest q j) → at_of (get_or newest j None) ≡ h.call.at
     time-is j h = ap at_of h.there
 
-    heard : (j : ℕ) → is_always_good sc j ≡ true → (h : HasCalled newest q j) → IsHeardCall sc hands ear j q h.call.at
+    heard : (j : ℕ) → is_always_good sc hands j ≡ true → (h : HasCalled newest q j) → IsHeardCall sc hands ear j q h.call.at
     heard j g h = subst (λ x. IsHeardCall sc hands ear j x h.call.at) h.frame_is (known.known j h.call g h.there).0
 
-    near : (a b : ℕ) → is_always_good sc a ≡ true → is_always_good sc b ≡ true → at_of (get_or newest a None) ≤ at_of (get_or newest b None) + reach_of sc.plan
+    near : (a b : ℕ) → is_always_good sc hands a ≡ true → is_always_good sc hands b ≡ true → at_of (get_or newest a None) ≤ at_of (get_or newest b None) + reach_of sc.plan
     near a b ga gb =
         let x : HasCalled newest q a = called a ga in
         let y : HasCalled newest q b = called b gb in
@@ -240,10 +279,10 @@ none-missing sc hands law ear is most k q newest known i good called = by least.
         (same-frame-number sc hands law ear b a q q y.call.at x.call.at (heard b gb y) (heard a ga x) refl) in
         omega (arith, close, time-is a x, time-is b y)
 
-    least : HasLeast (is_always_good sc) (λ j. at_of (get_or newest j None)) (reach_of sc.plan) 16
-    least = least_of (is_always_good sc) (λ j. at_of (get_or newest j None)) (reach_of sc.plan) near 16
+    least : HasLeast (is_always_good sc hands) (λ j. at_of (get_or newest j None)) (reach_of sc.plan) 16
+    least = least_of (is_always_good sc hands) (λ j. at_of (get_or newest j None)) (reach_of sc.plan) near 16
 
-    begins : (o : ℕ) → is_always_good sc o ≡ true → at_of (get_or newest o None) ≡ least.least → BeginsAt sc.sizes sc.plan newest q
+    begins : (o : ℕ) → is_always_good sc hands o ≡ true → at_of (get_or newest o None) ≡ least.least → BeginsAt sc.sizes sc.plan newest q
     begins o g e =
         let h : HasCalled newest q o = called o g in
         record {
@@ -251,10 +290,10 @@ none-missing sc hands law ear is most k q newest known i good called = by least.
           call = h.call;
           there = h.there;
           most =
-              more-than sc.sizes.rmus (size (good-set sc)) (size (calling (reach_of sc.plan) h.call.frame h.call.at newest))
-              (size_within (good-set sc) (calling (reach_of sc.plan) h.call.frame h.call.at newest)
+              more-than sc.sizes.rmus (size (good-set sc hands)) (size (calling (reach_of sc.plan) h.call.frame h.call.at newest))
+              (size_within (good-set sc hands) (calling (reach_of sc.plan) h.call.frame h.call.at newest)
               (λ j below in_it.
-              let mine : is_always_good sc j ≡ true = in-good-set sc j below in_it in
+              let mine : is_always_good sc hands j ≡ true = in-good-set sc hands j below in_it in
               let c : HasCalled newest q j = called j mine in
               let between : IsBetween least.least (least.least + reach_of sc.plan) (at_of (get_or newest j None)) = least.at j below mine in
               let falls : falls_in (reach_of sc.plan) h.call.frame h.call.at (Some c.call) ≡ true =
@@ -269,8 +308,8 @@ none-missing sc hands law ear is most k q newest known i good called = by least.
           frame_is = h.frame_is;
         }
 
-    by : ((j : ℕ) → j < 16 → is_always_good sc j ≡ false) ⊎ ((j : ℕ) × (is_always_good sc j ≡ true) × (at_of (get_or newest j None) ≡ least.least)) → pass_of sc.sizes sc.plan newest ≡ Some q
-    by (inl nobody) = let both : true ≡ false = sym good ∙ nobody i (below-16 sc law.sizes i good) in absurd (cc)
+    by : ((j : ℕ) → j < 16 → is_always_good sc hands j ≡ false) ⊎ ((j : ℕ) × (is_always_good sc hands j ≡ true) × (at_of (get_or newest j None) ≡ least.least)) → pass_of sc.sizes sc.plan newest ≡ Some q
+    by (inl nobody) = let both : true ≡ false = sym good ∙ nobody i (below-16 sc hands law.sizes i good) in absurd (cc)
     by (inr one) = begins-pass sc.sizes sc.plan newest q law.sizes.most_rmus known.inside (begins one.0 one.1 one.2)
 
 eq-true : (a b : ℕ) → a ≡ b → (a == b) ≡ true
@@ -288,17 +327,17 @@ AreLatest sc ear k n newest = (j at i : ℕ) → j < sc.sizes.rmus → IsCallAt 
 pub still-to-come : (sc : Scenario) (hands : List HandIn) → IsLawful sc → (ear : Ear) → IsEar sc ear → HearsTheRun sc hands ear → (k n p q : ℕ) (newest : List (Option Call)) → k < ear.ticks
     → AreKnown sc hands ear k newest → AreLatest sc ear k n newest → (before : ℕ) → IsGoodCall sc hands ear p before → q ≡ frame_after p → IsSoon sc hands ear q k
     → (pass_of sc.sizes sc.plan newest ≡ Some q → ⊥) → IsStillToCome sc hands ear q k
-still-to-come sc hands law ear is run k n p q newest in_time known latest before prior next soon none = by (list_any (is_missing sc newest q) (numbers 16)) refl
+still-to-come sc hands law ear is run k n p q newest in_time known latest before prior next soon none = by (list_any (is_missing sc hands newest q) (numbers 16)) refl
   where
     later : (moment sc hands prior.call.n).frame < (moment sc hands soon.call.call.n).frame
     later = omega (arith, next-frame-number sc hands law ear prior.j soon.call.j p q before soon.at prior.call soon.call.call next)
 
     -- an RMU whose newest call is of another frame has called in this one at this tick or later
-    absent : (j at : ℕ) → is_always_good sc j ≡ true → is_of q (get_or newest j None) ≡ false → (too : CallsToo sc hands ear soon.call.call.n j at) → 1 ≤ at → at < k → ⊥
+    absent : (j at : ℕ) → is_always_good sc hands j ≡ true → is_of q (get_or newest j None) ≡ false → (too : CallsToo sc hands ear soon.call.call.n j at) → 1 ≤ at → at < k → ⊥
     absent j at good other too some early = late (get_or newest j None) refl (latest j at heard.nth within_it call (inl early))
       where
         within_it : j < sc.sizes.rmus
-        within_it = less_from j sc.sizes.rmus (and_first (nat_lt j sc.sizes.rmus) (not (is_some (get_or sc.rmu_onsets j None))) good)
+        within_it = always-counts sc hands j good
 
         heard : IsHeard ear at (coming_to sc ear j (moment sc hands soon.call.call.n).frame too.calls.sending)
         heard = too.calls.heard at some (omega (arith, early, in_time)) too.stamped
@@ -332,7 +371,7 @@ still-to-come sc hands law ear is run k n p q newest in_time known latest before
               ]
             ]
 
-    comes : (j : ℕ) → is_always_good sc j ≡ true → is_of q (get_or newest j None) ≡ false → IsStillToCome sc hands ear q k
+    comes : (j : ℕ) → is_always_good sc hands j ≡ true → is_of q (get_or newest j None) ≡ false → IsStillToCome sc hands ear q k
     comes j good other =
         let at = call-at sc hands law ear is run soon.call.j q soon.at soon.call.call j good in
         let after : before + reach_of sc.plan < at.0 =
@@ -347,18 +386,18 @@ still-to-come sc hands law ear is run k n p q newest in_time known latest before
           }
         ]
 
-    all : list_any (is_missing sc newest q) (numbers 16) ≡ false → (j : ℕ) → is_always_good sc j ≡ true → HasCalled newest q j
+    all : list_any (is_missing sc hands newest q) (numbers 16) ≡ false → (j : ℕ) → is_always_good sc hands j ≡ true → HasCalled newest q j
     all nobody j good =
         let b : is_of q (get_or newest j None) ≡ true =
         not_false (is_of q (get_or newest j None)) (so_not (not (is_of q (get_or newest j None))) (λ missing.
-        let found : list_any (is_missing sc newest q) (numbers 16) ≡ true =
-        passes_at (is_missing sc newest q) j (below-16 sc law.sizes j good) (and_both (is_always_good sc j) (not (is_of q (get_or newest j None))) good missing) in
+        let found : list_any (is_missing sc hands newest q) (numbers 16) ≡ true =
+        passes_at (is_missing sc hands newest q) j (below-16 sc hands law.sizes j good) (and_both (is_always_good sc hands j) (not (is_of q (get_or newest j None))) good missing) in
         let both : true ≡ false = sym found ∙ nobody in cc)) in
         called-of newest q j (get_or newest j None) refl b
 
-    by : (b : Bool) → list_any (is_missing sc newest q) (numbers 16) ≡ b → IsStillToCome sc hands ear q k
+    by : (b : Bool) → list_any (is_missing sc hands newest q) (numbers 16) ≡ b → IsStillToCome sc hands ear q k
     by true e =
-        let one : Passing (is_missing sc newest q) 0 16 = passing (is_missing sc newest q) 0 16 e in
-        comes one.at (and_first (is_always_good sc one.at) (not (is_of q (get_or newest one.at None))) one.passes)
-        (not_true (is_of q (get_or newest one.at None)) (and_second (is_always_good sc one.at) (not (is_of q (get_or newest one.at None))) one.passes))
+        let one : Passing (is_missing sc hands newest q) 0 16 = passing (is_missing sc hands newest q) 0 16 e in
+        comes one.at (and_first (is_always_good sc hands one.at) (not (is_of q (get_or newest one.at None))) one.passes)
+        (not_true (is_of q (get_or newest one.at None)) (and_second (is_always_good sc hands one.at) (not (is_of q (get_or newest one.at None))) one.passes))
     by false e = absurd (none (none-missing sc hands law ear is run.most_good k q newest known soon.call.j soon.call.good (all e)))

@@ -1,5 +1,5 @@
 -- The votes of a listener on the vectors of the learned frame are those of the bus.
-use Rattle.std.proofs.Common.{◌≡◌, ℕ, suc, ◌+◌, ◌*◌, ◌<◌, ◌≤◌, not, nat_lt, Bool, true, false, Option, Some, None, is_some, if◌then◌else◌, List, get_or, refl, sym, ◌∙◌, ap, subst, arith}
+use Rattle.std.proofs.Common.{◌≡◌, ℕ, suc, ◌+◌, ◌-◌, ◌*◌, ◌<◌, ◌≤◌, nat_lt, Bool, true, false, Option, Some, None, is_some, if◌then◌else◌, List, refl, sym, ◌∙◌, ap, subst, arith}
 use Rattle.rb_base.specs.Counting.{numbers}
 use Rattle.rb_base.specs.Nodes.{Side, has, set_of, size}
 use Rattle.rb_base.specs.Nodes.Side.{Biu, Rmu}
@@ -9,12 +9,12 @@ use Rattle.rb_base.proofs.Sets.{has-set_of}
 use Rattle.rb_rules.specs.declared.role.Role.TheVariants.{DiagRmu}
 use Rattle.rb_rules.specs.declared.sense.Sense.{Sense}
 use Rattle.rb_rules.specs.ExactStage.{says}
-use Rattle.rb_rules.specs.Goodness.{Scenario}
+use Rattle.rb_rules.specs.Goodness.{Scenario, is_good}
 use Rattle.rb_rules.specs.Lawful.{IsLawful}
 use Rattle.rb_rules.specs.Moments.{IsComplete, IsRunning}
 use Rattle.rb_rules.specs.NodeState.{NodeState, sender_at, trusted_of}
 use Rattle.rb_rules.specs.Ports.{HandIn}
-use Rattle.rb_rules.specs.Rounds.{Moment, moment}
+use Rattle.rb_rules.specs.Rounds.{Moment, moment, windows_in}
 use Rattle.rb_rules.specs.Sense.{value_in}
 use Rattle.rb_rules.specs.Slots.{count_of, has_third_stage, listens, role_of, same_side, sender_in, sender_kind}
 use Rattle.rb_rules.specs.Slots.Sender.{Node}
@@ -44,6 +44,7 @@ use Rattle.rb_attune.specs.Records.{RecordsAreWhole}
 use Rattle.rb_attune.proofs.Fresh.{always-good-in}
 use Rattle.rb_attune.proofs.FrameStages.{IsAtWindow, IsStepped, at-window, first_of_frame, stepped}
 use Rattle.rb_attune.proofs.Lasting.{LastsFrom, lasts-to}
+use Rattle.rb_attune.proofs.Seeks.{always-counts}
 use Rattle.rb_attune.proofs.Spoken.{recorded-value}
 use Rattle.rb_attune.proofs.TrustedSets.{GoodThere, IsIn, all-trust, good-there, same-trust}
 use Rattle.rb_attune.proofs.Turning.{EndOf}
@@ -52,11 +53,11 @@ use Rattle.rb_attune.proofs.Within.{IsExactAt}
 -- What a listener knows where it decides by a frame after the first, and what the premise with it says when that frame is over.
 pub record Learner (sc : Scenario) (hands : List HandIn) (ear : Ear) (f : ℕ) (records : List Sense) : Type 0 where
   pub law : IsLawful sc
-  pub most_good : are_most sc.sizes (set_of (is_always_good sc)) ≡ true
+  pub most_good : are_most sc.sizes (set_of (is_always_good sc hands)) ≡ true
   pub before : IsComplete sc hands f (sync_slot_of sc.sizes)
   pub whole : RecordsAreWhole sc hands ear (suc f) records
   pub g : ℕ
-  pub good : is_always_good sc g ≡ true
+  pub good : is_always_good sc hands g ≡ true
   pub rmus : (n : ℕ) → IsIn sc hands (suc f) n → (me : Side) (i : ℕ) (st : NodeState) → IsGoodNode sc (moment sc hands n) me i st → trusted_of Rmu me st ≡ trusted_rmus sc.sizes records
   pub end : EndOf sc hands (suc f)
   pub verdict : verdict_with (seen_learned sc ear (suc f) records) (moment sc hands (3 * sync_slot_of sc.sizes + 3 + first_of_frame sc (suc f))).book.stages ≡ None
@@ -102,6 +103,12 @@ at-stage sc hands ear f records c slot q below small = record {
     a : IsAgreed sc hands (3 * slot + q + first_of_frame sc (suc f))
     a = agreement sc hands c.law (3 * slot + q + first_of_frame sc (suc f)) running
 
+-- an RMU that is good in the whole run is so in the frame's last slot
+pub good-in-sync : (sc : Scenario) (hands : List HandIn) (ear : Ear) (f : ℕ) (records : List Sense) → Learner sc hands ear f records → (j : ℕ) → is_always_good sc hands j ≡ true
+    → is_good sc Rmu j (suc f) (sync_slot_of sc.sizes) ≡ true
+good-in-sync sc hands ear f records c j good =
+    always-good-in sc hands c.law j (suc f) (sync_slot_of sc.sizes) (before-end sc hands f c.end (suc f * (windows_in sc.sizes + 1) + 3 * sync_slot_of sc.sizes + 1 - 1) (omega arith)) good
+
 -- Votes on what is recorded.
 
 if-none : (b : Bool) (o : Option Heard) → is_some (if b then o else None) ≡ true → b ≡ true
@@ -109,22 +116,22 @@ if-none true o h = refl
 if-none false o h = cc
 
 -- where the RMUs that are good in the whole run are recorded with one value, the listener votes for it
-pub votes-for : (sc : Scenario) → IsLawful sc → are_most sc.sizes (set_of (is_always_good sc)) ≡ true → (records : List Sense) (slot : ℕ) (value : Heard)
-    → ((j : ℕ) → is_always_good sc j ≡ true → has (trusted_rmus sc.sizes records) j ≡ true) → ((j : ℕ) → is_always_good sc j ≡ true → value_in (record_of records slot j) ≡ Some value)
+pub votes-for : (sc : Scenario) (hands : List HandIn) → IsLawful sc → are_most sc.sizes (set_of (is_always_good sc hands)) ≡ true → (records : List Sense) (slot : ℕ) (value : Heard)
+    → ((j : ℕ) → is_always_good sc hands j ≡ true → has (trusted_rmus sc.sizes records) j ≡ true) → ((j : ℕ) → is_always_good sc hands j ≡ true → value_in (record_of records slot j) ≡ Some value)
     → vote_on records (trusted_rmus sc.sizes records) slot ≡ value
-votes-for sc law most records slot value trusted said =
-    vote_is (recorded_of value_in records (trusted_rmus sc.sizes records) slot) (is_always_good sc) value
+votes-for sc hands law most records slot value trusted said =
+    vote_is (recorded_of value_in records (trusted_rmus sc.sizes records) slot) (is_always_good sc hands) value
     (λ j good. ap (λ b. if b then value_in (record_of records slot j) else None) (trusted j good) ∙ said j good) (numbers 16)
-    (others_fewer sc.sizes.rmus (is_always_good sc) (λ j. is_some (recorded_of value_in records (trusted_rmus sc.sizes records) slot j)) law.sizes.most_rmus
-    (λ j below good. less_from j sc.sizes.rmus (and_first (nat_lt j sc.sizes.rmus) (not (is_some (get_or sc.rmu_onsets j None))) good))
+    (others_fewer sc.sizes.rmus (is_always_good sc hands) (λ j. is_some (recorded_of value_in records (trusted_rmus sc.sizes records) slot j)) law.sizes.most_rmus
+    (λ j below good. always-counts sc hands j good)
     (λ j below some.
     let in_set : has (trusted_rmus sc.sizes records) j ≡ true = if-none (has (trusted_rmus sc.sizes records) j) (value_in (record_of records slot j)) some in
     less_from j sc.sizes.rmus
     (and_first (nat_lt j sc.sizes.rmus) (are_most sc.sizes (ones_in records (2 * sc.sizes.bius + sc.sizes.data_slots + j))) (sym (has-set_of j (trusts_rmu sc.sizes records) below) ∙ in_set)))
-    (omega (arith, less_from sc.sizes.rmus (2 * size (set_of (is_always_good sc))) most, how_many-is (is_always_good sc))))
+    (omega (arith, less_from sc.sizes.rmus (2 * size (set_of (is_always_good sc hands))) most, how_many-is (is_always_good sc hands))))
 
 pub good-trusted : (sc : Scenario) (hands : List HandIn) (ear : Ear) (f : ℕ) (records : List Sense) (c : Learner sc hands ear f records) (slot q : ℕ) → slot < sync_slot_of sc.sizes → q < 3 → (j : ℕ)
-    → is_always_good sc j ≡ true → has (trusted_rmus sc.sizes records) j ≡ true
+    → is_always_good sc hands j ≡ true → has (trusted_rmus sc.sizes records) j ≡ true
 good-trusted sc hands ear f records c slot q below small j good =
     let s : AtStage sc hands f slot q = at-stage sc hands ear f records c slot q below small in
     let k : ℕ = 3 * slot + q + first_of_frame sc (suc f) in
@@ -203,7 +210,7 @@ same-shared sc hands ear f records c slot q s kind =
 pub rmu-vote : (sc : Scenario) (hands : List HandIn) (ear : Ear) (f : ℕ) (records : List Sense) (c : Learner sc hands ear f records) (i : ℕ) → i < sc.sizes.rmus
     → has (c.end.shared.trusted Rmu) i ≡ true → vote_on records (trusted_rmus sc.sizes records) (vector_slot sc.sizes Rmu i) ≡ c.end.shared.values (vector_slot sc.sizes Rmu i)
 rmu-vote sc hands ear f records c i count t =
-    votes-for sc c.law c.most_good records (vector_slot sc.sizes Rmu i) v.value (good-trusted sc hands ear f records c (vector_slot sc.sizes Rmu i) 2 below (omega arith)) said
+    votes-for sc hands c.law c.most_good records (vector_slot sc.sizes Rmu i) v.value (good-trusted sc hands ear f records c (vector_slot sc.sizes Rmu i) 2 below (omega arith)) said
     ∙ sym (value-at-end sc hands ear f records c Rmu i count s)
   where
     slot : ℕ
@@ -230,7 +237,7 @@ rmu-vote sc hands ear f records c i count t =
     trusted : has (s.shared.trusted Rmu) i ≡ true
     trusted = ap (λ x. has x i) (same-shared sc hands ear f records c slot 2 s Rmu) ∙ t
 
-    said : (j : ℕ) → is_always_good sc j ≡ true → value_in (record_of records slot j) ≡ Some v.value
+    said : (j : ℕ) → is_always_good sc hands j ≡ true → value_in (record_of records slot j) ≡ Some v.value
     said j good =
         let mine : GoodThere sc hands k j = good-there sc hands c.law k j s.inside.running good in
         let sender : sender_at sc.sizes Rmu mine.st slot ≡ Node i =
@@ -242,4 +249,4 @@ rmu-vote sc hands ear f records c i count t =
         vote_is_said sc.sizes Rmu j i mine.st slot (word_at sc m slot j) sender
         (ap (λ r. listens Biu r 3) role) ∙ ap (λ x. Some x) (v.held j mine.st own) in
         (recorded-value sc hands ear (suc f) records c.whole k j slot 2 mine.st v.value s.exact s.inside.running s.inside.frame_is mine.node
-        (always-good-in sc j (suc f) (sync_slot_of sc.sizes) good) (ap stage_recorded role) is).value
+        (good-in-sync sc hands ear f records c j good) (ap stage_recorded role) is).value

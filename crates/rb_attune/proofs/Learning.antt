@@ -1,5 +1,5 @@
 -- What holds of a search at each tick: what it has recorded it has since soon after calls of good RMUs, and when it decides.
-use Rattle.std.proofs.Common.{◌≡◌, ◌⊎◌, ℕ, suc, ◌+◌, ◌*◌, ◌<◌, ◌≤◌, ◌==◌, ◌&&◌, not, nat_lt, Bool, true, false, Option, Some, None, is_some, List, length, get_or, replicate, slice_get, if◌then◌else◌, inl, inr, refl, sym, ◌∙◌, ap, subst, arith}
+use Rattle.std.proofs.Common.{◌≡◌, ◌⊎◌, ℕ, suc, ◌+◌, ◌*◌, ◌<◌, ◌≤◌, ◌==◌, ◌&&◌, Bool, true, false, Option, Some, None, is_some, List, length, get_or, replicate, slice_get, if◌then◌else◌, inl, inr, refl, sym, ◌∙◌, ap, subst, arith}
 use Rattle.std.proofs.lemmas.Bool.Decides.{nat_tests}
 use Rattle.std.proofs.lemmas.List.{length-replicate, length-set}
 use Rattle.rb_base.specs.Sizes.{IsShape, Sizes, sync_slot_of}
@@ -13,7 +13,7 @@ use Rattle.rb_rules.specs.Ports.{HandIn}
 use Rattle.rb_rules.specs.Rounds.{moment}
 use Rattle.rb_rules.specs.Spelling.{message_in}
 use Rattle.rb_rules.proofs.Spellings.{read_back}
-use Rattle.rb_agree.proofs.Tests.{and_first, and_second, equal_from, less_from, same_some}
+use Rattle.rb_agree.proofs.Tests.{and_first, and_second, equal_from, same_some}
 use Rattle.rb_listen.specs.Lessons.{frame_after, has_place, lesson_on, noted, nothing_recorded, record_of, with_message, with_record}
 use Rattle.rb_listen.specs.Listening.{first_search, if_pass, is_deciding, later, learning, recorded, searching, timed}
 use Rattle.rb_listen.specs.Passes.{is_call, pass_of, reach_of}
@@ -29,7 +29,7 @@ use Rattle.rb_attune.proofs.Noting.{AreNotedBy, HasRoom, begun-noted, none-noted
 use Rattle.rb_attune.proofs.PassSets.{BeginsAt, pass-at}
 use Rattle.rb_attune.proofs.Recorded.{IsEarlier}
 use Rattle.rb_attune.proofs.Searchings.{RecordsOnly, pass-by, recorded-only, search-by, with_call}
-use Rattle.rb_attune.proofs.Seeks.{no-onset, none-there}
+use Rattle.rb_attune.proofs.Seeks.{always-counts, no-onset, none-there}
 use Rattle.rb_attune.proofs.Sendings.{in-place}
 use Rattle.rb_attune.proofs.Walks.{HoldsAt, IsKept, always-at}
 
@@ -313,7 +313,7 @@ heard-learns sc hands law ear is run k n c in_time there s h =
           (recorded-latest sc ear k n c.from m s h.latest) (recorded-learns sc hands ear law.sizes k n c m s there within reads h.well.had h.learns) o made;
     })
   where
-    known : c.from < sc.sizes.rmus → (m : Message) → message_in sc.plan.version c.bytes ≡ Some m → is_call sc.sizes m ≡ true → is_always_good sc c.from ≡ true
+    known : c.from < sc.sizes.rmus → (m : Message) → message_in sc.plan.version c.bytes ≡ Some m → is_call sc.sizes m ≡ true → is_always_good sc hands c.from ≡ true
         → IsHeardCall sc hands ear c.from m.frame k
     known within m reads calls good =
         elim (run.only k c in_time (record { nth = n; there = there }) within) [
@@ -337,8 +337,8 @@ decides-late sc hands law ear is run k n s in_time whole well latest decides q m
     b : BeginsAt sc.sizes sc.plan s.newest q
     b = pass-at sc.sizes sc.plan s.newest q made
 
-    g : GoodInPass sc s.newest b.call.frame b.call.at
-    g = good-in-pass sc law.sizes run.most_good s.newest q well.inside b
+    g : GoodInPass sc hands s.newest b.call.frame b.call.at
+    g = good-in-pass sc hands law.sizes run.most_good s.newest q well.inside b
 
     old : IsHeardCall sc hands ear g.j g.there.call.frame g.there.call.at × (g.there.call.at ≤ k)
     old = well.newest g.j g.there.call g.good g.there.is
@@ -374,7 +374,7 @@ decides-late sc hands law ear is run k n s in_time whole well latest decides q m
         )
 
     within : g.j < sc.sizes.rmus
-    within = less_from g.j sc.sizes.rmus (and_first (nat_lt g.j sc.sizes.rmus) (not (is_some (get_or sc.rmu_onsets g.j None))) g.good)
+    within = always-counts sc hands g.j g.good
 
     coming : Coming
     coming = coming_to sc ear g.j (moment sc hands after.call.n).frame at.1.calls.sending

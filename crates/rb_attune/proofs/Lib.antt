@@ -32,3 +32,8 @@ pub mod Deciding
 pub mod Apart
 pub mod Calling
 pub mod Fed
+pub mod Beside
+pub mod SyncStages
+pub mod Begins
+pub mod Allowed
+pub mod Throughout

@@ -42,7 +42,7 @@ IsTrueBy sc hands ear k n frame slot j Bad = ⊥
 
 abbrev pub AreTrueBy : Scenario → List HandIn → Ear → ℕ → ℕ → Lesson → Type 0
 AreTrueBy sc hands ear k n lesson =
-    (j : ℕ) → j < 16 → is_always_good sc j ≡ true → (slot : ℕ) → IsTrueBy sc hands ear k n lesson.frame slot j (record_of lesson.records slot j)
+    (j : ℕ) → j < 16 → is_always_good sc hands j ≡ true → (slot : ℕ) → IsTrueBy sc hands ear k n lesson.frame slot j (record_of lesson.records slot j)
 
 -- Lists.
 
@@ -187,7 +187,7 @@ pub same-place : (slot j other i : ℕ) → j < 16 → i < 16 → 16 * slot + j 
 same-place slot j other i a b e = (omega (arith, a, b, e), omega (arith, a, b, e))
 
 recorded-true : (sc : Scenario) (hands : List HandIn) → IsLawful sc → (ear : Ear) → IsEar sc ear → HearsTheRun sc hands ear → (k n j : ℕ) (m : Message) (lesson : Lesson) → j < 16
-    → (is_always_good sc j ≡ true → IsNext sc hands ear k n j m) → has_place sc.sizes lesson.frame m ≡ true → AreTrueBy sc hands ear k n lesson
+    → (is_always_good sc hands j ≡ true → IsNext sc hands ear k n j m) → has_place sc.sizes lesson.frame m ≡ true → AreTrueBy sc hands ear k n lesson
     → AreTrueBy sc hands ear k (suc n) (record lesson { records = with_record sc.sizes j k m lesson.records })
 recorded-true sc hands law ear is run k n j m lesson below next place h i below_i good slot =
     elim (set-either lesson.records (place_of m.slot j) (place_of slot i) new) [
@@ -203,7 +203,7 @@ recorded-true sc hands law ear is run k n j m lesson below next place h i below_
     here : get_or (slice_set lesson.records (place_of m.slot j) new) (place_of slot i) Silent ≡ new → slot ≡ m.slot → i ≡ j
         → IsTrueBy sc hands ear k (suc n) lesson.frame slot i (get_or (slice_set lesson.records (place_of m.slot j) new) (place_of slot i) Silent)
     here is_new slots nodes =
-        let mine : is_always_good sc j ≡ true = subst (λ x. is_always_good sc x ≡ true) nodes good in
+        let mine : is_always_good sc hands j ≡ true = subst (λ x. is_always_good sc hands x ≡ true) nodes good in
         let true_one : IsTrueBy sc hands ear k (suc n) lesson.frame m.slot j new =
         one-more sc hands law ear is run k n lesson.frame j m (next mine) (placed sc lesson.frame m place) (record_of lesson.records m.slot j) (h j below mine m.slot) in
         subst (IsTrueBy sc hands ear k (suc n) lesson.frame slot i) (sym is_new)
@@ -211,7 +211,7 @@ recorded-true sc hands law ear is run k n j m lesson below next place h i below_
         (subst (λ x. IsTrueBy sc hands ear k (suc n) lesson.frame m.slot x new) (sym nodes) true_one))
 
 pub noted-true : (sc : Scenario) (hands : List HandIn) → IsLawful sc → (ear : Ear) → IsEar sc ear → HearsTheRun sc hands ear → (k n j : ℕ) (m : Message) (lesson : Lesson) → j < 16
-    → (is_always_good sc j ≡ true → IsNext sc hands ear k n j m) → AreTrueBy sc hands ear k n lesson → AreTrueBy sc hands ear k (suc n) (noted sc.sizes j k m lesson)
+    → (is_always_good sc hands j ≡ true → IsNext sc hands ear k n j m) → AreTrueBy sc hands ear k n lesson → AreTrueBy sc hands ear k (suc n) (noted sc.sizes j k m lesson)
 noted-true sc hands law ear is run k n j m lesson below next h = by (has_place sc.sizes lesson.frame m) refl
   where
     by : (b : Bool) → has_place sc.sizes lesson.frame m ≡ b

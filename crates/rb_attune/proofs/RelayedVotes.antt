@@ -42,9 +42,8 @@ use Rattle.rb_track.specs.Judged.{heard_stages, was_unlike_with}
 use Rattle.rb_track.proofs.Sides.{SideAlike, bius_alike, rmus_alike, side_alike}
 use Rattle.rb_attune.specs.Ears.{Ear}
 use Rattle.rb_attune.specs.Receivers.{is_idle, is_nobody, see_learned, see_recorded, seen_learned, timed_see}
-use Rattle.rb_attune.proofs.Fresh.{always-good-in}
 use Rattle.rb_attune.proofs.FrameStages.{Grows, IsAtWindow, at-window, fewer-none, first_of_frame, grows, last-suspects, place_at, told-now}
-use Rattle.rb_attune.proofs.LearnedVotes.{AtStage, Learner, at-stage, before-end, good-trusted, same-shared, trust-end, value-at-end, votes-for}
+use Rattle.rb_attune.proofs.LearnedVotes.{AtStage, Learner, at-stage, before-end, good-in-sync, good-trusted, same-shared, trust-end, value-at-end, votes-for}
 use Rattle.rb_attune.proofs.Spoken.{recorded-value}
 use Rattle.rb_attune.proofs.TrustedSets.{GoodThere, IsIn, good-there}
 
@@ -261,10 +260,10 @@ biu-vote sc hands ear f records c i count t = by a.side refl ∙ sym (value-at-e
     by-bius : a.side ≡ Biu → vote_on records (trusted_rmus sc.sizes records) slot
         ≡ vote_of sc hands n m s2.shared slot 1 s2.setting Biu b.index from.st
     by-bius side =
-        votes-for sc c.law c.most_good records slot (unwrap_or g.st.got Fault) (good-trusted sc hands ear f records c slot 1 below (omega arith))
+        votes-for sc hands c.law c.most_good records slot (unwrap_or g.st.got Fault) (good-trusted sc hands ear f records c slot 1 below (omega arith))
         (λ j good.
         let x : GoodThere sc hands n j = good-there sc hands c.law n j s2.inside.running good in
-        value-of j x.st x.node (always-good-in sc j (suc f) (sync_slot_of sc.sizes) good) ∙ ap (λ o. Some (unwrap_or o Fault)) (got-alike side j x.st x.node))
+        value-of j x.st x.node (good-in-sync sc hands ear f records c j good) ∙ ap (λ o. Some (unwrap_or o Fault)) (got-alike side j x.st x.node))
         ∙ sym (all_vote sc hands n m s2.shared slot 1 s2.setting
         (carried_2 sc hands n m s2.shared slot s2.setting)
         Biu (unwrap_or g.st.got Fault) (λ j st node. said j st node ∙ ap (λ o. Some (unwrap_or o Fault)) (got-alike side j st node)) b.index from.st from.was)

@@ -10,6 +10,7 @@ use Rattle.rb_rules.specs.Core.{is_tick}
 use Rattle.rb_rules.specs.Goodness.{Scenario}
 use Rattle.rb_rules.specs.Hearing.{Coming}
 use Rattle.rb_rules.specs.Lawful.{IsLawful}
+use Rattle.rb_rules.specs.Moments.{before_slot}
 use Rattle.rb_rules.specs.Ports.{HandIn}
 use Rattle.rb_rules.specs.Spelling.{message_in}
 use Rattle.rb_agree.proofs.Tests.{Passing, and_first, and_second, equal_from, less_from, not_true}
@@ -21,7 +22,7 @@ use Rattle.rb_listen.specs.declared.lesson.First.{First}
 use Rattle.rb_listen.specs.declared.lesson.Lesson.{Lesson}
 use Rattle.rb_listen.specs.declared.passes.Call.{Call}
 use Rattle.rb_listen.specs.declared.search.Search.{Search}
-use Rattle.rb_attune.specs.Ears.{Ear, HearsTheRun, IsHeard, IsOfFaulty, hears, is_always_good, listening_at}
+use Rattle.rb_attune.specs.Ears.{Ear, HearsTheRun, IsHeard, IsOfFaulty, comes_to, hears, is_always_good, listening_at}
 use Rattle.rb_attune.specs.Seeking.{SeeksAFrame}
 use Rattle.rb_attune.proofs.CallsSent.{IsCalled, called}
 use Rattle.rb_attune.proofs.Meeting.{meet}
@@ -51,7 +52,7 @@ set-case (y ∷ ys) (suc j) (suc i) x c h = elim (set-case ys j i x c h) [ inl b
 -- What holds of a search.
 
 pub record Finds (sc : Scenario) (hands : List HandIn) (s : Search) : Type 0 where
-  pub newest : (j : ℕ) (c : Call) → is_always_good sc j ≡ true → get_or s.newest j None ≡ Some c → IsCalled sc hands c.frame
+  pub newest : (j : ℕ) (c : Call) → is_always_good sc hands j ≡ true → get_or s.newest j None ≡ Some c → IsCalled sc hands c.frame
   pub inside : (j : ℕ) → sc.sizes.rmus ≤ j → get_or s.newest j None ≡ None
   pub learned : s.learns ≡ true → (number : ℕ) × (IsCalled sc hands number × (s.lesson.frame ≡ frame_after number))
   pub decides : s.learns ≡ true → is_some s.lesson.decides ≡ true → IsCalled sc hands s.lesson.frame
@@ -90,11 +91,15 @@ falls reach frame from None h = cc
 falls reach frame from (Some c) h =
     (c, (refl, equal_from c.frame frame (and_first (c.frame == frame) (nat_le from c.at) (and_first ((c.frame == frame) && nat_le from c.at) (nat_le (c.at - from) reach) h))))
 
-pub good-rmus : (sc : Scenario) (j : ℕ) → j < 16 → has (set_of (is_always_good sc)) j ≡ true → is_always_good sc j ≡ true
-good-rmus sc j below h = sym (has-set_of j (is_always_good sc) below) ∙ h
+-- an RMU that is good in the whole run is one of the bus
+pub always-counts : (sc : Scenario) (hands : List HandIn) (j : ℕ) → is_always_good sc hands j ≡ true → j < sc.sizes.rmus
+always-counts sc hands j good = less_from j sc.sizes.rmus (and_first (nat_lt j sc.sizes.rmus) (not (comes_to sc hands (get_or sc.rmu_onsets j None))) good)
 
-unfoldable pub good-set : Scenario → ℕ
-good-set sc = set_of (is_always_good sc)
+pub good-rmus : (sc : Scenario) (hands : List HandIn) (j : ℕ) → j < 16 → has (set_of (is_always_good sc hands)) j ≡ true → is_always_good sc hands j ≡ true
+good-rmus sc hands j below h = sym (has-set_of j (is_always_good sc hands) below) ∙ h
+
+unfoldable pub good-set : Scenario → List HandIn → ℕ
+good-set sc hands = set_of (is_always_good sc hands)
 
 call-set : Scenario → Search → Call → ℕ
 call-set sc s c = calling (reach_of sc.plan) c.frame c.at s.newest
@@ -114,31 +119,31 @@ call-set-inside sc hands s finds c j below is =
           let both : false ≡ true = sym none ∙ some in absurd (cc)
     ]
 
-pub good-inside : (sc : Scenario) (j : ℕ) → j < 16 → has (good-set sc) j ≡ true → j < sc.sizes.rmus
+pub good-inside : (sc : Scenario) (hands : List HandIn) (j : ℕ) → j < 16 → has (good-set sc hands) j ≡ true → j < sc.sizes.rmus
 unfolding good-set
-good-inside sc j below is = less_from j sc.sizes.rmus (and_first (nat_lt j sc.sizes.rmus) (not (is_some (get_or sc.rmu_onsets j None))) (good-rmus sc j below is))
+good-inside sc hands j below is = always-counts sc hands j (good-rmus sc hands j below is)
 
-called-by : (sc : Scenario) (hands : List HandIn) (s : Search) → Finds sc hands s → (c : Call) (j : ℕ) → j < 16 → has (good-set sc) j ≡ true → has (call-set sc s c) j ≡ true
+called-by : (sc : Scenario) (hands : List HandIn) (s : Search) → Finds sc hands s → (c : Call) (j : ℕ) → j < 16 → has (good-set sc hands) j ≡ true → has (call-set sc s c) j ≡ true
     → IsCalled sc hands c.frame
 unfolding good-set
 called-by sc hands s finds c j below good in_set =
     let calls = falls (reach_of sc.plan) c.frame c.at (get_or s.newest j None) (in-call-set sc s c j below in_set) in
-    subst (IsCalled sc hands) calls.1.1 (finds.newest j calls.0 (good-rmus sc j below good) calls.1.0)
+    subst (IsCalled sc hands) calls.1.1 (finds.newest j calls.0 (good-rmus sc hands j below good) calls.1.0)
 
-pub pass-called : (sc : Scenario) (hands : List HandIn) → IsShape sc.sizes → are_most sc.sizes (set_of (is_always_good sc)) ≡ true → (s : Search) → Finds sc hands s
+pub pass-called : (sc : Scenario) (hands : List HandIn) → IsShape sc.sizes → are_most sc.sizes (set_of (is_always_good sc hands)) ≡ true → (s : Search) → Finds sc hands s
     → (frame : ℕ) → pass_of sc.sizes sc.plan s.newest ≡ Some frame → IsCalled sc hands frame
 unfolding pass_of good-set call-set
 pass-called sc hands shape most s finds frame h = go (pass-begins sc.sizes sc.plan s.newest s.newest frame h)
   where
-    at : (b : Begins sc.sizes sc.plan s.newest frame) → Passing (λ j. has (good-set sc) j && has (call-set sc s b.call) j) 0 16 → IsCalled sc hands frame
+    at : (b : Begins sc.sizes sc.plan s.newest frame) → Passing (λ j. has (good-set sc hands) j && has (call-set sc s b.call) j) 0 16 → IsCalled sc hands frame
     at b common =
         subst (IsCalled sc hands) b.frame_is
         (called-by sc hands s finds b.call common.at (omega (arith, common.high))
-        (and_first (has (good-set sc) common.at) (has (call-set sc s b.call) common.at) common.passes)
-        (and_second (has (good-set sc) common.at) (has (call-set sc s b.call) common.at) common.passes))
+        (and_first (has (good-set sc hands) common.at) (has (call-set sc s b.call) common.at) common.passes)
+        (and_second (has (good-set sc hands) common.at) (has (call-set sc s b.call) common.at) common.passes))
 
     go : Begins sc.sizes sc.plan s.newest frame → IsCalled sc hands frame
-    go b = at b (meet sc.sizes (good-set sc) (call-set sc s b.call) shape.most_rmus (good-inside sc) (call-set-inside sc hands s finds b.call) most b.most)
+    go b = at b (meet sc.sizes (good-set sc hands) (call-set sc s b.call) shape.most_rmus (good-inside sc hands) (call-set-inside sc hands s finds b.call) most b.most)
 
 -- What is heard.
 
@@ -180,17 +185,17 @@ pass-finds sc hands frame s is finds = by (s.learns && (frame == s.lesson.frame)
     by false e true = finds
     by false e false = learning-finds sc hands frame s is finds
 
-may-pass-finds : (sc : Scenario) (hands : List HandIn) → IsShape sc.sizes → are_most sc.sizes (set_of (is_always_good sc)) ≡ true → (s : Search) → Finds sc hands s
+may-pass-finds : (sc : Scenario) (hands : List HandIn) → IsShape sc.sizes → are_most sc.sizes (set_of (is_always_good sc hands)) ≡ true → (s : Search) → Finds sc hands s
     → (o : Option ℕ) → pass_of sc.sizes sc.plan s.newest ≡ o → Finds sc hands (if_pass sc.plan o s)
 may-pass-finds sc hands shape most s finds None e = finds
 may-pass-finds sc hands shape most s finds (Some frame) e = pass-finds sc hands frame s (pass-called sc hands shape most s finds frame e) finds
 
-newest-finds : (sc : Scenario) (hands : List HandIn) (j frame : ℕ) (s : Search) → j < sc.sizes.rmus → (is_always_good sc j ≡ true → IsCalled sc hands frame)
+newest-finds : (sc : Scenario) (hands : List HandIn) (j frame : ℕ) (s : Search) → j < sc.sizes.rmus → (is_always_good sc hands j ≡ true → IsCalled sc hands frame)
     → Finds sc hands s → Finds sc hands (newest_with j frame s)
 newest-finds sc hands j frame s within calls finds = record {
   newest = λ i c good is.
       elim (set-case s.newest j i (Some call) c is) [
-        | inl both ↦ subst (IsCalled sc hands) (ap (λ (x : Call). x.frame) (some-call c both.1)) (calls (subst (λ k. is_always_good sc k ≡ true) both.0 good))
+        | inl both ↦ subst (IsCalled sc hands) (ap (λ (x : Call). x.frame) (some-call c both.1)) (calls (subst (λ k. is_always_good sc hands k ≡ true) both.0 good))
         | inr there ↦ finds.newest i c good there
       ];
   inside = λ i out. set-other s.newest j i (Some call) (λ same. omega (arith, out, within, same)) ∙ finds.inside i out;
@@ -233,8 +238,8 @@ recorded-finds sc hands j m s finds = by s.learns
     }
     by false = finds
 
-message-finds : (sc : Scenario) (hands : List HandIn) → IsShape sc.sizes → are_most sc.sizes (set_of (is_always_good sc)) ≡ true → (j : ℕ) (m : Message) (s : Search)
-    → j < sc.sizes.rmus → (is_always_good sc j ≡ true → is_call sc.sizes m ≡ true → IsCalled sc hands m.frame) → Finds sc hands s
+message-finds : (sc : Scenario) (hands : List HandIn) → IsShape sc.sizes → are_most sc.sizes (set_of (is_always_good sc hands)) ≡ true → (j : ℕ) (m : Message) (s : Search)
+    → j < sc.sizes.rmus → (is_always_good sc hands j ≡ true → is_call sc.sizes m ≡ true → IsCalled sc hands m.frame) → Finds sc hands s
     → Finds sc hands (with_message sc.sizes sc.plan j m s)
 unfolding with_message
 message-finds sc hands shape most j m s within calls finds = by (is_call sc.sizes m) refl
@@ -251,25 +256,25 @@ message-finds sc hands shape most j m s within calls finds = by (is_call sc.size
         (pass_of sc.sizes sc.plan (newest_with j m.frame (recorded sc.sizes j m s)).newest) refl
     by false e = recorded-finds sc hands j m s finds
 
-may-message-finds : (sc : Scenario) (hands : List HandIn) → IsShape sc.sizes → are_most sc.sizes (set_of (is_always_good sc)) ≡ true → (j : ℕ) (o : Option Message) (s : Search)
-    → j < sc.sizes.rmus → ((m : Message) → o ≡ Some m → is_always_good sc j ≡ true → is_call sc.sizes m ≡ true → IsCalled sc hands m.frame) → Finds sc hands s
+may-message-finds : (sc : Scenario) (hands : List HandIn) → IsShape sc.sizes → are_most sc.sizes (set_of (is_always_good sc hands)) ≡ true → (j : ℕ) (o : Option Message) (s : Search)
+    → j < sc.sizes.rmus → ((m : Message) → o ≡ Some m → is_always_good sc hands j ≡ true → is_call sc.sizes m ≡ true → IsCalled sc hands m.frame) → Finds sc hands s
     → Finds sc hands (if_message sc.sizes sc.plan j o s)
 may-message-finds sc hands shape most j None s within calls finds = finds
 may-message-finds sc hands shape most j (Some m) s within calls finds = message-finds sc hands shape most j m s within (calls m refl) finds
 
-pub no-onset : (sc : Scenario) (hands : List HandIn) (c : Coming) → is_always_good sc c.from ≡ true → IsOfFaulty sc hands c → ⊥
+pub no-onset : (sc : Scenario) (hands : List HandIn) (c : Coming) → is_always_good sc hands c.from ≡ true → IsOfFaulty sc hands c → ⊥
 no-onset sc hands c good faulty =
-    let none : is_some (get_or sc.rmu_onsets c.from None) ≡ false =
-    not_true (is_some (get_or sc.rmu_onsets c.from None)) (and_second (nat_lt c.from sc.sizes.rmus) (not (is_some (get_or sc.rmu_onsets c.from None))) good) in
-    let some : is_some (get_or sc.rmu_onsets c.from None) ≡ true = ap is_some faulty.onset in
-    let both : true ≡ false = sym some ∙ none in cc
+    let never : comes_to sc hands (get_or sc.rmu_onsets c.from None) ≡ false =
+    not_true (comes_to sc hands (get_or sc.rmu_onsets c.from None)) (and_second (nat_lt c.from sc.sizes.rmus) (not (comes_to sc hands (get_or sc.rmu_onsets c.from None))) good) in
+    let ended : not (before_slot sc hands faulty.frame faulty.slot).book.ended ≡ false = sym (ap (comes_to sc hands) faulty.onset) ∙ never in
+    let both : true ≡ false = sym (ap not faulty.running) ∙ ended in cc
 
 pub heard-finds : (sc : Scenario) (hands : List HandIn) → IsLawful sc → (ear : Ear) → HearsTheRun sc hands ear → (k : ℕ) (c : Coming) → k < ear.ticks → IsHeard ear k c
     → (s : Search) → Finds sc hands s → Finds sc hands (searching sc.sizes sc.plan c.from c.bytes s)
 unfolding searching
 heard-finds sc hands law ear run k c in_time heard s finds = by (nat_lt c.from sc.sizes.rmus) refl (nat_lt s.had (2 ^ 31))
   where
-    calls : c.from < sc.sizes.rmus → (m : Message) → message_in sc.plan.version c.bytes ≡ Some m → is_always_good sc c.from ≡ true → is_call sc.sizes m ≡ true → IsCalled sc hands m.frame
+    calls : c.from < sc.sizes.rmus → (m : Message) → message_in sc.plan.version c.bytes ≡ Some m → is_always_good sc hands c.from ≡ true → is_call sc.sizes m ≡ true → IsCalled sc hands m.frame
     calls within m read good call =
         elim (run.only k c in_time heard within) [
           | inl of_good ↦ called sc hands law ear c of_good m read call

@@ -1,5 +1,5 @@
 -- Good RMUs call at nearly one time, and their calls come at nearly one time.
-use Rattle.std.proofs.Common.{◌≡◌, ℕ, suc, ◌+◌, ◌*◌, ◌<◌, ◌≤◌, min, Some, List, inl, inr, sym, ◌∙◌, ap, subst, arith}
+use Rattle.std.proofs.Common.{◌≡◌, ℕ, ◌+◌, ◌*◌, ◌<◌, ◌≤◌, min, Some, List, inl, inr, sym, ◌∙◌, ap, subst, arith}
 use Rattle.std.proofs.lemmas.Bool.{cases_lt}
 use Rattle.rb_base.specs.Nodes.Side.{Rmu}
 use Rattle.rb_base.specs.Sizes.{sync_slot_of}
@@ -7,11 +7,10 @@ use Rattle.rb_rules.specs.Clock.{IsStamp, Timeline, time_of}
 use Rattle.rb_rules.specs.Goodness.{Scenario, clock_of, is_good}
 use Rattle.rb_rules.specs.Hearing.{Sending, sending}
 use Rattle.rb_rules.specs.Lawful.{IsDelay, IsLawful}
-use Rattle.rb_rules.specs.Plan.{f0_of, longest_of, shortest_of}
+use Rattle.rb_rules.specs.Plan.{f0_of, shortest_of}
 use Rattle.rb_rules.specs.Ports.{HandIn}
 use Rattle.rb_rules.specs.Rounds.{moment}
 use Rattle.rb_rules.specs.SyncStage.{call_tick_of}
-use Rattle.rb_rules.proofs.Drift.{HasLengths, drift, has_lengths, stamp_near}
 use Rattle.rb_rules.proofs.Middles.{IsBetween}
 use Rattle.rb_agree.proofs.Goodnesses.{slot_last}
 use Rattle.rb_agree.proofs.Invariant.{IsGoodNode}
@@ -23,26 +22,14 @@ use Rattle.rb_sync.proofs.Synchrony.{IsSynchronous, synchrony}
 use Rattle.rb_sync.proofs.TakenCalls.{call_sent}
 use Rattle.rb_sync.proofs.Times.{Steady, lawful_fits, plan_fits}
 use Rattle.rb_listen.specs.Passes.{reach_of}
+use Rattle.rb_track.proofs.FramesNear.{steady_clock}
 use Rattle.rb_attune.specs.Ears.{Ear, IsEar, SendsIn, coming_to}
 use Rattle.rb_attune.specs.Together.{CallsComeTogether}
 use Rattle.rb_attune.proofs.CallsSent.{sends-at}
 
 -- the listener's clock
 pub steady-ear : (sc : Scenario) → IsLawful sc → (ear : Ear) → IsEar sc ear → Steady (shortest_of sc.plan) (drift_of sc.plan) ear.clock
-steady-ear sc law ear is = record {
-  moves = λ tick. omega (arith, (lengths tick).0, fit.some);
-  not_early = λ tick n. (drift ear.clock (shortest_of sc.plan) (longest_of sc.plan) lengths tick n).0;
-  not_late = λ tick n.
-      subst (λ g. time_of ear.clock (tick + n) ≤ time_of ear.clock tick + n * g) fit.longest (drift ear.clock (shortest_of sc.plan) (longest_of sc.plan) lengths tick n).1;
-  stamped = λ time tick at.
-      subst (λ g. time_of ear.clock (suc tick) < time + g) fit.longest (stamp_near ear.clock (longest_of sc.plan) (λ k. (lengths k).1) time tick at);
-}
-  where
-    fit : plan_fits sc
-    fit = lawful_fits sc law
-
-    lengths : HasLengths (shortest_of sc.plan) (longest_of sc.plan) ear.clock
-    lengths = has_lengths (shortest_of sc.plan) (longest_of sc.plan) ear.clock is.clock
+steady-ear sc law ear is = steady_clock sc law ear.clock is.clock
 
 -- when a good RMU calls
 pub call-time : (sc : Scenario) (hands : List HandIn) → IsLawful sc → (n j : ℕ) (s : Sending) → (moment sc hands n).window ≡ 3 * sync_slot_of sc.sizes + 1 → SendsIn sc hands n j s

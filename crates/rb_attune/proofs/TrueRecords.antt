@@ -1,5 +1,5 @@
 -- What a listener has recorded of good RMUs at each tick.
-use Rattle.std.proofs.Common.{◌≡◌, ℕ, suc, ◌+◌, ◌^◌, ◌<◌, ◌==◌, ◌&&◌, not, nat_lt, Bool, true, false, Option, Some, None, is_some, List, get_or, slice_get, inl, inr, refl, sym, subst, arith}
+use Rattle.std.proofs.Common.{◌≡◌, ℕ, suc, ◌+◌, ◌^◌, ◌<◌, ◌==◌, ◌&&◌, nat_lt, Bool, true, false, Option, Some, None, is_some, List, slice_get, inl, inr, refl, sym, subst, arith}
 use Rattle.std.proofs.lemmas.Bool.Decides.{nat_tests}
 use Rattle.rb_rules.specs.declared.message.Message.{Message}
 use Rattle.rb_rules.specs.declared.sense.Sense.{Sense}
@@ -9,7 +9,7 @@ use Rattle.rb_rules.specs.Hearing.{Coming}
 use Rattle.rb_rules.specs.Lawful.{IsLawful}
 use Rattle.rb_rules.specs.Ports.{HandIn}
 use Rattle.rb_rules.specs.Spelling.{message_in}
-use Rattle.rb_agree.proofs.Tests.{and_first, less_from}
+use Rattle.rb_agree.proofs.Tests.{less_from}
 use Rattle.rb_listen.specs.Lessons.{frame_after, noted, record_of}
 use Rattle.rb_listen.specs.Listening.{first_search, if_message, if_pass, is_over, later, learning, newest_with, passing, recorded, searching, timed, with_message, with_pass}
 use Rattle.rb_listen.specs.Passes.{is_call, pass_of, reach_of}
@@ -18,7 +18,7 @@ use Rattle.rb_listen.specs.declared.search.Search.{Search}
 use Rattle.rb_attune.specs.Ears.{Ear, HearsTheRun, IsEar, is_always_good, listening_at}
 use Rattle.rb_attune.specs.Records.{IsTrueRecord, RecordsAreTrue}
 use Rattle.rb_attune.proofs.Recorded.{AreTrueBy, IsNext, IsTrueBy, all-next, all-tick, begun-true, noted-true}
-use Rattle.rb_attune.proofs.Seeks.{no-onset}
+use Rattle.rb_attune.proofs.Seeks.{always-counts, no-onset}
 use Rattle.rb_attune.proofs.Walks.{HoldsIn, IsKept, always}
 
 pub record IsTrue (sc : Scenario) (hands : List HandIn) (ear : Ear) (k n : ℕ) (s : Search) : Type 0 where
@@ -59,7 +59,7 @@ next-search : (sc : Scenario) (hands : List HandIn) (ear : Ear) (k n : ℕ) (s :
 next-search sc hands ear k n s h = record { had = h.had; records = λ learns. all-next sc hands ear k n s.lesson (h.records learns) }
 
 recorded-search : (sc : Scenario) (hands : List HandIn) → IsLawful sc → (ear : Ear) → IsEar sc ear → HearsTheRun sc hands ear → (k n j : ℕ) (m : Message) (s : Search) → j < 16
-    → (is_always_good sc j ≡ true → IsNext sc hands ear k n j m) → IsTrue sc hands ear k n s → IsTrue sc hands ear k (suc n) (recorded sc.sizes j m s)
+    → (is_always_good sc hands j ≡ true → IsNext sc hands ear k n j m) → IsTrue sc hands ear k n s → IsTrue sc hands ear k (suc n) (recorded sc.sizes j m s)
 recorded-search sc hands law ear is run k n j m s below next h = by s.learns refl
   where
     by : (b : Bool) → s.learns ≡ b
@@ -73,7 +73,7 @@ recorded-search sc hands law ear is run k n j m s below next h = by s.learns ref
     by false e = next-search sc hands ear k n s h
 
 message-true : (sc : Scenario) (hands : List HandIn) → IsLawful sc → (ear : Ear) → IsEar sc ear → HearsTheRun sc hands ear → (k n j : ℕ) (m : Message) (s : Search) → j < 16
-    → (is_always_good sc j ≡ true → IsNext sc hands ear k n j m) → IsTrue sc hands ear k n s → IsTrue sc hands ear k (suc n) (with_message sc.sizes sc.plan j m s)
+    → (is_always_good sc hands j ≡ true → IsNext sc hands ear k n j m) → IsTrue sc hands ear k n s → IsTrue sc hands ear k (suc n) (with_message sc.sizes sc.plan j m s)
 unfolding with_message
 message-true sc hands law ear is run k n j m s below next h = by (is_call sc.sizes m) (recorded-search sc hands law ear is run k n j m s below next h)
   where
@@ -85,7 +85,7 @@ message-true sc hands law ear is run k n j m s below next h = by (is_call sc.siz
     by false r = r
 
 may-message-true : (sc : Scenario) (hands : List HandIn) → IsLawful sc → (ear : Ear) → IsEar sc ear → HearsTheRun sc hands ear → (k n j : ℕ) (o : Option Message) (s : Search) → j < 16
-    → ((m : Message) → o ≡ Some m → is_always_good sc j ≡ true → IsNext sc hands ear k n j m) → IsTrue sc hands ear k n s
+    → ((m : Message) → o ≡ Some m → is_always_good sc hands j ≡ true → IsNext sc hands ear k n j m) → IsTrue sc hands ear k n s
     → IsTrue sc hands ear k (suc n) (if_message sc.sizes sc.plan j o s)
 may-message-true sc hands law ear is run k n j None s below next h = next-search sc hands ear k n s h
 may-message-true sc hands law ear is run k n j (Some m) s below next h = message-true sc hands law ear is run k n j m s below (next m refl) h
@@ -95,7 +95,7 @@ heard-true : (sc : Scenario) (hands : List HandIn) → IsLawful sc → (ear : Ea
 unfolding searching
 heard-true sc hands law ear is run k n c in_time there s h = by (nat_lt c.from sc.sizes.rmus) refl (nat_lt s.had (2 ^ 31))
   where
-    next : c.from < sc.sizes.rmus → (m : Message) → message_in sc.plan.version c.bytes ≡ Some m → is_always_good sc c.from ≡ true → IsNext sc hands ear k n c.from m
+    next : c.from < sc.sizes.rmus → (m : Message) → message_in sc.plan.version c.bytes ≡ Some m → is_always_good sc hands c.from ≡ true → IsNext sc hands ear k n c.from m
     next within m reads good =
         elim (run.only k c in_time (record { nth = n; there = there }) within) [
           | inl of_good ↦ record { coming = c; there = there; in_time = in_time; from = refl; good = of_good; reads = reads }
@@ -135,5 +135,5 @@ pub records-true : (sc : Scenario) (hands : List HandIn) → IsLawful sc → (ea
 records-true sc hands law ear is run k in_time s at learns j good slot =
     let all : (n : ℕ) × HoldsIn (IsTrue sc hands ear k n) (listening_at sc ear k) = always sc ear (IsTrue sc hands ear) (kept sc hands law ear is run) k in_time in
     let here : IsTrue sc hands ear k all.0 s = subst (HoldsIn (IsTrue sc hands ear k all.0)) at all.1 in
-    let within : j < sc.sizes.rmus = less_from j sc.sizes.rmus (and_first (nat_lt j sc.sizes.rmus) (not (is_some (get_or sc.rmu_onsets j None))) good) in
+    let within : j < sc.sizes.rmus = always-counts sc hands j good in
     heard-one sc hands ear k all.0 s.lesson.frame slot j (record_of s.lesson.records slot j) (here.records learns j (omega (arith, within, law.sizes.most_rmus)) good slot)

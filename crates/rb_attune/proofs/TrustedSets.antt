@@ -12,7 +12,7 @@ use Rattle.rb_rules.specs.declared.sense.Sense.{Sense}
 use Rattle.rb_rules.specs.Book.{of_kind}
 use Rattle.rb_rules.specs.Core.{is_tick}
 use Rattle.rb_rules.specs.ExactStage.{says}
-use Rattle.rb_rules.specs.Goodness.{Scenario, is_good}
+use Rattle.rb_rules.specs.Goodness.{Scenario}
 use Rattle.rb_rules.specs.Lawful.{IsLawful}
 use Rattle.rb_rules.specs.Moments.{IsComplete, IsGoodBefore, IsRunning, before_slot, before_stage}
 use Rattle.rb_rules.specs.NodeState.{NodeState, sender_at, trusted_of}
@@ -24,7 +24,7 @@ use Rattle.rb_rules.specs.Slots.Sender.{Nobody, Node}
 use Rattle.rb_rules.specs.Standing.{without}
 use Rattle.rb_agree.proofs.Agreement.{IsAgreed, agreement}
 use Rattle.rb_agree.proofs.FrameTurns.{convicted_all}
-use Rattle.rb_agree.proofs.Invariant.{IsGoodNode, slot_numbered}
+use Rattle.rb_agree.proofs.Invariant.{IsGoodNode, is_good_now, slot_numbered}
 use Rattle.rb_agree.proofs.NodeWindows.{word_at}
 use Rattle.rb_agree.proofs.Places.{IsPlaced, good_before_slot, placed, running_earlier}
 use Rattle.rb_agree.proofs.Settings.{good_state}
@@ -38,7 +38,7 @@ use Rattle.rb_attune.specs.Deciding.{DecidesBy}
 use Rattle.rb_attune.specs.Ears.{Ear, HearsTheRun, IsEar, is_always_good}
 use Rattle.rb_attune.specs.Learned.{AreTrusted, IsTrustedIn, TrustsTheTrusted}
 use Rattle.rb_attune.specs.Records.{RecordsAreWhole}
-use Rattle.rb_attune.proofs.Fresh.{always-good-in}
+use Rattle.rb_attune.proofs.Fresh.{always-good-at, always-good-in}
 use Rattle.rb_attune.proofs.Lasting.{LastsFrom, lasts-to}
 use Rattle.rb_attune.proofs.PassSets.{more-than}
 use Rattle.rb_attune.proofs.Seeks.{good-set}
@@ -55,16 +55,23 @@ pub record IsIn (sc : Scenario) (hands : List HandIn) (frame n : ℕ) : Type 0 w
   pub running : IsRunning (moment sc hands n)
   pub frame_is : (moment sc hands n).frame ≡ frame
 
--- an RMU that is good in the whole run is so at each moment
+-- an RMU that is good in the whole run is a good node of each moment
 pub record GoodThere (sc : Scenario) (hands : List HandIn) (n j : ℕ) : Type 0 where
   pub st : NodeState
   pub node : IsGoodNode sc (moment sc hands n) Rmu j st
 
-pub good-there : (sc : Scenario) (hands : List HandIn) → IsLawful sc → (n j : ℕ) → IsRunning (moment sc hands n) → is_always_good sc j ≡ true → GoodThere sc hands n j
+-- a window comes no earlier than the first of its slot
+slot-begun : (sizes : Sizes) (window : ℕ) → 3 * slot_numbered sizes window ≤ window
+slot-begun sizes window = omega arith
+
+-- it is good in the slot of each moment
+pub good-at-moment : (sc : Scenario) (hands : List HandIn) → IsLawful sc → (j n : ℕ) → IsRunning (moment sc hands n) → is_always_good sc hands j ≡ true → is_good_now sc (moment sc hands n) Rmu j ≡ true
+good-at-moment sc hands law j n running good = always-good-at sc hands law j n (slot_numbered sc.sizes (moment sc hands n).window) running (slot-begun sc.sizes (moment sc hands n).window) good
+
+pub good-there : (sc : Scenario) (hands : List HandIn) → IsLawful sc → (n j : ℕ) → IsRunning (moment sc hands n) → is_always_good sc hands j ≡ true → GoodThere sc hands n j
 good-there sc hands law n j running good =
     let a : IsAgreed sc hands n = agreement sc hands law n running in
-    let here : is_good sc Rmu j (moment sc hands n).frame (slot_numbered sc.sizes (moment sc hands n).window) ≡ true =
-    always-good-in sc j (moment sc hands n).frame (slot_numbered sc.sizes (moment sc hands n).window) good in
+    let here : is_good_now sc (moment sc hands n) Rmu j ≡ true = good-at-moment sc hands law j n running good in
     let there : Present (slice_get (of_kind Rmu (moment sc hands n).nodes) j) = good_state sc hands n (moment sc hands n) a.shared a.agree Rmu j here in
     record { st = there.value; node = record { there = there.is; good = here } }
 
@@ -141,9 +148,9 @@ says-some sizes Rmu i j st word h t =
 -- What is known.
 
 -- an RMU that is good in the whole run
-pub record SomeGood (sc : Scenario) : Type 0 where
+pub record SomeGood (sc : Scenario) (hands : List HandIn) : Type 0 where
   pub j : ℕ
-  pub good : is_always_good sc j ≡ true
+  pub good : is_always_good sc hands j ≡ true
 
 pub stage-in : (sc : Scenario) (hands : List HandIn) → IsLawful sc → (learned slot q : ℕ) → slot < sync_slot_of sc.sizes → q < 3 → IsRunning (before_stage sc hands learned (sync_slot_of sc.sizes) 2)
     → IsIn sc hands learned (learned * (windows_in sc.sizes + 1) + 3 * slot + (q + 1) - 1)
@@ -159,16 +166,16 @@ trusts-true Biu sizes records i h most = and_both (nat_lt i sizes.bius) (are_mos
 trusts-true Rmu sizes records i h most = and_both (nat_lt i sizes.rmus) (are_most sizes (ones_in records (first_diagnosis_of Rmu sizes + i))) (less_true i sizes.rmus h) most
 
 -- whom the bus trusts the listener does
-pub trusts-all : (sc : Scenario) (hands : List HandIn) → IsLawful sc → (ear : Ear) → are_most sc.sizes (set_of (is_always_good sc)) ≡ true → (learned : ℕ) (records : List Sense)
-    → RecordsAreWhole sc hands ear learned records → IsRunning (before_stage sc hands learned (sync_slot_of sc.sizes) 2) → (n j : ℕ) (st : NodeState) → IsIn sc hands learned n → is_always_good sc j ≡ true
+pub trusts-all : (sc : Scenario) (hands : List HandIn) → IsLawful sc → (ear : Ear) → are_most sc.sizes (set_of (is_always_good sc hands)) ≡ true → (learned : ℕ) (records : List Sense)
+    → RecordsAreWhole sc hands ear learned records → IsRunning (before_stage sc hands learned (sync_slot_of sc.sizes) 2) → (n j : ℕ) (st : NodeState) → IsIn sc hands learned n → is_always_good sc hands j ≡ true
     → IsGoodNode sc (moment sc hands n) Rmu j st → (kind : Side) (i : ℕ) → has (trusted_of kind Rmu st) i ≡ true → trusts_of kind sc.sizes records i ≡ true
 unfolding good-set
 trusts-all sc hands law ear most learned records whole called n j st here good node kind i trusted =
     trusts-true kind sc.sizes records i count
-    (more-than sc.sizes.rmus (size (good-set sc)) (size (ones_in records (told_in kind sc.sizes i)))
-    (size_within (good-set sc) (ones_in records (told_in kind sc.sizes i))
+    (more-than sc.sizes.rmus (size (good-set sc hands)) (size (ones_in records (told_in kind sc.sizes i)))
+    (size_within (good-set sc hands) (ones_in records (told_in kind sc.sizes i))
     (λ o below is.
-    has-set_of o (λ t. is_one (record_of records (told_in kind sc.sizes i) t)) below ∙ one o (sym (has-set_of o (is_always_good sc) below) ∙ is))) most)
+    has-set_of o (λ t. is_one (record_of records (told_in kind sc.sizes i) t)) below ∙ one o (sym (has-set_of o (is_always_good sc hands) below) ∙ is))) most)
   where
     a : IsAgreed sc hands n
     a = agreement sc hands law n here.running
@@ -184,7 +191,11 @@ trusts-all sc hands law ear most learned records whole called n j st here good n
         × IsExactAt sc hands (learned * (windows_in sc.sizes + 1) + 3 * told_in kind sc.sizes i + (told_stage kind + 1) - 1) (told_in kind sc.sizes i) (told_stage kind)
     there = stage-in sc hands law learned (told_in kind sc.sizes i) (told_stage kind) (told-below kind sc.sizes i count) (small kind) called
 
-    one : (o : ℕ) → is_always_good sc o ≡ true → is_one (record_of records (told_in kind sc.sizes i) o) ≡ true
+    sync_begun : IsRunning (before_slot sc hands learned (sync_slot_of sc.sizes))
+    sync_begun =
+        running_earlier sc hands (learned * (windows_in sc.sizes + 1) + 3 * sync_slot_of sc.sizes + 1 - 1) (learned * (windows_in sc.sizes + 1) + 3 * sync_slot_of sc.sizes + 2 - 1) (omega arith) called
+
+    one : (o : ℕ) → is_always_good sc hands o ≡ true → is_one (record_of records (told_in kind sc.sizes i) o) ≡ true
     one o good_o =
         let m : ℕ = learned * (windows_in sc.sizes + 1) + 3 * told_in kind sc.sizes i + (told_stage kind + 1) - 1 in
         let mine : GoodThere sc hands (learned * (windows_in sc.sizes + 1) + 3 * told_in kind sc.sizes i + (told_stage kind + 1) - 1) j = good-there sc hands law m j there.0.running good in
@@ -193,14 +204,14 @@ trusts-all sc hands law ear most learned records whole called n j st here good n
         ap (λ x. has x i) (all-trust sc hands law m there.0.running Rmu Rmu o j their.st mine.st their.node mine.node kind ∙ same-trust sc hands law learned m n j mine.st st there.0 here mine.node node kind) ∙ trusted in
         let said : SaysSome sc.sizes kind i o their.st (word_at sc (moment sc hands m) (told_in kind sc.sizes i) o) = says-some sc.sizes kind i o their.st (word_at sc (moment sc hands m) (told_in kind sc.sizes i) o) count held in
         (recorded-value sc hands ear learned records whole m o (told_in kind sc.sizes i) (told_stage kind) their.st said.value there.1 there.0.running there.0.frame_is their.node
-        (always-good-in sc o learned (sync_slot_of sc.sizes) good_o) (told-recorded kind sc.sizes i count) said.is).one
+        (always-good-in sc hands law o learned (sync_slot_of sc.sizes) sync_begun good_o) (told-recorded kind sc.sizes i count) said.is).one
 
 same-frames : (a b most : ℕ) → a ≤ most → b ≤ most → most ≤ 4096 → a % 65536 ≡ b % 65536 → a ≡ b
 same-frames a b most le_a le_b small e = omega (arith, e, le_a, le_b, small)
 
 -- and no others
 trusted-there : (sc : Scenario) (hands : List HandIn) → IsLawful sc → (learned slot q : ℕ) → slot < sync_slot_of sc.sizes → q < 3 → learned ≤ sc.frames → (number : ℕ) → number ≡ learned % 65536
-    → (n j : ℕ) (st : NodeState) → IsIn sc hands learned n → is_always_good sc j ≡ true → IsGoodNode sc (moment sc hands n) Rmu j st → (kind : Side) (i : ℕ)
+    → (n j : ℕ) (st : NodeState) → IsIn sc hands learned n → is_always_good sc hands j ≡ true → IsGoodNode sc (moment sc hands n) Rmu j st → (kind : Side) (i : ℕ)
     → IsTrustedIn sc hands number slot (q + 1) kind i → has (trusted_of kind Rmu st) i ≡ true
 trusted-there sc hands law learned slot q below small few number is n j st here good node kind i t =
     let p : IsPlaced sc hands t.frame slot (q + 1) = placed sc hands law t.frame slot (q + 1) (omega (arith, below)) (omega arith) (omega (arith, small)) t.running in
@@ -210,13 +221,14 @@ trusted-there sc hands law learned slot q below small few number is n j st here 
     let there : IsIn sc hands learned (t.frame * (windows_in sc.sizes + 1) + 3 * slot + (q + 1) - 1) = record { running = t.running; frame_is = p.frame_is ∙ frame } in
     let mine : GoodThere sc hands (t.frame * (windows_in sc.sizes + 1) + 3 * slot + (q + 1) - 1) j = good-there sc hands law (t.frame * (windows_in sc.sizes + 1) + 3 * slot + (q + 1) - 1) j t.running good in
     ap (λ x. has x i) (same-trust sc hands law learned n (t.frame * (windows_in sc.sizes + 1) + 3 * slot + (q + 1) - 1) j st mine.st here there node mine.node kind)
-    ∙ t.trust Rmu j mine.st (always-good-in sc j t.frame slot good) mine.node.there
+    ∙ t.trust Rmu j mine.st (always-good-in sc hands law j t.frame slot
+    (running_earlier sc hands (t.frame * (windows_in sc.sizes + 1) + 3 * slot + 1 - 1) (t.frame * (windows_in sc.sizes + 1) + 3 * slot + (q + 1) - 1) (omega arith) t.running) good) mine.node.there
 
 -- Sets as numbers.
 
 -- whom a good node trusts in a frame after the first is a set of nodes
 trusted-lt : (sc : Scenario) (hands : List HandIn) → IsLawful sc → (f n j : ℕ) (st : NodeState) → IsComplete sc hands f (sync_slot_of sc.sizes) → suc f * (windows_in sc.sizes + 1) ≤ n → IsIn sc hands (suc f) n
-    → is_always_good sc j ≡ true → IsGoodNode sc (moment sc hands n) Rmu j st → (kind : Side) → trusted_of kind Rmu st < 2 ^ 16
+    → is_always_good sc hands j ≡ true → IsGoodNode sc (moment sc hands n) Rmu j st → (kind : Side) → trusted_of kind Rmu st < 2 ^ 16
 trusted-lt sc hands law f n j st complete le here good node kind =
     let e : EndOf sc hands f = end-of sc hands law f complete in
     let o : ℕ = suc f * (windows_in sc.sizes + 1) + 3 * 0 + 1 - 1 in
@@ -225,7 +237,7 @@ trusted-lt sc hands law f n j st complete le here good node kind =
     let first : GoodThere sc hands (suc f * (windows_in sc.sizes + 1) + 3 * 0 + 1 - 1) j = good-there sc hands law (suc f * (windows_in sc.sizes + 1) + 3 * 0 + 1 - 1) j running good in
     let after : trusted_of kind Rmu st ≡ without (e.shared.trusted kind) (convicted_all sc.sizes e.shared kind) =
     same-trust sc hands law (suc f) n (suc f * (windows_in sc.sizes + 1) + 3 * 0 + 1 - 1) j st first.st here (record { running = running; frame_is = p.frame_is }) node first.node kind
-    ∙ e.next_trusted Rmu j first.st (record { good = always-good-in sc j (suc f) 0 good; state = first.node.there }) kind in
+    ∙ e.next_trusted Rmu j first.st (record { good = always-good-in sc hands law j (suc f) 0 running good; state = first.node.there }) kind in
     subst (λ x. x < 2 ^ 16) (sym after) (set_of-lt (λ t. has (e.shared.trusted kind) t && not (has (convicted_all sc.sizes e.shared kind) t)))
 
 -- Where a listener decides.
@@ -235,7 +247,7 @@ pub record KnowsAt (sc : Scenario) (hands : List HandIn) (ear : Ear) (learned : 
   pub learned_is : learned ≡ suc frame_before
   pub called : IsRunning (before_stage sc hands learned (sync_slot_of sc.sizes) 2)
   pub whole : RecordsAreWhole sc hands ear learned records
-  pub some_good : SomeGood sc
+  pub some_good : SomeGood sc hands
   pub trust : (n : ℕ) → IsIn sc hands learned n → (me : Side) (i : ℕ) (st : NodeState) → IsGoodNode sc (moment sc hands n) me i st → (kind : Side)
       → trusted_of kind me st ≡ known_of kind sc.sizes records
 
@@ -274,7 +286,7 @@ knows-at sc hands law ear is run learned tick s decides = record {
     g : ℕ
     g = l.1.fixed.call.call.j
 
-    good : is_always_good sc l.1.fixed.call.call.j ≡ true
+    good : is_always_good sc hands l.1.fixed.call.call.j ≡ true
     good = l.1.fixed.call.call.good
 
     after_first : learned ≡ suc (learned - 1)

@@ -1,5 +1,5 @@
 -- Whom a listener trusts by its records a good RMU trusts on the bus: it sent something in that node's slot.
-use Rattle.std.proofs.Common.{◌≡◌, ℕ, ◌+◌, ◌-◌, ◌*◌, ◌<◌, ◌≤◌, ◌==◌, ◌&&◌, not, nat_lt, Bool, true, false, Option, Some, None, option_map, is_some, List, get_or, slice_get, if◌then◌else◌, inl, inr, refl, sym, ◌∙◌, ap, subst, arith}
+use Rattle.std.proofs.Common.{◌≡◌, ℕ, ◌+◌, ◌-◌, ◌*◌, ◌<◌, ◌≤◌, ◌==◌, ◌&&◌, nat_lt, Bool, true, false, Option, Some, None, option_map, List, slice_get, if◌then◌else◌, inl, inr, refl, sym, ◌∙◌, ap, subst, arith}
 use Rattle.std.proofs.lemmas.Bool.{cases_lt}
 use Rattle.std.proofs.lemmas.Bool.Decides.{nat_tests}
 use Rattle.rb_base.specs.Nodes.{Side, has, set_of}
@@ -38,6 +38,7 @@ use Rattle.rb_attune.specs.Records.{CameOf, IsOfPlace, IsTrueRecord}
 use Rattle.rb_attune.proofs.CallsSent.{sends-at}
 use Rattle.rb_attune.proofs.Inside.{IsInside, kept-inside}
 use Rattle.rb_attune.proofs.Meeting.{meet}
+use Rattle.rb_attune.proofs.Seeks.{always-counts}
 use Rattle.rb_attune.proofs.Sendings.{IsInPlace, in-place}
 use Rattle.rb_attune.proofs.TrueRecords.{records-true}
 use Rattle.rb_attune.proofs.Walks.{HoldsIn, always}
@@ -80,13 +81,13 @@ one-of-most : (sc : Scenario) (hands : List HandIn) → IsLawful sc → (ear : E
     → listening_at sc ear k ≡ now.Searching s → s.learns ≡ true → (slot : ℕ) → are_most sc.sizes (ones_in s.lesson.records slot) ≡ true
     → IsRecordedOne sc hands ear s.lesson.frame slot
 one-of-most sc hands law ear is run k in_time s at learns slot most =
-    by (meet sc.sizes (set_of (is_always_good sc)) (ones_in s.lesson.records slot) law.sizes.most_rmus good-inside ones-inside run.most_good most)
+    by (meet sc.sizes (set_of (is_always_good sc hands)) (ones_in s.lesson.records slot) law.sizes.most_rmus good-inside ones-inside run.most_good most)
   where
-    good-at : (j : ℕ) → j < 16 → has (set_of (is_always_good sc)) j ≡ true → is_always_good sc j ≡ true
-    good-at j below h = sym (has-set_of j (is_always_good sc) below) ∙ h
+    good-at : (j : ℕ) → j < 16 → has (set_of (is_always_good sc hands)) j ≡ true → is_always_good sc hands j ≡ true
+    good-at j below h = sym (has-set_of j (is_always_good sc hands) below) ∙ h
 
-    good-inside : (j : ℕ) → j < 16 → has (set_of (is_always_good sc)) j ≡ true → j < sc.sizes.rmus
-    good-inside j below h = less_from j sc.sizes.rmus (and_first (nat_lt j sc.sizes.rmus) (not (is_some (get_or sc.rmu_onsets j None))) (good-at j below h))
+    good-inside : (j : ℕ) → j < 16 → has (set_of (is_always_good sc hands)) j ≡ true → j < sc.sizes.rmus
+    good-inside j below h = always-counts sc hands j (good-at j below h)
 
     one-at : (j : ℕ) → j < 16 → has (ones_in s.lesson.records slot) j ≡ true → is_one (record_of s.lesson.records slot j) ≡ true
     one-at j below h = sym (has-set_of j (λ i. is_one (record_of s.lesson.records slot i)) below) ∙ h
@@ -104,12 +105,12 @@ one-of-most sc hands law ear is run k in_time s at learns slot most =
           | inr out ↦ absurd (not-silent (record_of s.lesson.records slot j) (one-at j below h) (here.none j out below slot))
         ]
 
-    by : Passing (λ j. has (set_of (is_always_good sc)) j && has (ones_in s.lesson.records slot) j) 0 16 → IsRecordedOne sc hands ear s.lesson.frame slot
+    by : Passing (λ j. has (set_of (is_always_good sc hands)) j && has (ones_in s.lesson.records slot) j) 0 16 → IsRecordedOne sc hands ear s.lesson.frame slot
     by c =
         let below : c.at < 16 = omega (arith, c.high) in
-        let good : is_always_good sc c.at ≡ true = good-at c.at below (and_first (has (set_of (is_always_good sc)) c.at) (has (ones_in s.lesson.records slot) c.at) c.passes) in
+        let good : is_always_good sc hands c.at ≡ true = good-at c.at below (and_first (has (set_of (is_always_good sc hands)) c.at) (has (ones_in s.lesson.records slot) c.at) c.passes) in
         let one : is_one (record_of s.lesson.records slot c.at) ≡ true =
-        one-at c.at below (and_second (has (set_of (is_always_good sc)) c.at) (has (ones_in s.lesson.records slot) c.at) c.passes) in
+        one-at c.at below (and_second (has (set_of (is_always_good sc hands)) c.at) (has (ones_in s.lesson.records slot) c.at) c.passes) in
         one-true sc hands ear s.lesson.frame slot c.at (record_of s.lesson.records slot c.at) one (records-true sc hands law ear is run k in_time s at learns c.at good slot)
 
 -- So the RMU was in that slot and stage, and trusted the slot's node.

@@ -1,5 +1,5 @@
 -- At a decision all is recorded that the RMUs sent which were good up to the calls of the learned frame.
-use Rattle.std.proofs.Common.{◌≡◌, ℕ, zero, suc, ◌+◌, ◌-◌, ◌*◌, ◌%◌, ◌<◌, ◌≤◌, ◌==◌, ◌&&◌, ◌||◌, nat_le, nat_lt, true, false, Option, Some, None, List, get_or, slice_get, inl, inr, refl, sym, ◌∙◌, ap, subst, arith}
+use Rattle.std.proofs.Common.{◌≡◌, ℕ, zero, suc, ◌+◌, ◌-◌, ◌*◌, ◌%◌, ◌<◌, ◌≤◌, ◌==◌, ◌&&◌, ◌||◌, nat_le, nat_lt, true, false, Some, None, List, get_or, slice_get, inl, inr, refl, sym, ◌∙◌, ap, subst, arith}
 use Rattle.std.proofs.lemmas.Bool.{cases_lt}
 use Rattle.std.proofs.lemmas.Bool.Decides.{nat_tests}
 use Rattle.std.proofs.Math.Nat.{mul-le-mul_right}
@@ -14,10 +14,11 @@ use Rattle.rb_rules.specs.declared.sense.Sense.{Sense}
 use Rattle.rb_rules.specs.declared.sense.Sense.TheVariants.{Silent, One, Bad}
 use Rattle.rb_rules.specs.Clock.{IsStamp, stamp_of, time_of}
 use Rattle.rb_rules.specs.Goodness.{Scenario, clock_of, is_before, is_good}
+use Rattle.rb_rules.specs.Headline.{stated_skew}
 use Rattle.rb_rules.specs.Hearing.{Coming, Sending}
-use Rattle.rb_rules.specs.Lawful.{IsDelay, IsLawful, IsOnsetOf}
+use Rattle.rb_rules.specs.Lawful.{IsDelay, IsLawful}
 use Rattle.rb_rules.specs.Moments.{IsRunning, before_slot, time_in_frame}
-use Rattle.rb_rules.specs.Plan.{f0_of, shortest_of, tail_start_of}
+use Rattle.rb_rules.specs.Plan.{f0_of, shortest_of}
 use Rattle.rb_rules.specs.Ports.{HandIn}
 use Rattle.rb_rules.specs.Rounds.{moment, windows_in}
 use Rattle.rb_rules.specs.Sense.{tag_suits}
@@ -28,15 +29,14 @@ use Rattle.rb_rules.proofs.Spellings.{read_back}
 use Rattle.rb_rules.proofs.Stamps.{one_stamp, stamp_of-is}
 use Rattle.rb_agree.proofs.Agreement.{agreement}
 use Rattle.rb_agree.proofs.Invariant.{IsGoodNode}
-use Rattle.rb_agree.proofs.Places.{IsPlaced, good_before_slot}
+use Rattle.rb_agree.proofs.Places.{IsPlaced, good_before_slot, running_earlier}
 use Rattle.rb_agree.proofs.Places.{placed as place-of}
-use Rattle.rb_agree.proofs.Tests.{and_first, and_second, less_from, or_cases, same_some, some_not_none}
+use Rattle.rb_agree.proofs.Tests.{and_first, and_second, less_from, or_cases, same_some}
 use Rattle.rb_sync.proofs.EpochTicks.{within_run}
 use Rattle.rb_sync.proofs.PlanNumbers.{drift_of, eps_of}
-use Rattle.rb_sync.proofs.StageCalls.{clock_now}
 use Rattle.rb_sync.proofs.Synchronous.{to_2}
 use Rattle.rb_sync.proofs.Synchrony.{IsSynchronous, synchrony}
-use Rattle.rb_sync.proofs.Times.{Steady, lawful_fits, plan_fits}
+use Rattle.rb_sync.proofs.Times.{lawful_fits, plan_fits}
 use Rattle.rb_listen.specs.Lessons.{has_place, record_of, stage_recorded}
 use Rattle.rb_listen.specs.Passes.{reach_of}
 use Rattle.rb_listen.specs.declared.search.Search.{Search}
@@ -44,10 +44,11 @@ use Rattle.rb_attune.specs.Calling.{IsHeardToCall}
 use Rattle.rb_attune.specs.Deciding.{DecidesBy}
 use Rattle.rb_attune.specs.Ears.{Ear, HearsTheRun, IsEar, IsHeard, IsOfFaulty, IsOfGood, SendsIn, coming_to, listening_at}
 use Rattle.rb_attune.specs.Records.{IsOfPlace, RecordsAreWhole}
-use Rattle.rb_attune.proofs.Apart.{AllWereAt, WasAt, all-were-at, come-apart, later-moment}
+use Rattle.rb_attune.proofs.Apart.{AllWereAt, WasAt, all-were-at, come-apart}
+use Rattle.rb_attune.proofs.Begins.{begins-later, begins_from, skew-fits}
 use Rattle.rb_attune.proofs.Calling.{heard-to-call}
 use Rattle.rb_attune.proofs.Deciding.{IsAfterCall, IsHeardCall}
-use Rattle.rb_attune.proofs.Fresh.{next-frame-number, same-frame-number, same-moment}
+use Rattle.rb_attune.proofs.Fresh.{next-frame-number, onset-in, same-frame-number, same-moment}
 use Rattle.rb_attune.proofs.Latest.{earlier-le, whole-earlier}
 use Rattle.rb_attune.proofs.Learning.{IsFixed, IsFresh, LearnsFrom, fresh-at, ticked}
 use Rattle.rb_attune.proofs.Moments.{same-coming}
@@ -60,11 +61,11 @@ use Rattle.rb_attune.proofs.Within.{IsExactAt, after-calls, before-call}
 
 -- What an RMU sends that turns faulty in a later frame comes after the decision.
 
--- a later frame begins later than so many ticks of a pass after the calls
-begins-late : (low p f h l v z u d least most eps w : ℕ) → most ≡ least + eps
+-- a later frame begins later, by the skew too, than so many ticks of a pass after the calls
+begins-late : (low p f h l v z u d least most eps w skew : ℕ) → most ≡ least + eps → skew + d * h ≤ h * u + least
     → p + d * (f + h) + 3 * most + 2 * (u + d) + d * (l + v) + (1 + h) * u ≤ z * u → w * u ≤ v * u → w * d ≤ v * d
-    → low + p + (f + h) * (u + d) + most + (u + d) + l * (u + d) + most + (u + d) + w * (u + d) + u ≤ low + (f + l + v + z) * u
-begins-late low p f h l v z u d least most eps w e c6 wu wd = omega (arith, e, c6, wu, wd)
+    → low + p + (f + h) * (u + d) + most + (u + d) + l * (u + d) + most + (u + d) + w * (u + d) + u + skew ≤ low + (f + h) * u + least + l * u + least + (v + z) * u
+begins-late low p f h l v z u d least most eps w skew e fits c6 wu wd = omega (arith, e, fits, c6, wu, wd)
 
 later-onset : (learned sync f s : ℕ) → (nat_lt learned f || ((learned == f) && nat_lt sync s)) ≡ true → s ≤ sync → learned < f
 later-onset learned sync f s h le =
@@ -75,12 +76,7 @@ later-onset learned sync f s h le =
 
 slot-in-run : (sc : Scenario) → IsLawful sc → (j learned f s : ℕ) → is_good sc Rmu j learned (sync_slot_of sc.sizes) ≡ true → get_or sc.rmu_onsets j None ≡ Some (f, s) → s ≤ sync_slot_of sc.sizes
 slot-in-run sc law j learned f s good onset =
-    in_run (get_or sc.rmu_onsets j None) onset
-    (law.rmu_onsets.each j None (omega (arith, law.rmu_onsets.enough, less_from j sc.sizes.rmus (and_first (nat_lt j sc.sizes.rmus) (is_before (get_or sc.rmu_onsets j None) learned (sync_slot_of sc.sizes)) good))))
-  where
-    in_run : (o : Option (ℕ × ℕ)) → o ≡ Some (f, s) → IsOnsetOf sc o → s ≤ sync_slot_of sc.sizes
-    in_run None e h = some_not_none (f, s) (sym e)
-    in_run (Some onset) e h = let same : onset ≡ (f, s) = same_some onset (f, s) e in subst (λ (o : ℕ × ℕ). o.1 ≤ sync_slot_of sc.sizes) same h.1
+    onset-in sc law j f s (less_from j sc.sizes.rmus (and_first (nat_lt j sc.sizes.rmus) (is_before (get_or sc.rmu_onsets j None) learned (sync_slot_of sc.sizes)) good)) onset
 
 onset-later : (sc : Scenario) → IsLawful sc → (j learned f s : ℕ) → is_good sc Rmu j learned (sync_slot_of sc.sizes) ≡ true → get_or sc.rmu_onsets j None ≡ Some (f, s) → learned < f
 onset-later sc law j learned f s good onset =
@@ -124,33 +120,42 @@ not-faulty sc hands law ear is i number b c j good k soon x from at le stamped f
     node : IsGoodNode sc (before_slot sc hands faulty.frame faulty.slot) faulty.me faulty.i faulty.state
     node = good_before_slot sc hands faulty.frame faulty.slot slots p faulty.me faulty.i faulty.state faulty.good
 
-    n : ℕ
-    n = faulty.frame * (windows_in sc.sizes + 1) + 3 * faulty.slot + 1 - 1
+    -- the first moment of the frame after the calls
+    turn : ℕ
+    turn = suc (suc (suc (suc c.n)))
 
-    before : c.n ≤ faulty.frame * (windows_in sc.sizes + 1) + 3 * faulty.slot + 1 - 1
+    before : suc (suc (suc (suc c.n))) ≤ faulty.frame * (windows_in sc.sizes + 1) + 3 * faulty.slot + 1 - 1
     before =
-        later-moment (windows_in sc.sizes + 1) (moment sc hands c.n).frame (moment sc hands c.n).window faulty.frame (3 * faulty.slot) c.n (faulty.frame * (windows_in sc.sizes + 1) + 3 * faulty.slot + 1 - 1)
-        first.agree.place (omega arith) later (omega (arith, c.window_is))
+        let le : ((moment sc hands c.n).frame + 1) * (windows_in sc.sizes + 1) ≤ faulty.frame * (windows_in sc.sizes + 1) = mul-le-mul_right (windows_in sc.sizes + 1) (omega (arith, later)) in
+        omega (arith, first.agree.place, c.window_is, le)
 
-    gap : (faulty.frame * (windows_in sc.sizes + 1) + 3 * faulty.slot + 1 - 1 - c.n) + c.n ≡ faulty.frame * (windows_in sc.sizes + 1) + 3 * faulty.slot + 1 - 1
+    gap : (faulty.frame * (windows_in sc.sizes + 1) + 3 * faulty.slot + 1 - 1 - suc (suc (suc (suc c.n)))) + suc (suc (suc (suc c.n))) ≡ faulty.frame * (windows_in sc.sizes + 1) + 3 * faulty.slot + 1 - 1
     gap = omega (arith, before)
 
-    was : WasAt sc hands c.n (before_slot sc hands faulty.frame faulty.slot) faulty.me faulty.i faulty.state
+    was : WasAt sc hands (suc (suc (suc (suc c.n)))) (before_slot sc hands faulty.frame faulty.slot) faulty.me faulty.i faulty.state
     was =
-        subst (λ t. AllWereAt sc hands c.n (moment sc hands t)) gap
-        (all-were-at sc hands law c.n (faulty.frame * (windows_in sc.sizes + 1) + 3 * faulty.slot + 1 - 1 - c.n) (subst (λ t. IsRunning (moment sc hands t)) (sym gap) faulty.running))
+        subst (λ t. AllWereAt sc hands turn (moment sc hands t)) gap
+        (all-were-at sc hands law turn (faulty.frame * (windows_in sc.sizes + 1) + 3 * faulty.slot + 1 - 1 - turn) (subst (λ t. IsRunning (moment sc hands t)) (sym gap) faulty.running))
         faulty.me faulty.i faulty.state node
 
-    clock : Steady (shortest_of sc.plan) (drift_of sc.plan) (clock_of sc faulty.me faulty.i)
-    clock = clock_now sc law (before_slot sc hands faulty.frame faulty.slot) faulty.me faulty.i faulty.state node
+    rises : time_of (clock_of sc faulty.me faulty.i) was.st.epoch ≤ time_in_frame sc faulty.me faulty.i faulty.state (3 * faulty.slot * sc.plan.l)
+    rises = times_rise_to (clock_of sc faulty.me faulty.i) was.st.epoch (faulty.state.epoch + 3 * faulty.slot * sc.plan.l) (omega (arith, earlier))
+      where
+        earlier : was.st.epoch ≤ faulty.state.epoch
+        earlier =
+            elim (cases_lt (moment sc hands (suc (suc (suc (suc c.n))))).frame (before_slot sc hands faulty.frame faulty.slot).frame) [
+              | inl less ↦ omega (arith, was.later less)
+              | inr ge ↦
+                  let same : (moment sc hands (suc (suc (suc (suc c.n))))).frame ≡ (before_slot sc hands faulty.frame faulty.slot).frame = omega (arith, ge, was.order) in
+                  omega (arith, was.same same)
+            ]
 
-    rises : time_of (clock_of sc faulty.me faulty.i) (was.st.epoch + tail_start_of sc.sizes sc.plan) ≤ time_in_frame sc faulty.me faulty.i faulty.state (3 * faulty.slot * sc.plan.l)
-    rises =
-        times_rise_to (clock_of sc faulty.me faulty.i) (was.st.epoch + tail_start_of sc.sizes sc.plan) (faulty.state.epoch + 3 * faulty.slot * sc.plan.l)
-        (omega (arith, was.later (omega (arith, later, p.frame_is))))
-
-    begins : first.low + tail_start_of sc.sizes sc.plan * u ≤ time_in_frame sc faulty.me faulty.i faulty.state (3 * faulty.slot * sc.plan.l)
-    begins = omega (arith, (first.near.begun faulty.me faulty.i was.st was.was).least, clock.not_early was.st.epoch (tail_start_of sc.sizes sc.plan), rises)
+    begins : begins_from sc first.low ≤ time_in_frame sc faulty.me faulty.i faulty.state (3 * faulty.slot * sc.plan.l)
+    begins =
+        let from : begins_from sc first.low ≤ time_of (clock_of sc faulty.me faulty.i) was.st.epoch =
+        begins-later sc hands law c.n first c.window_is
+        (running_earlier sc hands turn (faulty.frame * (windows_in sc.sizes + 1) + 3 * faulty.slot + 1 - 1) before faulty.running) faulty.me faulty.i was.st was.was in
+        omega (arith, from, rises)
 
     by_then : x.time ≤ time_of ear.clock (b + reach_of sc.plan)
     by_then = omega (arith, stamped.reached, times_rise_to ear.clock at (b + reach_of sc.plan) (omega (arith, le, soon)))
@@ -172,9 +177,10 @@ not-faulty sc hands law ear is i number b c j good k soon x from at le stamped f
     in_v : w ≤ sc.plan.v
     in_v = omega arith
 
-    room : to_2 sc first.low + sc.plan.dmax + (u + d) + w * (u + d) + u ≤ first.low + tail_start_of sc.sizes sc.plan * u
+    room : to_2 sc first.low + sc.plan.dmax + (u + d) + w * (u + d) + u + stated_skew sc.plan (3 * faulty.slot * sc.plan.l) ≤ begins_from sc first.low
     room =
-        begins-late first.low sc.plan.p (f0_of sc.sizes sc.plan) sc.plan.h sc.plan.l sc.plan.v sc.plan.z u d sc.plan.dmin sc.plan.dmax (eps_of sc.plan) w fit.delays fit.after_3
+        begins-late first.low sc.plan.p (f0_of sc.sizes sc.plan) sc.plan.h sc.plan.l sc.plan.v sc.plan.z u d sc.plan.dmin sc.plan.dmax (eps_of sc.plan) w
+        (stated_skew sc.plan (3 * faulty.slot * sc.plan.l)) fit.delays (skew-fits sc law faulty.slot slots) fit.after_3
         (mul-le-mul_right u in_v) (mul-le-mul_right d in_v)
 
 -- The decision.

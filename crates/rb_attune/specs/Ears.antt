@@ -1,10 +1,11 @@
 -- A listener beside a run of the bus: a clock of its own, links on which the RMUs reach it, and what it hears on them.
-use Rattle.std.specs.Prelude.{ℕ, zero, suc, ◌≡◌, ◌⊎◌, ◌+◌, ◌*◌, ◌^◌, ◌<◌, ◌≤◌, nat_lt, ◌&&◌, not, Bool, true, Some, None, is_some, List, [], ◌∷◌, get_or, slice_get}
+use Rattle.std.specs.Prelude.{ℕ, zero, suc, ◌≡◌, ◌⊎◌, ◌+◌, ◌*◌, ◌^◌, ◌<◌, ◌≤◌, nat_lt, ◌&&◌, not, Bool, true, false, Option, Some, None, List, [], ◌∷◌, get_or, slice_get}
 use Rattle.rb_base.specs.Nodes.{Side, set_of}
 use Rattle.rb_base.specs.Nodes.Side.{Rmu}
 use Rattle.rb_base.specs.declared.values.Place.{Place}
 use Rattle.rb_rules.specs.Clock.{IsClock, IsStamp, Timeline, time_of}
 use Rattle.rb_rules.specs.Goodness.{Scenario, clock_of}
+use Rattle.rb_rules.specs.Headline.{stated_skew}
 use Rattle.rb_rules.specs.Hearing.{Coming, Sending}
 use Rattle.rb_rules.specs.Lawful.{IsDelay}
 use Rattle.rb_rules.specs.Moments.{IsGoodBefore, IsRunning, before_slot, time_in_frame}
@@ -64,8 +65,8 @@ pub record IsOfGood (sc : Scenario) (hands : List HandIn) (ear : Ear) (c : Comin
   pub sent : SendsIn sc hands n c.from sending
   pub is : c ≡ coming_to sc ear c.from (moment sc hands n).frame sending
 
--- the RMU that sent this is not good from some slot on, to which the run comes before its end, and it comes less than a tick before some good
--- node begins that slot, or later
+-- the RMU that sent this is not good from some slot on, to which the run comes before its end. It comes less than a tick and the stated skew
+-- before some good node begins that slot, or later: so it may come from when the RMU itself begins the slot by its own clock, or the listener
 pub record IsOfFaulty (sc : Scenario) (hands : List HandIn) (c : Coming) : Type 0 where
   pub frame : ℕ
   pub slot : ℕ
@@ -75,18 +76,23 @@ pub record IsOfFaulty (sc : Scenario) (hands : List HandIn) (c : Coming) : Type 
   pub i : ℕ
   pub state : NodeState
   pub good : IsGoodBefore sc hands frame slot me i state
-  pub not_early : time_in_frame sc me i state (3 * slot * sc.plan.l) < c.time + shortest_of sc.plan
+  pub not_early : time_in_frame sc me i state (3 * slot * sc.plan.l) < c.time + shortest_of sc.plan + stated_skew sc.plan (3 * slot * sc.plan.l)
 
 -- What is heard.
 
--- the RMUs that are good in the whole run
-abbrev pub is_always_good : Scenario → ℕ → Bool
-is_always_good sc j = nat_lt j sc.sizes.rmus && not (is_some (get_or sc.rmu_onsets j None))
+-- the run comes to the slot of the onset before its end, if there is an onset
+abbrev pub comes_to : Scenario → List HandIn → Option (ℕ × ℕ) → Bool
+comes_to sc hands None = false
+comes_to sc hands (Some onset) = not (before_slot sc hands onset.0 onset.1).book.ended
+
+-- the RMUs that are good in the whole run: the run never comes to a slot from which on they are not
+abbrev pub is_always_good : Scenario → List HandIn → ℕ → Bool
+is_always_good sc hands j = nat_lt j sc.sizes.rmus && not (comes_to sc hands (get_or sc.rmu_onsets j None))
 
 -- More than half of all RMUs are good in the whole run. While an RMU is good the listener hears what it sends: each message with the stamp
 -- of its time, once, and nothing else. What it hears of an RMU that is good no more is anything
 pub record HearsTheRun (sc : Scenario) (hands : List HandIn) (ear : Ear) : Type 0 where
-  pub most_good : are_most sc.sizes (set_of (is_always_good sc)) ≡ true
+  pub most_good : are_most sc.sizes (set_of (is_always_good sc hands)) ≡ true
   pub each : (n j : ℕ) (s : Sending) → SendsIn sc hands n j s → (k : ℕ) → 1 ≤ k → k < ear.ticks
       → IsStamp ear.clock (coming_to sc ear j (moment sc hands n).frame s).time k → IsHeard ear k (coming_to sc ear j (moment sc hands n).frame s)
   pub once : (k a b : ℕ) (c : Coming) → k < ear.ticks → IsOfGood sc hands ear c

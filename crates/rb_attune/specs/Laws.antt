@@ -1,24 +1,47 @@
 -- What is proved of a listener beside a run of the bus.
-use Rattle.std.specs.Prelude.{ℕ, ◌≡◌, ◌<◌, Some, List}
+use Rattle.std.specs.Prelude.{ℕ, ◌≡◌, ◌+◌, ◌*◌, ◌<◌, ◌≤◌, ◌↔◌, true, None, Some, List, get_or}
+use Rattle.rb_base.specs.Nodes.{set_of}
 use Rattle.rb_base.specs.Sizes.{sync_slot_of}
 use Rattle.rb_listen.specs.Lessons.{first_of, trusted_bius, trusted_rmus}
 use Rattle.rb_listen.specs.Listening.{first_search, told_of}
 use Rattle.rb_listen.specs.Listening as now
+use Rattle.rb_listen.specs.Passes.{are_most}
 use Rattle.rb_listen.specs.declared.lesson.First.{First}
 use Rattle.rb_listen.specs.declared.search.Search.{Search}
+use Rattle.rb_rules.specs.Clock.{Timeline, time_of}
 use Rattle.rb_rules.specs.Goodness.{Scenario}
+use Rattle.rb_rules.specs.Hearing.{Coming}
 use Rattle.rb_rules.specs.Lawful.{IsLawful}
+use Rattle.rb_rules.specs.Moments.{IsRunning, before_slot}
+use Rattle.rb_rules.specs.Plan.{shortest_of}
 use Rattle.rb_rules.specs.Ports.{HandIn}
 use Rattle.rb_attune.specs.Calling.{EachIsHeardToCall}
 use Rattle.rb_attune.specs.Deciding.{DecidesAfterTheCalls, DecidesBy}
-use Rattle.rb_attune.specs.Ears.{Ear, HearsTheRun, IsEar}
+use Rattle.rb_attune.specs.Ears.{Ear, HearsTheRun, IsEar, IsOfFaulty, is_always_good}
 use Rattle.rb_attune.specs.Feeding.{events_from, told_from}
 use Rattle.rb_attune.specs.Learned.{AreTrusted, HasLearned, TrustsTheTrusted}
+use Rattle.rb_attune.specs.Onsets.{BeginsBeside, IsGoodThroughout}
 use Rattle.rb_attune.specs.Receivers.{IsCalm}
 use Rattle.rb_attune.specs.Records.{RecordsAreTrue, RecordsAreWhole}
 use Rattle.rb_attune.specs.Seeking.{SeeksAFrame}
 use Rattle.rb_attune.specs.Waiting.{WaitsFor}
 use Rattle.rb_attune.specs.Together.{CallsComeTogether, LaterCallsComeLater}
+
+-- an RMU is good in the whole run just where it is good in each slot to which the run comes
+abbrev pub AlwaysGoodIsGoodInEachSlot : Type 0
+AlwaysGoodIsGoodInEachSlot =
+    (sc : Scenario) (hands : List HandIn) → IsLawful sc → (j : ℕ) → j < sc.sizes.rmus
+    → (is_always_good sc hands j ≡ true) ↔ IsGoodThroughout sc hands j
+
+-- an RMU may say anything from less than a tick before the slot of its onset begins by a clock that begins the frame at most p from each good
+-- node, as the listener's or its own
+abbrev pub FaultyRmusMaySpeakByAnyClock : Type 0
+FaultyRmusMaySpeakByAnyClock =
+    (sc : Scenario) (hands : List HandIn) → IsLawful sc → are_most sc.sizes (set_of (is_always_good sc hands)) ≡ true
+    → (clock : Timeline) (frame epoch : ℕ) → BeginsBeside sc hands clock frame epoch
+    → (slot : ℕ) → slot ≤ sync_slot_of sc.sizes → IsRunning (before_slot sc hands frame slot)
+    → (c : Coming) → get_or sc.rmu_onsets c.from None ≡ Some (frame, slot)
+    → time_of clock (epoch + 3 * slot * sc.plan.l) < c.time + shortest_of sc.plan → IsOfFaulty sc hands c
 
 -- what a listener tells beside a run is what it tells where it is given these events one after another
 abbrev pub EarsAreFedEvents : Type 0

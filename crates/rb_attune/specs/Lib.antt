@@ -1,3 +1,4 @@
+pub mod Beside
 pub mod Ears
 pub mod Seeking
 pub mod Records
@@ -9,3 +10,4 @@ pub mod Deciding
 pub mod Calling
 pub mod Feeding
 pub mod Laws
+pub mod Onsets

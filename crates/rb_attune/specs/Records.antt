@@ -40,7 +40,7 @@ IsTrueRecord sc hands ear frame slot j Bad = ⊥
 abbrev pub RecordsAreTrue : Scenario → List HandIn → Ear → ℕ → Type 0
 RecordsAreTrue sc hands ear k =
     (s : Search) → listening_at sc ear k ≡ now.Searching s → s.learns ≡ true
-    → (j : ℕ) → is_always_good sc j ≡ true → (slot : ℕ) → IsTrueRecord sc hands ear s.lesson.frame slot j (record_of s.lesson.records slot j)
+    → (j : ℕ) → is_always_good sc hands j ≡ true → (slot : ℕ) → IsTrueRecord sc hands ear s.lesson.frame slot j (record_of s.lesson.records slot j)
 
 -- what RMU j sent in window n of the run is recorded with the stamp with which it came
 pub record IsRecorded (sc : Scenario) (hands : List HandIn) (ear : Ear) (records : List Sense) (n j : ℕ) (s : Sending) : Type 0 where

@@ -1,7 +1,33 @@
 //! Laws of a passive listener beside a run of the bus. Each law is the contract of a function that does nothing.
 #![tactic(auto)]
 
-ghost use Rattle.rb_attune.specs.Laws.{DecisionsComeAfterTheCalls, DecisionsComeInTime, EarsAreFedEvents, FramesComeApart, GoodCallsComeTogether, GoodRmusAreHeardToCall, ListenersLearn, ListenersTrustAsTheBus, ListenersTrustTheTrusted, ListenersWait, RecordsOfTheGoodAreTrue, RecordsOfTheGoodAreWhole, TheFrameSoughtIsReal};
+ghost use Rattle.std.specs.Prelude.{[]};
+ghost use Rattle.rb_rules.specs.Lawful.{IsLawful};
+ghost use Rattle.rb_attune.specs.Beside.{decided, ear, two_frames};
+ghost use Rattle.rb_attune.specs.Deciding.{DecidesBy};
+ghost use Rattle.rb_attune.specs.Ears.{HearsTheRun, IsEar};
+ghost use Rattle.rb_attune.specs.Laws.{AlwaysGoodIsGoodInEachSlot, DecisionsComeAfterTheCalls, DecisionsComeInTime, EarsAreFedEvents, FaultyRmusMaySpeakByAnyClock, FramesComeApart, GoodCallsComeTogether, GoodRmusAreHeardToCall, ListenersLearn, ListenersTrustAsTheBus, ListenersTrustTheTrusted, ListenersWait, RecordsOfTheGoodAreTrue, RecordsOfTheGoodAreWhole, TheFrameSoughtIsReal};
+ghost use Rattle.rb_attune.specs.Receivers.{IsCalm};
+
+/// An instance of what the laws ask, computed: a listener beside a run of two frames hears the RMU, learns the second frame, and decides by
+/// it; that frame comes to its end before the first breach of the premise with the listener.
+pub fn a_listener_beside_a_run()
+    ensures lawful { IsLawful two_frames }
+    ensures ear { IsEar two_frames ear }
+    ensures hears { HearsTheRun two_frames [] ear }
+    ensures decides { DecidesBy two_frames [] ear 1 463 decided }
+    ensures calm { IsCalm two_frames [] ear 1 decided.lesson.records 1 4 }
+{}
+
+/// An RMU is good in the whole run just where it is good in each slot to which the run comes.
+pub fn always_good_is_good_in_each_slot()
+    ensures { AlwaysGoodIsGoodInEachSlot }
+{}
+
+/// An RMU may be heard to say anything from less than a tick before the slot of its onset begins by a clock that begins the frame near the good nodes.
+pub fn faulty_rmus_may_speak_by_any_clock()
+    ensures { FaultyRmusMaySpeakByAnyClock }
+{}
 
 /// What a listener tells beside a run is what it tells where it is given the ticks and messages one after another.
 pub fn ears_are_fed_events()

@@ -55,7 +55,7 @@ const CASES: &[Case] = &[
         lines: &[("", "refused 6 PlanFails 1")],
     },
     Case {
-        words: "check",
+        words: "run",
         input: &[WITHOUT_SLOTS, "slots = 42\n"],
         status: Status::Refused,
         lines: &[("", "refused 6 PlanFails 6")],
@@ -82,7 +82,7 @@ const CASES: &[Case] = &[
         lines: &[("", "refused 9 StartApart")],
     },
     Case {
-        words: "check",
+        words: "run",
         input: &[
             ORDINARY,
             "say = [\n",

@@ -19,10 +19,6 @@ pub(crate) const WITHOUT_BIUS: &str =
 pub(crate) const WITHOUT_SLOTS: &str =
     "biu = 4\nrmu = 3\nframes = 1\nrequests = [2, 2, 2, 2]\nwords = [10, 20, 30, 40]\n";
 
-/// Ordinary use without the number of frames.
-pub(crate) const WITHOUT_FRAMES: &str =
-    "biu = 4\nrmu = 3\nslots = 8\nrequests = [2, 2, 2, 2]\nwords = [10, 20, 30, 40]\n";
-
 /// B0 is as late and as slow as it may be, and the others are as quick.
 pub(crate) const DRIFTING: &str =
     "[[clock]]\nnode = 'B0'\nstart = 60200\nticks = [[0, 10001]]\n[[clock]]\nnode = 'B1'\nticks = [[0, 9999]]\n[[clock]]\nnode = 'B2'\nticks = [[0, 9999]]\n[[clock]]\nnode = 'B3'\nticks = [[0, 9999]]\n[[clock]]\nnode = 'R0'\nticks = [[0, 9999]]\n[[clock]]\nnode = 'R1'\nticks = [[0, 9999]]\n[[clock]]\nnode = 'R2'\nticks = [[0, 9999]]\n";

@@ -1,5 +1,5 @@
 -- The bridges of the worked cases, and what is said of them.
-use Rattle.std.specs.Prelude.{ℕ, ◌+◌, Option, Some, None, List, [], ◌∷◌, codes, replicate}
+use Rattle.std.specs.Prelude.{ℕ, ◌+◌, ◌==◌, if◌then◌else◌, Option, Some, None, List, [], ◌∷◌, codes, replicate}
 use Rattle.rb_base.specs.Sizes.{Sizes}
 use Rattle.rb_rules.specs.declared.message.Version.TheVariants.{One}
 use Rattle.rb_rules.specs.declared.plan.Plan.{Plan}
@@ -119,3 +119,7 @@ both_break = narrow (single 1 2 7 (Some (1, 0))) (single 1 2 9 (Some (1, 0))) 0 
 
 abbrev pub both_break_text : List ℕ
 both_break_text = codes "breach left 1 0 1 FewGoodBiu\n"
+
+-- of three BIUs that ask for one data slot each the owners, in order
+abbrev pub slot_each : ℕ → Option ℕ
+slot_each slot = if slot == 3 then Some 0 else (if slot == 4 then Some 1 else (if slot == 5 then Some 2 else None))

@@ -2,8 +2,12 @@
 #![tactic(auto, unfolding(rb_base::specs::Nodes::set_of, rb_base::specs::Nodes::set_below, rb_base::specs::Nodes::size, rb_rules::specs::Spelling::message_in, rb_rules::specs::ExactStage::close_exact, rb_rules::specs::ExactStage::outcome_of, rb_rules::specs::SyncStage::close_sync, rb_rules::specs::SyncStage::sync_outcome_of, rb_rules::specs::Conviction::convicted_by, rb_rules::specs::Conviction::turn, rb_rules::specs::Links::delay_of, rb_rules::specs::Judging::classes_of, rb_rules::specs::Judging::verdict_of, rb_rules::specs::Hearing::sending, rb_rules::specs::Hearing::heard_from, rb_rules::specs::Hearing::row_of, rb_rules::specs::Book::with_stage, rb_rules::specs::Book::with_frame, rb_rules::specs::Rounds::sent_in, rb_rules::specs::Rounds::close_on, rb_rules::specs::Rounds::go_through, rb_rules::specs::Rounds::results_of, rb_rules::specs::Rounds::after_window, rb_rules::specs::Rounds::begin_frame, rb_rules::specs::Rounds::step, rb_group::specs::Groups::values_of))]
 
 ghost use Rattle.std.specs.Prelude.{◌≡◌};
+ghost use Rattle.rb_carry.specs.Laws.{AreUnbroken, SoundPairsOutnumber};
+ghost use Rattle.rb_concur.specs.Laws.{IsSchedule};
+ghost use Rattle.rb_crossing.specs.declared.bank.Bank.TheVariants.{Right};
+ghost use Rattle.rb_crossing.specs.Crossings.{hands_of};
 ghost use Rattle.rb_crossing.specs.Texts.{bridge_text};
-ghost use Rattle.rb_crossed.specs.Bridges.{both_break, both_break_text, idle_slot, idle_slot_text, last_data_slot, last_data_slot_text, left_breaks, left_breaks_text, no_majority, no_majority_text, other_slots, other_slots_text, outvoted, outvoted_text, right_breaks, right_breaks_text, three_frames, three_frames_text};
+ghost use Rattle.rb_crossed.specs.Bridges.{both_break, both_break_text, idle_slot, idle_slot_text, last_data_slot, last_data_slot_text, left_breaks, left_breaks_text, no_majority, no_majority_text, other_slots, other_slots_text, outvoted, outvoted_text, right_breaks, right_breaks_text, slot_each, three_frames, three_frames_text};
 
 /// Each finds the other's word in the second frame, and in the third its own, which the other has handed back.
 pub fn three_frames()
@@ -48,4 +52,12 @@ pub fn left_breaks()
 /// Both break it at once: the left bus's breach is told.
 pub fn both_break()
     ensures { bridge_text both_break ≡ both_break_text }
+{}
+
+/// The premise of the law that words cross, of the bridge whose left BIU is outvoted: two pairs are sound in the frames that follow each
+/// other, and one is not, and both buses come through the second frame.
+pub fn sound_pairs_outnumber()
+    ensures schedule { IsSchedule outvoted.right (hands_of outvoted).right 1 slot_each }
+    ensures outnumber { SoundPairsOutnumber outvoted Right slot_each 0 }
+    ensures unbroken { AreUnbroken outvoted 1 }
 {}

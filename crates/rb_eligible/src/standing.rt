@@ -1,7 +1,8 @@
 //! What a node holds of the nodes of the other kind.
-ghost use Rattle.std.specs.Prelude.{◌≡◌, ◌≤◌, ◌<◌, ◌+◌, ◌==◌, ◌||◌, ◌&&◌, if◌then◌else◌, map, min, not};
+ghost use Rattle.std.specs.Prelude.{◌≡◌, ℕ, ◌≤◌, ◌<◌, ◌+◌, ◌==◌, ◌||◌, ◌&&◌, if◌then◌else◌, map, min, not};
 ghost use Rattle.rb_base.specs.Counting.{numbers};
 ghost use Rattle.rb_base.specs.Nodes.{has, set_of};
+ghost use Rattle.rb_rules.specs.Probation.{HasNewest, LapsesByFrames, newest_with};
 ghost use Rattle.rb_rules.specs.Standing.{calm_after, first_standing, is_eligible, standing_at_end, lapses, next_calm, vector_of, with_evidence, with_mismatch, without};
 ghost use Rattle.rb_eligible.specs.Standings.{standing_of};
 
@@ -31,7 +32,8 @@ impl<K: Copy> Standing<K> {
     /// At first the nodes with the numbers below `count`, at most 16 of them, are trusted, and none is accused.
     pub fn new(count: u8) -> Standing<K>
         requires { count ≤ 16 }
-        ensures { standing_of result ≡ first_standing count }
+        ensures first { standing_of result ≡ first_standing count }
+        ensures newest { (newest : ℕ → ℕ) → HasNewest (standing_of result) 0 newest }
     {
         Standing {
             trusted: NodeSet::first(count),
@@ -58,7 +60,9 @@ impl<K: Copy> Standing<K> {
 
     /// Direct evidence against the node: it is accused, which it may be already, and the evidence is of this frame.
     pub fn accuse_direct(&mut self, id: NodeId<K>)
-        ensures { standing_of self.new ≡ with_evidence (λ j. j == id) (standing_of self.old) }
+        ensures accused { standing_of self.new ≡ with_evidence (λ j. j == id) (standing_of self.old) }
+        ensures newest { (frame : ℕ) (newest : ℕ → ℕ) → HasNewest (standing_of self.old) frame newest
+            → HasNewest (standing_of self.new) frame (newest_with (λ j. j == id) frame newest) }
     {
         self.direct.insert(id);
         self.fresh.insert(id);
@@ -77,7 +81,9 @@ impl<K: Copy> Standing<K> {
 
     /// Direct evidence against each node of the set.
     pub fn accuse_each(&mut self, set: NodeSet<K>)
-        ensures { standing_of self.new ≡ with_evidence (has set) (standing_of self.old) }
+        ensures accused { standing_of self.new ≡ with_evidence (has set) (standing_of self.old) }
+        ensures newest { (frame : ℕ) (newest : ℕ → ℕ) → HasNewest (standing_of self.old) frame newest
+            → HasNewest (standing_of self.new) frame (newest_with (has set) frame newest) }
     {
         self.direct = self.direct.union(set);
         self.fresh = self.fresh.union(set);
@@ -187,11 +193,15 @@ impl<K: Copy> Standing<K> {
         calms
     }
 
-    /// The end of a frame. Where `probation` is at least 1, the direct accusation of a node lapses after so many whole
-    /// frames in a row without direct evidence against it; with 0 none lapses. Mismatch accusations stay, and so do
-    /// convictions. The next frame begins without evidence.
+    /// The end of a frame. Where `probation`, a number of frames up to 4096, is at least 1, the direct accusation of a node
+    /// lapses after so many whole frames in a row without direct evidence against it: one whose newest evidence is of frame e
+    /// lapses as frame e + probation + 1 begins. With 0 none lapses. Mismatch accusations stay, and so do convictions. The next
+    /// frame begins without evidence.
     pub fn lapse(&mut self, probation: u16)
-        ensures { standing_of self.new ≡ standing_at_end probation (standing_of self.old) }
+        ensures ends { standing_of self.new ≡ standing_at_end probation (standing_of self.old) }
+        ensures by_frames { (frame : ℕ) (newest : ℕ → ℕ) → probation ≤ 4096
+            → HasNewest (standing_of self.old) frame newest
+            → LapsesByFrames probation (frame + 1) newest (standing_of self.old) (standing_of self.new) }
     {
         let lapsing = self.lapsing(probation);
         self.calm = self.calms(probation);

@@ -3,6 +3,7 @@
 
 pub use act::{Act, Span, Step, Want};
 pub use node::{Node, events_come_in_parts};
+pub use rb_base::{Event, EventKind};
 pub use rb_rules::{Closed, Epoch, Message};
 
 pub mod act;

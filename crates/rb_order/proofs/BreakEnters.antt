@@ -88,6 +88,7 @@ waits-then sc hands lawful room sent now p q running small at me i s st a h you 
       slot = ap (λ (w : Window). w.slot) ((sync_windows_are sc m q small at).are me st);
       deaf = e;
       stands = h.stands;
+      from = h.from;
       had = h.receives.is_next.later;
       small = h.receives.is_next.below;
       pends = h.receives.pends;

@@ -47,6 +47,7 @@ deaf-more sc hands p side j s z core ahead h = record {
   slot = h.slot;
   deaf = h.deaf;
   stands = subst (λ (c : Core). IsInWindow sc.sizes sc.plan side j h.st (moment sc hands p).window (word_at sc (moment sc hands p) side j h.st) h.a.tick c.state) (sym core) h.stands;
+  from = subst (λ (c : Core). h.st.epoch + first_of sc.sizes sc.plan side h.st (moment sc hands p).window ≤ c.had) (sym core) h.from;
   had = subst (λ (c : Core). c.had ≤ h.a.tick) (sym core) h.had;
   small = h.small;
   pends = ahead ∙ h.pends;

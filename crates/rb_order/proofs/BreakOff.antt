@@ -3,11 +3,13 @@
 use Rattle.std.proofs.Common.{◌≡◌, ℕ, suc, ◌+◌, ◌^◌, ◌<◌, ◌≤◌, ◌==◌, ◌&&◌, ◌⊎◌, not, Bool, true, false, List, length, refl, ap, sym, ◌∙◌, subst, arith, inl, inr, Option, Some, None, slice_get, if◌then◌else◌}
 use Rattle.std.proofs.lemmas.Bool.{cases_lt, lt-ltb}
 use Rattle.rb_base.specs.Nodes.{Side, other}
+use Rattle.rb_base.specs.Nodes.Side.{Biu}
 use Rattle.rb_base.specs.declared.values.Place.{Place}
 use Rattle.rb_rules.specs.Book.{Book, Each, of_kind}
 use Rattle.rb_rules.specs.Book.Milestone.{Begin, End, Stage}
 use Rattle.rb_rules.specs.Clock.{time_of}
 use Rattle.rb_rules.specs.Goodness.{Scenario, clock_of}
+use Rattle.rb_rules.specs.Hearing.{port_at}
 use Rattle.rb_rules.specs.Lawful.{IsLawful}
 use Rattle.rb_rules.specs.NodeState.{NodeState}
 use Rattle.rb_rules.specs.Ports.{HandIn}
@@ -21,6 +23,7 @@ use Rattle.rb_order.proofs.Behind.{closes-before, runs-there, settled-next}
 use Rattle.rb_order.proofs.BreakBegins.{FirstCloses, all-have-sent}
 use Rattle.rb_order.proofs.BreakNodes.{BreaksAt, FirstOf, KeepsNodes}
 use Rattle.rb_rules.proofs.Drift.{times_rise_to}
+use Rattle.rb_order.proofs.BreakPorts.{PortsBreak, PortsOff, ports-break, ports-off}
 use Rattle.rb_order.proofs.BreakRooms.{HasLater, has-later}
 use Rattle.rb_order.proofs.BreakRuns.{AllSent, NodesOff, WaitsYet, first-of, pending-off, waits-yet}
 use Rattle.rb_order.proofs.DueEvents.{IsDue}
@@ -33,6 +36,7 @@ use Rattle.rb_order.proofs.RoundNodes.{good-counts, item-at, slot_numbered}
 use Rattle.rb_order.proofs.SettledOnce.{ended-still, rest-still, settle-still, stage-silent, waits-still}
 use Rattle.rb_order.proofs.Settling.{stage-settled}
 use Rattle.rb_order.proofs.SettlingFrames.{IsOfMoment}
+use Rattle.rb_order.proofs.ToldInOrder.{number_at}
 use Rattle.rb_order.proofs.UpToThere.{UpTo, from-running}
 use Rattle.rb_order.proofs.WorldBooks.{happens-book, settle_rest}
 use Rattle.rb_order.proofs.WorldStands.{AllPend, IsUp, sent_by}
@@ -53,6 +57,7 @@ pub record BreakStands (sc : Scenario) (N : ℕ → List HandIn → ℕ → (Sid
 pub record BreaksOff (sc : Scenario) (N : ℕ → List HandIn → ℕ → (Side → ℕ → ℕ → Bool) → Each Site → Type 0) (w : World) : Type 0 where
   pub stands : BreakStands sc N w.hands w.sites w.book
   pub silent : frame_in w.turn ≡ None
+  pub ports : PortsBreak sc w
 
 -- and one in which it has broken off
 pub record IsOver (sc : Scenario) (N : ℕ → List HandIn → ℕ → (Side → ℕ → ℕ → Bool) → Each Site → Type 0) (w : World) : Type 0 where
@@ -65,6 +70,7 @@ pub record IsOver (sc : Scenario) (N : ℕ → List HandIn → ℕ → (Side →
   pub small : (me : Side) (i : ℕ) (s : Site) → slice_get (of_kind me w.sites) i ≡ Some s → s.runs ≡ true → s.core.had < 2 ^ 31
   pub sent : Side → ℕ → ℕ → Bool
   pub nodes : N q w.hands b sent w.sites
+  pub ports : PortsBreak sc w
 
 true-false : {P : Type 0} → true ≡ false → P
 true-false e = absurd (cc)
@@ -118,8 +124,8 @@ runs-small sc N hands b q sent sites keeps off h me i s there runs = elim (keeps
 -- after an event that leaves the book: either the stage isn't complete, or the run has ended
 settles-off : (sc : Scenario) (N : ℕ → List HandIn → ℕ → (Side → ℕ → ℕ → Bool) → Each Site → Type 0) (hands : List HandIn) (b q : ℕ) (sent : Side → ℕ → ℕ → Bool) (x : World) → HasRoom sc.plan → x.hands ≡ hands
     → KeepsNodes sc q (N q) → BreaksAt sc hands b q → AllSent sc hands b sent → NodesOff sc N hands b q sent x.sites → x.book ≡ (moment sc hands b).book → needs_no_event sc x.book.upcoming ≡ false
-    → BreaksOff sc N (settle sc ByAnEvent 2 x) ⊎ IsOver sc N (settle sc ByAnEvent 2 x)
-settles-off sc N hands b q sent x room hands_are keeps off all_sent nodes is needs = by (is_complete sc x.sites (Stage place)) refl
+    → PortsBreak sc x → BreaksOff sc N (settle sc ByAnEvent 2 x) ⊎ IsOver sc N (settle sc ByAnEvent 2 x)
+settles-off sc N hands b q sent x room hands_are keeps off all_sent nodes is needs ports = by (is_complete sc x.sites (Stage place)) refl
   where
     place : Place
     place = place_at sc.sizes (moment sc hands b)
@@ -152,7 +158,7 @@ settles-off sc N hands b q sent x room hands_are keeps off all_sent nodes is nee
           needs = needs;
           open_still = e;
         } in
-        inl (subst (BreaksOff sc N) (sym y_is) (record { stands = subst (λ hands. BreakStands sc N hands x.sites x.book) (sym hands_are) stands; silent = refl }))
+        inl (subst (BreaksOff sc N) (sym y_is) (record { stands = subst (λ hands. BreakStands sc N hands x.sites x.book) (sym hands_are) stands; silent = refl; ports = ports }))
     by true e =
         let complete : is_complete sc x.sites x.book.upcoming ≡ true = ap (is_complete sc x.sites) it.upcoming ∙ e in
         let test : (comes_so sc ByAnEvent x.book.upcoming && is_complete sc x.sites x.book.upcoming) ≡ true =
@@ -177,26 +183,31 @@ settles-off sc N hands b q sent x room hands_are keeps off all_sent nodes is nee
           small = runs-small sc N hands b q sent x.sites keeps off nodes;
           sent = sent;
           nodes = subst (λ hands. N q hands b sent x.sites) (sym hands_are) nodes.nodes;
+          ports = ports;
         }))
 
 -- an event
 happens-off : (sc : Scenario) (N : ℕ → List HandIn → ℕ → (Side → ℕ → ℕ → Bool) → Each Site → Type 0) (b q : ℕ) (sent : Side → ℕ → ℕ → Bool) (w : World) (d : Due) → IsLawful sc → HasRoom sc.plan → KeepsNodes sc q (N q)
     → BreaksAt sc w.hands b q → AllSent sc w.hands b sent → NodesOff sc N w.hands b q sent w.sites → w.book ≡ (moment sc w.hands b).book → needs_no_event sc w.book.upcoming ≡ false
-    → (due : IsDue w d) → FirstOf sc w.hands b due.t → BreaksOff sc N (take_if_due sc w (Some d)) ⊎ IsOver sc N (take_if_due sc w (Some d))
-happens-off sc N b q sent w d lawful room keeps off all_sent nodes is needs due first =
+    → (due : IsDue w d) → FirstOf sc w.hands b due.t → PortsBreak sc w → BreaksOff sc N (take_if_due sc w (Some d)) ⊎ IsOver sc N (take_if_due sc w (Some d))
+happens-off sc N b q sent w d lawful room keeps off all_sent nodes is needs due first ports =
     let x : World = happens sc w d in
     let x_is : x ≡ with_pending sc w d.side d.node due.s d.pending = happens-is sc w d due.s due.there in
     let after = pending-off sc N b q sent w d.side d.node due.t due.s d.pending lawful room keeps off all_sent nodes due.there due.ready (all-pend w due.t due.first) first in
     let same : x.book ≡ w.book = happens-book sc w d in
+    let then_ports : PortsOff sc w.hands b (with_pending sc w d.side d.node due.s d.pending).ports (with_pending sc w d.side d.node due.s d.pending).sites =
+    ports-off sc N b q sent w d.side d.node due.t due.s d.pending lawful keeps off nodes due.there due.ready first (ports b q off) in
     settles-off sc N w.hands b q sent x room (ap (λ (w : World). w.hands) x_is ∙ after.1) keeps off all_sent
     (subst (λ (x : World). NodesOff sc N w.hands b q sent x.sites) (sym x_is) after.0) (same ∙ is) (ap (λ (b : Book). needs_no_event sc b.upcoming) same ∙ needs)
+    (subst (PortsBreak sc) (sym x_is) (ports-break sc b q (with_pending sc w d.side d.node due.s d.pending) (subst (λ hands. BreaksAt sc hands b q) (sym after.1) off)
+    (subst (λ hands. PortsOff sc hands b (with_pending sc w d.side d.node due.s d.pending).ports (with_pending sc w d.side d.node due.s d.pending).sites) (sym after.1) then_ports)))
 
 pub take-off : (sc : Scenario) (N : ℕ → List HandIn → ℕ → (Side → ℕ → ℕ → Bool) → Each Site → Type 0) (w : World) (d : Due) → IsLawful sc → HasRoom sc.plan → ((q : ℕ) → q < 3 → KeepsNodes sc q (N q))
     → BreaksOff sc N w → IsDue w d → BreaksOff sc N (take_if_due sc w (Some d)) ⊎ IsOver sc N (take_if_due sc w (Some d))
 take-off sc N w d lawful room keeps h due =
     let k : BreakStands sc N w.hands w.sites w.book = h.stands in
     let yet : WaitsYet sc w.hands k.b w.sites = waits-yet sc N w.hands k.b k.q k.sent w.sites (keeps k.q k.off.small) k.off k.nodes k.open_still in
-    happens-off sc N k.b k.q k.sent w d lawful room (keeps k.q k.off.small) k.off k.all_sent k.nodes k.is k.needs due (first-of sc w.hands k.b due.t w.sites yet (all-pend w due.t due.first))
+    happens-off sc N k.b k.q k.sent w d lawful room (keeps k.q k.off.small) k.off k.all_sent k.nodes k.is k.needs due (first-of sc w.hands k.b due.t w.sites yet (all-pend w due.t due.first)) h.ports
 
 -- The first close.
 
@@ -255,6 +266,13 @@ begins-off sc N now at w b q d k st lawful room keeps off h bound is needs due t
     all-have-sent sc hands lawful now at w.sites b q due.t off.running off.small off.window first me i n z.0 z.1 (runs (other me) n z.0 z.1 good) in
     happens-off sc N b q sent w d lawful room keeps off all_sent nodes is needs due
     (record { you = d.side; j = d.node; yours = st; there = state; good = good; first = omega (arith, time) })
+    (ports-break sc b q w off (λ i s there good.
+    let up : s.runs ≡ true = runs Biu i s there good in
+    let here : at Biu i ≡ b = first.together Biu i s there up in
+    inl (record {
+      port = h.ports i s there up ∙ ap (λ p. port_at sc (moment sc hands p).ports i) here;
+      untold = λ row told. let less : number_at sc.sizes row.place < at Biu i = (h.told Biu i s there).row row told in omega (arith, less, here);
+    })))
 
 -- a node whose tick may come next has ticks left
 pub left-off : (sc : Scenario) (N : ℕ → List HandIn → ℕ → (Side → ℕ → ℕ → Bool) → Each Site → Type 0) (w : World) → IsLawful sc → ((q : ℕ) → q < 3 → KeepsNodes sc q (N q)) → BreaksOff sc N w

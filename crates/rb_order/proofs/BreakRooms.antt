@@ -78,25 +78,38 @@ has-later sc hands lawful b q t off first me i good =
     let le = first.first in
     record { k = st.epoch + end; small = omega (arith, all, few, big, begun, first_last, l, some); later = omega (arith, le, up, early) }
 
--- so after a tick
-pub acted-small : (sc : Scenario) (ports : List PortState) (me : Side) (i k : ℕ) (s : Site) (h : HasLater sc (time_of (clock_of sc me i) k) me i) → s.core.had ≤ k
-    → (after_act sc ports me i (pass_and_tick sc ports me i k s.core) s).core.had < 2 ^ 31
+-- a tick before it is one of those that the node may have
+before-later : (sc : Scenario) (me : Side) (i k : ℕ) → (h : HasLater sc (time_of (clock_of sc me i) k) me i) → k < h.k
+before-later sc me i k h = elim (cases_lt k h.k) [
+  | inl lt ↦ lt
+  | inr ge ↦
+      let up : time_of (clock_of sc me i) h.k ≤ time_of (clock_of sc me i) k = times_rise_to (clock_of sc me i) h.k k ge in
+      let later = h.later in
+      absurd (omega (arith, up, later))
+]
+
+-- so that it is counted
+pub acted-had : (sc : Scenario) (ports : List PortState) (me : Side) (i k : ℕ) (s : Site) (h : HasLater sc (time_of (clock_of sc me i) k) me i) → s.core.had ≤ k
+    → (after_act sc ports me i (pass_and_tick sc ports me i k s.core) s).core.had ≡ k + 1
 unfolding pass_and_tick
-acted-small sc ports me i k s h had =
+acted-had sc ports me i k s h had =
     let x : Act = pass_and_tick sc ports me i k s.core in
     let z : Site = after_act sc ports me i x s in
-    let below : k < h.k = elim (cases_lt k h.k) [
-      | inl lt ↦ lt
-      | inr ge ↦
-          let up : time_of (clock_of sc me i) h.k ≤ time_of (clock_of sc me i) k = times_rise_to (clock_of sc me i) h.k k ge in
-          let later = h.later in
-          absurd (omega (arith, up, later))
-    ] in
+    let below : k < h.k = before-later sc me i k h in
     let small = h.small in
     let passed : (pass_to k s.core).had ≡ k = omega (arith, had) in
     let ticked : x.core.had ≡ (pass_to k s.core).had + 1 = tick-had sc.sizes sc.plan me i (pass_to k s.core) _ (omega (arith, passed, below, small)) in
     let core : z.core.had ≡ x.core.had = ap (λ (c : Core). c.had) (acted sc ports me i x s).core_is in
-    omega (arith, core, ticked, passed, below, small)
+    omega (arith, core, ticked, passed)
+
+-- and there are more after it
+pub acted-small : (sc : Scenario) (ports : List PortState) (me : Side) (i k : ℕ) (s : Site) (h : HasLater sc (time_of (clock_of sc me i) k) me i) → s.core.had ≤ k
+    → (after_act sc ports me i (pass_and_tick sc ports me i k s.core) s).core.had < 2 ^ 31
+acted-small sc ports me i k s h had =
+    let counted : (after_act sc ports me i (pass_and_tick sc ports me i k s.core) s).core.had ≡ k + 1 = acted-had sc ports me i k s h had in
+    let below : k < h.k = before-later sc me i k h in
+    let small = h.small in
+    omega (arith, counted, below, small)
 
 -- and after an arrival it has had fewer
 pub arrived-small : (sc : Scenario) (me : Side) (i n : ℕ) (c : Coming) (s : Site) → Moves (clock_of sc me i) → HasLater sc c.time me i → s.core.had < 2 ^ 31 → (after_arrival sc me i n c s).core.had < 2 ^ 31

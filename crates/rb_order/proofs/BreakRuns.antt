@@ -51,7 +51,7 @@ pub record NodesOff (sc : Scenario) (N : ℕ → List HandIn → ℕ → (Side �
   pub small : (me : Side) (i : ℕ) (s : Site) → slice_get (of_kind me sites) i ≡ Some s → is_good_at sc (moment sc hands b) me i ≡ true → s.core.had < 2 ^ 31
 
 -- a message on its way changes no core
-reached-core : (sc : Scenario) (me : Side) (i frame k : ℕ) (m : Option Message) (side : Side) (j : ℕ) (s : Site) → (reached sc me i frame k m side j s).core ≡ s.core
+pub reached-core : (sc : Scenario) (me : Side) (i frame k : ℕ) (m : Option Message) (side : Side) (j : ℕ) (s : Site) → (reached sc me i frame k m side j s).core ≡ s.core
 reached-core sc me i frame k None side j s = refl
 reached-core sc me i frame k (Some m) side j s = by (same_side side (other me) && s.runs)
   where

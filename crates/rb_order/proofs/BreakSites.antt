@@ -33,6 +33,7 @@ use Rattle.rb_order.proofs.NodeTicks.{like-itself, like-keeps}
 use Rattle.rb_order.proofs.PastTicks.{IsPast, TellsNone, past-arrival, past-kept, past-tick}
 use Rattle.rb_order.proofs.StageOrder.{last_of}
 use Rattle.rb_order.proofs.Takes.{busy-later}
+use Rattle.rb_order.proofs.TickWindows.{first_of}
 
 -- a node that listens in the window waits for its last tick
 pub record WaitsHearing (sc : Scenario) (hands : List HandIn) (sent : Side → ℕ → ℕ → Bool) (now : ℕ) (me : Side) (i p : ℕ) (s : Site) : Type 0 where
@@ -51,6 +52,7 @@ pub record WaitsDeaf (sc : Scenario) (hands : List HandIn) (me : Side) (i p : �
   pub slot : (window_in sc (moment sc hands p) me st).slot ≡ sync_slot_of sc.sizes
   pub deaf : listens me Sync (window_in sc (moment sc hands p) me st).stage ≡ false
   pub stands : IsInWindow sc.sizes sc.plan me i st (moment sc hands p).window (word_at sc (moment sc hands p) me i st) a.tick s.core.state
+  pub from : st.epoch + first_of sc.sizes sc.plan me st (moment sc hands p).window ≤ s.core.had
   pub had : s.core.had ≤ a.tick
   pub small : a.tick < 2 ^ 31
   pub pends : s.ahead ≡ Some a
@@ -97,6 +99,7 @@ deaf-arrives sc hands me i p n c s moves h before =
       slot = h.slot;
       deaf = h.deaf;
       stands = subst (IsInWindow sc.sizes sc.plan me i h.st m.window (word_at sc m me i h.st) h.a.tick) (sym kept.0) h.stands;
+      from = let from = h.from in omega (arith, from, kept.1.1);
       had = kept.1.0;
       small = h.small;
       pends = h.pends;

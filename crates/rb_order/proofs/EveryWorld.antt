@@ -239,7 +239,7 @@ go-on-still sc N w h =
     let still : settle_next sc ByItself w ≡ w =
     ap (λ b. elim (b && is_complete sc w.sites w.book.upcoming) as (λ _. World) [ true ↦ next_world sc w w.book.upcoming | false ↦ w ]) (of w.book.upcoming h.stands.needs) in
     subst (λ b. BreaksOff sc N (elim b as (λ _. World) [ true ↦ w | false ↦ settle sc ByItself 2 w ])) (sym going)
-    (subst (BreaksOff sc N) (sym (settle-still sc ByItself 2 w still)) (record { stands = h.stands; silent = refl }))
+    (subst (BreaksOff sc N) (sym (settle-still sc ByItself 2 w still)) (record { stands = h.stands; silent = refl; ports = h.ports }))
 
 go-on-over : (sc : Scenario) (N : ℕ → List HandIn → ℕ → (Side → ℕ → ℕ → Bool) → Each Site → Type 0) (w : World) → IsOver sc N w → IsOver sc N (go_on sc w)
 unfolding go_on

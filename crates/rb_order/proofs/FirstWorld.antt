@@ -7,8 +7,9 @@ use Rattle.rb_base.specs.Sizes.{Sizes}
 use Rattle.rb_rules.specs.declared.plan.Plan.{Plan}
 use Rattle.rb_rules.specs.Book.{Each, each_of, of_kind}
 use Rattle.rb_rules.specs.Clock.{Timeline, time_of}
-use Rattle.rb_rules.specs.Core.{state_at}
-use Rattle.rb_rules.specs.Goodness.{Scenario, clock_of}
+use Rattle.rb_rules.specs.declared.plan.Window.{Window}
+use Rattle.rb_rules.specs.Core.{state_at, window_here}
+use Rattle.rb_rules.specs.Goodness.{Scenario, clock_of, is_good}
 use Rattle.rb_rules.specs.Hearing.{Coming, Span, said_by, span_of}
 use Rattle.rb_rules.specs.Lawful.{IsLawful}
 use Rattle.rb_rules.specs.NodeState.{NodeState, first_state}
@@ -106,6 +107,13 @@ first-enters sc hands me i lawful room good =
           (subst (λ l. Hears j u [] (says_in sc me i span) (said_if sc me i span j) l) (sym (ahead-none sc (moment sc hands (next_stage sc.sizes m 0)) me i j)) more);
     }
 
+-- tick 0 lies in the first window
+first-tick : (sc : Scenario) (me : Side) → IsTickIn sc.sizes sc.plan me (first_state sc.sizes me) 0 0
+first-tick sc me =
+    let st : NodeState = first_state sc.sizes me in
+    let zero_first : first_of sc.sizes sc.plan me st 0 ≡ 0 * sc.plan.l = first-same sc.sizes sc.plan me st 0 (omega arith) in
+    record { from = omega arith; to = omega arith }
+
 -- the span that begins there
 first-span : (sc : Scenario) (hands : List HandIn) (me : Side) → HasRoom sc.plan
     → span_from sc.sizes sc.plan me (first_state sc.sizes me) 0 ≡ Some (span_of (first_state sc.sizes me) (window_in sc (moment sc hands 0) me (first_state sc.sizes me)))
@@ -114,7 +122,7 @@ first-span sc hands me room =
     let st : NodeState = first_state sc.sizes me in
     let zero_first : first_of sc.sizes sc.plan me st 0 ≡ 0 * sc.plan.l = first-same sc.sizes sc.plan me st 0 (omega arith) in
     let first : 0 ≡ st.epoch + first_of sc.sizes sc.plan me st 0 = omega arith in
-    let at : IsTickIn sc.sizes sc.plan me st 0 0 = record { from = omega arith; to = omega arith } in
+    let at : IsTickIn sc.sizes sc.plan me st 0 0 = first-tick sc me in
     span-begins sc.sizes sc.plan me st st 0 0 (not-turned sc.sizes sc.plan me 0) (here-is sc.sizes sc.plan me st 0 0 room.ticks (omega arith) at) first
 
 -- a node of the first world
@@ -145,7 +153,22 @@ first-node sc hands me i lawful room times counted =
             silent = ap (past (sending_of sc m me i)) ent.stands.receives.pends ∙ past-gone (sending_of sc m me i) ent.a
                 ∙ ap (λ o. gone o ent.a.tick) (sending-of-is sc m me i st en.state) ∙ ent.silent;
           }
-      | false ↦ λ e. record { node = inr (refl, record { not_good = e; ahead = refl; coming = refl }); silent = past-none (sending_of sc m me i) }
+      | false ↦ λ e.
+          let at : IsTickIn sc.sizes sc.plan me st 0 0 = first-tick sc me in
+          record {
+            node = inr (
+              refl,
+              record {
+                not_good = e;
+                stopped = ap (λ (y : NodeState). is_good sc me i y.frame (window_here sc.sizes sc.plan me y 0).slot) (not-turned sc.sizes sc.plan me 0)
+                    ∙ ap (λ (w : Window). is_good sc me i 0 w.slot) (here-is sc.sizes sc.plan me st 0 0 room.ticks (omega arith) at)
+                    ∙ good-span sc m me me i st refl ∙ e;
+                ahead = refl;
+                coming = refl;
+              },
+            );
+            silent = past-none (sending_of sc m me i);
+          }
     ] in
     subst (λ o. FirstNode sc hands me i (enter sc me i o s)) (sym (first-span sc hands me room))
     (subst (λ b. FirstNode sc hands me i (elim b as (λ _. Site) [ true ↦ await sc me i (says_in sc me i span) s | false ↦ stop s ]))

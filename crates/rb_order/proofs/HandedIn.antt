@@ -137,7 +137,7 @@ sites-handed sc hands h now at sites early stand = record {
       let down : IsDown sc hands me i (at me i) s = stand.down me i s there stopped in
       let le : at me i ≤ h.frame * (windows_in sc.sizes + 1) + 1 = early.early me i s there in
       let alike : Alike sc (moment sc hands (at me i)) (moment sc (hands ++ h ∷ []) (at me i)) = handed-alike sc hands h (at me i) (omega (arith, le, early.some_biu)) in
-      record { not_good = subst (λ (y : Moment). is_good_at sc y me i ≡ false) (sym alike.is) down.not_good; ahead = down.ahead; coming = down.coming };
+      record { not_good = subst (λ (y : Moment). is_good_at sc y me i ≡ false) (sym alike.is) down.not_good; stopped = down.stopped; ahead = down.ahead; coming = down.coming };
   counts = stand.counts;
 }
 

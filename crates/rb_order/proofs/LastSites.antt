@@ -159,6 +159,7 @@ deaf-more sc hands p side j s more h = record {
   slot = h.slot;
   deaf = h.deaf;
   stands = h.stands;
+  from = h.from;
   had = h.had;
   small = h.small;
   pends = h.pends;

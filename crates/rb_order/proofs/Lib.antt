@@ -91,6 +91,7 @@ pub mod BreakNodes
 pub mod BreakKeeps
 pub mod BreakRooms
 pub mod BreakRuns
+pub mod BreakPorts
 pub mod BreakOff
 pub mod BreachWindows
 pub mod DeafCloses
@@ -112,3 +113,11 @@ pub mod LastKeeps
 pub mod FewLast
 pub mod FewKeeps
 pub mod FewPending
+pub mod CoreStates
+pub mod CoresHold
+pub mod CoresPast
+pub mod SlotShared
+pub mod PortsBetween
+pub mod NodesAlike
+pub mod PortsAlike
+pub mod NodesPromise

@@ -26,6 +26,7 @@ use Rattle.rb_rules.proofs.Drift.{HasLengths, times_rise_to}
 use Rattle.rb_rules.proofs.RoundStates.{Knows}
 use Rattle.rb_rules.proofs.WindowNumbers.{sync-numbered}
 use Rattle.rb_order.specs.Closing.{stages_in}
+use Rattle.rb_order.specs.OwnMoments.{StandsWhereNotGood, open_window, ready_state}
 use Rattle.rb_order.proofs.ClosingTicks.{HoldsHeard, closing_of, result-is, spoken}
 use Rattle.rb_order.proofs.CloseOrder.{IsWindowLater, window-later}
 use Rattle.rb_order.proofs.Invariant.{ComesInWindow, ComesLater, InTime, NodeStands, ahead_so_far, entry_of, heard_so_far, is_good_at, last_tick, next_stage, word_at}
@@ -79,6 +80,7 @@ pub record GoesOn (sc : Scenario) (hands : List HandIn) (sent : Side → ℕ →
 
 pub record Stops (sc : Scenario) (hands : List HandIn) (me : Side) (i q : ℕ) (s : Site) : Type 0 where
   pub not_good : is_good_at sc (moment sc hands q) me i ≡ false
+  pub stopped : StandsWhereNotGood sc me i s.core
   pub runs : s.runs ≡ false
   pub ahead : s.ahead ≡ None
   pub coming : s.coming ≡ []
@@ -403,6 +405,9 @@ closes-window sc hands sent now ports me i p s st a lawful room known times othe
             place = np.place;
             goes = inr (record {
               not_good = e;
+              stopped = ap (λ (z : Site). is_good sc me i (ready_state sc me z.core).frame (open_window sc me z.core).slot) (site false e)
+                  ∙ ap (λ (y : NodeState). is_good sc me i y.frame (window_here sc.sizes sc.plan me y x.core.had).slot) turned
+                  ∙ ap (λ (w : Window). is_good sc me i np.st.frame w.slot) here ∙ good-span sc m2 me me i np.st np.frame ∙ e;
               runs = ap (λ (z : Site). z.runs) (site false e);
               ahead = ap (λ (z : Site). z.ahead) (site false e);
               coming = ap (λ (z : Site). z.coming) (site false e);

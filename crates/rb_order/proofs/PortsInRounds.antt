@@ -137,7 +137,7 @@ line-at-begin sc hands at sites ports Biu i s a st all told stand there runs pen
 
 -- A tick.
 
-rmu-none : (sc : Scenario) (i : ℕ) (st : NodeState) (slot stage first : ℕ) (sense : ℕ → Sense) (b : Bool)
+pub rmu-none : (sc : Scenario) (i : ℕ) (st : NodeState) (slot stage first : ℕ) (sense : ℕ → Sense) (b : Bool)
     → (elim b as (λ _. Outcome) [ true ↦ close_sync sc.sizes Rmu st stage first sense | false ↦ close_exact sc.sizes Rmu i st slot stage sense ]).closed.delivered ≡ None
 unfolding close_sync sync_outcome_of close_exact outcome_of
 rmu-none sc i st slot stage first sense true = refl

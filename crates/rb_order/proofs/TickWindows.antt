@@ -184,7 +184,7 @@ stage-here sizes plan me st n k ticks below in_it =
     (holds (k - st.epoch) w (omega arith) (omega arith))
     (λ m y lt there. none-before sizes plan me st n (k - st.epoch) ticks (omega arith) (omega arith) m y lt there))
 
-tail-here : (sizes : Sizes) (plan : Plan) (me : Side) (st : NodeState) (k : ℕ) → HasTicks plan
+pub tail-here : (sizes : Sizes) (plan : Plan) (me : Side) (st : NodeState) (k : ℕ) → HasTicks plan
     → st.epoch + first_of sizes plan me st (stages_in sizes) ≤ k → window_here sizes plan me st k ≡ window_numbered sizes plan me st (stages_in sizes)
 tail-here sizes plan me st k ticks from =
     let long : length (windows_of_frame sizes plan) ≡ stages_in sizes = how-many sizes plan in

@@ -252,7 +252,7 @@ tick-event sc hands now at sites ports me i s a lawful room times passed h due =
             | inr off ↦
                 tick-keeps-world sc hands now at sites me i x.core.state.frame a.tick r x.message (after_act sc ports me i x) s a None lawful due.later due.first
                 (ticks None (past-none (sending_of sc (moment sc hands r) me i))) (lands x.core.state.frame close_frame) off.ahead
-                (inr (off.runs, record { not_good = off.not_good; ahead = off.ahead; coming = off.coming })) h
+                (inr (off.runs, record { not_good = off.not_good; stopped = off.stopped; ahead = off.ahead; coming = off.coming })) h
           ] in
           record {
             r = r;

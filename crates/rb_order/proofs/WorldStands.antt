@@ -15,6 +15,7 @@ use Rattle.rb_rules.specs.Slots.{count_of, same_side}
 use Rattle.rb_rules.specs.WorldStep.{Timed, Site, after_arrival, at_node, times_of}
 use Rattle.rb_rules.proofs.Stamps.{Moves}
 use Rattle.rb_rules.proofs.WindowNumbers.{get-each, length-each}
+use Rattle.rb_order.specs.OwnMoments.{StandsWhereNotGood}
 use Rattle.rb_order.proofs.Invariant.{NodeStands, has_sent, is_good_at, sending_of}
 use Rattle.rb_order.proofs.NodeEvents.{stands-arrival, stands-on}
 use Rattle.rb_order.proofs.Receiving.{ArrivesNow}
@@ -34,9 +35,10 @@ pub record IsUp (sc : Scenario) (hands : List HandIn) (sent : Side → ℕ → �
   pub a : Timed
   pub stands : NodeStands sc hands sent now me i p s st a
 
--- a node that has stopped in moment p, in which it is not good
+-- a node that has stopped in moment p, in which it is not good; nor is it in the slot in which its core stands
 pub record IsDown (sc : Scenario) (hands : List HandIn) (me : Side) (i p : ℕ) (s : Site) : Type 0 where
   pub not_good : is_good_at sc (moment sc hands p) me i ≡ false
+  pub stopped : StandsWhereNotGood sc me i s.core
   pub ahead : s.ahead ≡ None
   pub coming : s.coming ≡ []
 

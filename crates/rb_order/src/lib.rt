@@ -5,7 +5,10 @@
 ghost use Rattle.rb_order.specs.ByItself.{WhatNeedsNoEventIsGiven};
 ghost use Rattle.rb_order.specs.Closing.{GoodNodesCloseInOrder};
 ghost use Rattle.rb_order.specs.Laws.{EventsAreRoundsInLawful, EventsOnlyAdd, EveryRunEndsInLawful, HandInsComeLate, OneTurnARecordInLawful, QuietTicksCount, RecordsAreOfAllSteps, RoundsOnlyAdd, SomethingIsDueInLawful};
+ghost use Rattle.rb_order.specs.OwnMoments.{CoresAreThoseOfTheRounds, CoresFollowTheRounds};
 ghost use Rattle.rb_order.specs.PendingEvents.{PendingEventsAreFewInLawful};
+ghost use Rattle.rb_order.specs.Promise.{RunningNodesKeepThePromiseInLawful};
+ghost use Rattle.rb_order.specs.RunningNodes.{RunningNodesAgreeInLawful, RunningPortsAgreeInLawful};
 
 /// A run by rounds that stops at its end has all records.
 pub fn records_are_of_all_steps()
@@ -74,4 +77,38 @@ pub fn every_run_ends()
 /// pending at a node (`now`), nor after a tick of its own (`own`), nor with the message that another node sends at its tick (`message`).
 pub fn pending_events_are_few()
     ensures { PendingEventsAreFewInLawful }
+{}
+
+/// In every lawful scenario, whatever is chosen and handed in, each core that runs holds the state that its node has in the rounds at the
+/// moment before the stage in which the core stands by its own frame and window, and each BIU that runs has its port of that moment. A node
+/// that does not run stands in a slot in which it is not good. All this in every world before a stage of a sync slot with which the run
+/// breaks off.
+pub fn cores_are_those_of_the_rounds()
+    ensures { CoresAreThoseOfTheRounds }
+{}
+
+/// In every world, also where the run breaks off with a stage of a sync slot that some nodes have left already: each core that runs and
+/// has a tick to come holds the state of the rounds at its own moment, and each such BIU has its port of that moment, unless the run has
+/// ended by that moment in the rounds.
+pub fn cores_follow_the_rounds()
+    ensures { CoresFollowTheRounds }
+{}
+
+/// Any two running nodes of a world that stand in one slot begin it at most the stated skew apart, and hold one schedule, the same convicted
+/// nodes, no good one among them, and the same votes on the earlier slots of the frame: in each slot that is complete in the rounds, and at
+/// the begin of each frame.
+pub fn running_nodes_agree()
+    ensures { RunningNodesAgreeInLawful }
+{}
+
+/// After the same complete slot running BIUs with one application, one first word and equal hand-ins have equal ports, unless a stage of a
+/// sync slot has ended the run and it has ended by the BIU's own moment, too.
+pub fn running_ports_agree()
+    ensures { RunningPortsAgreeInLawful }
+{}
+
+/// All that is promised of running nodes holds in every world that choices lead to; and in the rounds, whatever is handed in, every window
+/// is timely, good BIUs that are alike have equal ports, and whoever all good nodes of the other kind accuse is convicted.
+pub fn running_nodes_keep_the_promise()
+    ensures { RunningNodesKeepThePromiseInLawful }
 {}

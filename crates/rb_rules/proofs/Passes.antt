@@ -1,5 +1,4 @@
--- For a law on the schedule that is still to come: as many passes as there are data slots are enough: more of them give the
--- same owners.
+-- As many passes as there are data slots are enough: more of them give the same owners.
 use Rattle.std.proofs.Common.{◌≡◌, ℕ, zero, suc, ◌+◌, ◌≤◌, Bool, true, false, ◌&&◌, nat_lt, cond, List, [], ◌∷◌, ◌++◌, take, filter, get_or, refl, sym, ◌∙◌, ap, arith}
 use Rattle.std.specs.List.{flat_map, range_with_len}
 use Rattle.std.proofs.lemmas.Bool.Decides.{nat_tests}
@@ -8,7 +7,7 @@ use Rattle.rb_base.specs.Nodes.{has}
 use Rattle.rb_base.specs.Sizes.{Sizes}
 use Rattle.rb_base.specs.declared.values.Heard.{Heard}
 use Rattle.rb_base.specs.declared.values.Heard.TheVariants.{Fault}
-use Rattle.rb_rules.specs.Owners.{request_in, owners_in_pass, owners_of}
+use Rattle.rb_rules.specs.Owners.{request_in, owners_in_pass, owners_in_passes, owners_of}
 
 -- lists that begin alike begin alike after a list
 same_beginning : {X : Type 0} (xs ys zs : List X) (d : ℕ) → ((e : ℕ) → e ≤ d → take e ys ≡ take e zs) → take d (xs ++ ys) ≡ take d (xs ++ zs)
@@ -66,7 +65,7 @@ asks_for_more true p asked h = grind (arith, nat_tests)
 asks_for_more false p asked h = h
 
 pub enough_passes : (sizes : Sizes) (trusted : ℕ) (requests : List Heard) (n : ℕ) → sizes.data_slots ≤ n
-    → take sizes.data_slots (flat_map (owners_in_pass sizes trusted requests) (numbers n)) ≡ owners_of sizes trusted requests
+    → owners_in_passes sizes trusted requests n ≡ owners_of sizes trusted requests
 enough_passes sizes trusted requests n le =
     same_first (owners_in_pass sizes trusted requests)
     (λ p. none_pass (λ i. has trusted i && nat_lt p (request_in (get_or requests i Fault))) (λ i. has trusted i && nat_lt (p + 1) (request_in (get_or requests i Fault)))

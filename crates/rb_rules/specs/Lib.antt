@@ -5,6 +5,7 @@ pub mod Windows
 pub mod Spelling
 pub mod Sense
 pub mod Standing
+pub mod Probation
 pub mod Majority
 pub mod Middle
 pub mod Slots

@@ -19,19 +19,26 @@ fn first_ticks(rt: HostRuntime) -> Result<(), Fail> {
     Ok(())
 }
 
-// Any bytes of any source may come, and no number of a source is too high.
+// The ticks that a node has had where after each arrival it has one: of every source, and with so many bytes, up to 40.
+fn ticks_between_arrivals<K: Kind>(node: &mut Node<K>) -> u64 {
+    let bytes = [7; 40];
+    for from in 0..=255u8 {
+        for length in 0..=40usize {
+            node.arrive(from, &bytes[..length]);
+            let _step = node.step(0);
+        }
+    }
+    node.had()
+}
+
+// Any bytes of any source may come at any time, and no number of a source is too high.
 #[test]
 fn any_bytes(rt: HostRuntime) -> Result<(), Fail> {
     let plan = planned()?;
+    let mut biu: Node<Biu> = Node::new(&plan, 0);
     let mut rmu: Node<Rmu> = Node::new(&plan, 0);
-    for from in 0..=255u8 {
-        rmu.arrive(from, &[from; 40]);
-        rmu.arrive(from, &[]);
-    }
-    for _ in 0..2000 {
-        let _step = rmu.step(0);
-    }
-    assert_eq!(rt; rmu.had(), 2000);
+    assert_eq!(rt; ticks_between_arrivals(&mut biu), 10496);
+    assert_eq!(rt; ticks_between_arrivals(&mut rmu), 10496);
     Ok(())
 }
 

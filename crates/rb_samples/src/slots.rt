@@ -1,9 +1,9 @@
 //! What the slots of a frame are for, and who owns them.
 use crate::plans::bus;
 use rb_base::Heard::{Fault, Word};
-use rb_base::{Heard, NodeSet};
+use rb_base::{Biu, Heard, NodeSet, Rmu};
 use rb_schedule::{Owners, owners_of};
-use rb_slot::{Role, role_of};
+use rb_slot::{Role, expected, role_of};
 use std::test::Fail;
 
 // Four BIUs, three RMUs and eight data slots.
@@ -54,5 +54,33 @@ fn owners(rt: HostRuntime) -> Result<(), Fail> {
         }
     }
     assert_eq!(rt; Owners::none().owner(0), None);
+    Ok(())
+}
+
+// Whom BIUs and whom RMUs expect in each stage. B0 and B1 own slots 4 and 5, and nobody owns slot 6. B3 and R2 are convicted, so that
+// slot 3 is idle.
+#[test]
+fn expected_nodes(rt: HostRuntime) -> Result<(), Fail> {
+    let bus = bus(8)?;
+    let mut requests = [Fault; 16];
+    requests[..2].copy_from_slice(&[Word(1), Word(1)]);
+    let (bius, rmus) = (NodeSet::first(3), NodeSet::first(2));
+    let owners = owners_of(&requests, bius, &bus);
+    for (slot, by_bius, by_rmus) in [
+        (1, [0, 3, 0], [2, 0, 7]),
+        (3, [0, 0, 0], [0, 0, 0]),
+        (5, [0, 3, 0], [2, 0, 0]),
+        (6, [0, 0, 0], [0, 0, 0]),
+        (14, [0, 3, 0], [4, 0, 7]),
+        (17, [2, 0, 3], [0, 7, 0]),
+        (19, [0, 3, 0], [7, 0, 7]),
+    ] {
+        for (stage, (biu, rmu)) in (1..=3u8).zip(by_bius.iter().zip(by_rmus.iter())) {
+            let found = expected::<Biu>(&bus, slot, stage, &owners, bius, rmus);
+            assert_eq!(rt; found.bits(), *biu, "slot {slot}, stage {stage}");
+            let found = expected::<Rmu>(&bus, slot, stage, &owners, bius, rmus);
+            assert_eq!(rt; found.bits(), *rmu, "slot {slot}, stage {stage}");
+        }
+    }
     Ok(())
 }

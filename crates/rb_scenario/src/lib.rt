@@ -9,4 +9,5 @@ pub mod scenario;
 
 pub use document::read;
 pub use rb_entries::Refusal;
+pub use rb_rules::{Content, Say};
 pub use scenario::{ClockList, SayList, Scenario};

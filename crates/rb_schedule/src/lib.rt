@@ -2,7 +2,7 @@
 #![tactic(auto)]
 
 ghost use Rattle.std.specs.Prelude.{◌≡◌, ℕ, [], ◌∷◌, ◌++◌, ◌<◌, ◌≤◌, nat_lt, length, take, slice_get, List};
-ghost use Rattle.rb_rules.specs.Owners.{owners_of, owners_in_pass, request_in};
+ghost use Rattle.rb_rules.specs.Owners.{owners_of, owners_in_pass, owners_in_passes, request_in};
 ghost use Rattle.rb_schedule.specs.Asking.{asks};
 
 use arrayvec::ArrayVec;
@@ -95,9 +95,11 @@ fn add_pass(
 
 /// The owners of the data slots by the voted requests, that of BIU i at index i. A word is the number of slots that its BIU
 /// asks for, and Fault asks for none. The slots are given in passes: in each pass every trusted BIU that hasn't as many as it
-/// asks for gets one, in order of the BIUs, until all slots are given or nobody asks.
+/// asks for gets one, in order of the BIUs, until all slots are given or nobody asks. More passes than slots change nothing.
 pub fn owners_of(requests: &[Heard; 16], trusted: NodeSet<Biu>, shape: &Shape) -> Owners
-    ensures { result ≡ owners_of shape.now trusted requests.now }
+    ensures owners { result ≡ owners_of shape.now trusted requests.now }
+    ensures passes { (passes : ℕ) → shape.now.data_slots ≤ passes
+        → result ≡ owners_in_passes shape.now trusted requests.now passes }
 {
     let mut owners = Owners::none();
     for pass in 0..u32::from(shape.slots()) {

@@ -18,3 +18,4 @@ pub mod SyncLaws
 pub mod CallTicks
 pub mod EpochTicks
 pub mod NextMessages
+pub mod OneStages

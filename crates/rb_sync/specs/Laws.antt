@@ -30,10 +30,12 @@ abbrev pub EpochsStayNear : Type 0
 EpochsStayNear = (sc : Scenario) (hands : List HandIn) → IsLawful sc → BeginFramesNear sc hands × FramesTakeTheirTime sc hands
 
 -- every window up to the first breach is timely, that of the breach and the tails with them
+abbrev pub EachWindowIsTimely : Scenario → List HandIn → Type 0
+EachWindowIsTimely sc hands =
+    (n : ℕ) → IsRunning (moment sc hands n) → (moment sc hands n).window < windows_in sc.sizes → IsTimely sc (moment sc hands n)
+
 abbrev pub WindowsAreTimely : Type 0
-WindowsAreTimely =
-    (sc : Scenario) (hands : List HandIn) → IsLawful sc
-    → (n : ℕ) → IsRunning (moment sc hands n) → (moment sc hands n).window < windows_in sc.sizes → IsTimely sc (moment sc hands n)
+WindowsAreTimely = (sc : Scenario) (hands : List HandIn) → IsLawful sc → EachWindowIsTimely sc hands
 
 -- good nodes begin a slot at most p apart, and as far as their clocks have drifted since the frame's first tick
 abbrev pub SlotsBeginNear : Type 0

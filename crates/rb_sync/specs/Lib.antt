@@ -1,1 +1,2 @@
+pub mod OneStage
 pub mod Laws

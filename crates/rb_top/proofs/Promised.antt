@@ -3,6 +3,7 @@ use Rattle.std.proofs.Common.{ℕ, true, List, [], Option, ap, ◌∙◌, subst}
 use Rattle.std.specs.Io.KnownBytes.{Appends}
 use Rattle.rb_gen.specs.Generated.{generated}
 use Rattle.rb_bus.proofs.Promise.{promise, stands}
+use Rattle.rb_order.proofs.NodesPromise.{keep-the-promise}
 use Rattle.rb_book.specs.declared.turn.Turn.{Turn}
 use Rattle.rb_outside.specs.Bytes.{ReadsToEnd}
 use Rattle.rb_run.proofs.Plain.{plain-records}
@@ -27,6 +28,7 @@ told_headline tells status left left' held held' told told' input text read due 
       ends = due.ends;
       promise = promise due.scenario [] due.lawful;
       machine = stands due.scenario [] due.lawful;
+      nodes = keep-the-promise due.scenario due.lawful;
     }
 
 pub promised : (form : Form) (status : Status) (left left' held held' : Option (List ℕ)) (told told' : Option (List Turn))
@@ -44,6 +46,7 @@ promised (Stress seed frames) status left left' held held' told told' e =
           e.written;
       promise = promise (generated seed frames) [] due.lawful;
       machine = stands (generated seed frames) [] due.lawful;
+      nodes = keep-the-promise (generated seed frames) due.lawful;
     }
 promised (Record node) status left left' held held' told told' e = tt
 promised Replay status left left' held held' told told' e = tt

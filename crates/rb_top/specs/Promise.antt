@@ -6,6 +6,7 @@ use Rattle.rb_rules.specs.Goodness.{Scenario}
 use Rattle.rb_rules.specs.Headline.{Headline}
 use Rattle.rb_rules.specs.Rounds.{records_of}
 use Rattle.rb_rules.specs.StandsFor.{StandsFor}
+use Rattle.rb_order.specs.Promise.{RunningNodesKeepThePromise}
 use Rattle.rb_gen.specs.Generated.{generated}
 use Rattle.rb_top.specs.declared.form.Form.{Form}
 use Rattle.rb_top.specs.declared.form.Form.TheVariants.{Run, Check, Gen, Stress, Record, Replay, Spell, Letters, Group, Listen}
@@ -24,6 +25,7 @@ pub record KeepsTheHeadline (tells : Telling) (status : Status) (left left' held
   pub ends : EndsAs scenario status  -- the answer is Breach exactly where they end with one
   pub promise : Headline scenario []  -- up to the breach the bus keeps its promise
   pub machine : StandsFor scenario []  -- and all good nodes are one machine
+  pub nodes : RunningNodesKeepThePromise scenario  -- and so do the nodes that run, in every world of its events
 
 -- The promise of `stress`, at Done and at Breach
 pub record SumsTheHeadline (seed frames : ℕ) (status : Status) (held held' : Option (List ℕ)) : Type 0 where
@@ -31,6 +33,7 @@ pub record SumsTheHeadline (seed frames : ℕ) (status : Status) (held held' : O
   pub written : Appends held held' (summary_with ends.ending (records_of (generated seed frames) []))  -- the numbers are those of its rounds
   pub promise : Headline (generated seed frames) []  -- up to the breach the bus keeps its promise
   pub machine : StandsFor (generated seed frames) []  -- and all good nodes are one machine
+  pub nodes : RunningNodesKeepThePromise (generated seed frames)  -- and so do the nodes that run, in every world of its events
 
 -- the promise of a form. There is none where no drive is asked
 abbrev pub KeepsItsPromise : Form → Status → Option (List ℕ) → Option (List ℕ) → Option (List ℕ) → Option (List ℕ) → Type 0

@@ -6,6 +6,8 @@ mod choices;
 #[cfg(test)]
 mod documents;
 #[cfg(test)]
+mod events;
+#[cfg(test)]
 mod generated;
 #[cfg(test)]
 mod numbers;

@@ -2,6 +2,7 @@
 ghost use Rattle.std.specs.Prelude.{IfOk};
 ghost use Rattle.rb_run.specs.Runs.{HasGivenNothing};
 
+use rb_base::Event;
 use rb_port::{App, Apps};
 use rb_run::{Ending, Totals, tally};
 use rb_scenario::read;
@@ -98,4 +99,18 @@ pub(crate) fn counted(alloc: Global, world: &mut World) -> Result<(Ending, Total
 {
     let apps = applications!(alloc);
     Ok(tally(world, &apps, &mut FirstDrive::new()))
+}
+
+/// How many events are due, the first of them, and the turn that comes with it.
+pub(crate) type Taken = (usize, Option<Event>, Turn);
+
+/// Takes the first of the events that are due, if there is one.
+pub(crate) fn take_first(alloc: Global, world: &mut World) -> Result<Taken, AllocError> {
+    let apps = applications!(alloc);
+    let due = world.due();
+    if due == 0 {
+        return Ok((0, None, Turn::Quiet));
+    }
+    let event = world.event(&apps, 0);
+    Ok((due, Some(event), world.take(&apps, 0)))
 }

@@ -42,6 +42,10 @@ biu = first_state sizes Biu
 abbrev pub rmu : NodeState
 rmu = first_state sizes Rmu
 
+-- a BIU in a frame whose number has no place in two bytes
+abbrev pub in_frame_65537 : NodeState
+in_frame_65537 = record biu { frame = 65537 }
+
 -- Arrivals of one source.
 
 -- slot 4, stage 1 of frame 65537, on bus 5

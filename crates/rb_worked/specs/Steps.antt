@@ -9,7 +9,7 @@ use Rattle.rb_rules.specs.declared.say.Content.TheVariants.{Sync}
 use Rattle.rb_rules.specs.declared.say.Say.{Say}
 use Rattle.rb_rules.specs.Book.{Each}
 use Rattle.rb_rules.specs.Book.Record.{Frame, Slot}
-use Rattle.rb_rules.specs.Core.{Core, first_core, arrive, tick, pass_to}
+use Rattle.rb_rules.specs.Core.{Act, Core, first_core, arrive, tick, pass_to}
 use Rattle.rb_rules.specs.ExactStage.{message_of}
 use Rattle.rb_rules.specs.Goodness.{Scenario}
 use Rattle.rb_rules.specs.Hearing.{Coming, Span}
@@ -44,6 +44,11 @@ late_plan = record plan { h = 14 }
 
 abbrev pub own_slot_by_last_ticks : Core
 own_slot_by_last_ticks = ticked_by late_plan 29 (relays_to (ticked_by late_plan 14 (ticked_by late_plan 0 (first_core usual_sizes Biu))))
+
+-- BIU 0 at the last tick of stage 1 of the slot for its vector, at which it sends that, with noise from RMU 0 in its inbox
+abbrev pub vector_at_the_last_tick : Act
+vector_at_the_last_tick =
+    tick usual_sizes late_plan Biu 0 (record { state = biu; had = 554; inbox = (0, record { stamp = 550; bytes = [] }) ∷ [] }) 0
 
 -- RMU 0 of the usual bus that gets the request of BIU 0 with this stamp, after the close of stage 1 and after that of stage 2
 abbrev pub rmu_ticked : ℕ → Core → Core

@@ -14,6 +14,7 @@ pub mod lies;
 pub mod messages;
 pub mod ordinary;
 pub mod parts;
+pub mod premises;
 pub mod resynchronisation;
 pub mod steps;
 pub mod timely;

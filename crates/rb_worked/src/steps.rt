@@ -7,6 +7,7 @@ ghost use Rattle.rb_base.specs.declared.event.EventKind.TheVariants as kind;
 ghost use Rattle.rb_base.specs.declared.node.NodeName.TheVariants as node;
 ghost use Rattle.rb_base.specs.declared.values.Heard.TheVariants.{Word};
 ghost use Rattle.rb_base.specs.declared.values.See.TheVariants.{Nothing, Value, Time};
+ghost use Rattle.rb_rules.specs.declared.message.Tag.TheVariants as tag;
 ghost use Rattle.rb_rules.specs.Core.{arrive, is_spent, slot_wanted, tick};
 ghost use Rattle.rb_rules.specs.Hearing.{is_said, judged_see, sole_time};
 ghost use Rattle.rb_rules.specs.WorldStep.{event_at, hand, ready_at, event_of, with_message};
@@ -14,7 +15,7 @@ ghost use Rattle.rb_rules.specs.WorldStep.Pending.{Arrival, Tick};
 ghost use Rattle.rb_worked.specs.Buses.{plan};
 ghost use Rattle.rb_worked.specs.Cores.{usual_sizes};
 ghost use Rattle.rb_worked.specs.Ordinary.{ordinary_use, smallest_bus};
-ghost use Rattle.rb_worked.specs.Steps.{all_but_one_run, at_frame, at_slot, call_in_tail, core_after, empty_at, faulty_bus, in_time, own_slot, own_slot_by_last_ticks, short_tail, small_world, too_late, waiting, word_in_stage};
+ghost use Rattle.rb_worked.specs.Steps.{all_but_one_run, at_frame, at_slot, call_in_tail, core_after, empty_at, faulty_bus, in_time, own_slot, own_slot_by_last_ticks, short_tail, small_world, too_late, vector_at_the_last_tick, waiting, word_in_stage};
 
 /// A core remembers what it sent in its own slot until stage 2 is closed, also where it sends in the window's last tick: the one
 /// RMU that relays another value is accused by mismatch.
@@ -22,6 +23,12 @@ pub fn own_slot_of_a_core()
     ensures accused { own_slot.state.far.mismatch ≡ 4 }
     ensures nobody_directly { own_slot.state.far.direct ≡ 0 }
     ensures by_last_ticks { own_slot_by_last_ticks.state.far.mismatch ≡ 4 }
+{}
+
+/// A node says its message before it closes the window that ends with the same tick: its vector doesn't name the RMU that it then accuses.
+pub fn message_before_the_close()
+    ensures said { vector_at_the_last_tick.message ≡ Some (record { tag = tag.Word; frame = 0; slot = 12; stage = 1; value = 0 }) }
+    ensures accused { vector_at_the_last_tick.core.state.far.direct ≡ 1 }
 {}
 
 /// A request with the stamp of the window's last tick is in time. One tick later it is too late, and counts to the next window.

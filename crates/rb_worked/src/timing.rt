@@ -1,10 +1,10 @@
 //! Plans, windows, clocks and delays, by their numbers.
 #![tactic(auto, unfolding(rb_rules::specs::Links::delay_of))]
 
-ghost use Rattle.std.specs.Prelude.{◌≡◌, ◌∷◌, [], map, None, pos};
+ghost use Rattle.std.specs.Prelude.{◌≡◌, ◌∷◌, [], false, map, None, pos, true};
 ghost use Rattle.rb_base.specs.Nodes.Side.{Biu, Rmu};
 ghost use Rattle.rb_base.specs.declared.node.NodeName.TheVariants as node;
-ghost use Rattle.rb_rules.specs.Clock.{ComesBy, IsClock, stamp_of, tick_length, time_of};
+ghost use Rattle.rb_rules.specs.Clock.{ComesBy, IsClock, are_rising, stamp_of, tick_length, time_of};
 ghost use Rattle.rb_rules.specs.Hearing.{coming_of};
 ghost use Rattle.rb_rules.specs.Links.{delay_of};
 ghost use Rattle.rb_rules.specs.Plan.{IsFeasible, IsPlan, first_failing, inequalities_of};
@@ -69,4 +69,14 @@ pub fn delays_of_links()
     ensures of_no_rule { delay_of two_rules (node.Rmu 1) (node.Biu 0) data_place ≡ 5 }
     ensures to_an_rmu { (coming_of with_two_rules Rmu 1 0 0 word_sent).time ≡ 7 }
     ensures to_a_biu { (coming_of with_two_rules Biu 0 1 0 word_sent).time ≡ 5 }
+{}
+
+/// The segments of a clock begin at tick 0, each at a later tick than the one before.
+pub fn segments_of_a_clock()
+    ensures rising { are_rising ((0, 10000) ∷ (1, 9999) ∷ (5, 10001) ∷ []) ≡ true }
+    ensures equal { are_rising ((0, 10000) ∷ (5, 9999) ∷ (5, 10001) ∷ []) ≡ false }
+    ensures twice_at_0 { are_rising ((0, 10000) ∷ (0, 9999) ∷ []) ≡ false }
+    ensures falling { are_rising ((0, 10000) ∷ (5, 9999) ∷ (4, 10001) ∷ []) ≡ false }
+    ensures not_from_0 { are_rising ((1, 10000) ∷ []) ≡ false }
+    ensures none { are_rising [] ≡ false }
 {}

@@ -1,14 +1,16 @@
 //! Votes, applications, ports and the book, at the edges of the rules.
-#![tactic(auto, unfolding(rb_base::specs::Nodes::set_of, rb_base::specs::Nodes::set_below))]
+#![tactic(auto, unfolding(rb_base::specs::Nodes::set_of, rb_base::specs::Nodes::set_below, rb_base::specs::Nodes::size, rb_rules::specs::Judging::classes_of, rb_rules::specs::Judging::verdict_of, rb_rules::specs::Book::with_stage, rb_rules::specs::Book::with_frame))]
 
 ghost use Rattle.std.specs.Prelude.{◌≡◌, ◌∷◌, ◌++◌, ◌+◌, [], true, false, map, replicate, Some, None};
 ghost use Rattle.rb_base.specs.declared.values.Heard.TheVariants.{Word, Fault};
-ghost use Rattle.rb_rules.specs.Book.{after_stage, slot_records};
-ghost use Rattle.rb_rules.specs.Book.Milestone.{Begin, Stage};
+ghost use Rattle.rb_rules.specs.Book.{after_stage, slot_records, with_end, with_frame, with_stage};
+ghost use Rattle.rb_rules.specs.Book.Milestone.{Begin, End, Stage};
 ghost use Rattle.rb_rules.specs.Book.Record.{Slot};
 ghost use Rattle.rb_rules.specs.Majority.{majority_of};
 ghost use Rattle.rb_rules.specs.NodeSteps.{owner_at};
 ghost use Rattle.rb_rules.specs.Ports.{delivered_to, hand_over, learned_by, losses_of, offered_at, offered_by};
+ghost use Rattle.rb_worked.specs.Books.{begun, ended_book, nothing_told};
+ghost use Rattle.rb_worked.specs.Ordinary.{ordinary_use};
 ghost use Rattle.rb_worked.specs.Parts.{biu, sizes};
 ghost use Rattle.rb_worked.specs.Told.{at};
 
@@ -59,4 +61,13 @@ pub fn owners_of_slots()
     ensures before_the_schedule { owner_at sizes biu 4 ≡ None }
     ensures with_the_schedule { map (owner_at sizes (record biu { owners = 0 ∷ 3 ∷ [] })) (0 ∷ 4 ∷ 5 ∷ 6 ∷ 12 ∷ 16 ∷ 19 ∷ [])
         ≡ (None ∷ Some 0 ∷ Some 3 ∷ None ∷ None ∷ None ∷ None ∷ []) }
+{}
+
+/// In a book that has ended nothing is settled any more: no stage, no frame, no end.
+pub fn book_that_has_ended()
+    ensures stage { (with_stage ordinary_use (at 0 18 3) nothing_told ended_book).given ≡ ended_book.given }
+    ensures upcoming { (with_stage ordinary_use (at 0 18 3) nothing_told ended_book).upcoming ≡ End }
+    ensures still_ended { (with_stage ordinary_use (at 0 18 3) nothing_told ended_book).ended ≡ true }
+    ensures frame { (with_frame ordinary_use 0 (begun ∷ []) ended_book).given ≡ ended_book.given }
+    ensures end { (with_end ended_book).given ≡ ended_book.given }
 {}

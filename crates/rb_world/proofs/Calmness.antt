@@ -1,6 +1,6 @@
 -- What the windows of a node bring in frames in which it is good and nothing is said to it.
-use Rattle.std.proofs.Common.{◌≡◌, ℕ, ◌+◌, ◌<◌, ◌≤◌, ◌⊎◌, ◌&&◌, ◌||◌, nat_lt, Bool, true, false, Some, None, List, [], get_or, refl, sym, ap, ◌∙◌, subst, arith, inl, inr}
-use Rattle.std.specs.Prelude.{◌==◌, Option, length, min, unwrap_or}
+use Rattle.std.proofs.Common.{◌≡◌, ℕ, ◌+◌, ◌<◌, ◌⊎◌, ◌&&◌, ◌||◌, nat_lt, Bool, true, false, Some, None, List, [], get_or, refl, sym, ap, ◌∙◌, subst, arith, inl, inr}
+use Rattle.std.specs.Prelude.{◌==◌, Option, length, unwrap_or}
 use Rattle.std.specs.List.{list_any}
 use Rattle.std.proofs.lemmas.Bool.Decides.{nat_tests}
 use Rattle.rb_base.specs.Nodes.{Side}
@@ -26,7 +26,7 @@ use Rattle.rb_rules.specs.Slots.{count_of}
 use Rattle.rb_rules.specs.SyncStage.{new_epoch_of}
 use Rattle.rb_rules.specs.WorldStep.{Site, await, proceed, says_in, span_from}
 use Rattle.rb_traffic.specs.Arriving.{number_of}
-use Rattle.rb_traffic.specs.Saying.{KeptSayings, all_brought, entries_for, entries_to, first_frame, is_for, kept_of, last_frame, senders_to}
+use Rattle.rb_traffic.specs.Saying.{KeptSayings, entries_for, first_frame, is_for, kept_of, last_frame}
 use Rattle.rb_traffic.proofs.Says.{none-after, none-before, none-for, says-are}
 use Rattle.rb_world.specs.Buses.{IsBus, scenario_of}
 use Rattle.rb_world.specs.Calm.{AreRestless, IsRestless, first_restless, is_calm, is_outside, last_restless}

@@ -52,3 +52,4 @@ pub mod Running
 pub mod ToldOn
 pub mod LeftTold
 pub mod Calmness
+pub mod NodesKept

@@ -15,7 +15,7 @@ use Rattle.rb_gen.specs.Draws.{number_of}
 use Rattle.rb_world.specs.Nexts.{Standing, after_steps, drawn, is_last, place_among, step, step_among}
 use Rattle.rb_world.specs.declared.ties.Ties.{Ties}
 use Rattle.rb_world.specs.declared.ties.Ties.TheVariants.{First, Last, Seeded}
-use Rattle.rb_world.specs.Worlds.{IsReached}
+use Rattle.rb_world.specs.Worlds.{IsReached, KeptWorld, NeedsEvent, Stands}
 use Rattle.rb_world.proofs.GoingOn.{ended-stays}
 use Rattle.rb_world.proofs.LastTurn.{reached-ends}
 
@@ -35,6 +35,14 @@ none-last o none last = absurd (cc)
 none-some : {P : Type 0} (o : Option Record) (r : Record) → o ≡ None → o ≡ Some r → P
 none-some o r none some = absurd (cc)
 
+due-in-reached : (sc : Scenario) (w : World) → IsLawful sc → IsReached sc w → NeedsEvent sc w → 1 ≤ length (due_of sc w)
+due-in-reached sc w lawful reached needs =
+    subst (λ (x : World). NeedsEvent sc x → 1 ≤ length (due_of sc x)) (sym reached.is) (λ n. something-due sc lawful reached.choices n.going n.needs) needs
+
+-- where the next record needs an event, some event is due
+pub some-due : (k : KeptWorld) (w : World) (n : ℕ) → Stands k w → NeedsEvent k.bus w → n ≡ length (due_of k.bus w) → 1 ≤ n
+some-due k w n is needs all = let some = due-in-reached k.bus w is.lawful is.reached needs in omega (arith, some, all)
+
 -- in a world that some choices lead to, going on without an event gives a record, if no event is due
 go-on-gives : (sc : Scenario) (w : World) → IsLawful sc → IsReached sc w → length (due_of sc w) ≡ 0 → (go_on sc w).turn ≢ None
 go-on-gives sc w lawful reached none = by w.book.ended (needs_no_event sc w.book.upcoming) refl refl
@@ -42,8 +50,7 @@ go-on-gives sc w lawful reached none = by w.book.ended (needs_no_event sc w.book
     by : (e n : Bool) → w.book.ended ≡ e → needs_no_event sc w.book.upcoming ≡ n → (go_on sc w).turn ≢ None
     by true n e _ = λ is. none-last w.turn (sym (ap (λ (x : World). x.turn) (ended-stays sc w e)) ∙ is) (reached-ends sc w reached e)
     by false true e needs = λ is. let r = given-alone sc lawful.sizes w e needs in none-some (go_on sc w).turn r.0 is r.1.0
-    by false false e needs = λ is. let some = subst (λ (x : World). x.book.ended ≡ false → needs_no_event sc x.book.upcoming ≡ false → 1 ≤ length (due_of sc x)) (sym reached.is)
-        (something-due sc lawful reached.choices) e needs in absurd (omega (arith, some, none))
+    by false false e needs = λ is. let some = due-in-reached sc w lawful reached (record { going = e; needs = needs }) in absurd (omega (arith, some, none))
 
 -- Places.
 

@@ -1,5 +1,5 @@
 -- What drives give, and what they tell.
-use Rattle.std.specs.Prelude.{⊤, ℕ, ◌≡◌, ◌<◌, Bool, true, List, [], ◌∷◌, ◌++◌, length, map, Option, Some, None, if◌then◌else◌}
+use Rattle.std.specs.Prelude.{⊤, ℕ, ◌≡◌, ◌<◌, ◌≤◌, Bool, false, List, [], ◌∷◌, ◌++◌, length, map, Option, Some, None, if◌then◌else◌}
 use Rattle.rb_base.specs.declared.values.Heard.TheVariants.{Fault}
 use Rattle.rb_rules.specs.declared.record.NodeLine.{NodeLine}
 use Rattle.rb_rules.specs.declared.record.PortLine.{PortLine}
@@ -46,6 +46,12 @@ pub record GoesAlike (before after : KeptWorld) (given : Turn) (w : World) : Typ
   pub goes : GoesToNext First before after turn w
   pub alike : bare given ≡ bare turn
 
+-- the world goes to its next record by first choices, and for that record this turn may be given
+pub record GivesBy (gives : Turn → Turn → Type 0) (before after : KeptWorld) (given : Turn) (w : World) : Type 0 where
+  pub turn : Turn
+  pub goes : GoesToNext First before after turn w
+  pub given_by : gives turn given
+
 -- Telling.
 
 -- a call appends the turn that it gives to what is told, or ends the telling for good
@@ -68,9 +74,12 @@ told_of k = if k.telling then Some k.turns else None
 abbrev pub given_for : Bool → Turn → Turn
 given_for mask turn = if mask then masked turn else turn
 
--- a turn is kept as long as there is room
+-- a turn is kept and told with those before it while there is room, and else nothing is told any more
 pub record Keeps (before after : KeptTurns) (turn : Turn) : Type 0 where
-  pub tells : Tells (told_of before) (told_of after) turn
+  pub kept : length before.turns < before.room → after.turns ≡ before.turns ++ turn ∷ []
+  pub telling : length before.turns < before.room → after.telling ≡ before.telling
+  pub stays : before.room ≤ length before.turns → after.turns ≡ before.turns
+  pub over : before.room ≤ length before.turns → after.telling ≡ false
   pub room : after.room ≡ before.room
   pub mask : after.mask ≡ before.mask
-  pub telling : before.telling ≡ true → length before.turns < before.room → after.telling ≡ true
+  pub tells : Tells (told_of before) (told_of after) turn

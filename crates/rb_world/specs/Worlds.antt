@@ -9,7 +9,7 @@ use Rattle.rb_rules.specs.Goodness.{Scenario, clock_of}
 use Rattle.rb_rules.specs.Lawful.{IsLawful}
 use Rattle.rb_rules.specs.Ports.{PortState}
 use Rattle.rb_rules.specs.Slots.{count_of}
-use Rattle.rb_rules.specs.WorldStep.{Choice, Site, World, world_after}
+use Rattle.rb_rules.specs.WorldStep.{Choice, Site, World, needs_no_event, world_after}
 use Rattle.rb_agenda.specs.Agenda.{how_many}
 use Rattle.rb_agenda.specs.Holding.{HoldsSites}
 use Rattle.rb_book.specs.Holding.{Holds}
@@ -97,6 +97,11 @@ pub record Stands (k : KeptWorld) (w : World) : Type 0 where
   pub nodes : (me : Side) → AreNodes k.bus me (of_kind me k.nodes) (of_kind me w.sites)
   pub scene : Surrounds k.bus k.scene w
   pub last : k.last ≡ last_of w.turn
+
+-- the last record has not been given yet, and the next one needs an event
+pub record NeedsEvent (sc : Scenario) (w : World) : Type 0 where
+  pub going : w.book.ended ≡ false
+  pub needs : needs_no_event sc w.book.upcoming ≡ false
 
 -- how many events may be taken, by what is kept: none where the next record needs none, and none after the last
 abbrev pub due_in : KeptWorld → ℕ

@@ -1,10 +1,12 @@
 //! Who takes a world from record to record.
-ghost use Rattle.std.specs.Prelude.{◌≡◌, IsTrue, IfOk, [], Bool, List, None, Option, false, not, true};
+ghost use Rattle.std.specs.Prelude.{◌≡◌, ⊤, IsTrue, IfOk, [], Bool, List, None, Option, false, is_some, not, true};
 ghost use Rattle.rb_rules.specs.WorldStep.{World as RunWorld};
+ghost use Rattle.rb_book.specs.Records.{record_of};
 ghost use Rattle.rb_book.specs.declared.turn.Turn.{Turn};
 ghost use Rattle.rb_world.specs.declared.ties.Ties.TheVariants.{First};
-ghost use Rattle.rb_world.specs.Driving.{GoesAlike, Keeps, Tells, given_for, masked, told_of};
+ghost use Rattle.rb_world.specs.Driving.{GivesBy, GoesAlike, Keeps, Tells, given_for, masked, told_of};
 ghost use Rattle.rb_world.specs.Nexts.{GoesToNext};
+ghost use Rattle.rb_world.specs.Numbering.{GoesInRounds};
 ghost use Rattle.rb_world.specs.Worlds.{Stands};
 
 use crate::ties::Ties;
@@ -25,13 +27,25 @@ pub trait Drive {
     /// The turns that it gave so far, where it tells them.
     ghost told: { Self → Option (List Turn) };
 
+    /// Which turns it may give for a record of the world.
+    ghost gives: { Self → Turn → Turn → Type 0 };
+
+    /// What it was, what it may be after a call, and the turn that is given.
+    ghost keeps: { Self → Self → Turn → Type 0 };
+
     /// The next turn. It is told with the others, or from here on nothing is told.
     fn next(&mut self, world: &mut World, apps: &Apps) -> Turn
         ensures plain { IsTrue (is_plain self.old) → (w : RunWorld) → Stands world.old w → GoesToNext First world.old world.new result w }
+        ensures rounds { IsTrue (is_plain self.old) → (w : RunWorld) → Stands world.old w
+            → GoesInRounds world.old world.new result w }
+        ensures record { is_some (record_of result) ≡ true }
         ensures alike { (w : RunWorld) → Stands world.old w → GoesAlike world.old world.new result w }
         ensures bus { world.new.bus ≡ world.old.bus }
         ensures stays { is_plain self.new ≡ is_plain self.old }
-        ensures told { Tells (told self.old) (told self.new) result };
+        ensures told { Tells (told self.old) (told self.new) result }
+        ensures gives { (w : RunWorld) → Stands world.old w
+            → GivesBy (gives self.old) world.old world.new result w }
+        ensures keeps { keeps self.old self.new result };
 }
 
 /// The plain drive that tells nothing.
@@ -49,6 +63,10 @@ impl Drive for FirstDrive {
     ghost is_plain = { λ _. true };
 
     ghost told = { λ _. None };
+
+    ghost gives = { λ _ turn given. given ≡ turn };
+
+    ghost keeps = { λ _ _ _. ⊤ };
 
     #[inline(always)]
     fn next(&mut self, world: &mut World, apps: &Apps) -> Turn {
@@ -100,6 +118,13 @@ fn masked(turn: Turn) -> Turn
     }
 }
 
+// The turn that is given for this one.
+fn given(turn: Turn, mask: bool) -> Turn
+    ensures { result ≡ given_for mask turn }
+{
+    if mask { masked(turn) } else { turn }
+}
+
 impl MemDrive {
     /// A drive that tells at most so many turns. It takes memory for all of them here.
     pub fn new(alloc: Global, room: usize, mask: bool) -> Result<MemDrive, OutOfMemory>
@@ -140,9 +165,13 @@ impl Drive for MemDrive {
 
     ghost told = { told_of };
 
+    ghost gives = { λ d turn given. given ≡ given_for d.mask turn };
+
+    ghost keeps = { Keeps };
+
     fn next(&mut self, world: &mut World, apps: &Apps) -> Turn {
-        let turn = world.next(apps, Ties::First);
-        let turn = if self.mask { masked(turn) } else { turn };
+        let next = world.next(apps, Ties::First);
+        let turn = given(next, self.mask);
         self.keep(&turn);
         turn
     }

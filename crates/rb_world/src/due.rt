@@ -9,7 +9,7 @@ ghost use Rattle.rb_rules.specs.WorldStep.Pending.{Arrival, Tick};
 ghost use Rattle.rb_node.specs.Wants.{want_for};
 ghost use Rattle.rb_site.specs.Sites.{number_of};
 ghost use Rattle.rb_world.specs.Showing.{MayShow, MayShowArrival, MayShowTick};
-ghost use Rattle.rb_world.specs.Worlds.{Stands, due_in};
+ghost use Rattle.rb_world.specs.Worlds.{NeedsEvent, Stands, due_in};
 
 use crate::bus::Bus;
 use crate::scene::number_of as number_in;
@@ -120,10 +120,11 @@ fn show<K: Kind>(
 
 impl World {
     /// How many events may be taken: those of the least time at which any is pending. None where the next record needs no event,
-    /// and none after the last.
+    /// and none after the last. Where it needs one, at least one may be taken.
     pub fn due(&self) -> usize
         ensures value { result ≡ due_in self.now }
         ensures world { (w : RunWorld) → Stands self.now w → result ≡ length (due_of self.now.bus w) }
+        ensures some { (w : RunWorld) → Stands self.now w → NeedsEvent self.now.bus w → 1 ≤ result }
         ensures stands { (w : RunWorld) × Stands self.now w }
     {
         if self.scene.book.has_ended() || self.scene.book.needs_no_event() {

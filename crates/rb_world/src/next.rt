@@ -3,6 +3,7 @@ ghost use Rattle.std.specs.Prelude.{◌≡◌, ℕ, true, Option, Some, is_some}
 ghost use Rattle.rb_rules.specs.Book.{Record};
 ghost use Rattle.rb_rules.specs.Lawful.{IsNodeOf};
 ghost use Rattle.rb_rules.specs.WorldStep.{World as RunWorld, go_on};
+ghost use Rattle.rb_order.specs.Promise.{NodesKeepThePromise};
 ghost use Rattle.rb_book.specs.declared.turn.Turn.{Turn};
 ghost use Rattle.rb_book.specs.Records.{record_of};
 ghost use Rattle.rb_world.specs.declared.ties.Ties.TheVariants.{First};
@@ -150,6 +151,7 @@ impl World {
         ensures record { is_some (record_of result) ≡ true }
         ensures bus { self.new.bus ≡ self.old.bus }
         ensures rounds { (w : RunWorld) → Stands self.old w → GoesInRounds self.old self.new result w }
+        ensures nodes { (w : RunWorld) → Stands self.new w → NodesKeepThePromise self.new.bus w }
     {
         let mut seeding = self.seeding.begin(ties);
         let mut turn = Turn::Quiet;

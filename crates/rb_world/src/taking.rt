@@ -5,6 +5,7 @@ ghost use Rattle.rb_rules.specs.Links.{name_of};
 ghost use Rattle.rb_site.specs.Sites.{Stands as StandsFor, number_of};
 ghost use Rattle.rb_rules.specs.Hearing.{Coming};
 ghost use Rattle.rb_rules.specs.WorldStep.{Due, Site as WorldSite, World as RunWorld, after_arrival, take};
+ghost use Rattle.rb_order.specs.Promise.{NodesKeepThePromise};
 ghost use Rattle.rb_queue.specs.Waiting.{lane_of, with_lane, without_place};
 ghost use Rattle.rb_world.specs.Numbering.{TakesInRounds};
 ghost use Rattle.rb_world.specs.Steps.{CanHear, Happens, MayHappen, MayTick, Ticks, act_at};
@@ -149,6 +150,7 @@ impl World {
         ensures bus { self.new.bus ≡ self.old.bus }
         ensures seeding { self.new.seeding ≡ self.old.seeding }
         ensures rounds { (w : RunWorld) → Stands self.old w → TakesInRounds self.old.bus w (take self.old.bus w i) (record_of result) }
+        ensures nodes { (w : RunWorld) → Stands self.new w → NodesKeepThePromise self.new.bus w }
     {
         let mut turn = Turn::Quiet;
         self.take_into(apps, i, &mut turn);

@@ -14,7 +14,7 @@ returns g c = λ received shown.
     let s = standing_of c.args.standing.now in
     let e = c.args.expect.now in
     let sense = sense_in e received in
-    c.accuse_each.ensures
+    c.accuse_each.ensures.accused
     ∙ evidence_is s c.args.expected c.union-ones.result c.came.result c.evidence-evidence.result sense c.evidence-evidence.ensures
     (λ j h. ap (λ t. has t j) c.came.ensures.value ∙ came_is e c.args.inbox.now received j shown h)
     (λ j h trusted expected.

@@ -16,7 +16,7 @@ window_of-ahead-requires-clause-epoch g c =
     let me = side_of g.K.Kind.CODE in
     let now : is_tick (new_epoch_of v.plan me v.state) c.args.now ≡ true = rw c.new_epoch.ensures at (sym c.is_tick.ensures ∙ c.if-is_tick.true) in
     let turned : Turned v c.turn.new.self c.args.now =
-    turns me v c.turn.new.self c.args.now (c.turn.ensures ∙ ap (λ (st : NodeState). record v { state = st }) (sym (turns-is v me c.args.now now))) c.requires.epoch in
+    turns me v c.turn.new.self c.args.now (c.turn.ensures.state ∙ ap (λ (st : NodeState). record v { state = st }) (sym (turns-is v me c.args.now now))) c.requires.epoch in
     turned.epoch
 
 pub returns-then-is_tick-clause-state : goal.returns-then-is_tick-clause-state
@@ -24,7 +24,7 @@ returns-then-is_tick-clause-state g c =
     let v = c.args.engine.now in
     let me = side_of g.K.Kind.CODE in
     let now : is_tick (new_epoch_of v.plan me v.state) c.args.now ≡ true = rw c.new_epoch.ensures at (sym c.is_tick.ensures ∙ c.if-is_tick.true) in
-    c.turn.ensures ∙ ap (λ (st : NodeState). record v { state = st }) (sym (turns-is v me c.args.now now))
+    c.turn.ensures.state ∙ ap (λ (st : NodeState). record v { state = st }) (sym (turns-is v me c.args.now now))
 
 pub returns-else-is_tick-clause-state : goal.returns-else-is_tick-clause-state
 returns-else-is_tick-clause-state g c =
@@ -39,5 +39,5 @@ returns-then-is_tick-clause-stage g c =
     let me = side_of g.K.Kind.CODE in
     let now : is_tick (new_epoch_of v.plan me v.state) c.args.now ≡ true = rw c.new_epoch.ensures at (sym c.is_tick.ensures ∙ c.if-is_tick.true) in
     let epoch : c.turn.new.self.state.epoch ≡ c.args.now =
-    ap (λ (x : Seated). x.state.epoch) c.turn.ensures ∙ ap (λ (st : NodeState). st.epoch) (sym (turns-is v me c.args.now now)) ∙ turned-epoch v me c.args.now now in
+    ap (λ (x : Seated). x.state.epoch) c.turn.ensures.state ∙ ap (λ (st : NodeState). st.epoch) (sym (turns-is v me c.args.now now)) ∙ turned-epoch v me c.args.now now in
     silent-says me c.turn.new.self _ c.args.now c.bounds.ensures.shape c.bounds.ensures.plan epoch (ap (λ (w : Window). w.slot) c.window_of-ahead.ensures.is)

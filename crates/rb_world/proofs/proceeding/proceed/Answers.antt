@@ -1,13 +1,9 @@
-use Rattle.std.proofs.Common.{◌+◌, ◌≤◌, sym, ap, ◌∙◌, subst, arith}
-use Rattle.std.specs.Prelude.{length}
+use Rattle.std.proofs.Common.{sym, ap, ◌∙◌}
 use Rattle.rb_base.specs.Nodes.{side_of}
-use Rattle.rb_rules.specs.Lawful.{IsNodeOf}
-use Rattle.rb_queue.specs.Waiting.{lane_of, spare_of}
 use Rattle.rb_slot.specs.Engines.{Seated}
 use Rattle.rb_node.specs.Cores.{Running}
 use Rattle.rb_site.specs.Sites.{number_of}
 use Rattle.rb_world.proofs.Entering.{after-calm}
-use Rattle.rb_world.proofs.Lanes.{node-named}
 use Rattle.rb_world.proofs.proceeding.proceed.Goals as goal
 
 pub returns-then-is_calm : goal.returns-then-is_calm

@@ -13,7 +13,7 @@ returns g c =
     let shape : IsShape sizes = rw (← c.self.view_is) at c.bounds.ensures.shape in
     let trusted = rw (← c.self.view_is) at c.trusted_biu-trusted.ensures in
     let owners =
-    c.owners_of-self-inside.ensures
+    c.owners_of-self-inside.ensures.owners
     ∙ ap (λ s. owners_of s c.trusted_biu-trusted.result c.first_votes.result) c.shape.ensures
     ∙ ap (owners_of sizes c.trusted_biu-trusted.result) c.first_votes.ensures
     ∙ requests_are sizes c.trusted_biu-trusted.result c.self.inside.votes shape

@@ -2,6 +2,7 @@ use Rattle.std.proofs.Common.{◌≡◌, length, sym, ◌∙◌, subst}
 use Rattle.rb_rules.specs.WorldStep.{World as RunWorld, due_of}
 use Rattle.rb_world.specs.Worlds.{KeptWorld, Stands, due_in}
 use Rattle.rb_world.proofs.Idle.{all-due, busy, ended-idle, free-idle, length-due, none-due, none-due-then}
+use Rattle.rb_world.proofs.Steps.{some-due}
 use Rattle.rb_world.proofs.world.World.due.Goals as goal
 use Rattle.rb_world.proofs.world.World.due.Goals.{then-has_ended-via-then-has_ended, then-has_ended-via-else-has_ended+then-needs_no_event}
 
@@ -41,3 +42,9 @@ returns-clause-value c =
     subst (λ k. c.due.result ≡ due_in k) c.self.view_is (all-due k w c.due.result is
     (busy k w (sym (c.has_ended.ensures k.bus w is.scene.book) ∙ c.if-has_ended.false) (sym (c.needs_no_event.ensures k.bus w is.scene.book) ∙ c.if-needs_no_event.false))
     c.due.ensures.value)
+
+pub returns-then-has_ended-clause-some : goal.returns-then-has_ended-clause-some
+returns-then-has_ended-clause-some c = λ w is needs. some-due c.args.self.now w 0 is needs (returns-then-has_ended-clause-world c w is)
+
+pub returns-clause-some : goal.returns-clause-some
+returns-clause-some c = λ w is needs. some-due c.args.self.now w c.due.result is needs (returns-clause-world c w is)

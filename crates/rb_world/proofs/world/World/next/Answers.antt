@@ -3,6 +3,7 @@ use Rattle.rb_world.specs.declared.ties.Seeding.{Seeding}
 use Rattle.rb_world.specs.Nexts.{RunsOn, begun_with}
 use Rattle.rb_world.specs.Worlds.{KeptWorld}
 use Rattle.rb_world.proofs.NextRecord.{goes-on, with-seeding}
+use Rattle.rb_world.proofs.NodesKept.{nodes-keep}
 use Rattle.rb_world.proofs.Numbered.{next-in-rounds}
 use Rattle.rb_world.proofs.world.World.next.Goals as goal
 
@@ -36,3 +37,6 @@ returns-clause-rounds g c =
     (c.run_on.ensures.world w is) in
     next-in-rounds c.args.ties c.args.self.now (record k { seeding = after }) c.run_on.new.turn w is
     (goes-on c.args.ties c.begin-seeding.result after c.args.self.now k c.run_on.new.turn w begun refl runs)
+
+pub returns-clause-nodes : goal.returns-clause-nodes
+returns-clause-nodes g c = λ w is. nodes-keep _ w is

@@ -1,0 +1,123 @@
+"""What an accepted scenario says that can have no effect, or another one than meant: warnings."""
+from __future__ import annotations
+
+from typing import Iterator
+
+from robus import syntax
+from robus.forms import title
+from robus.layout import listens, purpose
+from robus.locate import Locator
+from robus.model import TAIL, model, name_of, read
+from robus.watch import Watched, watch
+
+# Runs of more stages than this are not made for a warning
+MOST_STAGES = 200_000
+
+
+def windows_of(say) -> Iterator[tuple[int, int]]:
+    for slot in range(say.slots[0], say.slots[1] + 1):
+        for stage in range(say.stages[0], say.stages[1] + 1):
+            yield slot, stage
+
+
+def receivers(bus, pattern) -> list[tuple]:
+    return [node for node in bus.nodes() if model.stands_for(pattern, node)]
+
+
+def unheard(scenario, place: tuple, say) -> Iterator[tuple]:
+    """A say entry in stages in which no receiver listens, or to receivers that are all faulty by then."""
+    bus, kind = scenario.bus, say.target[0]
+    if not any(listens(bus, slot, stage, kind) for slot, stage in windows_of(say)):
+        slot, stage = say.slots[0], say.stages[0]
+        what = "the tail" if stage == TAIL else "stage %d of slot %d (%s)" % (stage, slot, purpose(bus, slot))
+        yield place, "no %s listens in %s: what is said there is never taken, and is evidence against %s" % (
+            ("BIU", "RMU")[kind], what, name_of(say.source))
+    if not any(scenario.is_good(node, say.frames[0], say.slots[0]) for node in receivers(bus, say.target)):
+        yield place + ("to",), "each node to which this is said is faulty by then, and hears nothing"
+
+
+def said_twice(scenario, places: list[tuple]) -> Iterator[tuple]:
+    """Two say entries of one node that fall into one window of one receiver."""
+    def meet(a, b) -> bool:
+        return a[0] <= b[1] and b[0] <= a[1]
+
+    heard = [set(receivers(scenario.bus, say.target)) for say in scenario.says]
+    for index, say in enumerate(scenario.says):
+        for before, other in enumerate(scenario.says[:index]):
+            same = say.source == other.source and heard[index] & heard[before]
+            if same and meet(say.frames, other.frames) and meet(say.slots, other.slots) and meet(say.stages, other.stages):
+                yield places[index], ("%s speaks to the same receiver in the same window: two messages there are evidence, "
+                                      "and none is taken" % title(places[before]))
+                break
+
+
+def covered_links(scenario) -> Iterator[tuple]:
+    """Link entries all of whose messages a later entry is for."""
+    def within(a, b) -> bool:
+        return b[0] <= a[0] and a[1] <= b[1]
+
+    def end_within(a, b) -> bool:
+        return a[0] == b[0] and (b[1] is None or a[1] == b[1])
+
+    links = scenario.links[-400:]
+    skipped = len(scenario.links) - len(links)
+    for index, rule in enumerate(links):
+        for later, other in enumerate(links[index + 1:], index + 1):
+            if (end_within(rule.source, other.source) and end_within(rule.target, other.target) and within(rule.frames, other.frames)
+                    and within(rule.slots, other.slots) and within(rule.stages, other.stages)):
+                yield ("link", skipped + index), "%s is for all of these messages, and the last one counts" % title(
+                    ("link", skipped + later))
+                break
+
+
+def of_root(scenario, document: dict) -> Iterator[tuple]:
+    bus = scenario.bus
+    if "requests" in document and "words" in document:
+        for number, asked in enumerate(scenario.requests):
+            if not asked and scenario.words[number]:
+                yield ("words", number), "B%d asks for no data slot, so its word is never said" % number
+    if "probation" in document and 0 < scenario.frames <= bus.probation:
+        yield ("probation",), "no accusation lapses in a run of %d frames" % scenario.frames
+    for number, entry in enumerate(document.get("clock", [])):
+        onset = scenario.onsets.get(("BR".index(entry["node"][0]), int(entry["node"][1:])))
+        if onset == (0, 0):
+            yield ("clock", number), "%s is faulty from the first slot on, so nothing asks its clock" % entry["node"]
+
+
+def of_run(run: Watched, places: list[tuple]) -> Iterator[tuple]:
+    """Say entries of nodes that are convicted by then, in idle slots, or past the end of the run."""
+    scenario, bus = run.scenario, run.bus
+    for place, say in zip(places, scenario.says):
+        first = say.frames[0], say.slots[0]
+        if run.breach and (say.frames[0], say.slots[0], say.stages[0]) > run.place:
+            yield place, "the run ends before, with the breach in frame %d, slot %d, stage %d" % run.place
+            continue
+        masks = next(iter(run.starts.get(say.frames[0], {}).values()), None)
+        if masks and masks.convicted[say.source[0]] >> say.source[1] & 1:
+            since = min(frame for frame, starts in run.starts.items()
+                        if any(it.convicted[say.source[0]] >> say.source[1] & 1 for it in starts.values()))
+            yield place, "%s is convicted from frame %d on, so nobody takes what it says" % (name_of(say.source), since)
+        elif say.slots[1] < bus.sync and all(is_idle(run, frame, slot) for frame in range(say.frames[0], say.frames[1] + 1)
+                                             for slot in range(say.slots[0], say.slots[1] + 1)):
+            yield place, "slot %d of frame %d is idle, its sender being convicted or none, so nobody listens" % (first[1], first[0])
+
+
+def is_idle(run: Watched, frame: int, slot: int) -> bool:
+    """Whether no good node has a sender in this slot; not where the run did not come there."""
+    return (frame, slot) in run.reached and (frame, slot) not in run.busy
+
+
+def warnings(data: bytes) -> list[tuple]:
+    """Line, place and reason of each warning, in the order of lines."""
+    scenario = read(data)
+    text = data.decode("utf-8")
+    document = syntax.tomllib.loads(model.older_toml(text))
+    locator = Locator(text)
+    places = [("say", number) for number in range(len(scenario.says))]
+    found = list(of_root(scenario, document)) + list(covered_links(scenario)) + list(said_twice(scenario, places))
+    for place, say in zip(places, scenario.says):
+        found += unheard(scenario, place, say)
+    if scenario.says and 3 * scenario.bus.sync * scenario.frames * len(scenario.bus.nodes()) <= MOST_STAGES:
+        known = {place[:2] for place, _ in found if place[0] == "say"}
+        found += [it for it in of_run(watch(scenario), places) if it[0] not in known]
+    return sorted(((locator.line_of(place), place, why) for place, why in found), key=lambda it: it[0])

@@ -1,0 +1,71 @@
+"""Refusals of a scenario for its keys and forms: a key that is missing, one that there is not, a value of another form."""
+from __future__ import annotations
+
+import difflib
+from typing import Iterator
+
+from robus.keys import TABLES, may_stand
+from robus.model import model
+
+FIELDS = {"root": model.ROOT_FIELDS, "plan": model.PLAN_FIELDS, **model.ENTRY_FIELDS}
+SAYINGS = model.SAYINGS
+
+
+def tables_of(document: dict) -> Iterator[tuple[tuple, str, dict]]:
+    """Each table of a document that has keys of its own: its place, its name, the table."""
+    yield (), "root", document
+    if isinstance(document.get("plan"), dict):
+        yield ("plan",), "plan", document["plan"]
+    for name in model.ENTRY_FIELDS:
+        entries = document.get(name)
+        for number, entry in enumerate(entries if isinstance(entries, list) else []):
+            if isinstance(entry, dict):
+                yield (name, number), name, entry
+
+
+def title(place: tuple) -> str:
+    """A table's name for a reader: `say 3` is the third [[say]]."""
+    return "the document" if not place else "plan" if place == ("plan",) else "%s %d" % (place[0], place[1] + 1)
+
+
+def near(key: str, keys) -> str | None:
+    """The key that a misspelt one is nearest to, if any is near."""
+    found = difflib.get_close_matches(key.lower(), list(keys), 1, 0.6)
+    return found[0] if found else None
+
+
+def elsewhere(key: str, table: str) -> str:
+    """In which other tables a key stands, in words."""
+    there = [name for name, keys in TABLES.items() if name != table and key in keys]
+    return ", ".join("at the root" if name == "root" else "in " + ("plan" if name == "plan" else "[[%s]]" % name) for name in there)
+
+
+def missing(place: tuple, name: str, table: dict) -> Iterator[tuple]:
+    for key, (is_required, _) in FIELDS[name].items():
+        if is_required and key not in table:
+            typo = next((it for it in table if it not in FIELDS[name] and near(it, FIELDS[name]) == key), None)
+            why = "%s has no %s: %s" % (title(place), key, may_stand(name, key))
+            yield 2, place + ((typo,) if typo else ()), why + ("; is it what is spelt %s here?" % typo if typo else "")
+    if name == "say" and not any(key in table for key in SAYINGS):
+        yield 2, place, "%s says nothing: one of word, fault, sync and raw is to stand there" % title(place)
+
+
+def unknown(place: tuple, name: str, table: dict) -> Iterator[tuple]:
+    for key in table:
+        if key not in FIELDS[name]:
+            like, other = near(key, [it for it in FIELDS[name] if it not in table] or FIELDS[name]), elsewhere(key, name)
+            hint = "did you mean %s?" % like if like else "it stands " + other if other else "there are " + ", ".join(FIELDS[name])
+            yield 3, place + (key,), "%s has no key %s: %s" % (title(place), key, hint)
+
+
+def of_another_form(place: tuple, name: str, table: dict) -> Iterator[tuple]:
+    for key, value in table.items():
+        if key in FIELDS[name] and not FIELDS[name][key][1](value):
+            yield 4, place + (key,), "%s is to be %s" % (key, may_stand(name, key))
+
+
+def findings(document: dict) -> Iterator[tuple]:
+    """All that is wrong with keys and forms: the rule's code, the place, why."""
+    for table in tables_of(document):
+        for rule in (missing, unknown, of_another_form):
+            yield from rule(*table)

@@ -1,0 +1,103 @@
+"""Refusals of a scenario for what its values say together: plan, clocks, delays, starts, who speaks while good, too many entries."""
+from __future__ import annotations
+
+from typing import Iterator
+
+from robus.forms import title
+from robus.model import model
+from robus.ranges import Values
+
+REMEDY = {1: "raise h", 2: "raise l", 3: "raise h", 4: "raise v", 5: "raise h", 6: "raise z", 7: "raise p"}
+
+
+def of_plan(values: Values) -> Iterator[tuple]:
+    if values.plan is None or values.sync is None:
+        return
+    bus = model.Bus(values.biu, values.rmu, values.slots, values.plan)
+    for number, (left, right) in enumerate(model.sides_of(bus), 1):
+        if left < right:
+            yield 6, ("plan",), "inequality %d of the plan fails: %d is to be at least %d; %s (tools/plan finds one that holds)" % (
+                number, left, right, REMEDY[number])
+
+
+def of_clocks(values: Values) -> Iterator[tuple]:
+    plan = values.plan
+    for place in values.entries("clock"):
+        ticks = values.get(place, "ticks")
+        if ticks is None or plan is None:
+            continue
+        if not ticks:
+            yield 7, place + ("ticks",), "ticks is to have a pair at least"
+        elif ticks[0][0] != 0:
+            yield 7, place + ("ticks", 0, 0), "the first pair is to begin with tick 0"
+        for index, (first, length) in enumerate(ticks):
+            if index and first <= ticks[index - 1][0]:
+                yield 7, place + ("ticks", index, 0), "first ticks are to rise, and %d does not come after %d" % (
+                    first, ticks[index - 1][0])
+            if not plan.u - plan.r <= length <= plan.u + plan.r:
+                yield 7, place + ("ticks", index, 1), "a tick's length is to be u - r to u + r, which is %d to %d" % (
+                    plan.u - plan.r, plan.u + plan.r)
+
+
+def of_delays(values: Values) -> Iterator[tuple]:
+    for place in [()] + values.entries("link"):
+        delay, plan = values.get(place, "delay"), values.plan
+        if delay is not None and plan is not None and not plan.dmin <= delay <= plan.dmax:
+            yield 8, place + ("delay",), "a delay is to lie within dmin to dmax, which is %d to %d" % (plan.dmin, plan.dmax)
+
+
+def of_starts(values: Values) -> Iterator[tuple]:
+    """The starts lie within p; the one that is furthest from most others is named."""
+    if values.plan is None or values.biu is None or values.rmu is None:
+        return
+    starts = {place: values.get(place, "start", 0) for place in values.entries("clock")}
+    if len(starts) < values.biu + values.rmu:
+        starts[()] = 0
+    low, high = min(starts.values()), max(starts.values())
+    if high - low > values.plan.p:
+        worst = next(place for place, start in starts.items() if start == high)
+        other = next(place for place, start in starts.items() if start == low)
+        yield 9, worst + ("start",), "the starts are to lie within p, which is %d: this is %d units after %s" % (
+            values.plan.p, high - low, title(other) if other else "the clocks that have no start")
+
+
+def of_speakers(values: Values) -> Iterator[tuple]:
+    onsets, is_whole = {}, True
+    for place in values.entries("fault"):
+        node = values.node(values.get(place, "node"))
+        if node and values.get(place, "frame") is not None and values.get(place, "slot") is not None:
+            onsets[node] = values.get(place, "frame"), values.get(place, "slot")
+        else:
+            is_whole = False
+    for place in values.entries("say"):
+        node, frames, slots = values.node(values.get(place, "from")), values.get(place, "frames"), values.get(place, "slots")
+        if node is None or frames is None or slots is None:
+            continue
+        name = values.get(place, "from")
+        if node not in onsets and not is_whole:
+            continue
+        if node not in onsets:
+            yield 10, place + ("from",), "%s has no [[fault]] entry, so it is good, and says what good nodes say" % name
+        elif (frames[0], slots[0]) < onsets[node]:
+            yield 10, place + ("frames",), "%s is good until frame %d, slot %d, and this begins at frame %d, slot %d" % (
+                name, *onsets[node], frames[0], slots[0])
+
+
+def of_counts(values: Values) -> Iterator[tuple]:
+    for name, most in (("say", model.MOST_SAYS), ("link", model.MOST_LINKS)):
+        places = values.entries(name)
+        if len(places) > most:
+            yield 11, places[most], "there are %d [[%s]] entries, and %d may be" % (len(places), name, most)
+    if values.biu is None or values.rmu is None:
+        return
+    pairs = {place: len(values.get(place, "ticks", [0])) for place in values.entries("clock")}
+    total = sum(pairs.values()) + max(0, values.biu + values.rmu - len(pairs))
+    if total > model.MOST_PAIRS:
+        most = max(pairs, key=pairs.get)
+        yield 11, most + ("ticks",), "the ticks of all clocks have %d pairs, and %d may be" % (total, model.MOST_PAIRS)
+
+
+def findings(values: Values) -> Iterator[tuple]:
+    """All that breaks a rule on what the values say together: the rule's code, the place, why."""
+    for rule in (of_plan, of_clocks, of_delays, of_starts, of_speakers, of_counts):
+        yield from rule(values)

@@ -1,0 +1,125 @@
+"""Says where and why a scenario is refused, and what in it can have no effect."""
+from __future__ import annotations
+
+import argparse
+import json
+import sys
+from dataclasses import asdict, dataclass
+
+from robus import forms, laws, ranges, syntax
+from robus.locate import Locator
+from robus.model import TooLong, model, read
+
+HELP = """Says where and why a scenario is refused: every finding with its line, what stands there and what may stand there. It agrees with
+robus on what is refused, and names first the rule for which robus refuses it. Of an accepted scenario it says what can have no effect, for
+which it runs the scenario on tools/model. It is not proved.
+
+status: 0 accepted, 2 wrong words or no such file, 3 refused, 4 longer than a scenario may be"""
+
+
+@dataclass
+class Finding:
+    """What is found at a line: a rule's code, or 0 where it is a warning."""
+
+    code: int
+    line: int
+    place: str
+    stands: str
+    why: str
+
+
+def spelt(place: tuple) -> str:
+    """A place as a reader writes it: say 2.slots."""
+    if not place:
+        return ""
+    is_entry = len(place) > 1 and isinstance(place[1], int) and place[0] in model.ENTRY_FIELDS
+    head, rest = ("%s %d" % (place[0], place[1] + 1), place[2:]) if is_entry else (str(place[0]), place[1:])
+    return head + "".join("[%d]" % it if isinstance(it, int) else ".%s" % it for it in rest)
+
+
+def short(text: str) -> str:
+    text = " ".join(text.split())
+    return text if len(text) <= 60 else text[:57] + "..."
+
+
+def refusal_of(data: bytes) -> str | None:
+    """The line with which the scenario is refused; nothing where it is accepted."""
+    try:
+        read(data)
+    except model.Refused as refusal:
+        return str(refusal)
+    return None
+
+
+def findings_in(data: bytes) -> list[Finding]:
+    """All that is wrong with a document, in the order of its lines; nothing where it is accepted."""
+    fault = syntax.fault_of(data)
+    if fault:
+        line, column, why = fault
+        rows = data.decode("utf-8", "replace").split("\n")
+        stands = rows[line - 1].strip() if line <= len(rows) else ""
+        return [Finding(1, line, "column %d" % column, short(stands), why[:1].lower() + why[1:])]
+    text = data.decode("utf-8")
+    parts = syntax.older(text)
+    document = syntax.tomllib.loads("".join(part for _, part in parts))
+    locator = Locator(text)
+
+    def finding(code: int, place: tuple, why: str) -> Finding:
+        stands = locator.texts.get(place, "")
+        return Finding(code, locator.line_of(place), spelt(place), short(stands), why)
+
+    wide = [finding(1, place, "integers are of 64 bits") for place, value in syntax.values_in(document)
+            if not -(1 << 63) <= value < 1 << 63]
+    if wide:
+        return wide
+    values = ranges.Values(document)
+    found = [finding(*it) for source in (forms.findings(document), ranges.findings(values), laws.findings(values)) for it in source]
+    return sorted(found, key=lambda it: (it.line, it.code))
+
+
+def lint(data: bytes) -> tuple[str | None, list[Finding]]:
+    """The refusal's line, and all findings; of an accepted scenario warnings."""
+    refusal = refusal_of(data)
+    if refusal is None:
+        from robus import effects
+
+        return None, [Finding(0, line, spelt(place), "", why) for line, place, why in effects.warnings(data)]
+    found = findings_in(data)
+    code = int(refusal.split()[1])
+    if code not in [it.code for it in found]:
+        found.insert(0, Finding(code, 1, "", "", "the second model refuses it, and this tool finds no place for it"))
+    return refusal, found
+
+
+def line_for(name: str, it: Finding) -> str:
+    """A finding as a line of text."""
+    rule = "warning" if it.code == 0 else "%d %s" % (it.code, model.SCENARIO_RULES[it.code])
+    what = ": %s" % it.place if it.place else ""
+    stands = ""
+    if it.stands and it.code == 1:
+        stands = " `%s`" % it.stands
+    elif it.stands and not it.stands.startswith("[["):
+        stands = " = %s" % it.stands
+    return "%s:%d: %s%s%s: %s" % (name, it.line, rule, what, stands, it.why)
+
+
+def main(words: list[str]) -> int:
+    parser = argparse.ArgumentParser(prog="tools/lint", description=HELP, formatter_class=argparse.RawDescriptionHelpFormatter)
+    parser.add_argument("scenario", help="a file, or - for standard input")
+    parser.add_argument("--json", action="store_true", help="a line of JSON for each finding")
+    asked = parser.parse_args(words)
+    try:
+        data = sys.stdin.buffer.read() if asked.scenario == "-" else open(asked.scenario, "rb").read()
+        refusal, found = lint(data)
+    except OSError as fault:
+        print("tools/lint: %s: %s" % (asked.scenario, fault.strerror), file=sys.stderr)
+        return 2
+    except TooLong:
+        print("%s: longer than %d bytes" % (asked.scenario, model.SCENARIO_LIMIT))
+        return 4
+    for it in found:
+        print(json.dumps(asdict(it)) if asked.json else line_for(asked.scenario, it))
+    if not asked.json:
+        count = "%d %s%s" % (len(found), "warning" if refusal is None else "finding", "" if len(found) == 1 else "s")
+        print("%s: %s, %s" % (asked.scenario, refusal or "accepted", count))
+    return 3 if refusal else 0

@@ -1,0 +1,229 @@
+"""Refusals of a scenario for values out of their range: numbers, names, pairs, lengths, entries that stand twice."""
+from __future__ import annotations
+
+import re
+from typing import Any, Iterator
+
+from robus.forms import FIELDS, SAYINGS, tables_of, title
+from robus.keys import RANGES
+from robus.model import BIU, RMU, TAIL, model
+
+WORD = (1 << 32) - 1
+LETTERS = "BR"
+
+
+class Values:
+    """A document's values, asked for by place: nothing where a value is missing or of another form."""
+
+    def __init__(self, document: dict):
+        self.document = document
+        self.tables = {place: (name, table) for place, name, table in tables_of(document)}
+        self.biu, self.rmu, self.slots, self.frames = (self.ranged(key) for key in ("biu", "rmu", "slots", "frames"))
+        sizes = self.biu, self.rmu, self.slots
+        self.sync = None if None in sizes else 2 * self.biu + self.rmu + self.slots
+        self.plan = self.whole_plan()
+
+    def get(self, place: tuple, key: str, default: Any = None) -> Any:
+        name, table = self.tables.get(place, ("root", {}))
+        return table[key] if key in table and FIELDS[name][key][1](table[key]) else default
+
+    def ranged(self, key: str) -> int | None:
+        value = self.get((), key)
+        return value if value is not None and RANGES[key][0] <= value <= RANGES[key][1] else None
+
+    def size(self, kind: int) -> int | None:
+        return self.rmu if kind else self.biu
+
+    def whole_plan(self):
+        """The plan, where each number of it is in its range."""
+        table = self.document.get("plan", {})
+        keys = FIELDS["plan"]
+        if not isinstance(table, dict) or any(key not in keys or not keys[key][1](value) for key, value in table.items()):
+            return None
+        plan = model.Plan(**table)
+        in_range = all(low <= getattr(plan, key) <= high for key, (low, high) in model.PLAN_RANGES.items())
+        return plan if in_range and plan.r < plan.u and plan.dmin <= plan.dmax else None
+
+    def entries(self, name: str) -> list[tuple]:
+        return [place for place, (it, _) in self.tables.items() if it == name]
+
+    def node(self, text: str | None) -> tuple | None:
+        """The node of a name, as (kind, number), where the bus has one."""
+        if text is None or not re.fullmatch(r"[BR](0|[1-9][0-9]?)", text, re.ASCII):
+            return None
+        kind, number = LETTERS.index(text[0]), int(text[1:])
+        return (kind, number) if self.size(kind) is None or number < self.size(kind) else None
+
+    def end(self, text: str | None) -> tuple | None:
+        """A node, or (kind, None) for all of a kind."""
+        return (LETTERS.index(text), None) if text in ("B", "R") else self.node(text)
+
+    def pair(self, place: tuple, key: str, low: int, high: int | None, default=None) -> tuple | None:
+        """A pair, where it is one and in range."""
+        value = self.get(place, key, default)
+        return tuple(value) if value is not None and high is not None and low <= value[0] <= value[1] <= high else None
+
+
+def number(values: Values, place: tuple, key: str, low: int, high: int | None, why: str = "") -> Iterator[tuple]:
+    value = values.get(place, key)
+    if value is not None and high is not None and not low <= value <= high:
+        yield 5, place + (key,), "%s is to be %s%s" % (key, "%d to %d" % (low, high) if low < high else str(low), why)
+
+
+def pair(values: Values, place: tuple, key: str, low: int, high: int | None, why: str = "") -> Iterator[tuple]:
+    value = values.get(place, key)
+    if value is None or high is None:
+        return
+    if not (low <= value[0] <= high and low <= value[1] <= high):
+        yield 5, place + (key,), "%s is to lie within %d to %d%s" % (key, low, high, why)
+    elif value[0] > value[1]:
+        yield 5, place + (key,), "%s is to have its lower end first" % key
+
+
+def node_name(values: Values, place: tuple, key: str, find) -> Iterator[tuple]:
+    text = values.get(place, key)
+    if text is None or find(text) is not None:
+        return
+    if re.fullmatch(r"[br][0-9]*", text):
+        why = "names have capital letters: %s" % text.upper()
+    elif text[:1] in ("B", "R") and text[1:].isdigit() and (text[1:] == "0" or text[1:2] != "0"):
+        kind = LETTERS.index(text[0])
+        size = values.size(kind)
+        why = "the bus has %s0 to %s%d" % (text[0], text[0], size - 1) if size else "there are at most 16 of a kind"
+    else:
+        why = 'names are as "B0" and "R2"' + (', or "B" and "R" for all' if find == values.end else "")
+    yield 5, place + (key,), "%s names no node: %s" % (key, why)
+
+
+def of_root(values: Values) -> Iterator[tuple]:
+    for key in ("biu", "rmu", "slots", "frames", "delay", "version", "probation"):
+        yield from number(values, (), key, *RANGES[key])
+    version = values.get((), "version", 1)
+    high, why = (255, "") if version == 2 else (0, " in version 1; the number of a bus wants version = 2")
+    yield from number(values, (), "bus", 0, high, why)
+    for key, high in (("requests", 64), ("words", WORD)):
+        found = values.get((), key)
+        for index, value in enumerate(found or []):
+            if not 0 <= value <= high:
+                yield 5, (key, index), "each of %s is to be 0 to %d" % (key, high)
+    for index, app in enumerate(values.get((), "apps") or []):
+        if app not in ("table", "counter", "follow"):
+            yield 5, ("apps", index), 'an application is "table", "counter" or "follow"'
+    for key in ("requests", "words", "apps"):
+        found = values.get((), key)
+        if found is not None and values.biu is not None and len(found) != values.biu:
+            yield 5, (key,), "%s is to have one for each of the %d BIUs, and has %d" % (key, values.biu, len(found))
+
+
+def of_plan(values: Values) -> Iterator[tuple]:
+    place = ("plan",)
+    for key in FIELDS["plan"]:
+        yield from number(values, place, key, *RANGES[key])
+    plan = {key: values.get(place, key, getattr(model.Plan(), key)) for key in ("u", "r", "dmin", "dmax")}
+    if RANGES["r"][0] <= plan["r"] <= RANGES["r"][1] and plan["r"] >= plan["u"]:
+        yield 5, place + ("r",), "r is to be below u, which is %d" % plan["u"]
+    if plan["dmin"] > plan["dmax"]:
+        key = "dmin" if values.get(place, "dmin") is not None else "dmax"
+        yield 5, place + (key,), "dmin is to be at most dmax, and they are %d and %d" % (plan["dmin"], plan["dmax"])
+
+
+def twice(values: Values, name: str) -> Iterator[tuple]:
+    first: dict = {}
+    for place in values.entries(name):
+        node = values.node(values.get(place, "node"))
+        if node in first and node is not None:
+            yield 5, place + ("node",), "%s has an entry already: %s" % (values.get(place, "node"), title(first[node]))
+        first.setdefault(node, place)
+
+
+def of_clocks(values: Values) -> Iterator[tuple]:
+    for place in values.entries("clock"):
+        yield from node_name(values, place, "node", values.node)
+        yield from number(values, place, "start", 0, 10**12)
+        for index, (first, length) in enumerate(values.get(place, "ticks") or []):
+            for spot, value, low, high in ((0, first, 0, model.MAX_TICKS), (1, length, 1, 2_000_000)):
+                if not low <= value <= high:
+                    yield 5, place + ("ticks", index, spot), "%s is to be %d to %d" % (("a first tick", "a length")[spot], low, high)
+    yield from twice(values, "clock")
+
+
+def two_kinds(values: Values, place: tuple) -> Iterator[tuple]:
+    source, target = values.end(values.get(place, "from")), values.end(values.get(place, "to"))
+    if source and target and source[0] == target[0]:
+        yield 5, place + ("to",), "to is to be of the other kind: links are between a BIU and an RMU"
+
+
+def of_links(values: Values) -> Iterator[tuple]:
+    last = None if values.frames is None else values.frames - 1
+    for place in values.entries("link"):
+        for key in ("from", "to"):
+            yield from node_name(values, place, key, values.end)
+        yield from two_kinds(values, place)
+        yield from number(values, place, "delay", *RANGES["delay"])
+        yield from pair(values, place, "frames", 0, last)
+        yield from pair(values, place, "slots", 0, values.sync)
+        yield from pair(values, place, "stages", 1, 3)
+
+
+def of_faults(values: Values) -> Iterator[tuple]:
+    last = None if values.frames is None else values.frames - 1
+    for place in values.entries("fault"):
+        yield from node_name(values, place, "node", values.node)
+        yield from number(values, place, "frame", 0, last)
+        yield from number(values, place, "slot", 0, values.sync)
+    yield from twice(values, "fault")
+
+
+def of_saying(values: Values, place: tuple) -> Iterator[tuple]:
+    table = values.tables[place][1]
+    said = [key for key in SAYINGS if key in table]
+    if len(said) > 1:
+        yield 5, place + (said[1],), "one of word, fault, sync and raw is to stand there, and there are %s" % " and ".join(said)
+    for key in ("fault", "sync"):
+        if values.get(place, key) is False:
+            yield 5, place + (key,), "%s is to be true, or to be left out" % key
+    yield from number(values, place, "word", 0, WORD)
+    raw = values.get(place, "raw")
+    if raw is not None and not re.fullmatch(r"([0-9a-fA-F]{2}){1,32}", raw, re.ASCII):
+        yield 5, place + ("raw",), "raw is to be 2 to 64 hexadecimal digits, two for each byte, and is %d characters" % len(raw)
+
+
+def of_says(values: Values) -> Iterator[tuple]:
+    last = None if values.frames is None else values.frames - 1
+    for place in values.entries("say"):
+        yield from node_name(values, place, "from", values.node)
+        yield from node_name(values, place, "to", values.end)
+        yield from two_kinds(values, place)
+        yield from pair(values, place, "frames", 0, last)
+        yield from pair(values, place, "slots", 0, values.sync)
+        yield from pair(values, place, "stages", 1, TAIL)
+        yield from of_saying(values, place)
+        yield from of_ticks(values, place)
+
+
+def of_ticks(values: Values, place: tuple) -> Iterator[tuple]:
+    """The offset and how early, which go by the windows of the ranges."""
+    slots, stages = values.pair(place, "slots", 0, values.sync), values.pair(place, "stages", 1, TAIL)
+    if values.plan is None or slots is None or stages is None:
+        return
+    in_sync_slot = slots == (values.sync, values.sync)
+    if stages[1] == TAIL and not in_sync_slot:
+        yield 5, place + ("stages",), "stage 4, the tail, is in the sync slot alone: slots is to be [%d, %d]" % (values.sync, values.sync)
+        return
+    bus = model.Bus(values.biu, values.rmu, values.slots, values.plan)
+    least = min(bus.length_of(slot, stage) for slot in set(slots) for stage in range(stages[0], stages[1] + 1))
+    if "offset" in values.tables[place][1]:
+        yield from number(values, place, "offset", 0, least - 1, ": the shortest window of the ranges has %d ticks" % least)
+    elif values.plan.h >= least:
+        yield 5, place, "%s has no offset, and tick h, which is %d, is not in windows of %d ticks" % (title(place), values.plan.h, least)
+    most = values.plan.u - values.plan.r - 1 if in_sync_slot else 0
+    yield from number(values, place, "early", 0, most, "" if in_sync_slot else ": a message comes early in the sync slot alone")
+
+
+def findings(values: Values) -> Iterator[tuple]:
+    """All values that are out of their range: code 5, the place, why."""
+    for rule in (of_root, of_plan, of_clocks, of_links, of_faults, of_says):
+        yield from rule(values)
+
+
+__all__ = ["BIU", "RMU", "Values", "findings"]

@@ -1,0 +1,48 @@
+"""What the tests share."""
+import contextlib
+import io
+import pathlib
+import sys
+from importlib.machinery import SourceFileLoader
+from importlib.util import module_from_spec, spec_from_loader
+
+from robus.__main__ import run
+from robus.model import model
+
+TOP = pathlib.Path(__file__).resolve().parents[2]
+EXAMPLES = TOP / "examples"
+
+
+class Input:
+    """Standard input with these bytes."""
+
+    def __init__(self, data: bytes):
+        self.buffer = io.BytesIO(data)
+
+
+def output_of(tool: str, words: list[str], data: bytes = b"") -> tuple[int, str]:
+    """The status of a tool, and what it writes on standard output."""
+    out, kept = io.StringIO(), sys.stdin
+    sys.stdin = Input(data)
+    try:
+        with contextlib.redirect_stdout(out), contextlib.redirect_stderr(io.StringIO()):
+            status = run(tool, [str(word) for word in words])
+    except SystemExit as end:
+        status = end.code if isinstance(end.code, int) else 2
+    finally:
+        sys.stdin = kept
+    return status, out.getvalue()
+
+
+def script(name: str):
+    """A script of tools/ as a module."""
+    loader = SourceFileLoader("script_" + name, str(TOP / "tools" / name))
+    module = module_from_spec(spec_from_loader(loader.name, loader))
+    sys.modules[loader.name] = module
+    loader.exec_module(module)
+    return module
+
+
+def run_model(*words: str, data: bytes) -> str:
+    """What tools/model writes."""
+    return model.answer(list(words), io.BytesIO(data))[1].decode()

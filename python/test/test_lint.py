@@ -1,0 +1,90 @@
+"""What tools/lint says of spoilt documents, of whole ones, and of those that say what can have no effect."""
+import pathlib
+import random
+import unittest
+
+from robus.keys import TABLES
+from robus.forms import FIELDS
+from robus.lint import findings_in, lint
+from robus.locate import Locator
+from spoilt import SPOILT, WHOLE
+
+TOP = pathlib.Path(__file__).resolve().parents[2]
+
+
+def spoil(old: str, new: str) -> bytes:
+    assert WHOLE.count(old) >= 1, old
+    return WHOLE.replace(old, new, 1).encode()
+
+
+class Spoilt(unittest.TestCase):
+    def test_each_mistake_is_found_at_its_line(self):
+        for old, new, refusal, line, words in SPOILT:
+            with self.subTest(new=new[:40]):
+                said, found = lint(spoil(old, new))
+                self.assertEqual(said, refusal)
+                self.assertEqual(min(it.code for it in found), int(refusal.split()[1]))
+                self.assertTrue([it for it in found if it.line == line and words in it.why], found)
+
+    def test_all_mistakes_are_found_at_once(self):
+        data = WHOLE
+        for old, new, *_ in SPOILT:
+            if new in ("slotz = 8", 'biu = "4"', "frames = 0", "delay = 15001", "[0, 10002]", "[10, 20, 30]"):
+                data = data.replace(old, new, 1)
+        said, found = lint(data.encode())
+        self.assertEqual(said, "refused 2 MissingKey")
+        self.assertEqual({it.code for it in found}, {2, 3, 4, 7, 8})
+
+    def test_two_damages_at_once_agree_with_the_model(self):
+        rng = random.Random(1)
+        for _ in range(400):
+            data = WHOLE
+            for old, new, *_ in rng.sample(SPOILT[5:42], 2):
+                data = data.replace(old, new, 1)
+            said, found = lint(data.encode())
+            if said is not None:
+                self.assertEqual(min(it.code for it in found), int(said.split()[1]), data)
+
+    def test_whole_documents_are_accepted(self):
+        self.assertEqual(lint(WHOLE.encode()), (None, []))
+        for path in (TOP / "examples").glob("*.toml"):
+            self.assertIsNone(lint(path.read_bytes())[0], path)
+            self.assertEqual(findings_in(path.read_bytes()), [], path)
+
+    def test_the_keys_are_those_of_the_page(self):
+        page = (TOP / "docs/SCENARIOS.md").read_text()
+        for name, keys in TABLES.items():
+            self.assertEqual(set(keys), set(FIELDS[name]))
+            for key in keys:
+                self.assertIn("`%s`" % key, page)
+
+
+class Warnings(unittest.TestCase):
+    def warns(self, more: str, words: str):
+        refusal, found = lint((WHOLE + more).encode())
+        self.assertIsNone(refusal)
+        self.assertTrue([it for it in found if words in it.why], found)
+
+    def test_say_entries_without_effect(self):
+        say = '[[say]]\nfrom = "R2"\nto = "%s"\nframes = [%d, %d]\nslots = [%d, %d]\nstages = [%d, %d]\nword = 1\n'
+        self.warns(say % ("B1", 0, 0, 6, 6, 1, 1), "no BIU listens in stage 1 of slot 6 (data 2)")
+        self.warns(say % ("B1", 1, 1, 6, 6, 2, 2), "R2 is convicted from frame 1 on")
+        self.warns(say % ("B", 0, 0, 6, 6, 2, 2), "speaks to the same receiver in the same window")
+        self.warns('[[fault]]\nnode = "B1"\nframe = 0\nslot = 0\n' + say % ("B1", 0, 0, 7, 7, 2, 2), "is faulty by then")
+
+    def test_a_link_that_a_later_one_covers(self):
+        self.warns('[[link]]\nfrom = "B"\nto = "R"\ndelay = 6000\n', "the last one counts")
+
+
+class Places(unittest.TestCase):
+    def test_lines_of_nested_values(self):
+        found = Locator('a = 1 # one\n"b c".d = [1,\n  [2, 3]]\n[[clock]]\nx = """\n]\n"""\ny = { z = 4,\n w = "#" }\n[[clock]]\ny = 2\n')
+        self.assertEqual(found.lines[("b c", "d", 1, 0)], 3)
+        self.assertEqual(found.lines[("clock", 0, "y", "w")], 9)
+        self.assertEqual(found.texts[("clock", 0, "y", "w")], '"#"')
+        self.assertEqual(found.lines[("clock", 1)], 10)
+        self.assertEqual(found.line_of(("clock", 1, "nothing")), 10)
+
+
+if __name__ == "__main__":
+    unittest.main()
