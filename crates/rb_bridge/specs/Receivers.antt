@@ -5,8 +5,8 @@ use Rattle.rb_base.specs.Counting.{numbers}
 use Rattle.rb_base.specs.Nodes.Side.{Biu}
 use Rattle.rb_base.specs.declared.values.Heard.{Heard}
 use Rattle.rb_rules.specs.Goodness.{Scenario, is_good}
-use Rattle.rb_crossing.specs.declared.bank.Bank.{Bank}
-use Rattle.rb_crossing.specs.Texts.{cross_text, last_data_slot}
+use Rattle.rb_rules_bridge.specs.declared.bank.Bank.{Bank}
+use Rattle.rb_rules_bridge.specs.Texts.{cross_text, last_data_slot}
 
 -- the line of a BIU, if it is good in the last data slot of the frame, with the value that it finds
 abbrev pub receiver_by : Scenario → ℕ → Bank → (ℕ → Heard) → ℕ → List ℕ

@@ -2,7 +2,7 @@
 ghost use Rattle.std.specs.Prelude.{◌≡◌, ◌+◌, ◌≤◌, ◌∷◌, ◌++◌, length, codes};
 ghost use Rattle.arrayvec.specs.ArrayString.{array_string_len};
 ghost use Rattle.rb_base.specs.declared.node.NodeName.TheVariants.{Biu};
-ghost use Rattle.rb_crossing.specs.Texts.{bank_text};
+ghost use Rattle.rb_rules_bridge.specs.Texts.{bank_text};
 ghost use Rattle.rb_report.specs.Report.{cause_text, heard_text, last_field, node_text, with_field, with_fields};
 ghost use Rattle.rb_bridge.specs.Refusals.{bank_of, bridge_refusal_of};
 

@@ -1,6 +1,6 @@
 //! The lines that only a bridge has. Their form is that of all lines of the project.
 ghost use Rattle.std.specs.Prelude.{◌≡◌};
-ghost use Rattle.rb_crossing.specs.Texts.{cross_text, side_breach_text};
+ghost use Rattle.rb_rules_bridge.specs.Texts.{cross_text, side_breach_text};
 ghost use Rattle.rb_bridge.specs.Refusals.{IsBridgeRefusal, bank_of, bridge_refused_text};
 
 use crate::fields::{

@@ -7,9 +7,9 @@ ghost use Rattle.rb_group.specs.Groups.{group_value};
 ghost use Rattle.rb_group.specs.declared.voters.Which.TheVariants.{Most};
 ghost use Rattle.rb_outside.specs.Bytes.{AppendsPart};
 ghost use Rattle.rb_outside.specs.Causes.{HasCause};
-ghost use Rattle.rb_replicas.specs.Holding.{HoldPortions, IsScopeOf};
+ghost use Rattle.rb_group_values.specs.Holding.{HoldPortions, IsScopeOf};
 ghost use Rattle.rb_rules.specs.Goodness.{Scenario, is_good};
-ghost use Rattle.rb_crossing.specs.Texts.{cross_text, last_data_slot};
+ghost use Rattle.rb_rules_bridge.specs.Texts.{cross_text, last_data_slot};
 ghost use Rattle.rb_bridge.specs.Receivers.{receiver_by, receivers_by};
 ghost use Rattle.rb_bridge.specs.Refusals.{bank_of};
 
@@ -17,8 +17,8 @@ use crate::lines::cross_line;
 use arrayvec::ArrayString;
 use rb_base::{Heard, NodeName, Shape};
 use rb_group::{Group, most_of};
+use rb_group_values::{Ports, Scope};
 use rb_outside::{Failed, Sink, write_all};
-use rb_replicas::{Ports, Scope};
 
 // Writes the line.
 fn write_line<K: Sink>(output: &mut K, line: &ArrayString<96>) -> Result<(), Failed>

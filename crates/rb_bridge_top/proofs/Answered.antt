@@ -1,10 +1,10 @@
 -- The answer to `run`, from what came of its input and of its bridge.
 use Rattle.std.proofs.Common.{◌≡◌, ℕ, Bool, List, Option, inl, inr, refl, subst}
 use Rattle.rb_outside.specs.Causes.{Rose}
-use Rattle.rb_book.specs.declared.turn.Turn.{Turn}
-use Rattle.rb_bridging.specs.declared.bridge.Bridge.{Bridge as Kept}
-use Rattle.rb_bridging.specs.Acceptance.{as_bridge}
-use Rattle.rb_ferry.specs.Crossing.{WritesPart}
+use Rattle.rb_world_book.specs.declared.turn.Turn.{Turn}
+use Rattle.rb_bridge_document.specs.declared.bridge.Bridge.{Bridge as Kept}
+use Rattle.rb_bridge_document.specs.Acceptance.{as_bridge}
+use Rattle.rb_bridge_run.specs.Crossing.{WritesPart}
 use Rattle.rb_bridge_top.specs.declared.status.Status.{Status}
 use Rattle.rb_bridge_top.specs.declared.status.Status.TheVariants.{Done, Breach, Usage, Refused, TooLong, ReadFault, WriteFault, OutOfMemory}
 use Rattle.rb_bridge_top.specs.Answers.{Answers, IsCrossed}

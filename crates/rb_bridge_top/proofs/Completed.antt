@@ -2,13 +2,13 @@
 use Rattle.std.proofs.Common.{◌≡◌, ℕ, ◌<◌, ◌⊎◌, Bool, true, List, length, Option, Some, inl, inr, refl, sym, ◌∙◌, ap, subst, arith}
 use Rattle.rb_outside.specs.Bytes.{Gave, ReadsToEnd}
 use Rattle.rb_outside.proofs.Known.{gave_within, read_bytes}
-use Rattle.rb_book.specs.declared.turn.Turn.{Turn}
-use Rattle.rb_crossing.specs.Bridges.{Bridge}
-use Rattle.rb_carry.proofs.Crossed.{words-cross}
-use Rattle.rb_bridging.specs.Acceptance.{IsBridgeAccepted}
+use Rattle.rb_world_book.specs.declared.turn.Turn.{Turn}
+use Rattle.rb_rules_bridge.specs.Bridges.{Bridge}
+use Rattle.rb_laws_bridge.proofs.Crossed.{words-cross}
+use Rattle.rb_bridge_document.specs.Acceptance.{IsBridgeAccepted}
 use Rattle.rb_run.specs.declared.ending.Ending.{Ending}
 use Rattle.rb_run.specs.declared.ending.Ending.TheVariants as ending
-use Rattle.rb_ferry.specs.Crossing.{EndsAs}
+use Rattle.rb_bridge_run.specs.Crossing.{EndsAs}
 use Rattle.rb_bridge_top.specs.declared.status.Status.{Status}
 use Rattle.rb_bridge_top.specs.declared.status.Status.TheVariants.{Done, Breach, Usage, Refused, TooLong, ReadFault, WriteFault, OutOfMemory}
 use Rattle.rb_bridge_top.specs.Answers.{Answers, Completes, Ends, FailsToWrite, NothingFails, Refuses}

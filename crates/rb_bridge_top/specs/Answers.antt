@@ -3,11 +3,11 @@ use Rattle.std.specs.Prelude.{ℕ, ◌≡◌, ◌≤◌, ◌⊎◌, Bool, true, 
 use Rattle.std.specs.declared.alloc.Global.{Global}
 use Rattle.rb_outside.specs.Bytes.{ReadsToEnd}
 use Rattle.rb_outside.specs.Causes.{Rose}
-use Rattle.rb_book.specs.declared.turn.Turn.{Turn}
+use Rattle.rb_world_book.specs.declared.turn.Turn.{Turn}
 use Rattle.rb_run.specs.declared.ending.Ending.{Ending}
-use Rattle.rb_crossing.specs.Bridges.{Bridge, IsBridge}
-use Rattle.rb_bridging.specs.Acceptance.{IsBridgeAccepted}
-use Rattle.rb_ferry.specs.Crossing.{WritesAll, WritesPart}
+use Rattle.rb_rules_bridge.specs.Bridges.{Bridge, IsBridge}
+use Rattle.rb_bridge_document.specs.Acceptance.{IsBridgeAccepted}
+use Rattle.rb_bridge_run.specs.Crossing.{WritesAll, WritesPart}
 use Rattle.rb_bridge_top.specs.declared.status.Status.{Status}
 use Rattle.rb_bridge_top.specs.declared.status.Status.TheVariants as answer
 use Rattle.rb_bridge_top.specs.Inputs.{AreRun, IsRefusedWith, IsUnread, RefusesText, FailsToRefuse, input_limit}

@@ -4,11 +4,11 @@ use Rattle.std.specs.declared.alloc.Global.{Global}
 use Rattle.std.specs.Io.KnownBytes.{Appends}
 use Rattle.rb_outside.specs.Bytes.{AppendsPart, Gave, ReadsToEnd}
 use Rattle.rb_outside.specs.Causes.{Rose}
-use Rattle.rb_crossing.specs.Bridges.{IsBridge}
-use Rattle.rb_bridging.specs.declared.bridge.Bridge.{Bridge as Kept}
-use Rattle.rb_bridging.specs.declared.refusal.BridgeRefusal.{BridgeRefusal}
-use Rattle.rb_bridging.specs.Acceptance.{IsBridgeAccepted, IsBridgeRefused, as_bridge}
-use Rattle.rb_bridging.specs.Codes.{code_of, detail_of}
+use Rattle.rb_rules_bridge.specs.Bridges.{IsBridge}
+use Rattle.rb_bridge_document.specs.declared.bridge.Bridge.{Bridge as Kept}
+use Rattle.rb_bridge_document.specs.declared.refusal.BridgeRefusal.{BridgeRefusal}
+use Rattle.rb_bridge_document.specs.Acceptance.{IsBridgeAccepted, IsBridgeRefused, as_bridge}
+use Rattle.rb_bridge_document.specs.Codes.{code_of, detail_of}
 use Rattle.rb_bridge.specs.Refusals.{IsBridgeRefusal, bridge_refused_text}
 use Rattle.rb_bridge_top.specs.declared.status.Status.{Status}
 use Rattle.rb_bridge_top.specs.declared.status.Status.TheVariants as answer

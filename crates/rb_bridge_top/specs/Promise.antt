@@ -2,10 +2,10 @@
 use Rattle.std.specs.Prelude.{ℕ, ◌≡◌, List, Option}
 use Rattle.std.specs.Io.KnownBytes.{Appends}
 use Rattle.rb_outside.specs.Bytes.{ReadsToEnd}
-use Rattle.rb_crossing.specs.Bridges.{Bridge, IsBridge}
-use Rattle.rb_crossing.specs.Texts.{bridge_text}
-use Rattle.rb_carry.specs.Laws.{WordsCrossOn}
-use Rattle.rb_bridging.specs.Acceptance.{IsBridgeAccepted}
+use Rattle.rb_rules_bridge.specs.Bridges.{Bridge, IsBridge}
+use Rattle.rb_rules_bridge.specs.Texts.{bridge_text}
+use Rattle.rb_laws_bridge.specs.Laws.{WordsCrossOn}
+use Rattle.rb_bridge_document.specs.Acceptance.{IsBridgeAccepted}
 use Rattle.rb_bridge_top.specs.declared.status.Status.{Status}
 use Rattle.rb_bridge_top.specs.Statuses.{end_of}
 

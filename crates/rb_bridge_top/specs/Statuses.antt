@@ -1,7 +1,7 @@
 -- Kinds of answers.
 use Rattle.std.specs.Prelude.{⊤, Option, Some, None}
-use Rattle.rb_crossing.specs.Bridges.{Bridge}
-use Rattle.rb_crossing.specs.Texts.{Break, break_of}
+use Rattle.rb_rules_bridge.specs.Bridges.{Bridge}
+use Rattle.rb_rules_bridge.specs.Texts.{Break, break_of}
 use Rattle.rb_run.specs.declared.ending.Ending.{Ending}
 use Rattle.rb_run.specs.declared.ending.Ending.TheVariants as ending
 use Rattle.rb_bridge_top.specs.declared.status.Status.{Status}

@@ -3,7 +3,7 @@ ghost use Rattle.std.specs.Prelude.{◌≡◌, ◌≤◌, ◌⊎◌, IfOk, IfErr
 ghost use Rattle.std.specs.Io.KnownBytes.{Appends};
 ghost use Rattle.rb_outside.specs.Bytes.{AppendsPart, Gave, ReadsToEnd};
 ghost use Rattle.rb_outside.specs.Causes.{HasCause, Rose};
-ghost use Rattle.rb_bridging.specs.Codes.{code_of, detail_of};
+ghost use Rattle.rb_bridge_document.specs.Codes.{code_of, detail_of};
 ghost use Rattle.rb_bridge.specs.Refusals.{IsBridgeRefusal, bridge_refused_text};
 ghost use Rattle.rb_bridge_top.specs.Inputs.{HasLine, IsUnread, ReadsBridge, ReadsNone, input_limit, rule_text};
 ghost use Rattle.rb_bridge_top.specs.Statuses.{IsNotRead, WritesNothing};
@@ -11,7 +11,7 @@ ghost use Rattle.rb_bridge_top.specs.Statuses.{IsNotRead, WritesNothing};
 use crate::status::Status;
 use arrayvec::ArrayString;
 use rb_bridge::bridge_refused_line;
-use rb_bridging::{Bridge, BridgeRefusal, read_bridge};
+use rb_bridge_document::{Bridge, BridgeRefusal, read_bridge};
 use rb_outside::{Failed, Sink, Source, Unread, read_all, write_all};
 use std::alloc::Global;
 

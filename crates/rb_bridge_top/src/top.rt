@@ -1,6 +1,6 @@
 //! The top call of a bridge.
 ghost use Rattle.std.specs.Prelude.{◌≡◌, ◌↔◌, Bool, IsTrue, codes};
-ghost use Rattle.rb_ferry.specs.Crossing.{ArePlain};
+ghost use Rattle.rb_bridge_run.specs.Crossing.{ArePlain};
 ghost use Rattle.rb_bridge_top.specs.Answers.{Answers, Completes, Ends, FailsToWrite, Refuses, Untouched, UsageExactly};
 ghost use Rattle.rb_bridge_top.specs.Inputs.{AreRun, IsUnread};
 ghost use Rattle.rb_bridge_top.specs.Promise.{KeepsTheBridge};

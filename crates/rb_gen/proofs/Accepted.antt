@@ -12,17 +12,17 @@ use Rattle.rb_rules.specs.declared.link.Rule.{Rule}
 use Rattle.rb_rules.specs.declared.say.Say.{Say}
 use Rattle.rb_rules.specs.Lawful.{is_node_good}
 use Rattle.rb_rules.specs.Clock.{Timeline, are_rising, are_within}
-use Rattle.rb_document.specs.Fields.{clock_fields, fault_fields, link_fields, root_fields, say_fields}
-use Rattle.rb_document.specs.Forms.{has_unknown_key, is_array_of, has_wrong_form, lacks_key}
-use Rattle.rb_document.specs.Names.{named, node_at, pattern_at}
-use Rattle.rb_document.specs.Values.{has_number, may_have_number, may_have_range}
-use Rattle.rb_document.specs.Walk.{absent_or, entries_at, passes}
-use Rattle.rb_entries.specs.declared.refusal.Refusal.{Refusal}
-use Rattle.rb_entries.specs.Bus.{bus_of, has_bus}
-use Rattle.rb_entries.specs.Clocks.{has_clocks, is_clock, is_segment, keeps_time}
-use Rattle.rb_entries.specs.Faults.{has_faults}
-use Rattle.rb_entries.specs.Links.{are_apart, is_link}
-use Rattle.rb_entries.specs.Says.{content_in, is_say}
+use Rattle.rb_scenario_document.specs.Fields.{clock_fields, fault_fields, link_fields, root_fields, say_fields}
+use Rattle.rb_scenario_document.specs.Forms.{has_unknown_key, is_array_of, has_wrong_form, lacks_key}
+use Rattle.rb_scenario_document.specs.Names.{named, node_at, pattern_at}
+use Rattle.rb_scenario_document.specs.Values.{has_number, may_have_number, may_have_range}
+use Rattle.rb_scenario_document.specs.Walk.{absent_or, entries_at, passes}
+use Rattle.rb_scenario_entries.specs.declared.refusal.Refusal.{Refusal}
+use Rattle.rb_scenario_entries.specs.Bus.{bus_of, has_bus}
+use Rattle.rb_scenario_entries.specs.Clocks.{has_clocks, is_clock, is_segment, keeps_time}
+use Rattle.rb_scenario_entries.specs.Faults.{has_faults}
+use Rattle.rb_scenario_entries.specs.Links.{are_apart, is_link}
+use Rattle.rb_scenario_entries.specs.Says.{content_in, is_say}
 use Rattle.rb_scenario.specs.Acceptance.{Says, as_scenario, broken_by, first_broken, or_else}
 use Rattle.rb_scenario.specs.declared.scenario.Scenario.{Scenario as Read}
 use Rattle.rb_scenario.specs.Hosts.{has_lists}

@@ -6,13 +6,13 @@ use Rattle.rb_rules.specs.declared.link.Rule.{Rule}
 use Rattle.rb_rules.specs.declared.say.Say.{Say}
 use Rattle.rb_rules.specs.Clock.{Timeline}
 use Rattle.rb_rules.specs.Goodness.{Scenario}
-use Rattle.rb_document.specs.Names.{named}
-use Rattle.rb_entries.specs.declared.bus.Bus.{Bus}
-use Rattle.rb_entries.specs.Bus.{bus_of, plan_of, sizes_of, version_of}
-use Rattle.rb_entries.specs.Clocks.{clocks_of}
-use Rattle.rb_entries.specs.Faults.{onsets_of}
-use Rattle.rb_entries.specs.Links.{rule_of, rules_of}
-use Rattle.rb_entries.specs.Says.{content_in, say_of, says_of}
+use Rattle.rb_scenario_document.specs.Names.{named}
+use Rattle.rb_scenario_entries.specs.declared.bus.Bus.{Bus}
+use Rattle.rb_scenario_entries.specs.Bus.{bus_of, plan_of, sizes_of, version_of}
+use Rattle.rb_scenario_entries.specs.Clocks.{clocks_of}
+use Rattle.rb_scenario_entries.specs.Faults.{onsets_of}
+use Rattle.rb_scenario_entries.specs.Links.{rule_of, rules_of}
+use Rattle.rb_scenario_entries.specs.Says.{content_in, say_of, says_of}
 use Rattle.rb_scenario.specs.Hosts.{apps_of, requests_of, words_of}
 use Rattle.rb_scenario.specs.Reading.{scenario_of as scenario_said, scenario_on}
 use Rattle.rb_gen.specs.Generated.{plan, scenario_of, sizes}

@@ -9,7 +9,7 @@ use Rattle.rb_rules.specs.declared.record.Epoch.{Epoch}
 use Rattle.rb_rules.specs.Core.{CoreEvent}
 use Rattle.rb_rules.specs.Core.CoreEvent.{Tick, Arrive}
 use Rattle.rb_report.specs.Report.{end_text}
-use Rattle.rb_history.specs.Replays.{delivery_lines, epoch_lines}
+use Rattle.rb_laws_logs.specs.Replays.{delivery_lines, epoch_lines}
 use Rattle.rb_listen.specs.Listening.{first_search, told_of}
 use Rattle.rb_listen.specs.Listening.Listening.{Searching}
 use Rattle.rb_listen.specs.declared.heed.Heed.{Heed}

@@ -3,8 +3,8 @@ ghost use Rattle.std.specs.Prelude.{◌≡◌, ◌≤◌, ◌++◌, OnOk, OnErr}
 ghost use Rattle.std.specs.Io.KnownBytes.{Appends};
 ghost use Rattle.rb_outside.specs.Bytes.{AppendsPart};
 ghost use Rattle.rb_outside.specs.Causes.{HasCause};
-ghost use Rattle.rb_history.specs.Given.{index_of};
-ghost use Rattle.rb_history.specs.Replays.{delivery_lines, epoch_lines};
+ghost use Rattle.rb_laws_logs.specs.Given.{index_of};
+ghost use Rattle.rb_laws_logs.specs.Replays.{delivery_lines, epoch_lines};
 ghost use Rattle.rb_overheard.specs.Overhearing.{begun_with, heed_lines};
 
 use arrayvec::ArrayString;

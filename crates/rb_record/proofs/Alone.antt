@@ -16,11 +16,11 @@ use Rattle.rb_rules.specs.Goodness.{Scenario, good_at, is_good}
 use Rattle.rb_rules.specs.Judging.{ClassSets, JudgedStage, are_few_good, cause_of, classes_of, some_asymmetric, trusted_now, verdict_of}
 use Rattle.rb_rules.specs.WorldStep.{Site, World, all_have_told, begun_for, comes_so, go_on, is_complete, needs_no_event, nobody_good, record_since, row_for, settle, settle_next, told_by_good}
 use Rattle.rb_rules.specs.WorldStep.Way.{ByItself}
-use Rattle.rb_order.proofs.Alone.{nobody-each}
-use Rattle.rb_order.proofs.Completing.{next_world}
-use Rattle.rb_order.proofs.SettledOnce.{FrameGiven, ended-still, frame-given, settle-still}
-use Rattle.rb_order.proofs.Waiting.{no-good, told-all}
-use Rattle.rb_order.proofs.WorldBooks.{none-past, settle_rest}
+use Rattle.rb_laws_events.proofs.Alone.{nobody-each}
+use Rattle.rb_laws_events.proofs.Completing.{next_world}
+use Rattle.rb_laws_events.proofs.SettledOnce.{FrameGiven, ended-still, frame-given, settle-still}
+use Rattle.rb_laws_events.proofs.Waiting.{no-good, told-all}
+use Rattle.rb_laws_events.proofs.WorldBooks.{none-past, settle_rest}
 use Rattle.rb_world.proofs.GoingOn.{going-settles}
 
 -- Where nobody is good, all that is asked for has been told.

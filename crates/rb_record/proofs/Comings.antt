@@ -27,12 +27,12 @@ use Rattle.rb_rules.specs.WorldStep.{Due, Pending, Site, World, after_act, after
 use Rattle.rb_rules.specs.WorldStep.Pending.{Tick, Arrival}
 use Rattle.rb_rules.specs.WorldStep.Way.{ByAnEvent, ByItself}
 use Rattle.rb_rules.proofs.WindowNumbers.{get-each, get-made}
-use Rattle.rb_history.specs.Given.{first_run}
-use Rattle.rb_order.proofs.DueEvents.{IsDue, IsReady}
-use Rattle.rb_order.proofs.PendingLists.{StandsAt}
-use Rattle.rb_order.proofs.SameHeard.{Every}
-use Rattle.rb_order.proofs.WorldNodes.{first-counts, settle-sites}
-use Rattle.rb_order.proofs.WorldStands.{is_node, node-is}
+use Rattle.rb_laws_logs.specs.Given.{first_run}
+use Rattle.rb_laws_events.proofs.DueEvents.{IsDue, IsReady}
+use Rattle.rb_laws_events.proofs.PendingLists.{StandsAt}
+use Rattle.rb_laws_events.proofs.SameHeard.{Every}
+use Rattle.rb_laws_events.proofs.WorldNodes.{first-counts, settle-sites}
+use Rattle.rb_laws_events.proofs.WorldStands.{is_node, node-is}
 use Rattle.rb_world.specs.Worlds.{IsReached}
 use Rattle.rb_world.proofs.Ready.{due-reached}
 use Rattle.rb_record.proofs.Runs.{run-busy, run-idle, run-reached}

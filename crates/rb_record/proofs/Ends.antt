@@ -14,11 +14,11 @@ use Rattle.rb_rules.specs.Rounds.{records_of}
 use Rattle.rb_rules.specs.WorldStep.{Due, Pending, Site, World, due_at, due_of, event_at, event_of, first_world, go_on, happens, least, needs_no_event, settle, take, take_if_due, times_of, with_act, with_pending}
 use Rattle.rb_rules.specs.WorldStep.Pending.{Tick, Arrival}
 use Rattle.rb_rules.specs.WorldStep.Way.{ByAnEvent, ByItself}
-use Rattle.rb_history.specs.Given.{AreGiven, first_run, first_step, given_in, given_next, if_given}
-use Rattle.rb_order.proofs.EventsHold.{due-holds, events-hold, turns-hold}
-use Rattle.rb_order.proofs.OneTake.{settle-hands}
-use Rattle.rb_order.proofs.RoundNodes.{item-at}
-use Rattle.rb_order.specs.Laws.{IsNextTurn}
+use Rattle.rb_laws_logs.specs.Given.{AreGiven, first_run, first_step, given_in, given_next, if_given}
+use Rattle.rb_laws_events.proofs.EventsHold.{due-holds, events-hold, turns-hold}
+use Rattle.rb_laws_events.proofs.OneTake.{settle-hands}
+use Rattle.rb_laws_events.proofs.RoundNodes.{item-at}
+use Rattle.rb_laws_events.specs.Laws.{IsNextTurn}
 use Rattle.rb_world.specs.Nexts.{is_last}
 use Rattle.rb_world.specs.Worlds.{IsReached}
 use Rattle.rb_world.proofs.GoingOn.{ended-stays}

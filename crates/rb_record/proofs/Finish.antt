@@ -3,9 +3,9 @@ use Rattle.std.proofs.Common.{◌≡◌, ℕ, true, false, Option, Some, None, s
 use Rattle.rb_rules.specs.Book.{Record}
 use Rattle.rb_rules.specs.Goodness.{Scenario}
 use Rattle.rb_rules.specs.Lawful.{IsLawful}
-use Rattle.rb_book.specs.Records.{record_of}
-use Rattle.rb_book.specs.declared.turn.Turn.{Turn}
-use Rattle.rb_history.specs.Given.{first_run}
+use Rattle.rb_world_book.specs.Records.{record_of}
+use Rattle.rb_world_book.specs.declared.turn.Turn.{Turn}
+use Rattle.rb_laws_logs.specs.Given.{first_run}
 use Rattle.rb_world.specs.Nexts.{is_last}
 use Rattle.rb_world.proofs.LastTurn.{reached-ended}
 use Rattle.rb_run.specs.Runs.{EndsWith, end_at}

@@ -22,14 +22,14 @@ use Rattle.rb_rules.specs.Ports.{PortState}
 use Rattle.rb_rules.specs.Slots.{count_of, role_of}
 use Rattle.rb_rules.specs.WorldStep.{Due, Pending, Site, World, event_at, event_of, wants_in, word_of}
 use Rattle.rb_rules.specs.WorldStep.Pending.{Tick, Arrival}
-use Rattle.rb_history.specs.Given.{first_run, given_in, given_next, is_before_end, site_of}
+use Rattle.rb_laws_logs.specs.Given.{first_run, given_in, given_next, is_before_end, site_of}
 use Rattle.rb_log.specs.Laws.{IsTellable, MayHappen, ticks_in}
 use Rattle.rb_log.specs.LogText.{senders_of}
 use Rattle.rb_log.specs.Writing.{given, ticks_given}
 use Rattle.rb_log.proofs.RoundTrip.{written_read}
-use Rattle.rb_order.proofs.DueEvents.{IsDue, IsReady}
-use Rattle.rb_order.proofs.PendingLists.{StandsAt}
-use Rattle.rb_order.proofs.WorldNodes.{Known, worlds-known}
+use Rattle.rb_laws_events.proofs.DueEvents.{IsDue, IsReady}
+use Rattle.rb_laws_events.proofs.PendingLists.{StandsAt}
+use Rattle.rb_laws_events.proofs.WorldNodes.{Known, worlds-known}
 use Rattle.rb_world.specs.Worlds.{IsReached}
 use Rattle.rb_world.proofs.Ready.{due-reached}
 use Rattle.rb_record.specs.Laws.{OneLog, RecordedIsRead}

@@ -6,16 +6,16 @@ use Rattle.rb_base.specs.declared.node.NodeName.{NodeName}
 use Rattle.rb_rules.specs.Goodness.{Scenario}
 use Rattle.rb_rules.specs.Lawful.{IsLawful}
 use Rattle.rb_rules.specs.WorldStep.{World, first_world}
-use Rattle.rb_book.specs.Records.{record_of}
-use Rattle.rb_book.specs.declared.turn.Turn.{Turn}
-use Rattle.rb_history.specs.Given.{first_run, given_in}
+use Rattle.rb_world_book.specs.Records.{record_of}
+use Rattle.rb_world_book.specs.declared.turn.Turn.{Turn}
+use Rattle.rb_laws_logs.specs.Given.{first_run, given_in}
 use Rattle.rb_log.specs.Laws.{ticks_in}
 use Rattle.rb_log.specs.Writing.{Tally, ticks_given}
 use Rattle.rb_outside.specs.Bytes.{AppendsPart}
 use Rattle.rb_outside.specs.Causes.{HasCause, Rose}
 use Rattle.rb_run.specs.Runs.{EndsWith, end_at}
 use Rattle.rb_run.specs.declared.ending.Ending.{Ending}
-use Rattle.rb_sweep.specs.Told.{Told}
+use Rattle.rb_laws_sweeps.specs.Told.{Told}
 use Rattle.rb_world.specs.Nexts.{Standing}
 use Rattle.rb_world.specs.Observing.{TellsToNext, WasTold, told_to}
 use Rattle.rb_world.specs.Worlds.{KeptWorld, Stands}

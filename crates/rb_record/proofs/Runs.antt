@@ -5,10 +5,10 @@ use Rattle.rb_rules.specs.Goodness.{Scenario}
 use Rattle.rb_rules.specs.Lawful.{IsLawful}
 use Rattle.rb_rules.specs.WorldStep.{Choice, Due, World, choose, due_of, first_world, go_on, take, world_after}
 use Rattle.rb_rules.specs.WorldStep.Choice.{Take, GoOn}
-use Rattle.rb_history.specs.Given.{first_run, first_step, step_with}
-use Rattle.rb_order.proofs.EventsHold.{ends-hold}
-use Rattle.rb_order.proofs.EveryWorld.{after-more}
-use Rattle.rb_order.specs.Laws.{most_at_once, most_takes, nodes_of, taken_by, takes_from}
+use Rattle.rb_laws_logs.specs.Given.{first_run, first_step, step_with}
+use Rattle.rb_laws_events.proofs.EventsHold.{ends-hold}
+use Rattle.rb_laws_events.proofs.EveryWorld.{after-more}
+use Rattle.rb_laws_events.specs.Laws.{most_at_once, most_takes, nodes_of, taken_by, takes_from}
 use Rattle.rb_world.specs.declared.ties.Ties.TheVariants.{First}
 use Rattle.rb_world.specs.Nexts.{Standing, after_steps, step, step_among}
 use Rattle.rb_world.specs.Worlds.{IsReached}

@@ -30,20 +30,20 @@ use Rattle.rb_rules.proofs.Drift.{clock_moves}
 use Rattle.rb_rules.proofs.QuietTicks.{arrive-same}
 use Rattle.rb_rules.proofs.Stamps.{Moves, stamp_le, stamp_of-is}
 use Rattle.rb_rules.proofs.WindowNumbers.{get-each}
-use Rattle.rb_history.specs.Given.{first_run, given_in, given_next, if_given, index_of, is_before_end, site_of}
+use Rattle.rb_laws_logs.specs.Given.{first_run, given_in, given_next, if_given, index_of, is_before_end, site_of}
 use Rattle.rb_log.specs.Laws.{ticks_in}
 use Rattle.rb_log.specs.Writing.{HasBytes, ticks_given}
-use Rattle.rb_order.proofs.DueEvents.{IsDue, IsReady}
-use Rattle.rb_order.proofs.EventsHold.{any, ends-hold, nodes_at, ticks-left}
-use Rattle.rb_order.proofs.CloseOrder.{shortest-some}
-use Rattle.rb_order.proofs.EveryWorld.{AnyWorld, due-going}
-use Rattle.rb_order.proofs.OneEvent.{all-pend}
-use Rattle.rb_order.proofs.PendingLists.{StandsAt}
-use Rattle.rb_order.proofs.RoundNodes.{item-at}
-use Rattle.rb_order.proofs.RunsEnd.{HasTicksLeft}
-use Rattle.rb_order.proofs.Takes.{tick-had}
-use Rattle.rb_order.proofs.WorldNodes.{settle-sites, worlds-known}
-use Rattle.rb_order.proofs.WorldStands.{AllPend, is_node, node-is}
+use Rattle.rb_laws_events.proofs.DueEvents.{IsDue, IsReady}
+use Rattle.rb_laws_events.proofs.EventsHold.{any, ends-hold, nodes_at, ticks-left}
+use Rattle.rb_laws_events.proofs.CloseOrder.{shortest-some}
+use Rattle.rb_laws_events.proofs.EveryWorld.{AnyWorld, due-going}
+use Rattle.rb_laws_events.proofs.OneEvent.{all-pend}
+use Rattle.rb_laws_events.proofs.PendingLists.{StandsAt}
+use Rattle.rb_laws_events.proofs.RoundNodes.{item-at}
+use Rattle.rb_laws_events.proofs.RunsEnd.{HasTicksLeft}
+use Rattle.rb_laws_events.proofs.Takes.{tick-had}
+use Rattle.rb_laws_events.proofs.WorldNodes.{settle-sites, worlds-known}
+use Rattle.rb_laws_events.proofs.WorldStands.{AllPend, is_node, node-is}
 use Rattle.rb_world.specs.Worlds.{IsReached}
 use Rattle.rb_world.proofs.Ready.{due-reached}
 use Rattle.rb_world.proofs.InTime.{HasTick, reached-in-time}

@@ -9,11 +9,11 @@ use Rattle.rb_rules.specs.Goodness.{Scenario}
 use Rattle.rb_rules.specs.Lawful.{IsLawful, kind_of}
 use Rattle.rb_rules.specs.Links.{same_node}
 use Rattle.rb_rules.specs.WorldStep.{Site, World, event_at}
-use Rattle.rb_history.specs.Given.{first_run, given_in, given_next, if_given, is_before_end, site_of}
+use Rattle.rb_laws_logs.specs.Given.{first_run, given_in, given_next, if_given, is_before_end, site_of}
 use Rattle.rb_log.specs.Laws.{ticks_in}
 use Rattle.rb_log.specs.Writing.{ticks_given}
-use Rattle.rb_sweep.specs.Told.{Told, if_told, told_next}
-use Rattle.rb_traffic.specs.Arriving.{number_of}
+use Rattle.rb_laws_sweeps.specs.Told.{Told, if_told, told_next}
+use Rattle.rb_world_traffic.specs.Arriving.{number_of}
 use Rattle.rb_world.specs.declared.ties.Ties.TheVariants.{First}
 use Rattle.rb_world.specs.Nexts.{Standing, after_steps}
 use Rattle.rb_world.specs.Observing.{told_to}

@@ -8,7 +8,7 @@ use Rattle.rb_base.specs.declared.node.NodeName.{NodeName}
 use Rattle.rb_rules.specs.Goodness.{Scenario}
 use Rattle.rb_rules.specs.Lawful.{IsLawful}
 use Rattle.rb_rules.specs.WorldStep.{first_world}
-use Rattle.rb_history.specs.Given.{first_run, given_in}
+use Rattle.rb_laws_logs.specs.Given.{first_run, given_in}
 use Rattle.rb_log.specs.Header.{header_of}
 use Rattle.rb_log.specs.Writing.{Tally, written}
 use Rattle.rb_outside.specs.Bytes.{AppendsPart}

@@ -5,7 +5,7 @@ use Rattle.rb_base.specs.declared.event.Event.{Event}
 use Rattle.rb_base.specs.declared.node.NodeName.{NodeName}
 use Rattle.rb_rules.specs.Goodness.{Scenario}
 use Rattle.rb_rules.specs.Lawful.{IsLawful, IsNodeOf}
-use Rattle.rb_history.specs.Given.{AreGiven}
+use Rattle.rb_laws_logs.specs.Given.{AreGiven}
 use Rattle.rb_log.specs.LogText.{log_in}
 use Rattle.rb_log.specs.Writing.{given}
 use Rattle.rb_record.specs.Recording.{log_text}

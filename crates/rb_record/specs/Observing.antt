@@ -3,7 +3,7 @@ use Rattle.std.specs.Prelude.{ℕ, ◌≡◌, nat_lt, if◌then◌else◌, Optio
 use Rattle.rb_base.specs.declared.event.Event.{Event}
 use Rattle.rb_outside.specs.Bytes.{AppendsPart}
 use Rattle.rb_outside.specs.Causes.{HasCause}
-use Rattle.rb_sweep.specs.Told.{Told}
+use Rattle.rb_laws_sweeps.specs.Told.{Told}
 use Rattle.rb_record.specs.declared.recorder.Recorder.{Recorder}
 use Rattle.rb_record.specs.Buffering.{PassesOn}
 use Rattle.rb_record.specs.Recording.{MayTell, PassesNext, PassesPartOf}

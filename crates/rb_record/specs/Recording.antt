@@ -4,7 +4,7 @@ use Rattle.std.specs.Io.KnownBytes.{Appends}
 use Rattle.rb_base.specs.declared.event.Event.{Event}
 use Rattle.rb_base.specs.declared.node.NodeName.{NodeName}
 use Rattle.rb_rules.specs.Goodness.{Scenario}
-use Rattle.rb_history.specs.Given.{AreGiven, first_run, given_in}
+use Rattle.rb_laws_logs.specs.Given.{AreGiven, first_run, given_in}
 use Rattle.rb_log.specs.Header.{header_of}
 use Rattle.rb_log.specs.Laws.{ticks_in}
 use Rattle.rb_log.specs.Writing.{HasBytes, Tally, ticks_given, written}

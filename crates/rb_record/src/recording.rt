@@ -1,7 +1,7 @@
 //! Taking a run to its end, and writing what one node is given in it.
 ghost use Rattle.std.specs.Prelude.{◌≡◌, [], Option, Some, IfOk, IsOk, MatchResult, OnErr, OnOk};
 ghost use Rattle.std.specs.Io.KnownBytes.{Appends};
-ghost use Rattle.rb_book.specs.Records.{record_of};
+ghost use Rattle.rb_world_book.specs.Records.{record_of};
 ghost use Rattle.rb_log.specs.Header.{header_of};
 ghost use Rattle.rb_outside.specs.Bytes.{AppendsPart};
 ghost use Rattle.rb_outside.specs.Causes.{HasCause};

@@ -19,8 +19,8 @@ use Rattle.rb_slot.specs.Engines.{Seated}
 use Rattle.rb_outside.specs.Bytes.{AppendsPart}
 use Rattle.rb_outside.proofs.Known.{appends_join, appends_none, part_join, part_widens}
 use Rattle.rb_report.specs.Report.{end_text}
-use Rattle.rb_history.specs.Given.{index_of}
-use Rattle.rb_history.specs.Replays.{act_lines, acts_from, acts_text, frames_in, frames_with, replay_text}
+use Rattle.rb_laws_logs.specs.Given.{index_of}
+use Rattle.rb_laws_logs.specs.Replays.{act_lines, acts_from, acts_text, frames_in, frames_with, replay_text}
 use Rattle.rb_replay.specs.Replaying.{Advances, IsDue, acts_at, text_after}
 use Rattle.rb_replay.proofs.QuietText.{quiet-before, quiet-text, text-step}
 

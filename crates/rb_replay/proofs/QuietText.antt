@@ -12,7 +12,7 @@ use Rattle.rb_rules.specs.Core.CoreEvent.{Tick}
 use Rattle.rb_rules.specs.NodeState.{NodeState}
 use Rattle.rb_rules.proofs.QuietTicks.{IsQuiet, nothing, quiet-from, quiet-tick}
 use Rattle.rb_report.specs.Report.{end_text}
-use Rattle.rb_history.specs.Replays.{act_lines, frames_in, frames_with}
+use Rattle.rb_laws_logs.specs.Replays.{act_lines, frames_in, frames_with}
 use Rattle.rb_replay.specs.Replaying.{text_after}
 
 -- the text of an act comes first

@@ -7,7 +7,7 @@ use Rattle.rb_base.specs.declared.node.NodeName.{NodeName}
 use Rattle.rb_rules.specs.Core.{Act, Core, CoreEvent, acts_of}
 use Rattle.rb_node.specs.Cores.{IsCore, Running}
 use Rattle.rb_report.specs.Report.{end_text}
-use Rattle.rb_history.specs.Replays.{act_lines, frames_in}
+use Rattle.rb_laws_logs.specs.Replays.{act_lines, frames_in}
 
 -- the acts of a core that sits where the node sits
 abbrev pub acts_at : Side → Running → Core → List CoreEvent → List Act

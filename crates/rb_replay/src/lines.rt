@@ -3,8 +3,8 @@ ghost use Rattle.std.specs.Prelude.{◌≡◌, ◌≤◌, ◌++◌, OnOk, OnErr}
 ghost use Rattle.std.specs.Io.KnownBytes.{Appends};
 ghost use Rattle.rb_outside.specs.Bytes.{AppendsPart};
 ghost use Rattle.rb_outside.specs.Causes.{HasCause};
-ghost use Rattle.rb_history.specs.Given.{index_of};
-ghost use Rattle.rb_history.specs.Replays.{act_lines, delivery_lines, epoch_lines, frames_with};
+ghost use Rattle.rb_laws_logs.specs.Given.{index_of};
+ghost use Rattle.rb_laws_logs.specs.Replays.{act_lines, delivery_lines, epoch_lines, frames_with};
 ghost use Rattle.rb_node.specs.Acts.{IsAct};
 ghost use Rattle.rb_rules.specs.Core.{Act};
 

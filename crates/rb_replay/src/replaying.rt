@@ -2,7 +2,7 @@
 ghost use Rattle.std.specs.Prelude.{◌≡◌, ℕ, ◌+◌, ◌≤◌, ◌∷◌, ◌^◌, ◌<◌, IfOk, List, OnOk, OnErr, [], length};
 ghost use Rattle.std.specs.Io.KnownBytes.{Appends};
 ghost use Rattle.rb_base.specs.Nodes.{side_of};
-ghost use Rattle.rb_history.specs.Replays.{act_lines, frames_with, replay_text};
+ghost use Rattle.rb_laws_logs.specs.Replays.{act_lines, frames_with, replay_text};
 ghost use Rattle.rb_log.specs.Cursor.{shown};
 ghost use Rattle.rb_node.specs.Cores.{IsCore, IsSameNode, arrive_of, passing_end, tick_of};
 ghost use Rattle.rb_outside.specs.Bytes.{AppendsPart};

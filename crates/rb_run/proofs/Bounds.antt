@@ -8,7 +8,7 @@ use Rattle.rb_rules.specs.Lawful.{IsLawful}
 use Rattle.rb_rules.specs.Ports.{HandIn}
 use Rattle.rb_rules.specs.Rounds.{Moment, Result, after_window, begin_frame, book_after, first_moment, moment, next_frame, records_of, results_of, step, steps_of, windows_in}
 use Rattle.rb_rules.proofs.Books.{records-are, stepped}
-use Rattle.rb_order.proofs.WorldBooks.{AtMostOneMore, end-more, frame-more, stage-more}
+use Rattle.rb_laws_events.proofs.WorldBooks.{AtMostOneMore, end-more, frame-more, stage-more}
 
 at-most-one : (xs ys : List Record) → AtMostOneMore xs ys → length ys ≤ length xs + 1
 at-most-one xs ys (inl same) = let e = ap length same in omega (arith, e)

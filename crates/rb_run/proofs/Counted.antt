@@ -1,8 +1,8 @@
 -- A run of which some turns have been given and counted.
 use Rattle.std.proofs.Common.{◌≡◌, ℕ, ◌+◌, Bool, false, Option, Some, None, List, [], ◌∷◌, ◌++◌, length, refl, sym, ap, ◌∙◌, subst, length-append}
 use Rattle.rb_rules.specs.Goodness.{Scenario}
-use Rattle.rb_book.specs.Records.{record_of}
-use Rattle.rb_book.specs.declared.turn.Turn.{Turn}
+use Rattle.rb_world_book.specs.Records.{record_of}
+use Rattle.rb_world_book.specs.declared.turn.Turn.{Turn}
 use Rattle.rb_run.specs.declared.ending.Ending.{Ending}
 use Rattle.rb_run.specs.declared.totals.Totals.{Totals}
 use Rattle.rb_run.specs.Runs.{HasGivenNothing, TalliesAll, end_at}

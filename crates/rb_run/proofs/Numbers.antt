@@ -7,8 +7,8 @@ use Rattle.std.specs.List.{flat_map, last_or}
 use Rattle.std.specs.Option.{option_to_list}
 use Rattle.rb_rules.specs.Book.{Record}
 use Rattle.rb_rules.specs.Book.Record.{Frame, Slot, Ended, Breach}
-use Rattle.rb_book.specs.Records.{record_of}
-use Rattle.rb_book.specs.declared.turn.Turn.{Turn}
+use Rattle.rb_world_book.specs.Records.{record_of}
+use Rattle.rb_world_book.specs.declared.turn.Turn.{Turn}
 use Rattle.rb_run.specs.declared.totals.Totals.{Totals}
 use Rattle.rb_run.specs.Tallies.{Block, block_in, blocks_of, convicted_in, counted, differences_in, frames_in, greatest, lines_in, tally_of, totals_of}
 use Rattle.rb_run.specs.Turns.{records_in}

@@ -2,8 +2,8 @@
 use Rattle.std.proofs.Common.{◌≡◌, ℕ, ◌+◌, Bool, false, Option, Some, None, List, [], ◌∷◌, ◌++◌, length, refl, sym, ap, ◌∙◌, subst, length-append}
 use Rattle.std.specs.Io.KnownBytes.{Appends}
 use Rattle.rb_rules.specs.Goodness.{Scenario}
-use Rattle.rb_book.specs.Records.{record_of}
-use Rattle.rb_book.specs.declared.turn.Turn.{Turn}
+use Rattle.rb_world_book.specs.Records.{record_of}
+use Rattle.rb_world_book.specs.declared.turn.Turn.{Turn}
 use Rattle.rb_outside.specs.Bytes.{AppendsPart}
 use Rattle.rb_outside.proofs.Known.{appends_join, appends_none, part_join}
 use Rattle.rb_run.specs.declared.ending.Ending.{Ending}

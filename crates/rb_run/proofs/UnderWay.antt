@@ -8,10 +8,10 @@ use Rattle.rb_rules.specs.Lawful.{IsLawful}
 use Rattle.rb_rules.specs.Ports.{HandIn}
 use Rattle.rb_rules.specs.Rounds.{records_of}
 use Rattle.rb_rules.specs.WorldStep.{IsPrefix, World}
-use Rattle.rb_book.specs.Records.{record_of}
-use Rattle.rb_book.specs.declared.turn.Turn.{Turn}
-use Rattle.rb_book.specs.declared.turn.Turn.TheVariants as shown
-use Rattle.rb_order.proofs.EventsHold.{events-hold}
+use Rattle.rb_world_book.specs.Records.{record_of}
+use Rattle.rb_world_book.specs.declared.turn.Turn.{Turn}
+use Rattle.rb_world_book.specs.declared.turn.Turn.TheVariants as shown
+use Rattle.rb_laws_events.proofs.EventsHold.{events-hold}
 use Rattle.rb_run.specs.declared.ending.Ending.{Ending}
 use Rattle.rb_run.specs.Runs.{EndsWith, HasGivenNothing, end_at}
 use Rattle.rb_run.specs.Turns.{AreAll, AreGiven, TellsAll, turn_of}

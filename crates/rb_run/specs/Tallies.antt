@@ -6,7 +6,7 @@ use Rattle.rb_rules.specs.declared.record.NodeLine.{NodeLine}
 use Rattle.rb_rules.specs.declared.record.SlotLine.{SlotLine}
 use Rattle.rb_rules.specs.Book.{Record}
 use Rattle.rb_rules.specs.Book.Record.{Frame, Slot, Ended, Breach}
-use Rattle.rb_book.specs.declared.turn.Turn.{Turn}
+use Rattle.rb_world_book.specs.declared.turn.Turn.{Turn}
 use Rattle.rb_run.specs.declared.totals.Totals.{Totals}
 use Rattle.rb_run.specs.Turns.{records_in}
 

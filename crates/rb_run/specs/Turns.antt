@@ -4,9 +4,9 @@ use Rattle.rb_rules.specs.Book.{Record}
 use Rattle.rb_rules.specs.Goodness.{Scenario}
 use Rattle.rb_rules.specs.Rounds.{records_of}
 use Rattle.rb_rules.specs.WorldStep.{IsPrefix}
-use Rattle.rb_book.specs.Records.{record_of}
-use Rattle.rb_book.specs.declared.turn.Turn.{Turn}
-use Rattle.rb_book.specs.declared.turn.Turn.TheVariants as turn
+use Rattle.rb_world_book.specs.Records.{record_of}
+use Rattle.rb_world_book.specs.declared.turn.Turn.{Turn}
+use Rattle.rb_world_book.specs.declared.turn.Turn.TheVariants as turn
 use Rattle.rb_report.specs.Texts.{report_of}
 use Rattle.rb_world.specs.Driving.{bare}
 

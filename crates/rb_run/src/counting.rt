@@ -1,16 +1,16 @@
 //! The numbers of a run, counted as it goes on.
 ghost use Rattle.std.specs.Prelude.{◌≡◌, ◌+◌, ◌^◌, ◌<◌, ◌≤◌};
 ghost use Rattle.rb_base.specs.Nodes.{size};
-ghost use Rattle.rb_book.specs.Records.{record_of};
+ghost use Rattle.rb_world_book.specs.Records.{record_of};
 ghost use Rattle.rb_run.specs.Runs.{EndsWith, HasGivenNothing, TalliesAll};
 ghost use Rattle.rb_run.specs.Tallies.{convicted_in_first, counted, differences_in, greatest};
 
 use crate::ending::{Ending, ending_at};
 use crate::totals::Totals;
 use rb_base::{Biu, NodeSet, Rmu};
-use rb_book::{FrameRecord, NodeLine, Turn};
 use rb_port::Apps;
 use rb_world::{Drive, World};
+use rb_world_book::{FrameRecord, NodeLine, Turn};
 
 // How many nodes a line says are convicted.
 fn convicted_by(line: &NodeLine) -> u8

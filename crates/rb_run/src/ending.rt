@@ -1,9 +1,9 @@
 //! How a run ends.
 ghost use Rattle.std.specs.Prelude.{◌≡◌};
-ghost use Rattle.rb_book.specs.Records.{record_of};
+ghost use Rattle.rb_world_book.specs.Records.{record_of};
 ghost use Rattle.rb_run.specs.Runs.{end_at};
 
-use rb_book::Turn;
+use rb_world_book::Turn;
 
 /// How a run ends: after all its frames, or at the first stage at which the fault premise fails.
 #[derive(Clone, Copy, Debug, PartialEq, Eq)]

@@ -1,7 +1,7 @@
 //! The report of a run, written a line at a time.
 ghost use Rattle.std.specs.Prelude.{◌≡◌, IfOk, OnErr, OnOk};
 ghost use Rattle.std.specs.Io.KnownBytes.{Appends};
-ghost use Rattle.rb_book.specs.Records.{record_of};
+ghost use Rattle.rb_world_book.specs.Records.{record_of};
 ghost use Rattle.rb_outside.specs.Bytes.{AppendsPart};
 ghost use Rattle.rb_outside.specs.Causes.{HasCause};
 ghost use Rattle.rb_report.specs.Texts.{block_text, deliveries_text};
@@ -10,11 +10,11 @@ ghost use Rattle.rb_run.specs.Runs.{EndsWith, HasGivenNothing, WritesAll, Writes
 
 use crate::ending::{Ending, ending_at};
 use arrayvec::ArrayString;
-use rb_book::{FrameRecord, NodeLine, PortLine, SlotRecord, Turn};
 use rb_outside::{Failed, Sink, write_all};
 use rb_port::Apps;
 use rb_report::{breach_line, convicted_line, delivery_line, end_line, epoch_line, port_line};
 use rb_world::{Drive, World};
+use rb_world_book::{FrameRecord, NodeLine, PortLine, SlotRecord, Turn};
 
 // Writes the line.
 fn write_line<K: Sink>(output: &mut K, line: &ArrayString<96>) -> Result<(), Failed>

@@ -3,8 +3,8 @@ use Rattle.std.proofs.Common.{◌≡◌, ℕ, List, Some, None, ap, sym, ◌∙�
 use Rattle.toml.specs.Data.{Members}
 use Rattle.rb_scenario.specs.Acceptance.{IsAccepted, IsBroken, IsDocument, IsRefused, first_broken, as_scenario}
 use Rattle.rb_scenario.specs.Reading.{scenario_of}
-use Rattle.rb_entries.specs.declared.refusal.Refusal.{Refusal}
-use Rattle.rb_entries.specs.declared.refusal.Refusal.TheVariants.{NotToml}
+use Rattle.rb_scenario_entries.specs.declared.refusal.Refusal.{Refusal}
+use Rattle.rb_scenario_entries.specs.declared.refusal.Refusal.TheVariants.{NotToml}
 use Rattle.rb_scenario.specs.declared.scenario.Scenario.{Scenario}
 
 -- bytes are the text of one document at most

@@ -3,13 +3,13 @@ use Rattle.std.proofs.Common.{◌≡◌, true, codes}
 use Rattle.std.proofs.lemmas.Bool.{and_parts}
 use Rattle.std.specs.List.{list_all}
 use Rattle.toml.specs.Data.{Members}
-use Rattle.rb_document.specs.Values.{may_have_number}
-use Rattle.rb_document.specs.Walk.{entries_at}
-use Rattle.rb_entries.specs.declared.bus.Bus.{Bus}
-use Rattle.rb_entries.specs.Clocks.{is_clock}
-use Rattle.rb_entries.specs.Faults.{is_fault}
-use Rattle.rb_entries.specs.Links.{is_link}
-use Rattle.rb_entries.specs.Says.{is_say}
+use Rattle.rb_scenario_document.specs.Values.{may_have_number}
+use Rattle.rb_scenario_document.specs.Walk.{entries_at}
+use Rattle.rb_scenario_entries.specs.declared.bus.Bus.{Bus}
+use Rattle.rb_scenario_entries.specs.Clocks.{is_clock}
+use Rattle.rb_scenario_entries.specs.Faults.{is_fault}
+use Rattle.rb_scenario_entries.specs.Links.{is_link}
+use Rattle.rb_scenario_entries.specs.Says.{is_say}
 use Rattle.rb_scenario.specs.Hosts.{has_lists}
 use Rattle.rb_scenario.specs.Reading.{fits_bus}
 

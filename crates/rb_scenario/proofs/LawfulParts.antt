@@ -21,27 +21,27 @@ use Rattle.rb_rules.specs.declared.plan.Plan.{Plan}
 use Rattle.rb_rules.specs.Lawful.{HasEach, IsLawful, IsOnsetOf, is_node_good, segments_of_all}
 use Rattle.rb_rules.proofs.Feasibility.{feasible_exactly}
 use Rattle.rb_rules.proofs.Lawfulness.{sends_inside_all}
-use Rattle.rb_document.specs.Names.{node_at}
-use Rattle.rb_document.specs.Values.{has_number, item_at, may_have_number, number_at, number_or}
-use Rattle.rb_document.specs.Walk.{entries_at, has_key, passes}
-use Rattle.rb_document.proofs.Bounds.{absent_or-bounds, passes-bounds}
-use Rattle.rb_document.proofs.Walks.{listed-within}
-use Rattle.rb_entries.specs.declared.bus.Bus.{Bus}
+use Rattle.rb_scenario_document.specs.Names.{node_at}
+use Rattle.rb_scenario_document.specs.Values.{has_number, item_at, may_have_number, number_at, number_or}
+use Rattle.rb_scenario_document.specs.Walk.{entries_at, has_key, passes}
+use Rattle.rb_scenario_document.proofs.Bounds.{absent_or-bounds, passes-bounds}
+use Rattle.rb_scenario_document.proofs.Walks.{listed-within}
+use Rattle.rb_scenario_entries.specs.declared.bus.Bus.{Bus}
 use Rattle.rb_scenario.specs.Acceptance.{broken_by}
-use Rattle.rb_entries.specs.Bus.{IsBus}
-use Rattle.rb_entries.specs.Clocks.{clock_for, clocks_of, is_clock, kind_clocks, timeline_of}
-use Rattle.rb_entries.specs.Entries.{is_node}
-use Rattle.rb_entries.specs.Faults.{is_fault, onset_for, onset_of, onsets_of}
+use Rattle.rb_scenario_entries.specs.Bus.{IsBus}
+use Rattle.rb_scenario_entries.specs.Clocks.{clock_for, clocks_of, is_clock, kind_clocks, timeline_of}
+use Rattle.rb_scenario_entries.specs.Entries.{is_node}
+use Rattle.rb_scenario_entries.specs.Faults.{is_fault, onset_for, onset_of, onsets_of}
 use Rattle.rb_scenario.specs.Hosts.{app_at, app_in, apps_of, has_lists, request_at, requests_of, word_at, words_of}
-use Rattle.rb_entries.specs.Links.{is_link, rule_of}
+use Rattle.rb_scenario_entries.specs.Links.{is_link, rule_of}
 use Rattle.rb_scenario.specs.Reading.{fits_bus, scenario_on}
 use Rattle.rb_scenario.specs.Rules.{is_delay, keep_time, start_together}
-use Rattle.rb_entries.specs.Clocks.{keeps_time}
-use Rattle.rb_entries.specs.Says.{is_say, say_of}
+use Rattle.rb_scenario_entries.specs.Clocks.{keeps_time}
+use Rattle.rb_scenario_entries.specs.Says.{is_say, say_of}
 use Rattle.rb_scenario.proofs.Chain.{AllKept, kept_from_none}
-use Rattle.rb_entries.proofs.LawfulEntries.{LinkLaw, SayLaw, link_law, say_law}
+use Rattle.rb_scenario_entries.proofs.LawfulEntries.{LinkLaw, SayLaw, link_law, say_law}
 use Rattle.rb_scenario.proofs.FitParts.{fit_parts}
-use Rattle.rb_entries.proofs.Finding.{found_passes}
+use Rattle.rb_scenario_entries.proofs.Finding.{found_passes}
 
 -- what holds of what each number gives holds of all that is made by number
 all_made : {X : Type 0} (P : X → Type 0) (f : ℕ → X) (n : ℕ) → ((i : ℕ) → P (f i)) → All P (map f (numbers n))

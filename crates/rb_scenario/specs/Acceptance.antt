@@ -4,9 +4,9 @@ use Rattle.toml.specs.Data.{Members}
 use Rattle.toml.specs.Parse.{parse_document}
 use Rattle.rb_rules.specs.Goodness.{Scenario}
 use Rattle.rb_rules.specs.Plan.{first_failing}
-use Rattle.rb_document.specs.Forms.{has_unknown_key, has_wrong_form, lacks_key}
-use Rattle.rb_entries.specs.declared.refusal.Refusal.{Refusal}
-use Rattle.rb_entries.specs.declared.refusal.Refusal.TheVariants.{NotToml, MissingKey, UnknownKey, WrongType, OutOfRange, PlanFails, ClockBounds, DelayBounds, StartApart, SayOfGood, TooMany, NoSuchNode, OutOfMemory}
+use Rattle.rb_scenario_document.specs.Forms.{has_unknown_key, has_wrong_form, lacks_key}
+use Rattle.rb_scenario_entries.specs.declared.refusal.Refusal.{Refusal}
+use Rattle.rb_scenario_entries.specs.declared.refusal.Refusal.TheVariants.{NotToml, MissingKey, UnknownKey, WrongType, OutOfRange, PlanFails, ClockBounds, DelayBounds, StartApart, SayOfGood, TooMany, NoSuchNode, OutOfMemory}
 use Rattle.rb_scenario.specs.declared.scenario.Scenario.{Scenario as Accepted}
 use Rattle.rb_scenario.specs.Reading.{is_in_range, scenario_of}
 use Rattle.rb_scenario.specs.Rules.{are_delays, are_few, are_sayers_faulty, keep_time, start_together}

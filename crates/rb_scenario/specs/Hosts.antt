@@ -3,8 +3,8 @@ use Rattle.std.specs.Prelude.{ℕ, Bool, ◌&&◌, nat_lt, List, map, Option, So
 use Rattle.std.specs.Str.{bytes_eq}
 use Rattle.toml.specs.Data.{Data, string, Members}
 use Rattle.rb_base.specs.Counting.{numbers}
-use Rattle.rb_document.specs.Values.{is_within, item_at, may_have_list, number_or}
-use Rattle.rb_document.specs.Walk.{has_key}
+use Rattle.rb_scenario_document.specs.Values.{is_within, item_at, may_have_list, number_or}
+use Rattle.rb_scenario_document.specs.Walk.{has_key}
 
 -- the number of an application
 abbrev pub app_named : List ℕ → Option ℕ

@@ -6,15 +6,15 @@ use Rattle.rb_base.specs.Nodes.Side.{Biu, Rmu}
 use Rattle.rb_rules.specs.Goodness.{Scenario}
 use Rattle.rb_rules.specs.Links.{DelayRules}
 use Rattle.rb_rules.specs.declared.plan.Plan.{Plan}
-use Rattle.rb_document.specs.Values.{may_have_number, number_at}
-use Rattle.rb_document.specs.Walk.{entries_at}
-use Rattle.rb_entries.specs.declared.bus.Bus.{Bus}
-use Rattle.rb_entries.specs.Bus.{bus_of, has_bus}
-use Rattle.rb_entries.specs.Clocks.{clocks_of, has_clocks}
-use Rattle.rb_entries.specs.Faults.{has_faults, onsets_of}
+use Rattle.rb_scenario_document.specs.Values.{may_have_number, number_at}
+use Rattle.rb_scenario_document.specs.Walk.{entries_at}
+use Rattle.rb_scenario_entries.specs.declared.bus.Bus.{Bus}
+use Rattle.rb_scenario_entries.specs.Bus.{bus_of, has_bus}
+use Rattle.rb_scenario_entries.specs.Clocks.{clocks_of, has_clocks}
+use Rattle.rb_scenario_entries.specs.Faults.{has_faults, onsets_of}
 use Rattle.rb_scenario.specs.Hosts.{apps_of, has_lists, requests_of, words_of}
-use Rattle.rb_entries.specs.Links.{is_link, rules_of}
-use Rattle.rb_entries.specs.Says.{is_say, says_of}
+use Rattle.rb_scenario_entries.specs.Links.{is_link, rules_of}
+use Rattle.rb_scenario_entries.specs.Says.{is_say, says_of}
 
 -- the values of the entries, and those at the root that go by the bus, are in range
 unfoldable pub fits_bus : Bus → Members → Bool

@@ -6,7 +6,7 @@ use Rattle.rb_rules.specs.Goodness.{Scenario}
 use Rattle.rb_rules.specs.Lawful.{is_node_good, segments_of_all}
 use Rattle.rb_rules.specs.Links.{DelayRules}
 use Rattle.rb_rules.specs.declared.plan.Plan.{Plan}
-use Rattle.rb_entries.specs.Clocks.{keeps_time}
+use Rattle.rb_scenario_entries.specs.Clocks.{keeps_time}
 
 -- every clock keeps time
 abbrev pub keep_time : Plan → List Timeline → Bool

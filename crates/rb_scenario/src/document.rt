@@ -2,7 +2,7 @@
 ghost use Rattle.std.specs.Prelude.{◌≡◌, ◌⊎◌, Some, None, true, IfErr, IfOk};
 ghost use Rattle.toml.specs.View.{table_view};
 ghost use Rattle.rb_scenario.specs.Acceptance.{IsAccepted, IsBrokenBy, IsRefused, Says, broken_by, first_broken, as_scenario};
-ghost use Rattle.rb_entries.specs.Bus.{IsBus, bus_of};
+ghost use Rattle.rb_scenario_entries.specs.Bus.{IsBus, bus_of};
 ghost use Rattle.rb_rules.specs.Lawful.{IsLawful};
 ghost use Rattle.rb_scenario.specs.Reading.{fits_bus, scenario_of, scenario_on};
 
@@ -11,13 +11,13 @@ use crate::reading::{delays_of, fits_bus, sayings_of};
 use crate::rules::{are_few, start_together};
 use crate::scenario::{ClockList, SayList, Scenario};
 use rb_base::{Biu, OutOfMemory, Rmu};
-use rb_document::{has_unknown_key, has_wrong_form, lacks_key};
-use rb_entries::bus::{Bus, bus_in};
-use rb_entries::clocks::clocks_of;
-use rb_entries::faults::onsets_of;
-use rb_entries::refusal::Refusal;
 use rb_link::Delays;
 use rb_plan::Feasible;
+use rb_scenario_document::{has_unknown_key, has_wrong_form, lacks_key};
+use rb_scenario_entries::bus::{Bus, bus_in};
+use rb_scenario_entries::clocks::clocks_of;
+use rb_scenario_entries::faults::onsets_of;
+use rb_scenario_entries::refusal::Refusal;
 use std::alloc::Global;
 use toml::Table;
 

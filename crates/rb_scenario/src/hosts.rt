@@ -3,8 +3,8 @@ ghost use Rattle.std.specs.Prelude.{◌≡◌, ◌≤◌, ◌<◌, true, option_
 ghost use Rattle.toml.specs.View.{view, table_view};
 ghost use Rattle.rb_scenario.specs.Hosts.{app_at, app_in, app_named, apps_of, has_lists, request_at, requests_of, word_at, words_of};
 
-use rb_document::values::{Within, item_at, listed_number, may_have_list};
-use rb_document::walk::{Test, has_key};
+use rb_scenario_document::values::{Within, item_at, listed_number, may_have_list};
+use rb_scenario_document::walk::{Test, has_key};
 use toml::{Table, Value};
 
 /// The number of an application.

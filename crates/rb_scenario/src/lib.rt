@@ -8,6 +8,6 @@ mod rules;
 pub mod scenario;
 
 pub use document::read;
-pub use rb_entries::Refusal;
 pub use rb_rules::{Content, Say};
+pub use rb_scenario_entries::Refusal;
 pub use scenario::{ClockList, SayList, Scenario};

@@ -6,14 +6,14 @@ use Rattle.rb_rules.specs.Goodness.{Scenario}
 use Rattle.rb_rules.specs.Lawful.{IsNodeOf}
 use Rattle.rb_log.specs.LogText.{Log, log_in}
 use Rattle.rb_overheard.specs.Overhearing.{is_of_biu}
-use Rattle.rb_replicas.specs.Members.{AreMembers}
+use Rattle.rb_group_values.specs.Members.{AreMembers}
 use Rattle.rb_gen.specs.Generated.{generated}
 use Rattle.rb_scenario.specs.Acceptance.{IsAccepted, IsRefused}
 use Rattle.rb_scenario.proofs.Documents.{accepted_alike, accepted_is_toml, accepted_is_unbroken}
 use Rattle.rb_scenario.specs.declared.scenario.Scenario.{Scenario as Accepted}
-use Rattle.rb_entries.specs.declared.refusal.Refusal.{Refusal}
-use Rattle.rb_entries.specs.declared.refusal.Refusal.TheVariants as rule
-use Rattle.rb_book.specs.declared.turn.Turn.{Turn}
+use Rattle.rb_scenario_entries.specs.declared.refusal.Refusal.{Refusal}
+use Rattle.rb_scenario_entries.specs.declared.refusal.Refusal.TheVariants as rule
+use Rattle.rb_world_book.specs.declared.turn.Turn.{Turn}
 use Rattle.rb_run.specs.declared.ending.Ending.{Ending}
 use Rattle.rb_top.specs.declared.form.Form.{Form}
 use Rattle.rb_top.specs.declared.form.Form.TheVariants.{Run, Check, Gen, Stress, Record, Replay, Spell, Letters, Group, Listen}

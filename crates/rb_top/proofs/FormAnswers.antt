@@ -5,18 +5,18 @@ use Rattle.rb_outside.specs.Bytes.{AppendsPart, Gave, ReadsToEnd}
 use Rattle.rb_outside.specs.Causes.{Rose}
 use Rattle.rb_base.specs.declared.node.NodeName.{NodeName}
 use Rattle.rb_rules.specs.Lawful.{IsNodeOf}
-use Rattle.rb_entries.specs.declared.refusal.Refusal.TheVariants.{NoSuchNode}
+use Rattle.rb_scenario_entries.specs.declared.refusal.Refusal.TheVariants.{NoSuchNode}
 use Rattle.rb_record.specs.Recording.{WritesPart as WritesPartOf, log_text}
 use Rattle.rb_scenario.specs.Acceptance.{as_scenario}
 use Rattle.rb_scenario.specs.declared.scenario.Scenario.{Scenario as Accepted}
-use Rattle.rb_book.specs.declared.turn.Turn.{Turn}
+use Rattle.rb_world_book.specs.declared.turn.Turn.{Turn}
 use Rattle.arrayvec.specs.ArrayVec.{ArrayVec}
 use Rattle.rb_group.specs.declared.voters.Which.{Which}
-use Rattle.rb_hearing.specs.Texts.{spelling_text}
-use Rattle.rb_letters.specs.Letters.{WritesSome}
-use Rattle.rb_replicas.specs.Members.{AreMembers}
-use Rattle.rb_replicas.specs.declared.asked.Asked.{Asked}
-use Rattle.rb_replies.specs.Runs.{WritesPart as WritesGroupsPart}
+use Rattle.rb_long_text.specs.Texts.{spelling_text}
+use Rattle.rb_long_run.specs.Letters.{WritesSome}
+use Rattle.rb_group_values.specs.Members.{AreMembers}
+use Rattle.rb_group_values.specs.declared.asked.Asked.{Asked}
+use Rattle.rb_group_run.specs.Runs.{WritesPart as WritesGroupsPart}
 use Rattle.rb_rules.specs.Goodness.{Scenario}
 use Rattle.rb_run.specs.Runs.{WritesPart}
 use Rattle.rb_run.specs.Turns.{AreAll, AreGiven, records_in}

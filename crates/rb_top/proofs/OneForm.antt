@@ -9,7 +9,7 @@ use Rattle.std.specs.Fmt.{decimal}
 use Rattle.std.specs.declared.alloc.Global.{Global}
 use Rattle.rb_base.specs.declared.node.NodeName.{NodeName}
 use Rattle.rb_base.specs.declared.node.NodeName.TheVariants.{Biu, Rmu}
-use Rattle.rb_document.specs.Names.{IsNumbered}
+use Rattle.rb_scenario_document.specs.Names.{IsNumbered}
 use Rattle.rb_group.specs.declared.voters.Which.{Which}
 use Rattle.rb_group.specs.declared.voters.Which.TheVariants.{Most, Mid}
 use Rattle.rb_report.specs.Report.{node_text}

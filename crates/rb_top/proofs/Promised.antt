@@ -2,9 +2,9 @@
 use Rattle.std.proofs.Common.{ℕ, true, List, [], Option, ap, ◌∙◌, subst}
 use Rattle.std.specs.Io.KnownBytes.{Appends}
 use Rattle.rb_gen.specs.Generated.{generated}
-use Rattle.rb_bus.proofs.Promise.{promise, stands}
-use Rattle.rb_order.proofs.NodesPromise.{keep-the-promise}
-use Rattle.rb_book.specs.declared.turn.Turn.{Turn}
+use Rattle.rb_laws_promise.proofs.Promise.{promise, stands}
+use Rattle.rb_laws_events.proofs.NodesPromise.{keep-the-promise}
+use Rattle.rb_world_book.specs.declared.turn.Turn.{Turn}
 use Rattle.rb_outside.specs.Bytes.{ReadsToEnd}
 use Rattle.rb_run.proofs.Plain.{plain-records}
 use Rattle.rb_top.specs.declared.form.Form.{Form}

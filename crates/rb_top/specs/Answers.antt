@@ -9,15 +9,15 @@ use Rattle.rb_base.specs.declared.node.NodeName.{NodeName}
 use Rattle.rb_rules.specs.Goodness.{Scenario}
 use Rattle.rb_rules.specs.Lawful.{IsLawful, IsNodeOf}
 use Rattle.rb_gen.specs.Generated.{generated}
-use Rattle.rb_book.specs.declared.turn.Turn.{Turn}
-use Rattle.rb_history.specs.Given.{AreGiven as AreGivenTo}
-use Rattle.rb_history.specs.Replays.{replay_text}
+use Rattle.rb_world_book.specs.declared.turn.Turn.{Turn}
+use Rattle.rb_laws_logs.specs.Given.{AreGiven as AreGivenTo}
+use Rattle.rb_laws_logs.specs.Replays.{replay_text}
 use Rattle.rb_log.specs.LogText.{Log, log_in}
 use Rattle.rb_overheard.specs.Overhearing.{is_of_biu, overheard_text}
 use Rattle.rb_record.specs.Recording.{log_text}
 use Rattle.rb_group.specs.declared.voters.Which.{Which}
-use Rattle.rb_hearing.specs.Texts.{spelling_text}
-use Rattle.rb_replicas.specs.Members.{AreMembers}
+use Rattle.rb_long_text.specs.Texts.{spelling_text}
+use Rattle.rb_group_values.specs.Members.{AreMembers}
 use Rattle.rb_run.specs.Runs.{EndsWith}
 use Rattle.rb_run.specs.Turns.{AreAll, AreGiven, records_in}
 use Rattle.rb_run.specs.declared.ending.Ending.{Ending}

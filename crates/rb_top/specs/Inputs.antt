@@ -6,12 +6,12 @@ use Rattle.rb_base.specs.declared.node.NodeName.{NodeName}
 use Rattle.rb_rules.specs.Goodness.{Scenario}
 use Rattle.rb_rules.specs.Lawful.{IsNodeOf}
 use Rattle.rb_report.specs.Report.{refused_text}
-use Rattle.rb_entries.specs.Codes.{code_of, detail_of}
-use Rattle.rb_entries.specs.declared.refusal.Refusal.{Refusal}
-use Rattle.rb_entries.specs.declared.refusal.Refusal.TheVariants.{NoSuchNode}
+use Rattle.rb_scenario_entries.specs.Codes.{code_of, detail_of}
+use Rattle.rb_scenario_entries.specs.declared.refusal.Refusal.{Refusal}
+use Rattle.rb_scenario_entries.specs.declared.refusal.Refusal.TheVariants.{NoSuchNode}
 use Rattle.rb_log.specs.LogText.{Log, log_in}
 use Rattle.rb_overheard.specs.Overhearing.{is_of_biu}
-use Rattle.rb_replicas.specs.Members.{AreMembers}
+use Rattle.rb_group_values.specs.Members.{AreMembers}
 use Rattle.rb_log.specs.declared.refusal.LogRefusal.{LogRefusal}
 use Rattle.rb_log.specs.declared.refusal.LogRefusal.TheVariants.{BadMagic, BadField, Truncated, AfterEnd}
 use Rattle.rb_scenario.specs.Acceptance.{IsAccepted, IsRefused, as_scenario}

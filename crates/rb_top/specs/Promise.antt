@@ -6,7 +6,7 @@ use Rattle.rb_rules.specs.Goodness.{Scenario}
 use Rattle.rb_rules.specs.Headline.{Headline}
 use Rattle.rb_rules.specs.Rounds.{records_of}
 use Rattle.rb_rules.specs.StandsFor.{StandsFor}
-use Rattle.rb_order.specs.Promise.{RunningNodesKeepThePromise}
+use Rattle.rb_laws_events.specs.Promise.{RunningNodesKeepThePromise}
 use Rattle.rb_gen.specs.Generated.{generated}
 use Rattle.rb_top.specs.declared.form.Form.{Form}
 use Rattle.rb_top.specs.declared.form.Form.TheVariants.{Run, Check, Gen, Stress, Record, Replay, Spell, Letters, Group, Listen}

@@ -4,12 +4,12 @@ use Rattle.std.specs.Io.KnownBytes.{Appends}
 use Rattle.rb_outside.specs.Bytes.{AppendsPart}
 use Rattle.rb_base.specs.declared.node.NodeName.{NodeName}
 use Rattle.rb_rules.specs.Goodness.{Scenario}
-use Rattle.rb_book.specs.declared.turn.Turn.{Turn}
+use Rattle.rb_world_book.specs.declared.turn.Turn.{Turn}
 use Rattle.rb_record.specs.Recording.{WritesAll as WritesAllOf}
 use Rattle.rb_run.specs.Runs.{WritesAll}
-use Rattle.rb_letters.specs.Letters.{WritesLetters}
-use Rattle.rb_replicas.specs.declared.asked.Asked.{Asked}
-use Rattle.rb_replies.specs.Runs.{WritesAll as WritesGroups}
+use Rattle.rb_long_run.specs.Letters.{WritesLetters}
+use Rattle.rb_group_values.specs.declared.asked.Asked.{Asked}
+use Rattle.rb_group_run.specs.Runs.{WritesAll as WritesGroups}
 use Rattle.rb_top.specs.declared.form.Form.{Form}
 use Rattle.rb_top.specs.declared.status.Status.{Status}
 use Rattle.rb_top.specs.declared.status.Status.TheVariants as answer

@@ -1,7 +1,7 @@
 -- The forms of words.
 use Rattle.std.specs.Prelude.{⊤, ℕ, ◌≡◌, ◌<◌, ◌≤◌, ◌^◌, true, List, [], ◌∷◌, length, map, codes, String, string_bytes, Option, Some, None, Result, Ok, Err, if◌then◌else◌}
 use Rattle.std.specs.Fmt.{decimal}
-use Rattle.rb_document.specs.Names.{IsNumbered}
+use Rattle.rb_scenario_document.specs.Names.{IsNumbered}
 use Rattle.rb_report.specs.Report.{node_text}
 use Rattle.hex.specs.Hex.{IsBytes, encode_lower}
 use Rattle.rb_group.specs.declared.voters.Which.{Which}

@@ -2,7 +2,7 @@
 ghost use Rattle.std.specs.Prelude.{ℕ, ◌≡◌, ◌≢◌, ◌<◌, ◌≤◌, ◌^◌, ◌∷◌, ◌++◌, ◌*◌, ◌↔◌, [], List, length, IfNone, IfSome, IsTrue, codes, decimal, option_map, string_bytes};
 ghost use Rattle.hex.specs.Hex.{decode_of, encode_lower};
 ghost use Rattle.rb_base.specs.declared.node.NodeName.{NodeName};
-ghost use Rattle.rb_document.specs.Names.{IsNumbered};
+ghost use Rattle.rb_scenario_document.specs.Names.{IsNumbered};
 ghost use Rattle.rb_report.specs.Report.{node_text};
 ghost use Rattle.rb_top.specs.declared.form.Form.{Form};
 ghost use Rattle.rb_group.specs.declared.voters.Which.{Which};

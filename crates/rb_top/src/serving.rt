@@ -1,6 +1,6 @@
 //! Serving a form of words.
 ghost use Rattle.std.specs.Prelude.{ℕ, ◌≡◌, Bool, List, None, Option};
-ghost use Rattle.rb_book.specs.declared.turn.Turn.{Turn};
+ghost use Rattle.rb_world_book.specs.declared.turn.Turn.{Turn};
 ghost use Rattle.rb_top.specs.declared.form.Form.TheVariants.{Run, Check, Stress, Record, Replay, Letters, Group, Listen};
 ghost use Rattle.rb_top.specs.Inputs.{limit_of};
 ghost use Rattle.rb_top.specs.Serving.{Answers};

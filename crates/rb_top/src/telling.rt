@@ -1,9 +1,9 @@
 //! Runs of which letters are told, or a group.
 ghost use Rattle.std.specs.Prelude.{◌≡◌, ◌↔◌, IsTrue};
-ghost use Rattle.rb_letters.specs.Letters.{WritesSome};
+ghost use Rattle.rb_long_run.specs.Letters.{WritesSome};
 ghost use Rattle.rb_outside.specs.Causes.{Rose};
-ghost use Rattle.rb_replicas.specs.Members.{AreMembers};
-ghost use Rattle.rb_replies.specs.Runs.{WritesPart};
+ghost use Rattle.rb_group_values.specs.Members.{AreMembers};
+ghost use Rattle.rb_group_run.specs.Runs.{WritesPart};
 ghost use Rattle.rb_rules.specs.Lawful.{IsLawful};
 ghost use Rattle.rb_scenario.specs.Acceptance.{as_scenario};
 ghost use Rattle.rb_top.specs.Serving.{IsGrouped, IsLettered, IsOfRun};
@@ -13,11 +13,11 @@ use crate::running::status_of;
 use crate::status::Status;
 use rb_base::{Biu, NodeSet, OutOfMemory};
 use rb_group::{Voters, Which};
-use rb_letters::write_letters;
+use rb_group_run::{scope_of, write_groups};
+use rb_group_values::{Asked, has_members};
+use rb_long_run::write_letters;
 use rb_outside::{Failed, Sink};
 use rb_port::Apps;
-use rb_replicas::{Asked, has_members};
-use rb_replies::{scope_of, write_groups};
 use rb_scenario::Scenario;
 use rb_world::{Drive, World};
 use std::alloc::Global;

@@ -13,13 +13,13 @@ use Rattle.rb_rules.specs.Lawful.{kind_of}
 use Rattle.rb_rules.specs.Links.{name_of}
 use Rattle.rb_rules.specs.Ports.{PortState}
 use Rattle.rb_rules.specs.WorldStep.{Site, World, after_act, at_node, coming_from, proceed, wants_in, with_act, with_close, with_delivery, with_epoch, with_message}
-use Rattle.rb_book.specs.Changing.{with_row}
+use Rattle.rb_world_book.specs.Changing.{with_row}
 use Rattle.rb_node.specs.Acts.{IsAct}
 use Rattle.rb_node.specs.Cores.{next_of}
 use Rattle.rb_node.specs.Wants.{want_for, want_then}
 use Rattle.rb_node.specs.declared.act.Step.{Step}
 use Rattle.rb_site.specs.Sites.{KeptSite, after_tick, number_of}
-use Rattle.rb_traffic.specs.Arriving.{number_of as number_in}
+use Rattle.rb_world_traffic.specs.Arriving.{number_of as number_in}
 use Rattle.rb_world.specs.declared.scene.Scene.{Scene}
 use Rattle.rb_world.specs.Steps.{closed_if, moved}
 use Rattle.rb_world.specs.Worlds.{Surrounds}

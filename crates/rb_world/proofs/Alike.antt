@@ -8,11 +8,11 @@ use Rattle.rb_rules.specs.Book.{map_from, of_kind}
 use Rattle.rb_rules.specs.Goodness.{Scenario}
 use Rattle.rb_rules.specs.WorldStep.{Site, World, at_node}
 use Rattle.rb_queue.specs.Waiting.{Held}
-use Rattle.rb_agenda.specs.Holding.{HoldsAll, HoldsSite}
-use Rattle.rb_book.proofs.Noting.{same-shown}
-use Rattle.rb_book.proofs.Worlds.{shows-alike}
-use Rattle.rb_order.proofs.WorldStands.{get-at, is_node, node-is}
-use Rattle.rb_traffic.specs.Arriving.{AreRunning}
+use Rattle.rb_world_agenda.specs.Holding.{HoldsAll, HoldsSite}
+use Rattle.rb_world_book.proofs.Noting.{same-shown}
+use Rattle.rb_world_book.proofs.Worlds.{shows-alike}
+use Rattle.rb_laws_events.proofs.WorldStands.{get-at, is_node, node-is}
+use Rattle.rb_world_traffic.specs.Arriving.{AreRunning}
 use Rattle.rb_world.specs.declared.scene.Scene.{Scene}
 use Rattle.rb_world.specs.Steps.{moved}
 use Rattle.rb_world.specs.Worlds.{Surrounds, running_of}

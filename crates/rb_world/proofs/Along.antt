@@ -7,12 +7,12 @@ use Rattle.rb_rules.specs.Book.{Each, in_order}
 use Rattle.rb_rules.specs.Goodness.{Scenario}
 use Rattle.rb_rules.specs.WorldStep.{Due, World, due_at, due_of, go_on, least, needs_no_event, take, times_of}
 use Rattle.rb_rules.specs.WorldStep.Way.{ByItself}
-use Rattle.rb_book.specs.Records.{record_of}
-use Rattle.rb_book.specs.Settling.{Settles}
-use Rattle.rb_book.specs.declared.ledger.Ledger.{Ledger}
-use Rattle.rb_book.specs.declared.turn.Turn.{Turn}
+use Rattle.rb_world_book.specs.Records.{record_of}
+use Rattle.rb_world_book.specs.Settling.{Settles}
+use Rattle.rb_world_book.specs.declared.ledger.Ledger.{Ledger}
+use Rattle.rb_world_book.specs.declared.turn.Turn.{Turn}
 use Rattle.rb_site.specs.Sites.{KeptSite}
-use Rattle.rb_sweep.specs.AheadOf.{ArrivalIsFirst, after_takes, ahead_of, tick_alone, until_tick}
+use Rattle.rb_laws_sweeps.specs.AheadOf.{ArrivalIsFirst, after_takes, ahead_of, tick_alone, until_tick}
 use Rattle.rb_world.specs.declared.scene.Scene.{Scene}
 use Rattle.rb_world.specs.declared.ties.Ties.TheVariants.{First}
 use Rattle.rb_world.specs.Nexts.{IsNext, Standing, is_last, after_steps, step, step_among}

@@ -12,11 +12,11 @@ use Rattle.rb_port.specs.Keeping.{KeptPort}
 use Rattle.rb_rules.specs.Slots.{count_of, same_side}
 use Rattle.rb_rules.specs.WorldStep.{Site, World, at_node, sent_to, with_message}
 use Rattle.rb_queue.specs.Waiting.{Held}
-use Rattle.rb_agenda.specs.Holding.{HoldsSites}
-use Rattle.rb_book.proofs.Noting.{same-shown}
-use Rattle.rb_book.specs.Holding.{Holds}
-use Rattle.rb_book.specs.declared.ledger.Ledger.{Ledger}
-use Rattle.rb_traffic.specs.Arriving.{AreRunning}
+use Rattle.rb_world_agenda.specs.Holding.{HoldsSites}
+use Rattle.rb_world_book.proofs.Noting.{same-shown}
+use Rattle.rb_world_book.specs.Holding.{Holds}
+use Rattle.rb_world_book.specs.declared.ledger.Ledger.{Ledger}
+use Rattle.rb_world_traffic.specs.Arriving.{AreRunning}
 use Rattle.rb_world.specs.declared.scene.Scene.{Scene}
 use Rattle.rb_world.specs.Buses.{HaveRooms}
 use Rattle.rb_world.specs.Steps.{moved}

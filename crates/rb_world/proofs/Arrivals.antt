@@ -23,19 +23,19 @@ use Rattle.rb_rules.specs.WorldStep.Pending.{Tick, Arrival}
 use Rattle.rb_rules.proofs.Drift.{clock_moves}
 use Rattle.rb_rules.proofs.QuietTicks.{arrive-next}
 use Rattle.rb_rules.proofs.Stamps.{Moves}
-use Rattle.rb_sync.proofs.Times.{stamp_to}
-use Rattle.rb_agenda.specs.Agenda.{IsAtTime}
-use Rattle.rb_agenda.specs.Holding.{Shows, coming_with, without_waiting}
-use Rattle.rb_agenda.proofs.Which.{has-item}
+use Rattle.rb_laws_synchrony.proofs.Times.{stamp_to}
+use Rattle.rb_world_agenda.specs.Agenda.{IsAtTime}
+use Rattle.rb_world_agenda.specs.Holding.{Shows, coming_with, without_waiting}
+use Rattle.rb_world_agenda.proofs.Which.{has-item}
 use Rattle.rb_node.specs.Cores.{bare_core, next_of, passing_end}
-use Rattle.rb_order.proofs.CloseOrder.{shortest-some}
-use Rattle.rb_order.proofs.DueEvents.{IsDue, every-at, every-back, every-front, every-unflat}
-use Rattle.rb_order.proofs.PendingLists.{StandsAt}
-use Rattle.rb_order.proofs.Receiving.{every-stands}
-use Rattle.rb_order.proofs.SameHeard.{Every}
-use Rattle.rb_order.proofs.WorldNodes.{worlds-known}
+use Rattle.rb_laws_events.proofs.CloseOrder.{shortest-some}
+use Rattle.rb_laws_events.proofs.DueEvents.{IsDue, every-at, every-back, every-front, every-unflat}
+use Rattle.rb_laws_events.proofs.PendingLists.{StandsAt}
+use Rattle.rb_laws_events.proofs.Receiving.{every-stands}
+use Rattle.rb_laws_events.proofs.SameHeard.{Every}
+use Rattle.rb_laws_events.proofs.WorldNodes.{worlds-known}
 use Rattle.rb_site.specs.Sites.{KeptSite, Stands as StandsFor, number_of as number_of_kept}
-use Rattle.rb_traffic.specs.Arriving.{number_of}
+use Rattle.rb_world_traffic.specs.Arriving.{number_of}
 use Rattle.rb_world.specs.declared.scene.Scene.{Scene}
 use Rattle.rb_world.specs.Steps.{MayHappen, moved}
 use Rattle.rb_world.specs.Worlds.{Awaits, IsNode, Surrounds}

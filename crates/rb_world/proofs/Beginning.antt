@@ -19,9 +19,9 @@ use Rattle.rb_rules.specs.Slots.{count_of}
 use Rattle.rb_rules.specs.Windows.{exact_window}
 use Rattle.rb_rules.specs.WorldStep.{Site, World, fresh_site, proceed}
 use Rattle.rb_rules.proofs.WindowNumbers.{exact-numbered}
-use Rattle.rb_order.proofs.TickRooms.{has-room}
-use Rattle.rb_order.proofs.TickWindows.{IsTickIn, first-same, first_of, here-is}
-use Rattle.rb_order.proofs.WorldStands.{get-at, is_node}
+use Rattle.rb_laws_events.proofs.TickRooms.{has-room}
+use Rattle.rb_laws_events.proofs.TickWindows.{IsTickIn, first-same, first_of, here-is}
+use Rattle.rb_laws_events.proofs.WorldStands.{get-at, is_node}
 use Rattle.rb_site.specs.Sites.{KeptSite, number_of}
 use Rattle.rb_world.specs.declared.scene.Scene.{Scene}
 use Rattle.rb_world.specs.Openings.{AreFresh, HaveBegun, MayBegin, with_begun}

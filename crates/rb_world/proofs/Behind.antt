@@ -17,25 +17,25 @@ use Rattle.rb_rules.specs.WorldStep.Pending.{Tick}
 use Rattle.rb_rules.specs.WorldStep.Way.{ByAnEvent}
 use Rattle.rb_rules.proofs.WindowNumbers.{get-each}
 use Rattle.rb_queue.specs.Waiting.{Held, lane_of, spare_of}
-use Rattle.rb_agenda.specs.Agenda.{IsFirstAhead, position_of}
-use Rattle.rb_agenda.specs.Holding.{HoldsSites, without_waiting}
-use Rattle.rb_agenda.proofs.Which.{has-item}
-use Rattle.rb_order.specs.PendingEvents.{most_pending}
-use Rattle.rb_order.proofs.OneEvent.{happens-is}
-use Rattle.rb_order.proofs.WorldNodes.{settle-sites}
-use Rattle.rb_order.proofs.WorldStands.{back-from, is_node, node-is, node-itself, not-other}
+use Rattle.rb_world_agenda.specs.Agenda.{IsFirstAhead, position_of}
+use Rattle.rb_world_agenda.specs.Holding.{HoldsSites, without_waiting}
+use Rattle.rb_world_agenda.proofs.Which.{has-item}
+use Rattle.rb_laws_events.specs.PendingEvents.{most_pending}
+use Rattle.rb_laws_events.proofs.OneEvent.{happens-is}
+use Rattle.rb_laws_events.proofs.WorldNodes.{settle-sites}
+use Rattle.rb_laws_events.proofs.WorldStands.{back-from, is_node, node-is, node-itself, not-other}
 use Rattle.rb_site.specs.Sites.{KeptSite, number_of}
-use Rattle.rb_sweep.specs.AheadOf.{GoesOnAhead, IsFirstTick, ahead_of, is_behind, tick_alone, until_tick}
-use Rattle.rb_sweep.specs.Room.{StoppedHaveNothing, TickBehindIsInTime}
-use Rattle.rb_sweep.specs.Sweeping.{Placed, first_of, swept}
-use Rattle.rb_sweep.proofs.AfterTick.{Later, TicksNow, act-had, act-later}
-use Rattle.rb_sweep.proofs.BehindFew.{behind-few}
-use Rattle.rb_sweep.proofs.EachNode.{nodes-order, until-behind, until-most, until-own}
-use Rattle.rb_sweep.proofs.Firsts.{first-stands, length-without}
-use Rattle.rb_sweep.proofs.GoesOn.{worlds-go-on}
-use Rattle.rb_sweep.proofs.InTime.{ticks-behind-in-time}
-use Rattle.rb_sweep.proofs.SomeFirst.{some-tick-is-first}
-use Rattle.rb_sweep.proofs.Sweeps.{all-every, sweep-of, sweep-stays, sweep-takes, sweeps-keep}
+use Rattle.rb_laws_sweeps.specs.AheadOf.{GoesOnAhead, IsFirstTick, ahead_of, is_behind, tick_alone, until_tick}
+use Rattle.rb_laws_sweeps.specs.Room.{StoppedHaveNothing, TickBehindIsInTime}
+use Rattle.rb_laws_sweeps.specs.Sweeping.{Placed, first_of, swept}
+use Rattle.rb_laws_sweeps.proofs.AfterTick.{Later, TicksNow, act-had, act-later}
+use Rattle.rb_laws_sweeps.proofs.BehindFew.{behind-few}
+use Rattle.rb_laws_sweeps.proofs.EachNode.{nodes-order, until-behind, until-most, until-own}
+use Rattle.rb_laws_sweeps.proofs.Firsts.{first-stands, length-without}
+use Rattle.rb_laws_sweeps.proofs.GoesOn.{worlds-go-on}
+use Rattle.rb_laws_sweeps.proofs.InTime.{ticks-behind-in-time}
+use Rattle.rb_laws_sweeps.proofs.SomeFirst.{some-tick-is-first}
+use Rattle.rb_laws_sweeps.proofs.Sweeps.{all-every, sweep-of, sweep-stays, sweep-takes, sweeps-keep}
 use Rattle.rb_world.specs.declared.scene.Scene.{Scene}
 use Rattle.rb_world.specs.Steps.{MayTick, Ticks, moved}
 use Rattle.rb_world.specs.Worlds.{AreNodes, IsNode, Surrounds}

@@ -9,7 +9,7 @@ use Rattle.rb_base.specs.Sizes.{Sizes}
 use Rattle.rb_base.specs.declared.node.NodeName.{NodeName}
 use Rattle.rb_base.specs.declared.values.Place.{Place}
 use Rattle.rb_base.proofs.Sets.{lt_true}
-use Rattle.rb_onset.specs.Faults.{Faults, faults_of}
+use Rattle.rb_world_onset.specs.Faults.{Faults, faults_of}
 use Rattle.rb_plan.specs.Timetable.{Timetable}
 use Rattle.rb_rules.specs.declared.plan.Plan.{Plan}
 use Rattle.rb_rules.specs.declared.say.Say.{Say}
@@ -25,9 +25,9 @@ use Rattle.rb_rules.specs.NodeSteps.{turn_if_known}
 use Rattle.rb_rules.specs.Slots.{count_of}
 use Rattle.rb_rules.specs.SyncStage.{new_epoch_of}
 use Rattle.rb_rules.specs.WorldStep.{Site, await, proceed, says_in, span_from}
-use Rattle.rb_traffic.specs.Arriving.{number_of}
-use Rattle.rb_traffic.specs.Saying.{KeptSayings, entries_for, first_frame, is_for, kept_of, last_frame}
-use Rattle.rb_traffic.proofs.Says.{none-after, none-before, none-for, says-are}
+use Rattle.rb_world_traffic.specs.Arriving.{number_of}
+use Rattle.rb_world_traffic.specs.Saying.{KeptSayings, entries_for, first_frame, is_for, kept_of, last_frame}
+use Rattle.rb_world_traffic.proofs.Says.{none-after, none-before, none-for, says-are}
 use Rattle.rb_world.specs.Buses.{IsBus, scenario_of}
 use Rattle.rb_world.specs.Calm.{AreRestless, IsRestless, first_restless, is_calm, is_outside, last_restless}
 use Rattle.rb_world.specs.declared.calm.Restless.{Restless}

@@ -16,17 +16,17 @@ use Rattle.rb_rules.specs.Slots.{count_of}
 use Rattle.rb_rules.specs.WorldStep.{Site, Timed, World, at_node}
 use Rattle.rb_rules.proofs.WindowNumbers.{get-each, length-each}
 use Rattle.rb_queue.specs.Waiting.{HasLane, Held}
-use Rattle.rb_agenda.specs.Holding.{HoldsSites}
-use Rattle.rb_agenda.proofs.Which.{has-item}
-use Rattle.rb_book.proofs.Noting.{same-shown}
-use Rattle.rb_order.proofs.WorldStands.{back-from, get-at, is_node, node-itself, not-other}
+use Rattle.rb_world_agenda.specs.Holding.{HoldsSites}
+use Rattle.rb_world_agenda.proofs.Which.{has-item}
+use Rattle.rb_world_book.proofs.Noting.{same-shown}
+use Rattle.rb_laws_events.proofs.WorldStands.{back-from, get-at, is_node, node-itself, not-other}
 use Rattle.rb_site.specs.Sites.{KeptSite, number_of}
-use Rattle.rb_sweep.specs.AheadOf.{ahead_of, each_swept, until_tick}
-use Rattle.rb_sweep.proofs.Calls.{nobody-is-ahead}
-use Rattle.rb_sweep.specs.Sweeping.{swept}
-use Rattle.rb_sweep.proofs.GoesOn.{sweep_to}
-use Rattle.rb_sweep.proofs.Sweeps.{sweeps-keep}
-use Rattle.rb_traffic.specs.Arriving.{AreRunning, number_of as number_in}
+use Rattle.rb_laws_sweeps.specs.AheadOf.{ahead_of, each_swept, until_tick}
+use Rattle.rb_laws_sweeps.proofs.Calls.{nobody-is-ahead}
+use Rattle.rb_laws_sweeps.specs.Sweeping.{swept}
+use Rattle.rb_laws_sweeps.proofs.GoesOn.{sweep_to}
+use Rattle.rb_laws_sweeps.proofs.Sweeps.{sweeps-keep}
+use Rattle.rb_world_traffic.specs.Arriving.{AreRunning, number_of as number_in}
 use Rattle.rb_world.specs.declared.scene.Scene.{Scene}
 use Rattle.rb_world.specs.Buses.{HaveRooms}
 use Rattle.rb_world.specs.Worlds.{AreNodes, IsNode, Surrounds, running_of}

@@ -7,8 +7,8 @@ use Rattle.rb_rules.specs.WorldStep.{Due, Pending as Waits, World}
 use Rattle.rb_rules.specs.WorldStep.Pending.{Tick, Arrival}
 use Rattle.rb_queue.specs.Waiting.{Held, Ready, lane_of, ready_of, without_found, without_ready}
 use Rattle.rb_queue.specs.Waiting.Ready.{Comes, Ticks}
-use Rattle.rb_agenda.specs.Agenda.{Takes, TakesDue, first_time}
-use Rattle.rb_agenda.specs.Holding.{without_waiting}
+use Rattle.rb_world_agenda.specs.Agenda.{Takes, TakesDue, first_time}
+use Rattle.rb_world_agenda.specs.Holding.{without_waiting}
 use Rattle.rb_world.specs.Buses.{HaveRooms}
 use Rattle.rb_world.specs.Steps.{MayHappen}
 use Rattle.rb_world.specs.Worlds.{KeptWorld, Stands, due_in}

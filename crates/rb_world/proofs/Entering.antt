@@ -13,12 +13,12 @@ use Rattle.rb_rules.specs.Links.{name_of}
 use Rattle.rb_rules.specs.NodeState.{NodeState}
 use Rattle.rb_rules.specs.WorldStep.{Site, World, at_node, await, says_in, span_from, stop}
 use Rattle.rb_queue.specs.Waiting.{HasLane, Held, lane_of, spare_of, with_lane}
-use Rattle.rb_agenda.proofs.Keeping.{lane-with}
-use Rattle.rb_agenda.specs.Holding.{HoldsSites}
-use Rattle.rb_order.proofs.WorldStands.{get-at, is_node, node-itself}
+use Rattle.rb_world_agenda.proofs.Keeping.{lane-with}
+use Rattle.rb_world_agenda.specs.Holding.{HoldsSites}
+use Rattle.rb_laws_events.proofs.WorldStands.{get-at, is_node, node-itself}
 use Rattle.rb_site.specs.Sites.{KeptSite}
-use Rattle.rb_traffic.specs.Arriving.{number_of}
-use Rattle.rb_traffic.specs.Saying.{hears, with_arrivals}
+use Rattle.rb_world_traffic.specs.Arriving.{number_of}
+use Rattle.rb_world_traffic.specs.Saying.{hears, with_arrivals}
 use Rattle.rb_world.specs.declared.scene.Scene.{Scene}
 use Rattle.rb_world.specs.Buses.{HaveRooms}
 use Rattle.rb_world.specs.Calm.{is_calm}

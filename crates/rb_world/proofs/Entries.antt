@@ -15,8 +15,8 @@ use Rattle.rb_rules.specs.Lawful.{kind_of}
 use Rattle.rb_rules.specs.Links.{covers, name_of, same_node, stands_for}
 use Rattle.rb_rules.specs.Slots.{count_of}
 use Rattle.rb_rules.specs.WorldStep.{says_in}
-use Rattle.rb_order.proofs.SourceSums.{items-once, sum_to}
-use Rattle.rb_traffic.specs.Saying.{entries_to, is_between}
+use Rattle.rb_laws_events.proofs.SourceSums.{items-once, sum_to}
+use Rattle.rb_world_traffic.specs.Saying.{entries_to, is_between}
 
 range-end : (a n j : ℕ) → a + n ≡ j → range_with_len a (suc n) ≡ range_with_len a n ++ j ∷ []
 range-end a zero j e = let same : a ≡ j = omega arith in ap (λ k. k ∷ []) same

@@ -18,15 +18,15 @@ use Rattle.rb_rules.specs.Slots.{count_of}
 use Rattle.rb_rules.specs.WorldStep.{Site, World, at_node, await, enter, first_world, fresh_site, proceed, says_in, span_from, stop}
 use Rattle.rb_rules.specs.Goodness.{is_good}
 use Rattle.rb_rules.proofs.WindowNumbers.{get-made}
-use Rattle.rb_agenda.specs.Holding.{HoldsAll, HoldsSites}
-use Rattle.rb_book.proofs.Noting.{same-shown}
-use Rattle.rb_book.specs.Holding.{Holds}
-use Rattle.rb_order.proofs.WorldNodes.{first-counts}
-use Rattle.rb_order.proofs.WorldStands.{get-at, node-itself, not-other}
-use Rattle.rb_order.specs.PendingEvents.{most_pending}
+use Rattle.rb_world_agenda.specs.Holding.{HoldsAll, HoldsSites}
+use Rattle.rb_world_book.proofs.Noting.{same-shown}
+use Rattle.rb_world_book.specs.Holding.{Holds}
+use Rattle.rb_laws_events.proofs.WorldNodes.{first-counts}
+use Rattle.rb_laws_events.proofs.WorldStands.{get-at, node-itself, not-other}
+use Rattle.rb_laws_events.specs.PendingEvents.{most_pending}
 use Rattle.rb_queue.specs.Waiting.{empty_lane}
 use Rattle.rb_site.specs.Sites.{KeptSite}
-use Rattle.rb_traffic.specs.Arriving.{AreRunning}
+use Rattle.rb_world_traffic.specs.Arriving.{AreRunning}
 use Rattle.rb_world.specs.Buses.{HasRoom, HaveRooms}
 use Rattle.rb_world.specs.declared.last.Last.TheVariants as last
 use Rattle.rb_world.specs.declared.scene.Scene.{Scene}

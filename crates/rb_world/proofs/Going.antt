@@ -20,14 +20,14 @@ use Rattle.rb_rules.specs.Links.{name_of}
 use Rattle.rb_rules.specs.Slots.{count_of}
 use Rattle.rb_rules.specs.WorldStep.{Site, Timed, World, at_node, await, says_in, stop}
 use Rattle.rb_queue.specs.Waiting.{HasLane, Held, empty_lane, lane_of, with_lane, with_tick, without_events}
-use Rattle.rb_agenda.specs.Holding.{HoldsSite, HoldsSites}
-use Rattle.rb_agenda.proofs.Changes.{holds-at, holds-nothing, holds-tick}
-use Rattle.rb_book.specs.Holding.{Holds}
+use Rattle.rb_world_agenda.specs.Holding.{HoldsSite, HoldsSites}
+use Rattle.rb_world_agenda.proofs.Changes.{holds-at, holds-nothing, holds-tick}
+use Rattle.rb_world_book.specs.Holding.{Holds}
 use Rattle.rb_port.specs.Keeping.{KeptPort}
 use Rattle.rb_node.specs.Cores.{next_of}
 use Rattle.rb_site.specs.Sites.{KeptSite}
-use Rattle.rb_order.proofs.WorldStands.{is_node, node-is, not-other}
-use Rattle.rb_traffic.specs.Arriving.{AreRunning, number_of}
+use Rattle.rb_laws_events.proofs.WorldStands.{is_node, node-is, not-other}
+use Rattle.rb_world_traffic.specs.Arriving.{AreRunning, number_of}
 use Rattle.rb_world.specs.declared.scene.Scene.{Scene}
 use Rattle.rb_world.specs.Buses.{HaveRooms}
 use Rattle.rb_world.specs.Steps.{IsCoreAt, moved}

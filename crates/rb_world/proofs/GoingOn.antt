@@ -4,10 +4,10 @@ use Rattle.rb_rules.specs.Goodness.{Scenario}
 use Rattle.rb_rules.specs.WorldStep.{World, go_on, settle}
 use Rattle.rb_rules.specs.WorldStep.Choice.{GoOn}
 use Rattle.rb_rules.specs.WorldStep.Way.{ByItself}
-use Rattle.rb_book.specs.Records.{record_of}
-use Rattle.rb_book.specs.Settling.{Settles}
-use Rattle.rb_book.specs.declared.ledger.Ledger.{Ledger}
-use Rattle.rb_book.specs.declared.turn.Turn.{Turn}
+use Rattle.rb_world_book.specs.Records.{record_of}
+use Rattle.rb_world_book.specs.Settling.{Settles}
+use Rattle.rb_world_book.specs.declared.ledger.Ledger.{Ledger}
+use Rattle.rb_world_book.specs.declared.turn.Turn.{Turn}
 use Rattle.rb_world.specs.declared.last.Last.{Last}
 use Rattle.rb_world.specs.Turning.{Gives}
 use Rattle.rb_world.specs.Worlds.{KeptWorld, Stands, last_of}

@@ -11,17 +11,17 @@ use Rattle.rb_rules.specs.WorldStep.{Site, Timed, Way, World, go_on, happens, se
 use Rattle.rb_rules.specs.WorldStep.Choice.{GoOn}
 use Rattle.rb_rules.specs.WorldStep.Pending.{Tick}
 use Rattle.rb_rules.specs.WorldStep.Way.{ByAnEvent, ByItself}
-use Rattle.rb_agenda.specs.Holding.{HoldsSites}
-use Rattle.rb_book.specs.Records.{record_of}
-use Rattle.rb_book.specs.Settling.{Settles}
-use Rattle.rb_book.specs.declared.ledger.Ledger.{Ledger}
-use Rattle.rb_book.specs.declared.turn.Turn.{Turn}
-use Rattle.rb_order.proofs.OneTake.{settle-ports}
-use Rattle.rb_order.proofs.WorldNodes.{settle-sites}
+use Rattle.rb_world_agenda.specs.Holding.{HoldsSites}
+use Rattle.rb_world_book.specs.Records.{record_of}
+use Rattle.rb_world_book.specs.Settling.{Settles}
+use Rattle.rb_world_book.specs.declared.ledger.Ledger.{Ledger}
+use Rattle.rb_world_book.specs.declared.turn.Turn.{Turn}
+use Rattle.rb_laws_events.proofs.OneTake.{settle-ports}
+use Rattle.rb_laws_events.proofs.WorldNodes.{settle-sites}
 use Rattle.rb_site.specs.Sites.{KeptSite}
-use Rattle.rb_sweep.specs.AheadOf.{GoesOnAhead, IsFirstTick}
-use Rattle.rb_sweep.proofs.Calls.{go-on-passes, nobody-is-ahead}
-use Rattle.rb_traffic.specs.Arriving.{AreRunning}
+use Rattle.rb_laws_sweeps.specs.AheadOf.{GoesOnAhead, IsFirstTick}
+use Rattle.rb_laws_sweeps.proofs.Calls.{go-on-passes, nobody-is-ahead}
+use Rattle.rb_world_traffic.specs.Arriving.{AreRunning}
 use Rattle.rb_world.specs.declared.scene.Scene.{Scene}
 use Rattle.rb_world.specs.Worlds.{AreNodes, HoldsPorts, KeptWorld, Stands, Surrounds, running_of}
 use Rattle.rb_world.proofs.GoingOn.{going-settles}

@@ -9,12 +9,12 @@ use Rattle.rb_rules.specs.Ports.{PortState, with_state}
 use Rattle.rb_rules.specs.Slots.{count_of}
 use Rattle.rb_rules.specs.WorldStep.{World, frame_in, hand}
 use Rattle.rb_rules.specs.WorldStep.Choice.{Hand}
-use Rattle.rb_order.proofs.HandedIn.{length-handed}
+use Rattle.rb_laws_events.proofs.HandedIn.{length-handed}
 use Rattle.rb_port.specs.Keeping.{HoldsPort, KeptPort}
-use Rattle.rb_traffic.specs.Arriving.{AreRunning}
-use Rattle.rb_agenda.specs.Holding.{HoldsSites}
-use Rattle.rb_book.specs.Holding.{Holds}
-use Rattle.rb_book.specs.declared.ledger.Ledger.{Ledger}
+use Rattle.rb_world_traffic.specs.Arriving.{AreRunning}
+use Rattle.rb_world_agenda.specs.Holding.{HoldsSites}
+use Rattle.rb_world_book.specs.Holding.{Holds}
+use Rattle.rb_world_book.specs.declared.ledger.Ledger.{Ledger}
 use Rattle.rb_world.specs.Buses.{HaveRooms}
 use Rattle.rb_world.specs.declared.last.Last.TheVariants as last
 use Rattle.rb_world.specs.declared.scene.Scene.{Scene}

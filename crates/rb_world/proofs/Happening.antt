@@ -17,8 +17,8 @@ use Rattle.rb_rules.specs.Slots.{same_side}
 use Rattle.rb_rules.specs.WorldStep.{Due, Site, World, after_act, at_node, await, enter, happens, pass_and_tick, proceed, says_in, sent_to, span_from, stop, with_act, with_close, with_epoch, with_message}
 use Rattle.rb_rules.specs.WorldStep.Pending.{Tick}
 use Rattle.rb_rules.proofs.WindowNumbers.{get-each}
-use Rattle.rb_agenda.specs.Holding.{without_waiting}
-use Rattle.rb_order.proofs.WorldStands.{is_node, not-other}
+use Rattle.rb_world_agenda.specs.Holding.{without_waiting}
+use Rattle.rb_laws_events.proofs.WorldStands.{is_node, not-other}
 use Rattle.rb_site.specs.Sites.{KeptSite, after_tick}
 use Rattle.rb_world.specs.declared.scene.Scene.{Scene}
 use Rattle.rb_world.specs.Steps.{Happens, Ticks, moved}

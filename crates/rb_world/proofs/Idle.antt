@@ -2,9 +2,9 @@
 use Rattle.std.proofs.Common.{◌≡◌, ℕ, ◌<◌, ◌||◌, Bool, true, false, List, [], length, refl, sym, ap, ◌∙◌, arith, inl, inr, IsTrue, ◌↔◌}
 use Rattle.std.proofs.lemmas.Bool.{cases_lt}
 use Rattle.rb_rules.specs.WorldStep.{Due, World, due_of, needs_no_event}
-use Rattle.rb_agenda.specs.Agenda.{due_now, how_many}
-use Rattle.rb_book.specs.Settling.{is_free}
-use Rattle.rb_book.proofs.Due.{free-is}
+use Rattle.rb_world_agenda.specs.Agenda.{due_now, how_many}
+use Rattle.rb_world_book.specs.Settling.{is_free}
+use Rattle.rb_world_book.proofs.Due.{free-is}
 use Rattle.rb_world.specs.Worlds.{KeptWorld, Stands, due_in}
 use Rattle.rb_world.proofs.Turns.{due-is-now}
 

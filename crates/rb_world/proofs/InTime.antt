@@ -6,21 +6,21 @@ use Rattle.rb_rules.specs.Goodness.{Scenario, clock_of}
 use Rattle.rb_rules.specs.Lawful.{IsLawful}
 use Rattle.rb_rules.specs.Rounds.{moment}
 use Rattle.rb_rules.specs.WorldStep.{Choice, Due, World, due_of, world_after}
-use Rattle.rb_order.proofs.BreakKeeps.{early-keeps}
-use Rattle.rb_order.proofs.BreakNodes.{KeepsNodes}
-use Rattle.rb_order.proofs.BreakOff.{BreaksOff}
-use Rattle.rb_order.proofs.BreakRooms.{HasLater, has-later}
-use Rattle.rb_order.proofs.BreakRuns.{first-of, waits-yet}
-use Rattle.rb_order.proofs.DueEvents.{IsDue}
-use Rattle.rb_order.proofs.EventsHold.{nodes_at}
-use Rattle.rb_order.proofs.EveryWorld.{AnyWorld, InRun, any-after, due-going}
-use Rattle.rb_order.proofs.Invariant.{is_good_at}
-use Rattle.rb_order.proofs.LastKeeps.{last-keeps}
-use Rattle.rb_order.proofs.NodeEvents.{tick-after}
-use Rattle.rb_order.proofs.OneEvent.{all-pend, pend-of}
-use Rattle.rb_order.proofs.OneTake.{StandsInRounds}
-use Rattle.rb_order.proofs.TickRooms.{has-room}
-use Rattle.rb_order.proofs.WorldStands.{IsUp, sent_by}
+use Rattle.rb_laws_events.proofs.BreakKeeps.{early-keeps}
+use Rattle.rb_laws_events.proofs.BreakNodes.{KeepsNodes}
+use Rattle.rb_laws_events.proofs.BreakOff.{BreaksOff}
+use Rattle.rb_laws_events.proofs.BreakRooms.{HasLater, has-later}
+use Rattle.rb_laws_events.proofs.BreakRuns.{first-of, waits-yet}
+use Rattle.rb_laws_events.proofs.DueEvents.{IsDue}
+use Rattle.rb_laws_events.proofs.EventsHold.{nodes_at}
+use Rattle.rb_laws_events.proofs.EveryWorld.{AnyWorld, InRun, any-after, due-going}
+use Rattle.rb_laws_events.proofs.Invariant.{is_good_at}
+use Rattle.rb_laws_events.proofs.LastKeeps.{last-keeps}
+use Rattle.rb_laws_events.proofs.NodeEvents.{tick-after}
+use Rattle.rb_laws_events.proofs.OneEvent.{all-pend, pend-of}
+use Rattle.rb_laws_events.proofs.OneTake.{StandsInRounds}
+use Rattle.rb_laws_events.proofs.TickRooms.{has-room}
+use Rattle.rb_laws_events.proofs.WorldStands.{IsUp, sent_by}
 use Rattle.rb_world.specs.Worlds.{IsReached}
 
 true-false : {P : Type 0} → true ≡ false → P

@@ -15,10 +15,10 @@ use Rattle.rb_rules.specs.Lawful.{IsNodeOf, kind_of}
 use Rattle.rb_rules.specs.Links.{name_of}
 use Rattle.rb_rules.specs.Slots.{count_of}
 use Rattle.rb_rules.specs.WorldStep.{Site, World, times_of}
-use Rattle.rb_order.specs.PendingEvents.{most_pending}
+use Rattle.rb_laws_events.specs.PendingEvents.{most_pending}
 use Rattle.rb_queue.specs.Waiting.{HasLane, Held, empty_lane, lane_of, spare_of, with_arrival, with_lane}
-use Rattle.rb_agenda.specs.Holding.{HoldsAll, HoldsSite, HoldsSites}
-use Rattle.rb_traffic.specs.Arriving.{lane_with, lanes_with, number_of}
+use Rattle.rb_world_agenda.specs.Holding.{HoldsAll, HoldsSite, HoldsSites}
+use Rattle.rb_world_traffic.specs.Arriving.{lane_with, lanes_with, number_of}
 use Rattle.rb_world.specs.declared.scene.Scene.{Scene}
 use Rattle.rb_world.specs.Buses.{HasRoom, HaveRooms}
 use Rattle.rb_world.specs.Worlds.{Surrounds}

@@ -14,7 +14,7 @@ use Rattle.rb_rules.specs.Ports.{with_state}
 use Rattle.rb_rules.specs.WorldStep.{Choice, Due, Site, Way, World, book_with, choose, comes_so, due_at, due_of, first_world, frame_in, go_on, hand, happens, is_complete, least, needs_no_event, record_since, settle, settle_next, take, take_if_due, times_of}
 use Rattle.rb_rules.specs.WorldStep.Choice.{Take, GoOn, Hand}
 use Rattle.rb_rules.specs.WorldStep.Way.{ByAnEvent, ByItself}
-use Rattle.rb_order.proofs.WorldBooks.{IsTurn, go-on-turn, happens-book, last-one, none-past, settle_rest, take-turn}
+use Rattle.rb_laws_events.proofs.WorldBooks.{IsTurn, go-on-turn, happens-book, last-one, none-past, settle_rest, take-turn}
 use Rattle.rb_world.specs.Nexts.{is_last}
 use Rattle.rb_world.specs.Worlds.{IsReached}
 

@@ -15,12 +15,12 @@ use Rattle.rb_rules.specs.Slots.{count_of, same_side}
 use Rattle.rb_rules.specs.WorldStep.{Site}
 use Rattle.rb_queue.specs.Waiting.{Held}
 use Rattle.rb_site.specs.Sites.{KeptSite, number_of as number_at}
-use Rattle.rb_sweep.specs.AheadOf.{until_tick}
-use Rattle.rb_sweep.specs.Told.{Told, heard}
-use Rattle.rb_sweep.proofs.Calls.{at-any-time}
-use Rattle.rb_sweep.proofs.Hearing.{hears-none}
-use Rattle.rb_sweep.proofs.Telling.{same-named}
-use Rattle.rb_traffic.specs.Arriving.{number_of}
+use Rattle.rb_laws_sweeps.specs.AheadOf.{until_tick}
+use Rattle.rb_laws_sweeps.specs.Told.{Told, heard}
+use Rattle.rb_laws_sweeps.proofs.Calls.{at-any-time}
+use Rattle.rb_laws_sweeps.proofs.Hearing.{hears-none}
+use Rattle.rb_laws_sweeps.proofs.Telling.{same-named}
+use Rattle.rb_world_traffic.specs.Arriving.{number_of}
 use Rattle.rb_world.specs.Observing.{WasTold, left_at, left_below, left_for}
 use Rattle.rb_world.specs.Trailing.{swept_first}
 use Rattle.rb_world.proofs.CaughtUp.{CatchMay, first-other}

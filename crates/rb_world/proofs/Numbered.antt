@@ -10,13 +10,13 @@ use Rattle.rb_rules.specs.WorldStep.{Due, Pending, Site, World, due_at, due_of, 
 use Rattle.rb_rules.specs.WorldStep.Choice.{GoOn, Take}
 use Rattle.rb_rules.specs.WorldStep.Pending.{Arrival, Tick}
 use Rattle.rb_rules.specs.WorldStep.Way.{ByAnEvent, ByItself}
-use Rattle.rb_book.specs.Records.{record_of}
-use Rattle.rb_book.specs.declared.turn.Turn.{Turn}
-use Rattle.rb_book.specs.declared.turn.Turn.TheVariants as shown
-use Rattle.rb_order.specs.Laws.{IsNextTurn}
-use Rattle.rb_order.proofs.EventsHold.{events-hold, turns-hold}
-use Rattle.rb_order.proofs.OneTake.{settle-hands}
-use Rattle.rb_order.proofs.RoundNodes.{item-at}
+use Rattle.rb_world_book.specs.Records.{record_of}
+use Rattle.rb_world_book.specs.declared.turn.Turn.{Turn}
+use Rattle.rb_world_book.specs.declared.turn.Turn.TheVariants as shown
+use Rattle.rb_laws_events.specs.Laws.{IsNextTurn}
+use Rattle.rb_laws_events.proofs.EventsHold.{events-hold, turns-hold}
+use Rattle.rb_laws_events.proofs.OneTake.{settle-hands}
+use Rattle.rb_laws_events.proofs.RoundNodes.{item-at}
 use Rattle.rb_world.specs.declared.ties.Ties.{Ties}
 use Rattle.rb_world.specs.declared.ties.Ties.TheVariants.{First}
 use Rattle.rb_world.specs.Driving.{GoesAlike, bare}

@@ -11,8 +11,8 @@ use Rattle.rb_rules.specs.Links.{name_of}
 use Rattle.rb_rules.specs.WorldStep.{Site, at_node, least}
 use Rattle.rb_queue.specs.Waiting.{HasLane, Held, IsFirstBefore, IsReadyBefore, IsTickReady, event_with, head_of, lane_of, ready_event, tick_time_of, with_lane, without_found, without_place, without_ready, without_tick}
 use Rattle.rb_queue.specs.Waiting.Ready.{Comes, Ticks}
-use Rattle.rb_agenda.specs.Agenda.{key_of}
-use Rattle.rb_agenda.specs.Holding.{coming_with}
+use Rattle.rb_world_agenda.specs.Agenda.{key_of}
+use Rattle.rb_world_agenda.specs.Holding.{coming_with}
 use Rattle.rb_site.specs.Sites.{KeptSite}
 use Rattle.rb_world.specs.Trailing.{TakesArrival, TakesTick}
 use Rattle.rb_world.proofs.Swept.{SweepsOn}

@@ -19,26 +19,26 @@ use Rattle.rb_rules.specs.Sense.{Arrival}
 use Rattle.rb_rules.specs.WorldStep.{Site, Timed, World, after_arrival, at_node, coming_from, happens, pass_and_tick}
 use Rattle.rb_rules.specs.WorldStep.Pending.{Tick}
 use Rattle.rb_rules.proofs.QuietTicks.{arrive-same}
-use Rattle.rb_sync.proofs.Times.{stamp_to}
-use Rattle.rb_order.proofs.SameHeard.{Every}
+use Rattle.rb_laws_synchrony.proofs.Times.{stamp_to}
+use Rattle.rb_laws_events.proofs.SameHeard.{Every}
 use Rattle.rb_queue.specs.Waiting.{HasLane, Held, lane_of, with_lane, without_before, without_tick}
-use Rattle.rb_agenda.specs.Holding.{HoldsSite, HoldsSites}
-use Rattle.rb_agenda.proofs.Changes.{holds-at}
-use Rattle.rb_agenda.proofs.Keeping.{has-with}
+use Rattle.rb_world_agenda.specs.Holding.{HoldsSite, HoldsSites}
+use Rattle.rb_world_agenda.proofs.Changes.{holds-at}
+use Rattle.rb_world_agenda.proofs.Keeping.{has-with}
 use Rattle.rb_node.specs.Cores.{next_of}
 use Rattle.rb_node.specs.Ends.{EndsExactWindow}
 use Rattle.rb_slot.specs.Engines.{Seated}
 use Rattle.rb_site.specs.Sites.{AreAlike, IsHeardAlike, KeptSite, Stands as StandsFor, number_of}
 use Rattle.rb_site.specs.Sites.AreAlike.{Nothing, Several, Single}
 use Rattle.rb_site.proofs.Alike.{heard-alike}
-use Rattle.rb_sweep.specs.Brought.{Brings, CameTogether, IsHeardIfDue, due_from}
-use Rattle.rb_sweep.specs.Stamps.{stamped_anew}
-use Rattle.rb_sweep.specs.Sweeping.{swept}
-use Rattle.rb_sweep.proofs.Bringing.{sweeps-bring}
-use Rattle.rb_sweep.proofs.Firsts.{every-so, every-stands, every-without, first-stands}
-use Rattle.rb_sweep.proofs.SentLater.{node-moves}
-use Rattle.rb_sweep.proofs.StampsOff.{stamps-make-no-difference}
-use Rattle.rb_sweep.proofs.Sweeps.{all-every, every-all, sweep-of, sweep-stays, sweep-takes}
+use Rattle.rb_laws_sweeps.specs.Brought.{Brings, CameTogether, IsHeardIfDue, due_from}
+use Rattle.rb_laws_sweeps.specs.Stamps.{stamped_anew}
+use Rattle.rb_laws_sweeps.specs.Sweeping.{swept}
+use Rattle.rb_laws_sweeps.proofs.Bringing.{sweeps-bring}
+use Rattle.rb_laws_sweeps.proofs.Firsts.{every-so, every-stands, every-without, first-stands}
+use Rattle.rb_laws_sweeps.proofs.SentLater.{node-moves}
+use Rattle.rb_laws_sweeps.proofs.StampsOff.{stamps-make-no-difference}
+use Rattle.rb_laws_sweeps.proofs.Sweeps.{all-every, every-all, sweep-of, sweep-stays, sweep-takes}
 use Rattle.rb_world.specs.declared.scene.Scene.{Scene}
 use Rattle.rb_world.specs.Buses.{HaveRooms}
 use Rattle.rb_world.specs.Steps.{MayTick, Ticks, moved}

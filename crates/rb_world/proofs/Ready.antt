@@ -18,16 +18,16 @@ use Rattle.rb_rules.specs.Slots.{count_of}
 use Rattle.rb_rules.specs.WorldStep.{Due, Pending as Waits, Site, Timed, World, due_of, pass_and_tick, times_of}
 use Rattle.rb_rules.specs.WorldStep.Pending.{Tick, Arrival}
 use Rattle.rb_rules.proofs.QuietTicks.{IsNext, next-is}
-use Rattle.rb_agenda.specs.Holding.{Shows, without_waiting}
-use Rattle.rb_agenda.proofs.Which.{has-item}
-use Rattle.rb_order.proofs.DueEvents.{IsDue, due-is}
-use Rattle.rb_order.proofs.WorldNodes.{worlds-known}
-use Rattle.rb_order.specs.PendingEvents.{most_pending}
-use Rattle.rb_order.proofs.WorldStands.{not-other}
+use Rattle.rb_world_agenda.specs.Holding.{Shows, without_waiting}
+use Rattle.rb_world_agenda.proofs.Which.{has-item}
+use Rattle.rb_laws_events.proofs.DueEvents.{IsDue, due-is}
+use Rattle.rb_laws_events.proofs.WorldNodes.{worlds-known}
+use Rattle.rb_laws_events.specs.PendingEvents.{most_pending}
+use Rattle.rb_laws_events.proofs.WorldStands.{not-other}
 use Rattle.rb_queue.specs.Waiting.{lane_of, spare_of}
-use Rattle.rb_order.proofs.SameHeard.{Every}
+use Rattle.rb_laws_events.proofs.SameHeard.{Every}
 use Rattle.rb_site.specs.Sites.{KeptSite, number_of as number_of_kept}
-use Rattle.rb_traffic.specs.Arriving.{number_of}
+use Rattle.rb_world_traffic.specs.Arriving.{number_of}
 use Rattle.rb_world.specs.declared.scene.Scene.{Scene}
 use Rattle.rb_world.specs.Steps.{MayHappen, MayTick, moved}
 use Rattle.rb_world.specs.Worlds.{Awaits, IsReached, Surrounds}

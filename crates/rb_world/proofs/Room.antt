@@ -6,16 +6,16 @@ use Rattle.rb_rules.specs.Goodness.{Scenario}
 use Rattle.rb_rules.specs.Lawful.{IsLawful}
 use Rattle.rb_rules.specs.WorldStep.{Choice, Due, Site, World, pass_and_tick, world_after}
 use Rattle.rb_rules.specs.WorldStep.Pending.{Tick}
-use Rattle.rb_order.proofs.DueEvents.{IsDue}
-use Rattle.rb_order.proofs.EventsHold.{any, ticks-left}
-use Rattle.rb_order.proofs.EveryWorld.{due-going}
-use Rattle.rb_order.proofs.FewPending.{pending-few}
-use Rattle.rb_order.proofs.OneEvent.{all-pend}
-use Rattle.rb_order.proofs.RunsEnd.{HasTicksLeft}
-use Rattle.rb_order.proofs.Takes.{tick-had}
-use Rattle.rb_order.proofs.WorldNodes.{events-due}
-use Rattle.rb_order.proofs.WorldStands.{AllPend, some-same}
-use Rattle.rb_order.specs.PendingEvents.{EventsFit, TakesTick}
+use Rattle.rb_laws_events.proofs.DueEvents.{IsDue}
+use Rattle.rb_laws_events.proofs.EventsHold.{any, ticks-left}
+use Rattle.rb_laws_events.proofs.EveryWorld.{due-going}
+use Rattle.rb_laws_events.proofs.FewPending.{pending-few}
+use Rattle.rb_laws_events.proofs.OneEvent.{all-pend}
+use Rattle.rb_laws_events.proofs.RunsEnd.{HasTicksLeft}
+use Rattle.rb_laws_events.proofs.Takes.{tick-had}
+use Rattle.rb_laws_events.proofs.WorldNodes.{events-due}
+use Rattle.rb_laws_events.proofs.WorldStands.{AllPend, some-same}
+use Rattle.rb_laws_events.specs.PendingEvents.{EventsFit, TakesTick}
 use Rattle.rb_world.proofs.Spans.{spans-by}
 use Rattle.rb_world.specs.Steps.{SpansFit}
 use Rattle.rb_world.specs.Worlds.{IsReached}

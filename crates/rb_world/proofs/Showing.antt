@@ -18,13 +18,13 @@ use Rattle.rb_rules.specs.WorldStep.{Due, Pending, Site, Timed, World, at_node, 
 use Rattle.rb_rules.specs.WorldStep.Pending.{Tick, Arrival}
 use Rattle.rb_queue.specs.Waiting.{HasLane, Held as Lane, Ready, event_with, kind_with, lane_of, ready_event, ready_of, with_lane, without_ready}
 use Rattle.rb_queue.specs.Waiting.Ready.{Comes, Ticks}
-use Rattle.rb_agenda.specs.Agenda.{IsAtTime, IsDue, StandsAt, Takes, TakesDue, first_time, key_of}
-use Rattle.rb_agenda.specs.Holding.{HoldsSite, HoldsSites, Shows, coming_with, due_with, waits_with, without_waiting}
-use Rattle.rb_agenda.proofs.Changes.{holds-at}
-use Rattle.rb_agenda.proofs.Places.{IsAtHead, IsOf, holds-without, ready-at}
-use Rattle.rb_agenda.proofs.Which.{has-item}
+use Rattle.rb_world_agenda.specs.Agenda.{IsAtTime, IsDue, StandsAt, Takes, TakesDue, first_time, key_of}
+use Rattle.rb_world_agenda.specs.Holding.{HoldsSite, HoldsSites, Shows, coming_with, due_with, waits_with, without_waiting}
+use Rattle.rb_world_agenda.proofs.Changes.{holds-at}
+use Rattle.rb_world_agenda.proofs.Places.{IsAtHead, IsOf, holds-without, ready-at}
+use Rattle.rb_world_agenda.proofs.Which.{has-item}
 use Rattle.rb_node.specs.Cores.{passing_end}
-use Rattle.rb_order.proofs.DueEvents.{IsDue as IsPending}
+use Rattle.rb_laws_events.proofs.DueEvents.{IsDue as IsPending}
 use Rattle.rb_port.specs.Keeping.{KeptPort}
 use Rattle.rb_site.specs.Sites.{KeptSite, number_of}
 use Rattle.rb_site.proofs.Standing.{passing-most}

@@ -10,9 +10,9 @@ use Rattle.rb_rules.specs.Slots.{count_of, same_side}
 use Rattle.rb_rules.specs.WorldStep.{Site, Timed, at_node}
 use Rattle.rb_rules.proofs.WindowNumbers.{length-each}
 use Rattle.rb_queue.specs.Waiting.{Held}
-use Rattle.rb_agenda.specs.Holding.{HoldsAll, HoldsSite, HoldsSites}
-use Rattle.rb_order.proofs.WorldStands.{get-at, is_node, node-is}
-use Rattle.rb_traffic.specs.Arriving.{AreRunning}
+use Rattle.rb_world_agenda.specs.Holding.{HoldsAll, HoldsSite, HoldsSites}
+use Rattle.rb_laws_events.proofs.WorldStands.{get-at, is_node, node-is}
+use Rattle.rb_world_traffic.specs.Arriving.{AreRunning}
 
 -- All sites change.
 

@@ -14,18 +14,18 @@ use Rattle.rb_rules.specs.WorldStep.Pending.{Tick, Arrival}
 use Rattle.rb_base.specs.declared.node.NodeName.{NodeName}
 use Rattle.rb_queue.specs.Waiting.{Held, Ready, event_with, head_of, kind_with, ready_event, ready_from, ready_of, without_ready}
 use Rattle.rb_queue.specs.Waiting.Ready.{Comes, Ticks}
-use Rattle.rb_agenda.specs.Agenda.{key_of}
-use Rattle.rb_agenda.specs.Holding.{HoldsSite, coming_with, due_with, waits_with, without_waiting}
-use Rattle.rb_agenda.proofs.Heads.{head-is}
-use Rattle.rb_agenda.proofs.OneNode.{ready-is}
-use Rattle.rb_agenda.proofs.Places.{IsAtHead, IsOf, holds-without, ready-at}
-use Rattle.rb_order.proofs.DueEvents.{least-none, least-of}
-use Rattle.rb_order.proofs.NodeEvents.{all-after, tick-after}
-use Rattle.rb_order.proofs.SameHeard.{Every}
-use Rattle.rb_sweep.specs.Sweeping.{Placed, first_of}
+use Rattle.rb_world_agenda.specs.Agenda.{key_of}
+use Rattle.rb_world_agenda.specs.Holding.{HoldsSite, coming_with, due_with, waits_with, without_waiting}
+use Rattle.rb_world_agenda.proofs.Heads.{head-is}
+use Rattle.rb_world_agenda.proofs.OneNode.{ready-is}
+use Rattle.rb_world_agenda.proofs.Places.{IsAtHead, IsOf, holds-without, ready-at}
+use Rattle.rb_laws_events.proofs.DueEvents.{least-none, least-of}
+use Rattle.rb_laws_events.proofs.NodeEvents.{all-after, tick-after}
+use Rattle.rb_laws_events.proofs.SameHeard.{Every}
+use Rattle.rb_laws_sweeps.specs.Sweeping.{Placed, first_of}
 use Rattle.rb_world.specs.Trailing.{NoneBefore}
-use Rattle.rb_sweep.proofs.ReadyFirst.{Begins, ReadyFirst, ready-first}
-use Rattle.rb_sweep.proofs.Sweeps.{all-every, every-all}
+use Rattle.rb_laws_sweeps.proofs.ReadyFirst.{Begins, ReadyFirst, ready-first}
+use Rattle.rb_laws_sweeps.proofs.Sweeps.{all-every, every-all}
 
 some-same : {X : Type 0} (a b : X) → Some a ≡ Some b → a ≡ b
 some-same a b e = ap (λ o. unwrap_or o a) e

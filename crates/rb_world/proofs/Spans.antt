@@ -13,7 +13,7 @@ use Rattle.rb_rules.specs.Hearing.{Span, span_of, tail_at}
 use Rattle.rb_rules.specs.NodeState.{NodeState}
 use Rattle.rb_rules.specs.Plan.{f0_of}
 use Rattle.rb_rules.specs.Windows.{exact_window, holds_offset, sync_windows, window_at, window_of}
-use Rattle.rb_order.proofs.WorldStands.{some-same}
+use Rattle.rb_laws_events.proofs.WorldStands.{some-same}
 use Rattle.rb_world.specs.Steps.{SpansFit}
 
 -- The window of a tick.

@@ -17,17 +17,17 @@ use Rattle.rb_rules.specs.Slots.{count_of}
 use Rattle.rb_rules.specs.WorldStep.{Site, Timed, after_arrival, at_node, first_world}
 use Rattle.rb_rules.specs.WorldStep.Pending.{Tick, Arrival}
 use Rattle.rb_rules.proofs.QuietTicks.{arrive-next}
-use Rattle.rb_sync.proofs.Times.{stamp_to}
-use Rattle.rb_order.proofs.SameHeard.{Every}
+use Rattle.rb_laws_synchrony.proofs.Times.{stamp_to}
+use Rattle.rb_laws_events.proofs.SameHeard.{Every}
 use Rattle.rb_queue.specs.Waiting.{HasLane, Held}
-use Rattle.rb_agenda.specs.Holding.{HoldsSites, without_waiting}
+use Rattle.rb_world_agenda.specs.Holding.{HoldsSites, without_waiting}
 use Rattle.rb_node.specs.Cores.{passing_end}
 use Rattle.rb_site.proofs.Standing.{passing-next}
 use Rattle.rb_site.specs.Sites.{KeptSite, Stands as StandsFor, number_of}
-use Rattle.rb_sweep.specs.Sweeping.{Placed, first_of, swept}
-use Rattle.rb_sweep.proofs.SentLater.{node-moves}
-use Rattle.rb_sweep.proofs.Sweeps.{all-every, sweep-stays, sweep-takes}
-use Rattle.rb_traffic.specs.Arriving.{number_of as number_in}
+use Rattle.rb_laws_sweeps.specs.Sweeping.{Placed, first_of, swept}
+use Rattle.rb_laws_sweeps.proofs.SentLater.{node-moves}
+use Rattle.rb_laws_sweeps.proofs.Sweeps.{all-every, sweep-stays, sweep-takes}
+use Rattle.rb_world_traffic.specs.Arriving.{number_of as number_in}
 use Rattle.rb_world.specs.Buses.{HaveRooms}
 use Rattle.rb_world.specs.Worlds.{IsNode}
 use Rattle.rb_world.proofs.Entering.{changed-there}

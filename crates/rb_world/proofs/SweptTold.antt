@@ -11,17 +11,17 @@ use Rattle.rb_rules.specs.Links.{name_of}
 use Rattle.rb_rules.specs.Slots.{count_of}
 use Rattle.rb_rules.specs.WorldStep.{Site, after_arrival, at_node}
 use Rattle.rb_rules.specs.WorldStep.Pending.{Arrival}
-use Rattle.rb_order.proofs.SameHeard.{Every}
+use Rattle.rb_laws_events.proofs.SameHeard.{Every}
 use Rattle.rb_queue.specs.Waiting.{HasLane, Held, IsFirstBefore, IsReadyBefore, event_with, lane_of, tick_time_of, with_lane, without_place, without_ready}
 use Rattle.rb_queue.specs.Waiting.Ready.{Comes, Ticks}
-use Rattle.rb_agenda.specs.Agenda.{key_of}
-use Rattle.rb_agenda.specs.Holding.{HoldsSites}
+use Rattle.rb_world_agenda.specs.Agenda.{key_of}
+use Rattle.rb_world_agenda.specs.Holding.{HoldsSites}
 use Rattle.rb_site.specs.Sites.{KeptSite, Stands as StandsFor, number_of}
-use Rattle.rb_sweep.specs.Sweeping.{swept}
-use Rattle.rb_sweep.specs.Told.{Told, heard, telling}
-use Rattle.rb_sweep.proofs.Firsts.{every-so}
-use Rattle.rb_sweep.proofs.Hearing.{hears-first, hears-none}
-use Rattle.rb_sweep.proofs.Sweeps.{all-every}
+use Rattle.rb_laws_sweeps.specs.Sweeping.{swept}
+use Rattle.rb_laws_sweeps.specs.Told.{Told, heard, telling}
+use Rattle.rb_laws_sweeps.proofs.Firsts.{every-so}
+use Rattle.rb_laws_sweeps.proofs.Hearing.{hears-first, hears-none}
+use Rattle.rb_laws_sweeps.proofs.Sweeps.{all-every}
 use Rattle.rb_world.specs.Observing.{WasTold}
 use Rattle.rb_world.specs.Steps.{CanHear}
 use Rattle.rb_world.specs.Trailing.{MaySweep, NoneBefore, Sweeps, TakesArrival, TakesTick, cleared, tick_from}

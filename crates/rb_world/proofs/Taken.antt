@@ -15,13 +15,13 @@ use Rattle.rb_rules.specs.WorldStep.{Site, at_node}
 use Rattle.rb_rules.specs.WorldStep.Pending.{Tick, Arrival}
 use Rattle.rb_queue.specs.Waiting.{HasLane, Held, Ready, head_of, lane_of, ready_event, ready_of, with_lane, without_found, without_place, without_ready}
 use Rattle.rb_queue.specs.Waiting.Ready.{Comes, Ticks}
-use Rattle.rb_agenda.specs.Agenda.{key_of}
-use Rattle.rb_agenda.specs.Holding.{HoldsSite, HoldsSites, coming_with, without_waiting}
-use Rattle.rb_agenda.proofs.Changes.{holds-at}
-use Rattle.rb_agenda.proofs.Keeping.{has-with, lane-with}
-use Rattle.rb_sweep.specs.Sweeping.{Placed}
-use Rattle.rb_sweep.proofs.Firsts.{every-stands, first-stands}
-use Rattle.rb_sweep.proofs.Sweeps.{all-every}
+use Rattle.rb_world_agenda.specs.Agenda.{key_of}
+use Rattle.rb_world_agenda.specs.Holding.{HoldsSite, HoldsSites, coming_with, without_waiting}
+use Rattle.rb_world_agenda.proofs.Changes.{holds-at}
+use Rattle.rb_world_agenda.proofs.Keeping.{has-with, lane-with}
+use Rattle.rb_laws_sweeps.specs.Sweeping.{Placed}
+use Rattle.rb_laws_sweeps.proofs.Firsts.{every-stands, first-stands}
+use Rattle.rb_laws_sweeps.proofs.Sweeps.{all-every}
 use Rattle.rb_world.specs.Buses.{HaveRooms}
 use Rattle.rb_world.proofs.Lanes.{lane-holds, rooms-with}
 use Rattle.rb_world.specs.Sweeping.{IsPending}

@@ -21,11 +21,11 @@ use Rattle.rb_rules.specs.NodeState.{NodeState, trusted_of}
 use Rattle.rb_site.specs.Tells.{row_at}
 use Rattle.rb_rules.specs.Ports.{PortState, delivered_to, fresh_port, losses_of}
 use Rattle.rb_rules.specs.WorldStep.{Site, World, with_delivery, with_epoch}
-use Rattle.rb_book.specs.Changing.{changed_at, number_in, row_shown, with_begun, with_row}
-use Rattle.rb_book.specs.Holding.{Holds}
-use Rattle.rb_book.specs.declared.ledger.Ledger.{Ledger}
+use Rattle.rb_world_book.specs.Changing.{changed_at, number_in, row_shown, with_begun, with_row}
+use Rattle.rb_world_book.specs.Holding.{Holds}
+use Rattle.rb_world_book.specs.declared.ledger.Ledger.{Ledger}
 use Rattle.rb_port.specs.Keeping.{HoldsPort, KeptPort}
-use Rattle.rb_traffic.specs.Arriving.{number_of}
+use Rattle.rb_world_traffic.specs.Arriving.{number_of}
 use Rattle.rb_world.specs.declared.scene.Scene.{Scene}
 use Rattle.rb_world.specs.Steps.{closed_at, closed_if, moved}
 use Rattle.rb_world.specs.Worlds.{HoldsPorts, Surrounds}

@@ -13,20 +13,20 @@ use Rattle.rb_rules.specs.Links.{name_of, same_node}
 use Rattle.rb_rules.specs.WorldStep.{Due, Site, Timed, World, due_at, due_of, event_at, event_of, go_on, least, needs_no_event, times_of}
 use Rattle.rb_rules.specs.WorldStep.Pending.{Tick}
 use Rattle.rb_rules.specs.WorldStep.Way.{ByItself}
-use Rattle.rb_agenda.proofs.Which.{has-item}
-use Rattle.rb_book.specs.Records.{record_of}
-use Rattle.rb_book.specs.Settling.{Settles}
-use Rattle.rb_book.specs.declared.ledger.Ledger.{Ledger}
-use Rattle.rb_book.specs.declared.turn.Turn.{Turn}
-use Rattle.rb_order.proofs.WorldNodes.{settle-sites}
+use Rattle.rb_world_agenda.proofs.Which.{has-item}
+use Rattle.rb_world_book.specs.Records.{record_of}
+use Rattle.rb_world_book.specs.Settling.{Settles}
+use Rattle.rb_world_book.specs.declared.ledger.Ledger.{Ledger}
+use Rattle.rb_world_book.specs.declared.turn.Turn.{Turn}
+use Rattle.rb_laws_events.proofs.WorldNodes.{settle-sites}
 use Rattle.rb_site.specs.Sites.{KeptSite, number_of as number_at}
-use Rattle.rb_sweep.specs.AheadOf.{TellsAhead, after_takes, ahead_of, tick_alone, told_in, until_tick}
-use Rattle.rb_sweep.specs.Told.{Told, heard, if_told, told_alone, told_next, telling}
-use Rattle.rb_sweep.specs.Sweeping.{swept}
-use Rattle.rb_sweep.proofs.Calls.{at-any-time}
-use Rattle.rb_sweep.proofs.Hearing.{hears-none}
-use Rattle.rb_sweep.proofs.Telling.{named-itself}
-use Rattle.rb_traffic.specs.Arriving.{number_of}
+use Rattle.rb_laws_sweeps.specs.AheadOf.{TellsAhead, after_takes, ahead_of, tick_alone, told_in, until_tick}
+use Rattle.rb_laws_sweeps.specs.Told.{Told, heard, if_told, told_alone, told_next, telling}
+use Rattle.rb_laws_sweeps.specs.Sweeping.{swept}
+use Rattle.rb_laws_sweeps.proofs.Calls.{at-any-time}
+use Rattle.rb_laws_sweeps.proofs.Hearing.{hears-none}
+use Rattle.rb_laws_sweeps.proofs.Telling.{named-itself}
+use Rattle.rb_world_traffic.specs.Arriving.{number_of}
 use Rattle.rb_world.specs.declared.scene.Scene.{Scene}
 use Rattle.rb_world.specs.declared.last.Last.{Last}
 use Rattle.rb_world.specs.declared.ties.Seeding.{Seeding}

@@ -9,17 +9,17 @@ use Rattle.rb_rules.specs.Slots.{count_of}
 use Rattle.rb_rules.specs.WorldStep.{Choice, Due, World, choose, due_of, happens, needs_no_event, settle, take, take_if_due}
 use Rattle.rb_rules.specs.WorldStep.Choice.{Take}
 use Rattle.rb_rules.specs.WorldStep.{Way}
-use Rattle.rb_agenda.specs.Agenda.{due_now}
-use Rattle.rb_agenda.specs.Holding.{HoldsSites}
-use Rattle.rb_book.specs.Records.{record_of}
-use Rattle.rb_book.specs.Settling.{Settles}
-use Rattle.rb_book.specs.declared.ledger.Ledger.{Ledger}
-use Rattle.rb_book.specs.declared.turn.Turn.{Turn}
-use Rattle.rb_order.proofs.EveryWorld.{after-more}
-use Rattle.rb_order.proofs.OneTake.{settle-ports}
-use Rattle.rb_order.proofs.WorldNodes.{settle-sites}
+use Rattle.rb_world_agenda.specs.Agenda.{due_now}
+use Rattle.rb_world_agenda.specs.Holding.{HoldsSites}
+use Rattle.rb_world_book.specs.Records.{record_of}
+use Rattle.rb_world_book.specs.Settling.{Settles}
+use Rattle.rb_world_book.specs.declared.ledger.Ledger.{Ledger}
+use Rattle.rb_world_book.specs.declared.turn.Turn.{Turn}
+use Rattle.rb_laws_events.proofs.EveryWorld.{after-more}
+use Rattle.rb_laws_events.proofs.OneTake.{settle-ports}
+use Rattle.rb_laws_events.proofs.WorldNodes.{settle-sites}
 use Rattle.rb_site.specs.Sites.{KeptSite}
-use Rattle.rb_traffic.specs.Arriving.{AreRunning}
+use Rattle.rb_world_traffic.specs.Arriving.{AreRunning}
 use Rattle.rb_world.specs.declared.last.Last.{Last}
 use Rattle.rb_world.specs.declared.scene.Scene.{Scene}
 use Rattle.rb_world.specs.declared.ties.Seeding.{Seeding}

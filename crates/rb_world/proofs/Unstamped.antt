@@ -14,14 +14,14 @@ use Rattle.rb_rules.specs.Slots.{count_of}
 use Rattle.rb_rules.specs.WorldStep.{Due, Site, Timed, World, after_act, at_node, happens, pass_and_tick, proceed, times_of, with_act, with_close, with_epoch, with_message}
 use Rattle.rb_rules.specs.WorldStep.Pending.{Tick}
 use Rattle.rb_queue.specs.Waiting.{HasLane, Held, lane_of, spare_of}
-use Rattle.rb_agenda.specs.Holding.{HoldsSites}
-use Rattle.rb_agenda.proofs.Which.{has-item}
-use Rattle.rb_order.specs.PendingEvents.{most_pending}
-use Rattle.rb_order.proofs.WorldStands.{not-other}
+use Rattle.rb_world_agenda.specs.Holding.{HoldsSites}
+use Rattle.rb_world_agenda.proofs.Which.{has-item}
+use Rattle.rb_laws_events.specs.PendingEvents.{most_pending}
+use Rattle.rb_laws_events.proofs.WorldStands.{not-other}
 use Rattle.rb_site.specs.Sites.{KeptSite, Stands as StandsFor, after_tick, number_of}
-use Rattle.rb_sweep.specs.Sweeping.{swept}
-use Rattle.rb_sweep.proofs.AfterTick.{TicksNow, act-had}
-use Rattle.rb_sweep.proofs.Sweeps.{sweeps-keep}
+use Rattle.rb_laws_sweeps.specs.Sweeping.{swept}
+use Rattle.rb_laws_sweeps.proofs.AfterTick.{TicksNow, act-had}
+use Rattle.rb_laws_sweeps.proofs.Sweeps.{sweeps-keep}
 use Rattle.rb_world.specs.declared.scene.Scene.{Scene}
 use Rattle.rb_world.specs.Buses.{HaveRooms}
 use Rattle.rb_world.specs.Steps.{MayTick, SpansFit, Ticks, moved}

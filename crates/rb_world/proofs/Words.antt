@@ -25,8 +25,8 @@ use Rattle.rb_rules.specs.WorldStep.{word_of}
 use Rattle.rb_node.specs.Wants.{want_for}
 use Rattle.rb_node.specs.declared.act.Want.TheVariants as want
 use Rattle.rb_node.proofs.Cores.{tick-now, tick-spent}
-use Rattle.rb_order.proofs.NodeTicks.{sent-place}
-use Rattle.rb_order.proofs.NodeWords.{HasPlace}
+use Rattle.rb_laws_events.proofs.NodeTicks.{sent-place}
+use Rattle.rb_laws_events.proofs.NodeWords.{HasPlace}
 use Rattle.rb_world.specs.Steps.{CanWant, IsWordSlot}
 
 -- RMUs want nothing.

@@ -7,10 +7,10 @@ use Rattle.rb_rules.specs.Goodness.{Scenario}
 use Rattle.rb_rules.specs.Clock.{Timeline}
 use Rattle.rb_rules.specs.Lawful.{IsLawful}
 use Rattle.rb_rules.specs.Links.{DelayRules}
-use Rattle.rb_onset.specs.Faults.{Faults, faults_of}
+use Rattle.rb_world_onset.specs.Faults.{Faults, faults_of}
 use Rattle.rb_plan.specs.Timetable.{Timetable}
-use Rattle.rb_traffic.specs.Saying.{KeptSayings, kept_of}
-use Rattle.rb_order.specs.PendingEvents.{most_pending}
+use Rattle.rb_world_traffic.specs.Saying.{KeptSayings, kept_of}
+use Rattle.rb_laws_events.specs.PendingEvents.{most_pending}
 use Rattle.rb_queue.specs.Waiting.{Held}
 use Rattle.rb_world.specs.Calm.{AreRestless}
 use Rattle.rb_world.specs.declared.calm.Restless.{Restless}

@@ -3,7 +3,7 @@ use Rattle.std.specs.Prelude.{ℕ, ◌≡◌, ◌+◌, ◌<◌, ◌||◌, min, n
 use Rattle.rb_base.specs.Nodes.{Side}
 use Rattle.rb_rules.specs.Goodness.{Scenario, onsets_of}
 use Rattle.rb_rules.specs.Links.{name_of}
-use Rattle.rb_traffic.specs.Saying.{KeptSayings, entries_for, first_frame, kept_of, last_frame}
+use Rattle.rb_world_traffic.specs.Saying.{KeptSayings, entries_for, first_frame, kept_of, last_frame}
 use Rattle.rb_world.specs.declared.calm.Restless.{Restless}
 
 -- the first frame in which a node with this onset may not be good, or something may be said to it, this being the first of which an entry

@@ -4,7 +4,7 @@ use Rattle.rb_rules.specs.Book.{Record}
 use Rattle.rb_rules.specs.Goodness.{Scenario}
 use Rattle.rb_rules.specs.WorldStep.{World, due_of, go_on, take}
 use Rattle.rb_gen.specs.Draws.{next_state, number_of}
-use Rattle.rb_book.specs.declared.turn.Turn.{Turn}
+use Rattle.rb_world_book.specs.declared.turn.Turn.{Turn}
 use Rattle.rb_world.specs.declared.ties.Seeding.{Seeding}
 use Rattle.rb_world.specs.declared.ties.Ties.{Ties}
 use Rattle.rb_world.specs.declared.ties.Ties.TheVariants.{First, Last, Seeded}

@@ -4,8 +4,8 @@ use Rattle.rb_rules.specs.Book.{Record}
 use Rattle.rb_rules.specs.Goodness.{Scenario}
 use Rattle.rb_rules.specs.Rounds.{records_of}
 use Rattle.rb_rules.specs.WorldStep.{World}
-use Rattle.rb_book.specs.Records.{record_of}
-use Rattle.rb_book.specs.declared.turn.Turn.{Turn}
+use Rattle.rb_world_book.specs.Records.{record_of}
+use Rattle.rb_world_book.specs.declared.turn.Turn.{Turn}
 use Rattle.rb_world.specs.Nexts.{is_last}
 use Rattle.rb_world.specs.Worlds.{KeptWorld, Stands}
 

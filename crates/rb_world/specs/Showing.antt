@@ -11,8 +11,8 @@ use Rattle.rb_rules.specs.Ports.{PortState}
 use Rattle.rb_rules.specs.Slots.{count_of}
 use Rattle.rb_rules.specs.WorldStep.{Pending, Site}
 use Rattle.rb_rules.specs.WorldStep.Pending.{Tick, Arrival}
-use Rattle.rb_agenda.specs.Agenda.{IsAtTime}
-use Rattle.rb_agenda.specs.Holding.{Shows}
+use Rattle.rb_world_agenda.specs.Agenda.{IsAtTime}
+use Rattle.rb_world_agenda.specs.Holding.{Shows}
 use Rattle.rb_port.specs.Keeping.{KeptPort}
 use Rattle.rb_site.specs.Sites.{KeptSite, Stands as StandsFor, number_of}
 use Rattle.rb_world.specs.Worlds.{HoldsPorts}

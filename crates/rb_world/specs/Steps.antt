@@ -16,15 +16,15 @@ use Rattle.rb_rules.specs.Lawful.{IsLawful, kind_of}
 use Rattle.rb_rules.specs.Links.{name_of}
 use Rattle.rb_rules.specs.Slots.{count_of, first_diagnosis_of}
 use Rattle.rb_rules.specs.WorldStep.{Due, Site, World, after_act, at_node, due_of, happens, pass_and_tick, proceed, span_from, with_act, with_delivery}
-use Rattle.rb_agenda.specs.Agenda.{IsAtTime}
-use Rattle.rb_agenda.specs.Holding.{Shows, without_waiting}
+use Rattle.rb_world_agenda.specs.Agenda.{IsAtTime}
+use Rattle.rb_world_agenda.specs.Holding.{Shows, without_waiting}
 use Rattle.rb_node.specs.Cores.{IsCore, passing_end}
 use Rattle.rb_node.specs.declared.act.Want.{Want}
 use Rattle.rb_node.specs.declared.act.Want.TheVariants as want
-use Rattle.rb_book.specs.Changing.{with_row}
+use Rattle.rb_world_book.specs.Changing.{with_row}
 use Rattle.rb_queue.specs.Waiting.{HasLane, Held, lane_of, spare_of}
 use Rattle.rb_site.specs.Sites.{KeptSite, Stands as StandsFor, number_of}
-use Rattle.rb_traffic.specs.Arriving.{number_of as number_in}
+use Rattle.rb_world_traffic.specs.Arriving.{number_of as number_in}
 use Rattle.rb_world.specs.declared.scene.Scene.{Scene}
 use Rattle.rb_world.specs.Worlds.{AreNodes, IsNode, IsReached, Surrounds}
 

@@ -7,7 +7,7 @@ use Rattle.rb_rules.specs.Book.{Each, of_kind}
 use Rattle.rb_rules.specs.Links.{name_of}
 use Rattle.rb_rules.specs.WorldStep.{Site}
 use Rattle.rb_queue.specs.Waiting.{Held}
-use Rattle.rb_agenda.specs.Holding.{HoldsSites}
+use Rattle.rb_world_agenda.specs.Holding.{HoldsSites}
 
 -- the lanes hold what is pending at sites, of which this is the node's
 pub record IsPending (sizes : Sizes) (me : Side) (i : ℕ) (lanes : Each Held) (sites : Each Site) (s : Site) (name : NodeName) : Type 0 where

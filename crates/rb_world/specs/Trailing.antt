@@ -7,21 +7,21 @@ use Rattle.rb_rules.specs.Clock.{time_of}
 use Rattle.rb_rules.specs.Goodness.{Scenario, clock_of}
 use Rattle.rb_rules.specs.Hearing.{Coming}
 use Rattle.rb_base.specs.declared.node.NodeName.{NodeName}
-use Rattle.rb_book.specs.Records.{record_of}
-use Rattle.rb_book.specs.declared.turn.Turn.{Turn}
+use Rattle.rb_world_book.specs.Records.{record_of}
+use Rattle.rb_world_book.specs.declared.turn.Turn.{Turn}
 use Rattle.rb_rules.specs.Lawful.{IsLawful, kind_of}
 use Rattle.rb_rules.specs.Links.{name_of}
 use Rattle.rb_rules.specs.Slots.{count_of}
 use Rattle.rb_rules.specs.WorldStep.{Site, Timed, World, at_node, happens}
 use Rattle.rb_rules.specs.WorldStep.Pending.{Tick, Arrival}
 use Rattle.rb_queue.specs.Waiting.{HasLane, Held}
-use Rattle.rb_agenda.specs.Holding.{HoldsSites, without_waiting}
+use Rattle.rb_world_agenda.specs.Holding.{HoldsSites, without_waiting}
 use Rattle.rb_site.specs.Sites.{KeptSite}
-use Rattle.rb_sweep.specs.AheadOf.{GoesOnAhead, IsFirstTick, ahead_of, tick_alone, until_tick}
-use Rattle.rb_sweep.specs.Laws.{NeedsEvent}
-use Rattle.rb_sweep.specs.Sweeping.{first_of, swept}
+use Rattle.rb_laws_sweeps.specs.AheadOf.{GoesOnAhead, IsFirstTick, ahead_of, tick_alone, until_tick}
+use Rattle.rb_laws_sweeps.specs.Laws.{NeedsEvent}
+use Rattle.rb_laws_sweeps.specs.Sweeping.{first_of, swept}
 use Rattle.rb_world.specs.declared.scene.Scene.{Scene}
-use Rattle.rb_traffic.specs.Arriving.{number_of as number_in}
+use Rattle.rb_world_traffic.specs.Arriving.{number_of as number_in}
 use Rattle.rb_world.specs.declared.ties.Ties.TheVariants.{First}
 use Rattle.rb_world.specs.Buses.{HaveRooms}
 use Rattle.rb_world.specs.Nexts.{IsNext, after_steps}

@@ -10,13 +10,13 @@ use Rattle.rb_rules.specs.Lawful.{IsLawful}
 use Rattle.rb_rules.specs.Ports.{PortState}
 use Rattle.rb_rules.specs.Slots.{count_of}
 use Rattle.rb_rules.specs.WorldStep.{Choice, Site, World, needs_no_event, world_after}
-use Rattle.rb_agenda.specs.Agenda.{how_many}
-use Rattle.rb_agenda.specs.Holding.{HoldsSites}
-use Rattle.rb_book.specs.Holding.{Holds}
-use Rattle.rb_book.specs.Settling.{is_free}
+use Rattle.rb_world_agenda.specs.Agenda.{how_many}
+use Rattle.rb_world_agenda.specs.Holding.{HoldsSites}
+use Rattle.rb_world_book.specs.Holding.{Holds}
+use Rattle.rb_world_book.specs.Settling.{is_free}
 use Rattle.rb_port.specs.Keeping.{HoldsPort, KeptPort}
 use Rattle.rb_site.specs.Sites.{KeptSite, Stands as StandsFor, number_of}
-use Rattle.rb_traffic.specs.Arriving.{AreRunning}
+use Rattle.rb_world_traffic.specs.Arriving.{AreRunning}
 use Rattle.rb_world.specs.declared.last.Last.{Last}
 use Rattle.rb_world.specs.declared.last.Last.TheVariants as last
 use Rattle.rb_world.specs.declared.scene.Scene.{Scene}

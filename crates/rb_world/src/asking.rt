@@ -3,7 +3,7 @@ ghost use Rattle.std.specs.Prelude.{◌≡◌, ◌↔◌, IsTrue, Some, slice_ge
 ghost use Rattle.rb_rules.specs.Book.{of_kind};
 ghost use Rattle.rb_rules.specs.Lawful.{IsNodeOf, kind_of};
 ghost use Rattle.rb_rules.specs.WorldStep.{Site as WorldSite, World as RunWorld};
-ghost use Rattle.rb_traffic.specs.Arriving.{number_of};
+ghost use Rattle.rb_world_traffic.specs.Arriving.{number_of};
 ghost use Rattle.rb_world.specs.Worlds.{Stands};
 
 use crate::world::World;

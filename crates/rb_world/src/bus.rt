@@ -4,31 +4,31 @@ ghost use Rattle.rb_base.specs.Nodes.{other};
 ghost use Rattle.rb_base.specs.Nodes.Side.{Biu as biu, Rmu as rmu};
 ghost use Rattle.rb_rules.specs.Book.{Each};
 ghost use Rattle.rb_rules.specs.WorldStep.{Site, at_node, first_world, says_in};
-ghost use Rattle.rb_order.specs.PendingEvents.{most_pending};
+ghost use Rattle.rb_laws_events.specs.PendingEvents.{most_pending};
 ghost use Rattle.rb_node.specs.Acts.{IsSendable, span_in};
 ghost use Rattle.rb_queue.specs.Waiting.{HasLane, lane_of, spare_of, with_lane};
-ghost use Rattle.rb_agenda.specs.Holding.{HoldsSites};
+ghost use Rattle.rb_world_agenda.specs.Holding.{HoldsSites};
 ghost use Rattle.rb_rules.specs.Goodness.{clock_of};
 ghost use Rattle.rb_rules.specs.Lawful.{IsLawful, IsNodeOf, is_node_good, kind_of};
-ghost use Rattle.rb_book.specs.Holding.{Holds};
+ghost use Rattle.rb_world_book.specs.Holding.{Holds};
 ghost use Rattle.rb_scenario.specs.Acceptance.{as_scenario};
-ghost use Rattle.rb_traffic.specs.Arriving.{AreRunning, HaveRoom, number_of};
-ghost use Rattle.rb_traffic.specs.Saying.{hears, kept_of, with_arrivals};
-ghost use Rattle.rb_traffic.specs.Departing.{with_sent};
+ghost use Rattle.rb_world_traffic.specs.Arriving.{AreRunning, HaveRoom, number_of};
+ghost use Rattle.rb_world_traffic.specs.Saying.{hears, kept_of, with_arrivals};
+ghost use Rattle.rb_world_traffic.specs.Departing.{with_sent};
 ghost use Rattle.rb_world.specs.Buses.{HaveRooms};
 ghost use Rattle.rb_world.specs.Calm.{is_calm};
 
 use crate::calm::{Restless, is_outside, restless_nodes};
-use rb_agenda::Agenda;
 use rb_base::{Biu, NodeName, OutOfMemory, Rmu, Shape};
-use rb_book::Book;
 use rb_clock::Clock;
 use rb_link::Delays;
 use rb_node::Span;
-use rb_onset::Onsets;
 use rb_plan::Feasible;
 use rb_scenario::{ClockList, Scenario};
-use rb_traffic::{Departure, Sayings, send};
+use rb_world_agenda::Agenda;
+use rb_world_book::Book;
+use rb_world_onset::Onsets;
+use rb_world_traffic::{Departure, Sayings, send};
 use std::alloc::Global;
 use std::marker::Model;
 
@@ -204,7 +204,7 @@ impl Bus {
         ensures world { (sites : Each Site) → HoldsSites self.now.sizes agenda.old sites
             → HoldsSites self.now.sizes agenda.new (at_node (kind_of node) (number_of node) (hears self.now node (span_in span.now)) sites) }
     {
-        let span = rb_traffic::Span {
+        let span = rb_world_traffic::Span {
             place: span.place,
             first: span.first,
             last: span.last,

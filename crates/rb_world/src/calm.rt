@@ -6,7 +6,7 @@ ghost use Rattle.rb_world.specs.Calm.{AreRestless, first_restless, is_outside, l
 
 use crate::opening::name_of;
 use rb_base::Kind;
-use rb_traffic::Sayings;
+use rb_world_traffic::Sayings;
 
 /// The frames of a node, from the first to the last, in which it may not be good or something may be said to it.
 #[derive(Clone, Copy, Debug, PartialEq, Eq)]

@@ -1,8 +1,8 @@
 //! Who takes a world from record to record.
 ghost use Rattle.std.specs.Prelude.{◌≡◌, ⊤, IsTrue, IfOk, [], Bool, List, None, Option, false, is_some, not, true};
 ghost use Rattle.rb_rules.specs.WorldStep.{World as RunWorld};
-ghost use Rattle.rb_book.specs.Records.{record_of};
-ghost use Rattle.rb_book.specs.declared.turn.Turn.{Turn};
+ghost use Rattle.rb_world_book.specs.Records.{record_of};
+ghost use Rattle.rb_world_book.specs.declared.turn.Turn.{Turn};
 ghost use Rattle.rb_world.specs.declared.ties.Ties.TheVariants.{First};
 ghost use Rattle.rb_world.specs.Driving.{GivesBy, GoesAlike, Keeps, Tells, given_for, masked, told_of};
 ghost use Rattle.rb_world.specs.Nexts.{GoesToNext};
@@ -13,8 +13,8 @@ use crate::ties::Ties;
 use crate::world::World;
 use arrayvec::ArrayVec;
 use rb_base::{Heard, OutOfMemory};
-use rb_book::{SlotLine, SlotRecord, Turn};
 use rb_port::Apps;
+use rb_world_book::{SlotLine, SlotRecord, Turn};
 use std::alloc::Global;
 use std::marker::Model;
 

@@ -22,6 +22,6 @@ pub mod world;
 
 pub use drive::{Drive, FirstDrive, MemDrive};
 pub use observing::Observer;
-pub use rb_book::{Cause, FrameRecord, NodeLine, PortLine, SlotLine, SlotRecord, Turn};
+pub use rb_world_book::{Cause, FrameRecord, NodeLine, PortLine, SlotLine, SlotRecord, Turn};
 pub use ties::Ties;
 pub use world::World;

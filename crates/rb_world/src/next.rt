@@ -3,9 +3,9 @@ ghost use Rattle.std.specs.Prelude.{◌≡◌, ℕ, true, Option, Some, is_some}
 ghost use Rattle.rb_rules.specs.Book.{Record};
 ghost use Rattle.rb_rules.specs.Lawful.{IsNodeOf};
 ghost use Rattle.rb_rules.specs.WorldStep.{World as RunWorld, go_on};
-ghost use Rattle.rb_order.specs.Promise.{NodesKeepThePromise};
-ghost use Rattle.rb_book.specs.declared.turn.Turn.{Turn};
-ghost use Rattle.rb_book.specs.Records.{record_of};
+ghost use Rattle.rb_laws_events.specs.Promise.{NodesKeepThePromise};
+ghost use Rattle.rb_world_book.specs.declared.turn.Turn.{Turn};
+ghost use Rattle.rb_world_book.specs.Records.{record_of};
 ghost use Rattle.rb_world.specs.declared.ties.Ties.TheVariants.{First};
 ghost use Rattle.rb_world.specs.Nexts.{GoesToNext, RunsOn, TakesStep, is_last};
 ghost use Rattle.rb_world.specs.Numbering.{GoesInRounds};
@@ -20,9 +20,9 @@ use crate::ties::{Ties, choose};
 use crate::trailing::run_ticks;
 use crate::world::World;
 use rb_base::NodeName;
-use rb_book::{Turn, Way};
 use rb_gen::Draws;
 use rb_port::Apps;
+use rb_world_book::{Turn, Way};
 
 // The last turn of a run, of which this is kept.
 fn last_turn(last: Last) -> Turn

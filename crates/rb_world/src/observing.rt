@@ -9,17 +9,17 @@ ghost use Rattle.rb_rules.specs.Ports.{PortState};
 ghost use Rattle.rb_rules.specs.WorldStep.{Site as WorldSite};
 ghost use Rattle.rb_rules.specs.WorldStep.Pending.{Arrival, Tick};
 ghost use Rattle.rb_site.specs.Sites.{Stands as StandsFor, number_of};
-ghost use Rattle.rb_sweep.specs.Told.{Told, telling};
+ghost use Rattle.rb_laws_sweeps.specs.Told.{Told, telling};
 ghost use Rattle.rb_world.specs.Observing.{WasTold};
 ghost use Rattle.rb_world.specs.Showing.{MayShowTick};
 ghost use Rattle.rb_world.specs.Steps.{CanHear};
 
 use crate::bus::Bus;
 use crate::due::{show_arrival, show_tick};
-use rb_agenda::Agenda;
 use rb_base::{Event, Kind, NodeName};
 use rb_port::{Apps, Port};
 use rb_site::Site;
+use rb_world_agenda::Agenda;
 
 /// Who is told what one node is given while a run goes on, event by event.
 pub trait Observer {

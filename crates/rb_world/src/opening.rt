@@ -17,11 +17,11 @@ use crate::proceeding::proceed;
 use crate::scene::Scene;
 use crate::ties::Seeding;
 use crate::world::World;
-use rb_agenda::Agenda;
 use rb_base::{Biu, Kind, NodeName, NodeSet, OutOfMemory, Rmu};
 use rb_port::Port;
 use rb_scenario::Scenario;
 use rb_site::Site;
+use rb_world_agenda::Agenda;
 use std::alloc::Global;
 
 fn add_port(ports: &mut Vec<Port>, port: Port) -> Result<(), OutOfMemory>

@@ -2,13 +2,13 @@
 ghost use Rattle.std.specs.Prelude.{◌≡◌};
 ghost use Rattle.rb_base.specs.Nodes.{other};
 ghost use Rattle.rb_rules.specs.Lawful.{kind_of};
-ghost use Rattle.rb_traffic.specs.Arriving.{number_of};
+ghost use Rattle.rb_world_traffic.specs.Arriving.{number_of};
 ghost use Rattle.rb_world.specs.Worlds.{running_of};
 
-use rb_agenda::Agenda;
 use rb_base::{Biu, NodeName, NodeSet, Rmu};
-use rb_book::Book;
 use rb_port::Port;
+use rb_world_agenda::Agenda;
+use rb_world_book::Book;
 
 /// What is pending at the nodes, what they told, the ports of the BIUs, and which nodes run.
 #[derive(Drop)]

@@ -9,9 +9,9 @@ ghost use Rattle.rb_rules.specs.Slots.{count_of};
 ghost use Rattle.rb_rules.specs.WorldStep.{Site as WorldSite, World as RunWorld};
 ghost use Rattle.rb_queue.specs.Waiting.{HasLane, Held, lane_of, with_lane, without_before, without_tick};
 ghost use Rattle.rb_site.specs.Sites.{KeptSite, Stands as StandsFor, number_of};
-ghost use Rattle.rb_sweep.specs.AheadOf.{until_tick};
-ghost use Rattle.rb_sweep.specs.Told.{heard};
-ghost use Rattle.rb_traffic.specs.Arriving.{number_of as number_in};
+ghost use Rattle.rb_laws_sweeps.specs.AheadOf.{until_tick};
+ghost use Rattle.rb_laws_sweeps.specs.Told.{heard};
+ghost use Rattle.rb_world_traffic.specs.Arriving.{number_of as number_in};
 ghost use Rattle.rb_world.specs.Observing.{WasTold, left_below, left_for};
 ghost use Rattle.rb_world.specs.Trailing.{HasCaughtUp, HaveCaughtUp, MayCatchUp, MaySweep, Sweeps, Trails, until_from};
 ghost use Rattle.rb_world.specs.Unstamped.{due_before, taken_all};
@@ -20,10 +20,10 @@ use crate::bus::Bus;
 use crate::observing::{Observer, is_observed, tell_arrival};
 use crate::scene::Scene;
 use crate::taking::hear_at;
-use rb_agenda::Agenda;
 use rb_base::{Biu, Kind, NodeName, Rmu};
 use rb_queue::Arrival;
 use rb_site::Site;
+use rb_world_agenda::Agenda;
 
 /// What comes to the node before this time is taken, one arrival after another, and with it a tick of the node before then.
 #[inline(always)]

@@ -5,26 +5,26 @@ ghost use Rattle.rb_rules.specs.Links.{name_of};
 ghost use Rattle.rb_site.specs.Sites.{Stands as StandsFor, number_of};
 ghost use Rattle.rb_rules.specs.Hearing.{Coming};
 ghost use Rattle.rb_rules.specs.WorldStep.{Due, Site as WorldSite, World as RunWorld, after_arrival, take};
-ghost use Rattle.rb_order.specs.Promise.{NodesKeepThePromise};
+ghost use Rattle.rb_laws_events.specs.Promise.{NodesKeepThePromise};
 ghost use Rattle.rb_queue.specs.Waiting.{lane_of, with_lane, without_place};
 ghost use Rattle.rb_world.specs.Numbering.{TakesInRounds};
 ghost use Rattle.rb_world.specs.Steps.{CanHear, Happens, MayHappen, MayTick, Ticks, act_at};
 ghost use Rattle.rb_world.specs.Turning.{Gives};
 ghost use Rattle.rb_world.specs.Worlds.{Stands, due_in, last_of};
-ghost use Rattle.rb_book.specs.declared.turn.Turn.{Turn};
-ghost use Rattle.rb_book.specs.Records.{record_of};
+ghost use Rattle.rb_world_book.specs.declared.turn.Turn.{Turn};
+ghost use Rattle.rb_world_book.specs.Records.{record_of};
 
 use crate::bus::Bus;
 use crate::last::Last;
 use crate::scene::Scene;
 use crate::ticking::tick;
 use crate::world::World;
-use rb_agenda::Agenda;
 use rb_base::{Biu, Event, EventKind, Kind, NodeName, Rmu};
-use rb_book::{Turn, Way};
 use rb_frame::Spelling;
 use rb_port::Apps;
 use rb_site::Site;
+use rb_world_agenda::Agenda;
+use rb_world_book::{Turn, Way};
 
 // What is kept of a turn.
 pub(crate) fn last_of(turn: &Turn) -> Last

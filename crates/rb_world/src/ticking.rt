@@ -9,7 +9,7 @@ ghost use Rattle.rb_rules.specs.Ports.{PortState};
 ghost use Rattle.rb_node.specs.Acts.{IsSendable};
 ghost use Rattle.rb_node.specs.Wants.{want_for};
 ghost use Rattle.rb_site.specs.Tells.{row_at};
-ghost use Rattle.rb_traffic.specs.Arriving.{number_of as number_in};
+ghost use Rattle.rb_world_traffic.specs.Arriving.{number_of as number_in};
 ghost use Rattle.rb_world.specs.Worlds.{HoldsPorts, Surrounds};
 ghost use Rattle.rb_rules.specs.Links.{name_of};
 ghost use Rattle.rb_rules.specs.WorldStep.{Site as WorldSite, World, wants_in, with_delivery, with_epoch, with_message, word_of};
@@ -24,7 +24,7 @@ use rb_node::Want;
 use rb_port::{Apps, Port};
 use rb_rules::{Epoch, Message, NodeLine, PortLine};
 use rb_site::Site;
-use rb_traffic::Departure;
+use rb_world_traffic::Departure;
 
 // The word that a node is handed for a tick: its request, or what its port offers.
 pub(crate) fn word_for(bus: &Bus, apps: &Apps, ports: &[Port], i: u8, want: Want) -> u32

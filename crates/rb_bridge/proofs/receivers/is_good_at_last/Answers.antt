@@ -1,7 +1,7 @@
 use Rattle.std.proofs.Common.{ap, ◌∙◌}
 use Rattle.rb_base.specs.Nodes.Side.{Biu}
 use Rattle.rb_rules.specs.Goodness.{is_good}
-use Rattle.rb_crossing.specs.Texts.{last_data_slot}
+use Rattle.rb_rules_bridge.specs.Texts.{last_data_slot}
 use Rattle.rb_bridge.proofs.receivers.is_good_at_last.Goals as goal
 
 pub returns : goal.returns

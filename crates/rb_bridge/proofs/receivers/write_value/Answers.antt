@@ -1,7 +1,7 @@
 use Rattle.std.proofs.Common.{ap, ◌∙◌, subst, OnOk, OnErr}
 use Rattle.std.specs.Io.KnownBytes.{Appends}
 use Rattle.rb_outside.specs.Bytes.{AppendsPart}
-use Rattle.rb_crossing.specs.Texts.{cross_text}
+use Rattle.rb_rules_bridge.specs.Texts.{cross_text}
 use Rattle.rb_bridge.specs.Refusals.{bank_of}
 use Rattle.rb_bridge.proofs.receivers.write_value.Goals as goal
 

@@ -1,5 +1,5 @@
 use Rattle.std.proofs.Common.{true, false}
-use Rattle.rb_ferry.proofs.Crossed.{never-plain}
+use Rattle.rb_bridge_run.proofs.Crossed.{never-plain}
 use Rattle.rb_bridge_top.proofs.Completed.{completes, promised}
 use Rattle.rb_bridge_top.proofs.top.run_bridge.Goals as goal
 

@@ -1,7 +1,7 @@
 use Rattle.std.proofs.Common.{rules, ◌≡◌, ◌≤◌, ◌∷◌, [], arith, subst, sym}
 use Rattle.rb_base.specs.Nodes.{side_of}
 use Rattle.rb_log.specs.Cursor.{shown}
-use Rattle.rb_history.specs.Replays.{replay_text}
+use Rattle.rb_laws_logs.specs.Replays.{replay_text}
 use Rattle.rb_replay.specs.Replaying.{IsDue}
 use Rattle.rb_replay.proofs.Dues.{advances-more, advances-none, advances-is, advances-part, ends, ends-part}
 use Rattle.rb_replay.proofs.Events.{first-is, none-left}

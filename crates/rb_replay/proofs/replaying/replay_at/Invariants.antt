@@ -1,7 +1,7 @@
 -- the text written and what is due are the text of the whole log
 use Rattle.std.proofs.Common.{◌≤◌, ◌^◌, length}
 use Rattle.rb_base.specs.Nodes.{side_of}
-use Rattle.rb_history.specs.Replays.{replay_text}
+use Rattle.rb_laws_logs.specs.Replays.{replay_text}
 use Rattle.rb_replay.specs.Replaying.{Advances}
 use Rattle.rb_replay.proofs.replaying.replay_at.Given as goal
 

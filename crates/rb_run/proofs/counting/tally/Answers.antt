@@ -1,5 +1,5 @@
 use Rattle.std.proofs.Common.{◌≡◌, None, Some, refl, sym, ◌∙◌, arith}
-use Rattle.rb_book.specs.Records.{record_of}
+use Rattle.rb_world_book.specs.Records.{record_of}
 use Rattle.rb_run.specs.Runs.{end_at}
 use Rattle.rb_run.proofs.Counted.{all-counted, none-counted, one-counted}
 use Rattle.rb_run.proofs.UnderWay.{ends-so, few-turns, goes}

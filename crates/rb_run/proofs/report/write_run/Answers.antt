@@ -1,5 +1,5 @@
 use Rattle.std.proofs.Common.{◌≡◌, None, Some, refl, sym, ◌∙◌, rules, arith}
-use Rattle.rb_book.specs.Records.{record_of}
+use Rattle.rb_world_book.specs.Records.{record_of}
 use Rattle.rb_run.specs.Runs.{end_at}
 use Rattle.rb_run.proofs.Reported.{all-written, none-written, one-written, part-written}
 use Rattle.rb_run.proofs.Texts.{on-err}

@@ -3,7 +3,7 @@ use Rattle.std.specs.List.{list_all}
 use Rattle.toml.specs.View.{table_view}
 use Rattle.rb_rules.specs.declared.say.Say.{Say}
 use Rattle.rb_scenario.specs.Onsets.{is_good_by}
-use Rattle.rb_entries.specs.Says.{says_of}
+use Rattle.rb_scenario_entries.specs.Says.{says_of}
 use Rattle.rb_scenario.proofs.reading.sayings_of.Goals as goal
 
 pub returns-else-are_sayers_faulty-clause-refused : goal.returns-else-are_sayers_faulty-clause-refused

@@ -1,6 +1,6 @@
 use Rattle.std.proofs.Common.{◌∙◌, subst, sym}
 use Rattle.std.proofs.lemmas.Bool.{false≢true}
-use Rattle.rb_entries.specs.declared.refusal.Refusal.TheVariants.{NoSuchNode}
+use Rattle.rb_scenario_entries.specs.declared.refusal.Refusal.TheVariants.{NoSuchNode}
 use Rattle.rb_top.proofs.FormAnswers.{Lacks, Logs, is_memory, lack_answers, lacks_node, log_answers, neither_is_silent, none_answers, record_reads}
 use Rattle.rb_top.specs.Inputs.{rule_text}
 use Rattle.rb_top.specs.declared.form.Form.TheVariants.{Record}

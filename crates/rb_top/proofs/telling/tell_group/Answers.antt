@@ -1,5 +1,5 @@
 use Rattle.rb_scenario.specs.Acceptance.{as_scenario}
-use Rattle.rb_replies.proofs.Scopes.{scope_same}
+use Rattle.rb_group_run.proofs.Scopes.{scope_same}
 use Rattle.rb_run.proofs.Opened.{just-opened}
 use Rattle.rb_top.proofs.telling.tell_group.Goals as goal
 

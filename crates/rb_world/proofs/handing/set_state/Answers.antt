@@ -1,5 +1,5 @@
 use Rattle.std.proofs.Common.{List, slice_set, sym, ◌∙◌, subst}
-use Rattle.rb_agree.proofs.Tests.{get-some}
+use Rattle.rb_laws_agreement.proofs.Tests.{get-some}
 use Rattle.rb_port.specs.Keeping.{HoldsPort, KeptPort}
 use Rattle.rb_rules.specs.Ports.{with_state}
 use Rattle.rb_world.specs.Worlds.{HoldsPorts}

@@ -2,8 +2,8 @@ use Rattle.std.proofs.Common.{refl, sym, subst}
 use Rattle.rb_base.specs.Nodes.Side.{Biu}
 use Rattle.rb_rules.specs.Lawful.{kind_of}
 use Rattle.rb_rules.specs.Slots.{count_of}
-use Rattle.rb_sweep.specs.AheadOf.{until_tick}
-use Rattle.rb_traffic.specs.Arriving.{number_of as number_in}
+use Rattle.rb_laws_sweeps.specs.AheadOf.{until_tick}
+use Rattle.rb_world_traffic.specs.Arriving.{number_of as number_in}
 use Rattle.rb_world.specs.Observing.{WasTold, left_for}
 use Rattle.rb_world.specs.Trailing.{Trails, swept_first, until_from}
 use Rattle.rb_world.proofs.CaughtUp.{all-caught, may-all, may-others, none-caught}

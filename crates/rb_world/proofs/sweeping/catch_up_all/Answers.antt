@@ -3,8 +3,8 @@ use Rattle.rb_base.specs.Nodes.{side_of}
 use Rattle.rb_rules.specs.Lawful.{kind_of}
 use Rattle.rb_rules.specs.Links.{name_of, same_node}
 use Rattle.rb_rules.specs.Slots.{count_of}
-use Rattle.rb_sweep.specs.AheadOf.{until_tick}
-use Rattle.rb_traffic.specs.Arriving.{number_of as number_in}
+use Rattle.rb_laws_sweeps.specs.AheadOf.{until_tick}
+use Rattle.rb_world_traffic.specs.Arriving.{number_of as number_in}
 use Rattle.rb_world.specs.Observing.{WasTold, left_below, left_for}
 use Rattle.rb_world.specs.Trailing.{HaveCaughtUp}
 use Rattle.rb_world.proofs.CaughtUp.{catch-begins}

@@ -4,8 +4,8 @@ use Rattle.rb_base.specs.Nodes.{side_of}
 use Rattle.rb_rules.specs.Book.{Each}
 use Rattle.rb_rules.specs.Lawful.{kind_of}
 use Rattle.rb_rules.specs.WorldStep.{Site as WorldSite}
-use Rattle.rb_sweep.specs.AheadOf.{until_tick}
-use Rattle.rb_traffic.specs.Arriving.{number_of as number_in}
+use Rattle.rb_laws_sweeps.specs.AheadOf.{until_tick}
+use Rattle.rb_world_traffic.specs.Arriving.{number_of as number_in}
 use Rattle.rb_base.specs.declared.node.NodeName.{NodeName}
 use Rattle.rb_world.specs.Observing.{WasTold, left_below}
 use Rattle.rb_world.specs.Trailing.{HaveCaughtUp, MayCatchUp}

@@ -1,8 +1,8 @@
 use Rattle.std.proofs.Common.{◌≡◌, Some, slice_get}
 use Rattle.rb_base.specs.Nodes.{side_of}
 use Rattle.rb_rules.specs.Lawful.{kind_of}
-use Rattle.rb_sweep.specs.AheadOf.{until_tick}
-use Rattle.rb_traffic.specs.Arriving.{number_of as number_in}
+use Rattle.rb_laws_sweeps.specs.AheadOf.{until_tick}
+use Rattle.rb_world_traffic.specs.Arriving.{number_of as number_in}
 use Rattle.rb_world.specs.Trailing.{swept_first}
 use Rattle.rb_world.proofs.Behind.{indexed}
 use Rattle.rb_world.proofs.CaughtUp.{catch-may, catch-then}

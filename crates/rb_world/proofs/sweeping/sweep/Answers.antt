@@ -10,7 +10,7 @@ use Rattle.rb_rules.specs.WorldStep.{after_arrival, at_node}
 use Rattle.std.specs.Prelude.{unwrap_or}
 use Rattle.rb_queue.specs.Waiting.{HasLane, Held, IsFirstBefore, IsReadyBefore, event_with, lane_of, tick_time_of, with_lane, without_ready, without_tick}
 use Rattle.rb_queue.specs.Waiting.Ready.{Comes, Ticks}
-use Rattle.rb_agenda.specs.Agenda.{key_of}
+use Rattle.rb_world_agenda.specs.Agenda.{key_of}
 use Rattle.rb_node.specs.Cores.{passing_end}
 use Rattle.rb_site.specs.Sites.{Stands as StandsFor, number_of}
 use Rattle.rb_world.specs.Trailing.{TakesArrival, TakesTick, NoneBefore}

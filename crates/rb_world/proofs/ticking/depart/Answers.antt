@@ -3,7 +3,7 @@ use Rattle.rb_base.specs.Nodes.{has, other}
 use Rattle.rb_rules.specs.Lawful.{kind_of}
 use Rattle.rb_rules.specs.Links.{name_of}
 use Rattle.rb_rules.specs.WorldStep.{with_message}
-use Rattle.rb_traffic.specs.Arriving.{AreRunning, number_of}
+use Rattle.rb_world_traffic.specs.Arriving.{AreRunning, number_of}
 use Rattle.rb_world.specs.Worlds.{Surrounds}
 use Rattle.rb_world.proofs.Around.{sent-more}
 use Rattle.rb_world.proofs.Lanes.{has-lane, node-named}

@@ -4,7 +4,7 @@ use Rattle.rb_rules.specs.Lawful.{kind_of}
 use Rattle.rb_node.specs.declared.act.Step.{Step}
 use Rattle.rb_site.specs.Sites.{after_tick, number_of}
 use Rattle.rb_site.specs.Tells.{IsTicked}
-use Rattle.rb_traffic.specs.Arriving.{number_of as number_in}
+use Rattle.rb_world_traffic.specs.Arriving.{number_of as number_in}
 use Rattle.rb_world.specs.Steps.{MayProceed, Proceeds, SeesOnlyNodes}
 use Rattle.rb_world.proofs.Acting.{told_in}
 use Rattle.rb_world.proofs.Lanes.{kind-named}

@@ -1,5 +1,5 @@
 use Rattle.std.proofs.Common.{ap, arith}
-use Rattle.rb_book.specs.Records.{record_of}
+use Rattle.rb_world_book.specs.Records.{record_of}
 use Rattle.rb_world.specs.Trailing.{until_from}
 use Rattle.rb_world.proofs.Along.{comes-quiet}
 use Rattle.rb_world.proofs.NextRecord.{some-record}

@@ -2,7 +2,7 @@
 use Rattle.std.proofs.Common.{◌≡◌, ℕ, ◌<◌, Some}
 use Rattle.std.specs.Prelude.{IfSome}
 use Rattle.rb_rules.specs.WorldStep.{World as RunWorld}
-use Rattle.rb_book.specs.declared.turn.Turn.TheVariants as shown
+use Rattle.rb_world_book.specs.declared.turn.Turn.TheVariants as shown
 use Rattle.rb_base.specs.declared.node.NodeName.{NodeName}
 use Rattle.rb_rules.specs.Lawful.{IsNodeOf}
 use Rattle.rb_world.specs.Observing.{AlongTold}

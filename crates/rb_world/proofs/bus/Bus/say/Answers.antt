@@ -1,7 +1,7 @@
 use Rattle.std.proofs.Common.{ap, arith}
 use Rattle.std.specs.Prelude.{length}
 use Rattle.rb_rules.specs.Goodness.{Scenario}
-use Rattle.rb_traffic.specs.Saying.{senders_to}
+use Rattle.rb_world_traffic.specs.Saying.{senders_to}
 use Rattle.rb_world.proofs.Entries.{entries-few}
 use Rattle.rb_world.proofs.bus.Bus.say.Goals as goal
 

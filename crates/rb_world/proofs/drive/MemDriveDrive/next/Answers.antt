@@ -1,5 +1,5 @@
 use Rattle.std.proofs.Common.{◌≡◌, is_some, sym, ap, ◌∙◌, subst}
-use Rattle.rb_book.specs.Records.{record_of}
+use Rattle.rb_world_book.specs.Records.{record_of}
 use Rattle.rb_world.specs.Driving.{KeptTurns, bare, given_for}
 use Rattle.rb_world.specs.Nexts.{GoesToNext}
 use Rattle.rb_world.specs.Numbering.{GoesInRounds}

@@ -2,7 +2,7 @@ use Rattle.std.proofs.Common.{◌≡◌, ◌<◌, true, false, refl, sym, ◌∙
 use Rattle.rb_base.specs.Nodes.Side.{Biu}
 use Rattle.rb_rules.specs.Goodness.{is_good}
 use Rattle.rb_rules.specs.WorldStep.{World as RunWorld, hand}
-use Rattle.rb_order.proofs.WorldBooks.{hand-book}
+use Rattle.rb_laws_events.proofs.WorldBooks.{hand-book}
 use Rattle.rb_world.specs.declared.scene.Scene.{Scene}
 use Rattle.rb_world.specs.Worlds.{KeptWorld, Stands}
 use Rattle.rb_world.proofs.Handed.{good-within, hand-at-good, hand-at-other, hand-elsewhere, surrounds-handed}

@@ -1,7 +1,7 @@
 -- So many steps gave no record.
 use Rattle.std.proofs.Common.{◌≡◌}
 use Rattle.rb_rules.specs.WorldStep.{World as RunWorld}
-use Rattle.rb_book.specs.declared.turn.Turn.TheVariants as shown
+use Rattle.rb_world_book.specs.declared.turn.Turn.TheVariants as shown
 use Rattle.rb_world.specs.Nexts.{TakesSteps}
 use Rattle.rb_world.specs.Worlds.{Stands}
 use Rattle.rb_world.proofs.world.World.run_counted.Given as goal

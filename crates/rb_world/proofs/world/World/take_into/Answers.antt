@@ -1,6 +1,6 @@
 use Rattle.std.proofs.Common.{◌<◌, sym, subst}
 use Rattle.rb_rules.specs.WorldStep.{World as RunWorld, happens, take}
-use Rattle.rb_book.specs.Records.{record_of}
+use Rattle.rb_world_book.specs.Records.{record_of}
 use Rattle.rb_world.specs.Numbering.{TakesInRounds}
 use Rattle.rb_world.specs.Steps.{MayHappen}
 use Rattle.rb_world.specs.Turning.{Gives}

@@ -1,5 +1,0 @@
-use Rattle.rb_abide.proofs.FollowsBus.{follows_bus}
-use Rattle.rb_abide.proofs.listeners_follow_the_bus.Goals as goal
-
-pub returns : goal.returns
-returns c = follows_bus

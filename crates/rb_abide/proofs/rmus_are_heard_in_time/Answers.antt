@@ -1,5 +1,0 @@
-use Rattle.rb_abide.proofs.FramesInTime.{heard_in_time}
-use Rattle.rb_abide.proofs.rmus_are_heard_in_time.Goals as goal
-
-pub returns : goal.returns
-returns c = heard_in_time

@@ -1,5 +1,0 @@
-use Rattle.rb_agree.proofs.WidelyAccused.{accused_by_all}
-use Rattle.rb_agree.proofs.accused_by_all_is_convicted.Goals as goal
-
-pub returns : goal.returns
-returns c = accused_by_all

@@ -1,5 +1,0 @@
-use Rattle.rb_agree.proofs.Promises.{deliveries_are_right}
-use Rattle.rb_agree.proofs.deliveries_are_right.Goals as goal
-
-pub returns : goal.returns
-returns c = deliveries_are_right

@@ -1,5 +1,0 @@
-use Rattle.rb_agree.proofs.Promises.{hold_the_same}
-use Rattle.rb_agree.proofs.good_nodes_hold_one_schedule.Goals as goal
-
-pub returns : goal.returns
-returns c = hold_the_same

@@ -1,5 +1,0 @@
-use Rattle.rb_agree.proofs.SlotLaws.{none_accused}
-use Rattle.rb_agree.proofs.no_good_node_is_accused.Goals as goal
-
-pub returns : goal.returns
-returns c = none_accused

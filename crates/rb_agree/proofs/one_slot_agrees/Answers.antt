@@ -1,5 +1,0 @@
-use Rattle.rb_agree.proofs.OneSlotAgrees.{one-slot-agrees}
-use Rattle.rb_agree.proofs.one_slot_agrees.Goals as goal
-
-pub returns : goal.returns
-returns c = one-slot-agrees

@@ -1,5 +1,0 @@
-use Rattle.rb_agree.proofs.PortHistories.{ports_follow}
-use Rattle.rb_agree.proofs.ports_follow_the_bus.Goals as goal
-
-pub returns : goal.returns
-returns c = ports_follow

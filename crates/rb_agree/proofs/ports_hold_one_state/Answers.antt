@@ -1,5 +1,0 @@
-use Rattle.rb_agree.proofs.PortHistories.{ports_alike}
-use Rattle.rb_agree.proofs.ports_hold_one_state.Goals as goal
-
-pub returns : goal.returns
-returns c = ports_alike

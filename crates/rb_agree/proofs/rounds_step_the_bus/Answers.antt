@@ -1,5 +1,0 @@
-use Rattle.rb_agree.proofs.BusLaws.{steps_the_bus}
-use Rattle.rb_agree.proofs.rounds_step_the_bus.Goals as goal
-
-pub returns : goal.returns
-returns c = steps_the_bus

@@ -1,5 +1,0 @@
-use Rattle.rb_agree.proofs.Skews.{keeps_the_promise}
-use Rattle.rb_agree.proofs.time_keeps_the_promise.Goals as goal
-
-pub returns : goal.returns
-returns c = keeps_the_promise

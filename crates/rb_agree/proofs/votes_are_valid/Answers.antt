@@ -1,5 +1,0 @@
-use Rattle.rb_agree.proofs.OneSlotAgrees.{votes-are-valid}
-use Rattle.rb_agree.proofs.votes_are_valid.Goals as goal
-
-pub returns : goal.returns
-returns c = votes-are-valid

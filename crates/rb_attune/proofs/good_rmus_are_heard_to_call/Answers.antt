@@ -1,5 +1,0 @@
-use Rattle.rb_attune.proofs.Calling.{heard-to-call}
-use Rattle.rb_attune.proofs.good_rmus_are_heard_to_call.Goals as goal
-
-pub returns : goal.returns
-returns c = heard-to-call

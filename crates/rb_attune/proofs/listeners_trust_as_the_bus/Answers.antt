@@ -1,5 +1,0 @@
-use Rattle.rb_attune.proofs.TrustedSets.{trusts-as-the-bus}
-use Rattle.rb_attune.proofs.listeners_trust_as_the_bus.Goals as goal
-
-pub returns : goal.returns
-returns c = trusts-as-the-bus

@@ -1,5 +1,0 @@
-use Rattle.rb_attune.proofs.TrueRecords.{records-true}
-use Rattle.rb_attune.proofs.records_of_the_good_are_true.Goals as goal
-
-pub returns : goal.returns
-returns c = records-true

@@ -1,6 +1,0 @@
-use Rattle.std.proofs.Common.{sym, subst}
-use Rattle.rb_book.specs.Holding.{Holds}
-use Rattle.rb_book.proofs.book.Book.close.Goals as goal
-
-pub returns-clause-noted : goal.returns-clause-noted
-returns-clause-noted c = λ sc w h. c.close.ensures.noted sc w (subst (λ l. Holds sc l w) (sym c.self.view_is) h)

@@ -1,8 +1,0 @@
-use Rattle.rb_book.proofs.Popped.{none_told}
-use Rattle.rb_book.proofs.walks.first_trusted.Given as goal
-
-abbrev pub invariant-loop-id : goal.invariant-loop-id
-invariant-loop-id g l = none_told l.place l.count l.fn.good l.told l.left
-
-abbrev pub decreases-loop-id : goal.decreases-loop-id
-decreases-loop-id g l = l.left

@@ -1,0 +1,116 @@
+-- A document that fits two lawful buses says a bridge.
+use Rattle.std.proofs.Common.{◌≡◌, ℕ, pos, negsuc, ◌<◌, ◌≤◌, ◌==◌, ◌&&◌, ◌||◌, nat_le, All, Bool, true, false, not, List, [], ◌∷◌, length, map, get_or, eqb, Option, Some, None, refl, arith}
+use Rattle.std.specs.List.{AllByRecursion, IsDistinct, list_any}
+use Rattle.std.proofs.lemmas.Bool.{and_parts, leb-true, ltb-true, eqb-true}
+use Rattle.std.proofs.lemmas.List.Elements.{All-cons, All-nil}
+use Rattle.toml.specs.Data.{Data, string, integer, float, boolean, datetime, array, table, Items, no_items, item, Members, at, get_member}
+use Rattle.rb_rules.specs.Goodness.{Scenario}
+use Rattle.rb_rules.specs.Lawful.{IsLawful}
+use Rattle.rb_scenario_document.specs.Forms.{has_unknown, has_wrong, lacks}
+use Rattle.rb_scenario_document.specs.Values.{number_or}
+use Rattle.rb_scenario_document.specs.Walk.{every_item, length_of}
+use Rattle.rb_rules_bridge.specs.declared.bank.Bank.{Bank}
+use Rattle.rb_rules_bridge.specs.declared.bank.Bank.TheVariants.{Left, Right}
+use Rattle.rb_rules_bridge.specs.declared.bank.Pair.{Pair}
+use Rattle.rb_rules_bridge.specs.Bridges.{Bridge, IsBridge, IsHead, biu_on, bus_on, slot_on}
+use Rattle.rb_bridge_document.specs.Documents.{are_apart, bridge_fields, bridge_of, has_bridge_form, has_slot, is_below, is_head, is_in_range, joins, pair_in, pair_items, pairs_in, slot_key}
+
+number-below : (count : ℕ) (o : Option Data) → is_below count o ≡ true → number_or 0 o < count
+number-below count None h = cc
+number-below count (Some (integer (pos n))) h = ltb-true n count h
+number-below count (Some (integer (negsuc n))) h = cc
+number-below count (Some (string s)) h = cc
+number-below count (Some (float s)) h = cc
+number-below count (Some (boolean s)) h = cc
+number-below count (Some (datetime s)) h = cc
+number-below count (Some (array s)) h = cc
+number-below count (Some (table s)) h = cc
+
+head-of : (sc : Scenario) (o : Option Data) → is_head sc o ≡ true → IsHead sc (number_or 0 o)
+head-of sc o h =
+    let both = and_parts (is_below sc.sizes.bius o) (get_or sc.apps (number_or 0 o) 0 == 0) h in
+    record { inside = number-below sc.sizes.bius o both.0; table = eqb-true (get_or sc.apps (number_or 0 o) 0) 0 both.1 }
+
+heads-left : (left right : Scenario) (ds : Items) → every_item (joins left right) ds ≡ true → All (λ pair. IsHead left (biu_on Left pair)) (pairs_in ds)
+heads-left left right no_items h = All-nil (λ pair. IsHead left (biu_on Left pair))
+heads-left left right (item d ds) h =
+    let parts = and_parts (joins left right d) (every_item (joins left right) ds) h in
+    let both = and_parts (is_head left (at 0 d)) (is_head right (at 1 d)) parts.0 in
+    All-cons (λ pair. IsHead left (biu_on Left pair)) (pair_in d) (pairs_in ds) (head-of left (at 0 d) both.0) (heads-left left right ds parts.1)
+
+heads-right : (left right : Scenario) (ds : Items) → every_item (joins left right) ds ≡ true → All (λ pair. IsHead right (biu_on Right pair)) (pairs_in ds)
+heads-right left right no_items h = All-nil (λ pair. IsHead right (biu_on Right pair))
+heads-right left right (item d ds) h =
+    let parts = and_parts (joins left right d) (every_item (joins left right) ds) h in
+    let both = and_parts (is_head left (at 0 d)) (is_head right (at 1 d)) parts.0 in
+    All-cons (λ pair. IsHead right (biu_on Right pair)) (pair_in d) (pairs_in ds) (head-of right (at 1 d) both.1) (heads-right left right ds parts.1)
+
+as-many : (ds : Items) → length (pairs_in ds) ≡ length_of ds
+as-many no_items = refl
+as-many (item d ds) = let rest = as-many ds in omega arith
+
+not-any : (bank : Bank) (p : Pair) (ps : List Pair) → not (list_any (λ q. biu_on bank p == biu_on bank q) ps) ≡ true
+    → AllByRecursion (λ y. eqb (biu_on bank p) y ≡ false) (map (biu_on bank) ps)
+not-any bank p [] h = tt
+not-any bank p (q ∷ qs) h =
+    let parts = neither (biu_on bank p == biu_on bank q) (list_any (λ q. biu_on bank p == biu_on bank q) qs) h in
+    (parts.0, not-any bank p qs parts.1)
+  where
+    neither : (a b : Bool) → not (a || b) ≡ true → (a ≡ false) × (not b ≡ true)
+    neither true b h = cc
+    neither false b h = (refl, h)
+
+distinct : (bank : Bank) (ps : List Pair) → are_apart bank ps ≡ true → IsDistinct eqb (map (biu_on bank) ps)
+unfolding IsDistinct
+distinct bank [] h = tt
+distinct bank (p ∷ ps) h =
+    let parts = and_parts (not (list_any (λ q. biu_on bank p == biu_on bank q) ps)) (are_apart bank ps) h in
+    (not-any bank p ps parts.0, distinct bank ps parts.1)
+
+pub says-bridge : (left right : Scenario) (t : Members) → IsLawful left → IsLawful right → 1 ≤ length_of (pair_items t) → length_of (pair_items t) ≤ 16
+    → is_in_range left right t ≡ true → IsBridge (bridge_of left right t)
+says-bridge left right t lawful_left lawful_right some most range =
+    let a = and_parts (every_item (joins left right) (pair_items t) && (are_apart Left pairs && are_apart Right pairs) && (has_slot Left left t && has_slot Right right t)) (left.frames == right.frames) range in
+    let b = and_parts (every_item (joins left right) (pair_items t) && (are_apart Left pairs && are_apart Right pairs)) (has_slot Left left t && has_slot Right right t) a.0 in
+    let c = and_parts (every_item (joins left right) (pair_items t)) (are_apart Left pairs && are_apart Right pairs) b.0 in
+    let d = and_parts (are_apart Left pairs) (are_apart Right pairs) c.1 in
+    let e = and_parts (has_slot Left left t) (has_slot Right right t) b.1 in
+    let many : length pairs ≡ length_of (pair_items t) = as-many (pair_items t) in
+    record {
+      lawful = lawful;
+      frames = eqb-true left.frames right.frames a.1;
+      some_pair = omega (arith, many, some);
+      most_pairs = omega (arith, many, most);
+      heads = heads c.0;
+      apart = aparts d.0 d.1;
+      slots = slots e.0 e.1;
+    }
+  where
+    pairs : List Pair
+    pairs = pairs_in (pair_items t)
+
+    bridge : Bridge
+    bridge = bridge_of left right t
+
+    lawful : (bank : Bank) → IsLawful (bus_on bridge bank)
+    lawful Left = lawful_left
+    lawful Right = lawful_right
+
+    heads : every_item (joins left right) (pair_items t) ≡ true → (bank : Bank) → All (λ pair. IsHead (bus_on bridge bank) (biu_on bank pair)) pairs
+    heads all Left = heads-left left right (pair_items t) all
+    heads all Right = heads-right left right (pair_items t) all
+
+    aparts : are_apart Left pairs ≡ true → are_apart Right pairs ≡ true → (bank : Bank) → IsDistinct eqb (map (biu_on bank) pairs)
+    aparts l r Left = distinct Left pairs l
+    aparts l r Right = distinct Right pairs r
+
+    slots : has_slot Left left t ≡ true → has_slot Right right t ≡ true → (bank : Bank) → slot_on bridge bank < (bus_on bridge bank).sizes.data_slots
+    slots l r Left = number-below left.sizes.data_slots (get_member (slot_key Left) t) l
+    slots l r Right = number-below right.sizes.data_slots (get_member (slot_key Right) t) r
+
+-- a document of the right form has few pairs
+pub few-pairs : (t : Members) → has_bridge_form t ≡ true → (1 ≤ length_of (pair_items t)) × (length_of (pair_items t) ≤ 16)
+few-pairs t form =
+    let all = and_parts (not (lacks bridge_fields t) && not (has_unknown bridge_fields t) && not (has_wrong bridge_fields t)) (nat_le 1 (length_of (pair_items t)) && nat_le (length_of (pair_items t)) 16) form in
+    let few = and_parts (nat_le 1 (length_of (pair_items t))) (nat_le (length_of (pair_items t)) 16) all.1 in
+    (leb-true 1 (length_of (pair_items t)) few.0, leb-true (length_of (pair_items t)) 16 few.1)

@@ -1,0 +1,12 @@
+use Rattle.std.proofs.Common.{ap, ◌∙◌}
+use Rattle.std.specs.Option.{option_or}
+use Rattle.rb_bridge_words.specs.Holding.{value_by}
+use Rattle.rb_bridge_words.proofs.Noted.{here-told, hold-same}
+use Rattle.rb_bridge_words.proofs.note_slot.Goals as goal
+
+pub returns-then-record-slot : goal.returns-then-record-slot
+returns-then-record-slot c = λ told hold.
+    let r = c.args.record.now in
+    hold-same _ _ c.note_lines.new.kept (λ i. ap (option_or (told i))
+    (ap (λ lines. value_by lines i) c.as_slice.ensures.value ∙ here-told c.args.frame c.args.slot r.frame r.slot i r.lines.items c.if-record-frame.true c.if-record-slot.true))
+    (c.note_lines.ensures told hold)

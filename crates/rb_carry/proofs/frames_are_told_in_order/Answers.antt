@@ -1,5 +1,0 @@
-use Rattle.rb_carry.proofs.Ordered.{told-in-order}
-use Rattle.rb_carry.proofs.frames_are_told_in_order.Goals as goal
-
-pub returns : goal.returns
-returns c = told-in-order

@@ -1,5 +1,0 @@
-use Rattle.rb_carry.proofs.Handed.{frames-go-by-the-earlier}
-use Rattle.rb_carry.proofs.frames_go_by_the_earlier.Goals as goal
-
-pub returns : goal.returns
-returns c = frames-go-by-the-earlier

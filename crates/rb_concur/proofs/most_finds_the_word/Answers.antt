@@ -1,5 +1,0 @@
-use Rattle.rb_concur.proofs.Voted.{most-finds}
-use Rattle.rb_concur.proofs.most_finds_the_word.Goals as goal
-
-pub returns : goal.returns
-returns c = most-finds

@@ -1,5 +1,0 @@
-use Rattle.rb_deliver.proofs.Received.{receive-alike}
-use Rattle.rb_deliver.proofs.good_ports_receive_alike.Goals as goal
-
-pub returns : goal.returns
-returns c = receive-alike

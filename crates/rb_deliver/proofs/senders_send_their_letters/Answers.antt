@@ -1,5 +1,0 @@
-use Rattle.rb_deliver.proofs.Senders.{senders-send}
-use Rattle.rb_deliver.proofs.senders_send_their_letters.Goals as goal
-
-pub returns : goal.returns
-returns c = senders-send

@@ -1,5 +1,0 @@
-use Rattle.rb_deliver.proofs.Readings.{words-give}
-use Rattle.rb_deliver.proofs.words_give_their_letters.Goals as goal
-
-pub returns : goal.returns
-returns c = words-give

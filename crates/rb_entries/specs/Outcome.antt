@@ -1,8 +1,0 @@
--- How a part of the reading ends.
-use Rattle.std.specs.Prelude.{◌≡◌, ◌⊎◌, Bool, false}
-use Rattle.rb_entries.specs.declared.refusal.Refusal.{Refusal}
-use Rattle.rb_entries.specs.declared.refusal.Refusal.TheVariants.{OutOfMemory}
-
--- the refusal is want of memory, or it is this one and the rule is not kept
-abbrev pub IsRefusalBy : Refusal → Bool → Refusal → Type 0
-IsRefusalBy why kept refusal = (refusal ≡ OutOfMemory) ⊎ ((refusal ≡ why) × (kept ≡ false))

@@ -1,0 +1,26 @@
+-- What comes of a run of which a group is asked, when it is taken to its end.
+use Rattle.std.specs.Prelude.{ℕ, Bool, Option, List}
+use Rattle.std.specs.Io.KnownBytes.{Appends}
+use Rattle.rb_rules.specs.Goodness.{Scenario}
+use Rattle.rb_world_book.specs.declared.turn.Turn.{Turn}
+use Rattle.rb_outside.specs.Bytes.{AppendsPart}
+use Rattle.rb_run.specs.Turns.{AreAll, AreGiven, records_in}
+use Rattle.rb_group_values.specs.declared.asked.Asked.{Asked}
+use Rattle.rb_group_values.specs.Replies.{groups_text}
+
+-- the text of the records that these turns are
+abbrev pub text_of : Scenario → Asked → List Turn → List ℕ
+text_of sc asked turns = groups_text sc asked (records_in turns)
+
+-- all turns of the run were given, and what they say of the group was written
+pub record WritesAll (sc : Scenario) (asked : Asked) (is_plain : Bool) (told since : Option (List Turn)) (held after : Option (List ℕ)) : Type 0 where
+  pub turns : List Turn
+  pub given : AreGiven sc is_plain told since turns
+  pub all : AreAll sc turns
+  pub text : Appends held after (text_of sc asked turns)
+
+-- some turns of the run were given, and a first part of what they say was written
+pub record WritesPart (sc : Scenario) (asked : Asked) (is_plain : Bool) (told since : Option (List Turn)) (held after : Option (List ℕ)) : Type 0 where
+  pub turns : List Turn
+  pub given : AreGiven sc is_plain told since turns
+  pub text : AppendsPart held after (text_of sc asked turns)

@@ -1,0 +1,18 @@
+//! How a run ends.
+ghost use Rattle.std.specs.Prelude.{◌≡◌};
+ghost use Rattle.rb_world_book.specs.Records.{record_of};
+ghost use Rattle.rb_run.specs.Runs.{end_at};
+
+use rb_run::Ending;
+use rb_world_book::Turn;
+
+// How the run ends with this turn, if it does.
+pub(crate) fn ending_at(turn: &Turn) -> Option<Ending>
+    ensures { result ≡ end_at (record_of turn.now) }
+{
+    match turn {
+        Turn::Ended => Some(Ending::Ended),
+        Turn::Breach(_, _) => Some(Ending::Breach),
+        _ => None,
+    }
+}

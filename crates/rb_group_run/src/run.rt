@@ -1,0 +1,49 @@
+//! A run that is taken to its end, and what it says of a group.
+ghost use Rattle.std.specs.Prelude.{◌≡◌, IfOk, OnErr, OnOk};
+ghost use Rattle.rb_outside.specs.Causes.{HasCause};
+ghost use Rattle.rb_run.specs.Runs.{EndsWith, HasGivenNothing};
+ghost use Rattle.rb_group_values.specs.Holding.{IsScopeOf};
+ghost use Rattle.rb_group_run.specs.Runs.{WritesAll, WritesPart};
+
+use crate::ending::ending_at;
+use rb_group::Voters;
+use rb_group_values::{Asked, Scope, advance, first_ports, write_turn};
+use rb_outside::{Failed, Sink};
+use rb_port::Apps;
+use rb_run::Ending;
+use rb_world::{Drive, World};
+
+/// Takes a run from its begin to its end, and writes what its good BIUs find for a group of replicas. Once a frame is complete, that is
+/// with the first turn of a later one, there is a line for each BIU that is good in the frame's last data slot: the value that the voter
+/// finds among the first values that this BIU delivered in the frame of each member. The last line is `end` or `breach`; a breach leaves
+/// the values of its frame out. `Failed` comes only where a write failed; a first part of the text has then been written. The world must
+/// be as `World::open` gives it, and `scope` that of the same scenario.
+pub fn write_groups<K: Sink, D: Drive>(
+    world: &mut World,
+    apps: &Apps,
+    drive: &mut D,
+    scope: &Scope,
+    voters: &Voters,
+    asked: &Asked,
+    output: &mut K,
+) -> Result<Ending, Failed>
+    requires begun { HasGivenNothing world.old }
+    requires scope { IsScopeOf world.old.bus scope.now }
+    ensures all { OnOk result (WritesAll world.old.bus asked.now (D.is_plain drive.old) (D.told drive.old) (D.told drive.new) (K.held output.old) (K.held output.new)) }
+    ensures part { OnErr result (WritesPart world.old.bus asked.now (D.is_plain drive.old) (D.told drive.old) (D.told drive.new) (K.held output.old) (K.held output.new)) }
+    ensures ending { IfOk result (EndsWith world.old.bus) }
+    ensures cause { HasCause (K.faults output.old) (K.faults output.new) result }
+    ensures bus { world.new.bus ≡ world.old.bus }
+    ensures stays { D.is_plain drive.new ≡ D.is_plain drive.old }
+{
+    let mut ports = first_ports(asked);
+    for passed in 0..u32::MAX {
+        let turn = drive.next(world, apps);
+        write_turn(&turn, &ports, scope, voters, asked, output)?;
+        if let Some(ending) = ending_at(&turn) {
+            return Ok(ending);
+        }
+        advance(&mut ports, asked, scope.frames, &turn);
+    }
+    unreachable!()
+}

@@ -1,0 +1,19 @@
+//! What of a scenario tells who is asked.
+ghost use Rattle.rb_scenario.specs.Acceptance.{as_scenario};
+ghost use Rattle.rb_group_values.specs.Holding.{IsScopeOf};
+
+use rb_group_values::Scope;
+use rb_scenario::Scenario;
+use rb_world_onset::Onsets;
+
+/// What of a scenario tells who is asked in its run.
+pub fn scope_of(scenario: &Scenario) -> Scope
+    ensures { IsScopeOf (as_scenario scenario.now) result }
+{
+    let shape = *scenario.plan.shape();
+    Scope {
+        shape,
+        frames: scenario.frames,
+        onsets: Onsets::new(shape, scenario.biu_onset, scenario.rmu_onset),
+    }
+}

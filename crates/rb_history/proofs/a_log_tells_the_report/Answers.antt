@@ -1,5 +1,0 @@
-use Rattle.rb_history.proofs.Recorded.{a-log-tells-the-report}
-use Rattle.rb_history.proofs.a_log_tells_the_report.Goals as goal
-
-pub returns : goal.returns
-returns c = a-log-tells-the-report

@@ -1,5 +1,0 @@
-use Rattle.rb_history.proofs.ReplayLaw.{replay-is-the-report}
-use Rattle.rb_history.proofs.replay_is_the_report.Goals as goal
-
-pub returns : goal.returns
-returns c = replay-is-the-report

@@ -1,0 +1,54 @@
+-- Where times are kept, good nodes begin slots near each other, and all that the bus promises holds.
+use Rattle.std.proofs.Common.{◌≡◌, ℕ, ◌+◌, ◌-◌, ◌*◌, ◌<◌, ◌≤◌, List, ◌∙◌, ap, arith}
+use Rattle.rb_rules.specs.declared.plan.Plan.{Plan}
+use Rattle.rb_rules.specs.Goodness.{Scenario}
+use Rattle.rb_rules.specs.Headline.{BeginSlotsNear}
+use Rattle.rb_rules.specs.Lawful.{IsLawful}
+use Rattle.rb_rules.specs.Moments.{time_in_frame}
+use Rattle.rb_rules.specs.Plan.{shortest_of, longest_of, drift_in}
+use Rattle.rb_rules.specs.Ports.{HandIn}
+use Rattle.rb_laws_agreement.specs.Laws.{TimeIsAllThatIsLeft, TimeKeepsThePromise}
+use Rattle.rb_laws_agreement.specs.Times.{KeepsTime}
+use Rattle.rb_laws_agreement.proofs.BeginTimes.{IsInTime, BeginsInTime}
+use Rattle.rb_laws_agreement.proofs.BusStands.{stands_in_time}
+use Rattle.rb_laws_agreement.proofs.FrameTimes.{first_time, begins_in_time}
+use Rattle.rb_laws_agreement.proofs.Promises.{deliver-alike, deliver-word, convict-alike}
+use Rattle.rb_laws_agreement.proofs.SlotLaws.{one-schedule, none_convicted}
+
+-- so many ticks drift apart by at most this
+ticks-drift : (plan : Plan) (n : ℕ) → plan.r < plan.u → n * longest_of plan ≡ n * shortest_of plan + drift_in plan n
+ticks-drift plan n small =
+    let s : ℕ = plan.u - plan.r in
+    let e : plan.u + plan.r ≡ s + plan.r + plan.r = omega arith in
+    ap (λ k. n * k) e ∙ products n s plan.r
+  where
+    products : (n s r : ℕ) → n * (s + r + r) ≡ n * s + 2 * r * n
+    products n s r = omega arith
+
+near : (mine yours low p short drift long : ℕ) → mine ≤ low + p + long → low + short ≤ yours → long ≡ short + drift → mine ≤ yours + (p + drift)
+near mine yours low p short drift long h k e = omega arith
+
+begin-near : (sc : Scenario) (hands : List HandIn) → IsLawful sc → (low : ℕ → ℕ) → BeginsInTime sc hands low → BeginSlotsNear sc hands
+begin-near sc hands law low times frame slot le settled me you i j mine yours h k =
+    let offset : ℕ = 3 * slot * sc.plan.l in
+    let a : IsInTime sc (low frame) me i mine offset = times.in_time frame slot le settled me i mine h in
+    let b : IsInTime sc (low frame) you j yours offset = times.in_time frame slot le settled you j yours k in
+    near (time_in_frame sc me i mine offset) (time_in_frame sc you j yours offset) (low frame) sc.plan.p (offset * shortest_of sc.plan) (drift_in sc.plan offset) (offset * longest_of sc.plan)
+    a.not_late b.not_early (ticks-drift sc.plan offset law.plan.r)
+
+-- good nodes begin slots near each other
+pub begin_slots_near : (sc : Scenario) (hands : List HandIn) → IsLawful sc → KeepsTime sc hands → BeginSlotsNear sc hands
+begin_slots_near sc hands law times = begin-near sc hands law (first_time sc hands) (begins_in_time sc hands law times)
+
+pub rounds_stand : TimeIsAllThatIsLeft
+rounds_stand sc hands law times = stands_in_time sc hands law (first_time sc hands) (begins_in_time sc hands law times)
+
+pub keeps_the_promise : TimeKeepsThePromise
+keeps_the_promise sc hands law times = record {
+  skew = begin_slots_near sc hands law times;
+  deliveries = deliver-alike sc hands law;
+  words = deliver-word sc hands law;
+  schedules = one-schedule sc hands law;
+  convictions = convict-alike sc hands law;
+  good_nodes_stay = none_convicted sc hands law;
+}

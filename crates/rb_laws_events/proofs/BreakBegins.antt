@@ -1,0 +1,95 @@
+-- For the law that events are rounds where the premise on faults is broken in a sync slot: when the first node closes the stage with
+-- which the run breaks off, all that run wait for their last tick of it, and have sent what they send in it.
+use Rattle.std.proofs.Common.{◌≡◌, ℕ, ◌+◌, ◌*◌, ◌<◌, ◌≤◌, ◌==◌, ◌&&◌, ◌||◌, ◌⊎◌, nat_lt, Bool, true, false, List, [], refl, ap, ◌∙◌, subst, arith, inl, inr, Option, Some, None, option_and_then, option_map, option_to_list, slice_get}
+use Rattle.std.proofs.lemmas.Bool.Decides.{nat_tests}
+use Rattle.rb_base.specs.Nodes.{Side, other}
+use Rattle.rb_base.specs.Sizes.{sync_slot_of}
+use Rattle.rb_rules.specs.Book.{Each, of_kind}
+use Rattle.rb_rules.specs.Clock.{time_of}
+use Rattle.rb_rules.specs.Goodness.{Scenario, clock_of}
+use Rattle.rb_rules.specs.Hearing.{Sending, coming_of}
+use Rattle.rb_rules.specs.Lawful.{IsLawful}
+use Rattle.rb_rules.specs.Moments.{IsRunning}
+use Rattle.rb_rules.specs.NodeState.{NodeState}
+use Rattle.rb_rules.specs.Ports.{HandIn}
+use Rattle.rb_rules.specs.Rounds.{Moment, moment}
+use Rattle.rb_rules.specs.WorldStep.{Site, times_of}
+use Rattle.rb_laws_events.proofs.BreakEnters.{sent-then, waits-then}
+use Rattle.rb_laws_events.proofs.BreakMessages.{SiteBreaks}
+use Rattle.rb_laws_events.proofs.BreakSites.{HasClosed, WaitsDeaf, WaitsHearing}
+use Rattle.rb_laws_events.proofs.BreakWorld.{SitesBreak}
+use Rattle.rb_laws_events.proofs.Invariant.{entry_of, has_sent, is_good_at, last_tick, sending_of}
+use Rattle.rb_laws_events.proofs.NodeActs.{HasRoom}
+use Rattle.rb_laws_events.proofs.NodeEvents.{tick-after}
+use Rattle.rb_laws_events.proofs.SameHeard.{Every}
+use Rattle.rb_laws_events.proofs.WorldStands.{AllPend, IsDown, IsUp, SitesStand, ahead_in, sent_by}
+
+-- the first close of the stage at moment p: all that run stand there, one of them at its last tick, and nothing pends before
+pub record FirstCloses (sc : Scenario) (hands : List HandIn) (now : ℕ) (at : Side → ℕ → ℕ) (sites : Each Site) (p t : ℕ) : Type 0 where
+  pub stand : SitesStand sc hands now at sites
+  pub together : (side : Side) (j : ℕ) (z : Site) → slice_get (of_kind side sites) j ≡ Some z → z.runs ≡ true → at side j ≡ p
+  pub me : Side
+  pub i : ℕ
+  pub st : NodeState
+  pub there : slice_get (of_kind me (moment sc hands p).nodes) i ≡ Some st
+  pub good : is_good_at sc (moment sc hands p) me i ≡ true
+  pub time : t ≡ time_of (clock_of sc me i) (last_tick sc (moment sc hands p) me st)
+  pub pend : AllPend t sites
+
+pend-of : (t : ℕ) (sites : Each Site) → AllPend t sites → (me : Side) (i : ℕ) (s : Site) → slice_get (of_kind me sites) i ≡ Some s → Every (λ u. t ≤ u) (times_of s)
+unfolding AllPend
+pend-of t sites all = all
+
+-- a node that runs there
+up-there : (sc : Scenario) (hands : List HandIn) (now : ℕ) (at : Side → ℕ → ℕ) (sites : Each Site) (p t : ℕ) → FirstCloses sc hands now at sites p t → (side : Side) (j : ℕ) (z : Site)
+    → slice_get (of_kind side sites) j ≡ Some z → z.runs ≡ true → IsUp sc hands (sent_by sc hands at sites) now side j p z
+up-there sc hands now at sites p t h side j z there runs =
+    subst (λ p. IsUp sc hands (sent_by sc hands at sites) now side j p z) (h.together side j z there runs) (h.stand.up side j z there runs)
+
+pub break-begins : (sc : Scenario) (hands : List HandIn) → IsLawful sc → HasRoom sc.plan → (now : ℕ) (at : Side → ℕ → ℕ) (sites : Each Site) (p q t : ℕ) → IsRunning (moment sc hands p) → q < 3
+    → (moment sc hands p).window ≡ 3 * sync_slot_of sc.sizes + q → FirstCloses sc hands now at sites p t → SitesBreak sc hands (sent_by sc hands at sites) now p sites
+break-begins sc hands lawful room now at sites p q t running small window h side j z there = by z.runs refl
+  where
+    of-two : (side : Side) (j : ℕ) (z : Site) → WaitsHearing sc hands (sent_by sc hands at sites) now side j p z ⊎ WaitsDeaf sc hands side j p z
+        → WaitsHearing sc hands (sent_by sc hands at sites) now side j p z ⊎ (WaitsDeaf sc hands side j p z ⊎ HasClosed sc hands side j p z)
+    of-two side j z (inl w) = inl w
+    of-two side j z (inr w) = inr (inl w)
+
+    by : (b : Bool) → z.runs ≡ b → SiteBreaks sc hands (sent_by sc hands at sites) now p side j z
+    by true e =
+        let up : IsUp sc hands (sent_by sc hands at sites) now side j p z = up-there sc hands now at sites p t h side j z there e in
+        let le : t ≤ up.a.time = tick-after t z.ahead up.a z.coming up.stands.receives.pends (pend-of t sites h.pend side j z there) in
+        inr (of-two side j z (waits-then sc hands lawful room (sent_by sc hands at sites) now p q running small window side j z up.st up.a up.stands h.me h.i h.st h.there h.good (let time = h.time in omega (arith, le, time))))
+    by false e =
+        let down : IsDown sc hands side j (at side j) z = h.stand.down side j z there e in
+        inl (record { runs = e; ahead = down.ahead; coming = down.coming })
+
+-- what a node that runs sends in the stage has gone out
+pub all-have-sent : (sc : Scenario) (hands : List HandIn) → IsLawful sc → (now : ℕ) (at : Side → ℕ → ℕ) (sites : Each Site) (p q t : ℕ) → IsRunning (moment sc hands p) → q < 3
+    → (moment sc hands p).window ≡ 3 * sync_slot_of sc.sizes + q → FirstCloses sc hands now at sites p t → (me : Side) (i j : ℕ) (z : Site) → slice_get (of_kind (other me) sites) j ≡ Some z → z.runs ≡ true
+    → (sent_by sc hands at sites (other me) j p ≡ true) ⊎ (entry_of sc (moment sc hands p) me i j ≡ [])
+all-have-sent sc hands lawful now at sites p q t running small window h me i j z there runs = by (sending_of sc m side j) refl
+  where
+    m : Moment
+    m = moment sc hands p
+
+    side : Side
+    side = other me
+
+    up : IsUp sc hands (sent_by sc hands at sites) now side j p z
+    up = up-there sc hands now at sites p t h side j z there runs
+
+    le : t ≤ up.a.time
+    le = tick-after t z.ahead up.a z.coming up.stands.receives.pends (pend-of t sites h.pend side j z there)
+
+    past : (a b p r : ℕ) → a < b → r ≡ p → (nat_lt p r || ((p == r) && nat_lt a b)) ≡ true
+    past a b p r lt e = grind (arith, nat_tests)
+
+    by : (o : Option Sending) → sending_of sc m side j ≡ o → (sent_by sc hands at sites side j p ≡ true) ⊎ (entry_of sc m me i j ≡ [])
+    by None e = inr (ap (λ o. option_to_list (option_map (coming_of sc me i j m.frame) o)) e)
+    by (Some s) e =
+        let lt : s.tick < up.a.tick =
+        sent-then sc hands lawful p q running small window side j up.st up.stands.state up.stands.good h.me h.i h.st h.there h.good up.a up.stands.receives.at_time (let time = h.time in omega (arith, le, time)) s e in
+        let pend : ahead_in (of_kind side sites) j ≡ Some up.a = ap (option_and_then (λ (s : Site). s.ahead)) there ∙ up.stands.receives.pends in
+        inl (ap (λ o. has_sent o (at side j) (ahead_in (of_kind side sites) j) p) e ∙ ap (λ o. has_sent (Some s) (at side j) o p) pend
+        ∙ past s.tick up.a.tick p (at side j) lt (h.together side j z there runs))

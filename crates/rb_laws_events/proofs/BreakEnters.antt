@@ -1,0 +1,134 @@
+-- For the law that events are rounds where the premise on faults is broken in a sync slot: once a good node closes a stage of
+-- the sync slot, all others that stand in it wait for its last tick; and at that tick they tell what the rounds tell.
+use Rattle.std.proofs.Common.{◌≡◌, ℕ, ◌+◌, ◌*◌, ◌<◌, ◌≤◌, ◌==◌, ◌⊎◌, Bool, true, false, List, [], refl, ap, sym, ◌∙◌, subst, arith, inl, inr, Some, slice_get}
+use Rattle.std.proofs.lemmas.Bool.{cases_lt}
+use Rattle.std.proofs.lemmas.Bool.Decides.{nat_tests}
+use Rattle.rb_base.specs.Nodes.{Side, other}
+use Rattle.rb_base.specs.Sizes.{sync_slot_of}
+use Rattle.rb_rules.specs.declared.role.Role.TheVariants.{Sync}
+use Rattle.rb_rules.specs.declared.plan.Window.{Window}
+use Rattle.rb_rules.specs.Book.{of_kind}
+use Rattle.rb_rules.specs.Clock.{time_of}
+use Rattle.rb_rules.specs.Core.{Act, Core}
+use Rattle.rb_rules.specs.Goodness.{Scenario, clock_of}
+use Rattle.rb_rules.specs.Hearing.{Sending}
+use Rattle.rb_rules.specs.Lawful.{IsLawful}
+use Rattle.rb_rules.specs.Moments.{IsRunning}
+use Rattle.rb_rules.specs.NodeState.{NodeState}
+use Rattle.rb_rules.specs.Ports.{HandIn, PortState}
+use Rattle.rb_rules.specs.Rounds.{Moment, go_through, moment, sent_in, window_in}
+use Rattle.rb_rules.specs.Slots.{listens}
+use Rattle.rb_rules.specs.WorldStep.{Site, Timed, after_act, pass_and_tick}
+use Rattle.rb_rules.proofs.Drift.{times_rise_to}
+use Rattle.rb_rules.proofs.RoundStates.{Stays}
+use Rattle.rb_laws_agreement.proofs.NodeWindows.{sync_windows_are}
+use Rattle.rb_laws_events.proofs.BreachMiddles.{next-after}
+use Rattle.rb_laws_events.proofs.BreachSends.{sent-before}
+use Rattle.rb_laws_events.proofs.BreakSites.{HasClosed, WaitsDeaf, WaitsHearing, closes-told}
+use Rattle.rb_laws_events.proofs.FrameTimes.{good-node}
+use Rattle.rb_laws_events.proofs.Invariant.{NodeStands, entry_of, is_good_at, last_tick, sending_of, word_at}
+use Rattle.rb_laws_events.proofs.LastCloses.{shows-heard}
+use Rattle.rb_laws_events.proofs.NodeActs.{HasRoom, HasWord}
+use Rattle.rb_laws_events.proofs.NodeMoves.{after-stays, first-alike}
+use Rattle.rb_laws_events.proofs.PastTicks.{IsPast}
+use Rattle.rb_laws_events.proofs.SameHeard.{Every}
+use Rattle.rb_laws_events.proofs.SentAlready.{waits-for-last}
+use Rattle.rb_laws_events.proofs.SentChanges.{sending-of-is}
+use Rattle.rb_laws_events.proofs.StageOrder.{last_of}
+use Rattle.rb_laws_events.proofs.TickWindows.{ends-before-later, first_of}
+
+-- what a good node sends in the stage has gone out by the time of the last tick of another
+pub sent-then : (sc : Scenario) (hands : List HandIn) → IsLawful sc → (p q : ℕ) → IsRunning (moment sc hands p) → q < 3 → (moment sc hands p).window ≡ 3 * sync_slot_of sc.sizes + q
+    → (me : Side) (i : ℕ) (st : NodeState) → slice_get (of_kind me (moment sc hands p).nodes) i ≡ Some st → is_good_at sc (moment sc hands p) me i ≡ true
+    → (you : Side) (j : ℕ) (yours : NodeState) → slice_get (of_kind you (moment sc hands p).nodes) j ≡ Some yours → is_good_at sc (moment sc hands p) you j ≡ true
+    → (a : Timed) → a.time ≡ time_of (clock_of sc me i) a.tick → time_of (clock_of sc you j) (last_tick sc (moment sc hands p) you yours) ≤ a.time
+    → (s : Sending) → sending_of sc (moment sc hands p) me i ≡ Some s → s.tick < a.tick
+sent-then sc hands lawful p q running small at me i st there good you j yours there2 good2 a at_time le s e =
+    let come : time_of (clock_of sc me i) s.tick + sc.plan.dmax ≤ time_of (clock_of sc you j) (last_tick sc (moment sc hands p) you yours) =
+    sent-before sc hands lawful p q running small at you j yours there2 good2 me i st there good s e in
+    let some = lawful.plan.dmin in
+    elim (cases_lt s.tick a.tick) [
+      | inl lt ↦ lt
+      | inr ge ↦
+          let up : time_of (clock_of sc me i) a.tick ≤ time_of (clock_of sc me i) s.tick = times_rise_to (clock_of sc me i) a.tick s.tick ge in
+          absurd (omega (arith, come, some.0, some.1, up, at_time, le))
+    ]
+
+-- so a node that stands in it waits for its last tick
+pub waits-then : (sc : Scenario) (hands : List HandIn) → IsLawful sc → HasRoom sc.plan → (sent : Side → ℕ → ℕ → Bool) (now p q : ℕ) → IsRunning (moment sc hands p) → q < 3
+    → (moment sc hands p).window ≡ 3 * sync_slot_of sc.sizes + q → (me : Side) (i : ℕ) (s : Site) (st : NodeState) (a : Timed) → NodeStands sc hands sent now me i p s st a
+    → (you : Side) (j : ℕ) (yours : NodeState) → slice_get (of_kind you (moment sc hands p).nodes) j ≡ Some yours → is_good_at sc (moment sc hands p) you j ≡ true
+    → time_of (clock_of sc you j) (last_tick sc (moment sc hands p) you yours) ≤ a.time
+    → WaitsHearing sc hands sent now me i p s ⊎ WaitsDeaf sc hands me i p s
+waits-then sc hands lawful room sent now p q running small at me i s st a h you j yours there2 good2 le =
+    by (listens me Sync (window_in sc m me st).stage) refl
+  where
+    m : Moment
+    m = moment sc hands p
+
+    begun : st.epoch < a.tick
+    begun =
+        let shape = lawful.sizes.some_biu in
+        let first : last_of sc.sizes sc.plan me st 0 < first_of sc.sizes sc.plan me st m.window = ends-before-later sc.sizes sc.plan me st 0 m.window room.ticks (omega (arith, at, shape)) (omega arith) in
+        let from : st.epoch + first_of sc.sizes sc.plan me st m.window ≤ a.tick = h.stands.at.from in
+        omega (arith, first, from)
+
+    last : a.tick ≡ last_tick sc m me st
+    last =
+        waits-for-last sc.sizes sc.plan me i st s.core.state m.window (word_at sc m me i st) a.tick room h.stands h.receives.is_next.busy begun
+        (λ x e. sent-then sc hands lawful p q running small at me i st h.state h.good you j yours there2 good2 a h.receives.at_time le x (sending-of-is sc m me i st h.state ∙ e))
+
+    by : (b : Bool) → listens me Sync (window_in sc m me st).stage ≡ b → WaitsHearing sc hands sent now me i p s ⊎ WaitsDeaf sc hands me i p s
+    by true e = inl (record { st = st; a = a; stands = h; hears = e; last = last })
+    by false e = inr (record {
+      st = st;
+      a = a;
+      state = h.state;
+      good = h.good;
+      slot = ap (λ (w : Window). w.slot) ((sync_windows_are sc m q small at).are me st);
+      deaf = e;
+      stands = h.stands;
+      from = h.from;
+      had = h.receives.is_next.later;
+      small = h.receives.is_next.below;
+      pends = h.receives.pends;
+      at_time = h.receives.at_time;
+      last = last;
+    })
+
+pub stage-four : (sc : Scenario) (m : Moment) (q : ℕ) → q < 3 → m.window ≡ 3 * sync_slot_of sc.sizes + q → (me : Side) (st : NodeState) → ((window_in sc m me st).stage == 4) ≡ false
+stage-four sc m q small at me st = ap (λ (w : Window). w.stage == 4) ((sync_windows_are sc m q small at).are me st) ∙ differs (q + 1) (omega arith)
+  where
+    differs : (a : ℕ) → a < 4 → (a == 4) ≡ false
+    differs a h = grind (arith, nat_tests)
+
+-- a node that listens has told its row after that tick
+pub hearing-closes : (sc : Scenario) (hands : List HandIn) → IsLawful sc → HasRoom sc.plan → (sent : Side → ℕ → ℕ → Bool) (now : ℕ) (ports : List PortState) (p q : ℕ) → IsRunning (moment sc hands p) → q < 3
+    → (moment sc hands p).window ≡ 3 * sync_slot_of sc.sizes + q → (me : Side) (i : ℕ) (s : Site) → (h : WaitsHearing sc hands sent now me i p s) → h.st.frame ≡ (moment sc hands p).frame
+    → ((j : ℕ) → is_good_at sc (moment sc hands p) (other me) j ≡ true → (sent (other me) j p ≡ true) ⊎ (entry_of sc (moment sc hands p) me i j ≡ []))
+    → HasWord sc ports me i h.st (moment sc hands p).window (word_at sc (moment sc hands p) me i h.st)
+    → Every (λ c. h.a.time < c.time) s.coming
+    → HasClosed sc hands me i p (after_act sc ports me i (pass_and_tick sc ports me i h.a.tick s.core) s)
+hearing-closes sc hands lawful room sent now ports p q running small at me i s h frame all_sent words later =
+    let m : Moment = moment sc hands p in
+    let st : NodeState = h.st in
+    let x : Act = pass_and_tick sc ports me i h.a.tick s.core in
+    let shows = shows-heard sc hands sent now ports me i p s st h.a room frame all_sent words later h.last h.stands in
+    let end : NodeState = (go_through sc m (sent_in sc m) me i st (window_in sc m me st)).state in
+    let stays : Stays st end = after-stays sc m me i st in
+    let epoch : end.epoch ≡ st.epoch = stays.epoch in
+    let had : x.core.had ≡ h.a.tick + 1 = ap (λ (c : Core). c.had) shows.0.act.core in
+    let first : first_of sc.sizes sc.plan me end (m.window + 1) ≡ last_of sc.sizes sc.plan me st m.window + 1 = first-alike sc.sizes sc.plan me st end m.window room.ticks (omega (arith, at, small)) in
+    closes-told sc hands ports me i p h.a.tick s st x h.stands.state h.stands.good shows.0 (stage-four sc m q small at me st)
+    (subst (λ z. IsPast sc.sizes sc.plan me st.frame st.epoch (m.window + 1) z x.core.had) (sym shows.1) (record {
+      in_frame = stays.frame;
+      epoch = stays.epoch;
+      from = let last : h.a.tick ≡ last_tick sc m me st = h.last in omega (arith, first, epoch, had, last);
+      next = λ k known.
+          let low = next-after sc hands lawful p q running small at me i st (good-node sc m me i st h.stands.state h.stands.good) k known in
+          omega (arith, low, epoch);
+    }))
+    (λ deaf. absurd (true-false (sym h.hears ∙ deaf)))
+  where
+    true-false : true ≡ false → ⊥
+    true-false e = cc

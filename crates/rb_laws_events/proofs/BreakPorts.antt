@@ -1,0 +1,273 @@
+-- For the law that cores follow the rounds: ports where the run breaks off. The port of a BIU stays that of the rounds before the breaking stage
+-- until the BIU has had its last tick of the stage.
+use Rattle.std.proofs.Common.{◌≡◌, ℕ, ◌+◌, ◌<◌, ◌≤◌, ◌==◌, ◌⊎◌, Bool, true, false, refl, ap, sym, ◌∙◌, subst, arith, inl, inr, List, [], Option, Some, None, slice_get, option_and_then}
+use Rattle.std.proofs.lemmas.Bool.{cases_lt}
+use Rattle.std.proofs.lemmas.Bool.Decides.{nat_tests}
+use Rattle.rb_base.specs.Nodes.{Side}
+use Rattle.rb_base.specs.Nodes.Side.{Biu, Rmu}
+use Rattle.rb_base.specs.Sizes.{sync_slot_of}
+use Rattle.rb_rules.specs.declared.closing.Closed.{Closed}
+use Rattle.rb_rules.specs.declared.message.Message.{Message}
+use Rattle.rb_rules.specs.declared.plan.Window.{Window}
+use Rattle.rb_rules.specs.Book.{Each, Row, of_kind}
+use Rattle.rb_rules.specs.Clock.{Timeline, stamp_of, time_of}
+use Rattle.rb_rules.specs.ExactStage.{Outcome}
+use Rattle.rb_rules.specs.Core.{Act, Core, act_at, act_on, epoch_at, is_last, is_spent, of_source, pass_to, said_at, state_at, state_kept, tick, window_here}
+use Rattle.rb_rules.specs.Goodness.{Scenario, clock_of}
+use Rattle.rb_rules.specs.Hearing.{Coming, close_window, port_at}
+use Rattle.rb_rules.specs.Lawful.{IsLawful}
+use Rattle.rb_rules.specs.NodeState.{NodeState}
+use Rattle.rb_rules.specs.Ports.{HandIn, PortState}
+use Rattle.rb_rules.specs.Rounds.{Moment, moment}
+use Rattle.rb_rules.specs.WorldStep.{Pending, Site, Timed, World, after_act, after_arrival, at_node, pass_and_tick, wants_in, with_act, with_delivery, with_message, with_pending, word_of}
+use Rattle.rb_rules.specs.WorldStep.Pending.{Arrival, Tick}
+use Rattle.rb_rules.proofs.Drift.{times_rise_strictly}
+use Rattle.rb_rules.proofs.QuietTicks.{arrive-same}
+use Rattle.rb_rules.proofs.Stamps.{Moves}
+use Rattle.rb_laws_events.specs.Closing.{stages_in}
+use Rattle.rb_laws_events.proofs.BreakNodes.{BreaksAt, FirstOf, KeepsNodes, TellsStage, WaitsLast}
+use Rattle.rb_laws_events.proofs.BreakRooms.{acted-had, has-later}
+use Rattle.rb_laws_events.proofs.BreakRuns.{NodesOff, reached-core}
+use Rattle.rb_laws_events.proofs.CloseOrder.{good-clock}
+use Rattle.rb_laws_events.proofs.DueEvents.{IsReady}
+use Rattle.rb_laws_events.proofs.Invariant.{is_good_at, last_tick}
+use Rattle.rb_laws_events.proofs.OneEvent.{moves-of}
+use Rattle.rb_laws_events.proofs.PortMoments.{port-kept}
+use Rattle.rb_laws_events.proofs.PortsInRounds.{rmu-none}
+use Rattle.rb_laws_events.proofs.RoundNodes.{slot_numbered}
+use Rattle.rb_laws_events.proofs.Telling.{reached-tells}
+use Rattle.rb_laws_events.proofs.ToldInOrder.{number_at, number-is, one-changes}
+use Rattle.rb_laws_events.proofs.ToldSoFar.{arrival-keeps}
+use Rattle.rb_laws_events.proofs.UpToThere.{breaks-later}
+use Rattle.rb_laws_events.proofs.WorldStands.{is_node, some-same}
+use Rattle.rb_laws_events.proofs.WorldTicks.{reached}
+
+-- What is kept of a port.
+
+-- the port of BIU i is still that of moment b, and the BIU has told of no stage but earlier ones
+pub record PortWaits (sc : Scenario) (hands : List HandIn) (b : ℕ) (ports : List PortState) (i : ℕ) (s : Site) : Type 0 where
+  pub port : port_at sc ports i ≡ port_at sc (moment sc hands b).ports i
+  pub untold : (row : Row) → s.row ≡ Some row → number_at sc.sizes row.place < b
+
+-- BIU i has had its last tick of the moment's window
+abbrev pub HasHadLast : Scenario → List HandIn → ℕ → ℕ → Site → Type 0
+HasHadLast sc hands b i s =
+    (st : NodeState) → slice_get (of_kind Biu (moment sc hands b).nodes) i ≡ Some st → last_tick sc (moment sc hands b) Biu st < s.core.had
+
+abbrev pub PortAt : Scenario → List HandIn → ℕ → List PortState → ℕ → Site → Type 0
+PortAt sc hands b ports i s = PortWaits sc hands b ports i s ⊎ HasHadLast sc hands b i s
+
+-- each BIU that is good there
+abbrev pub PortsOff : Scenario → List HandIn → ℕ → List PortState → Each Site → Type 0
+PortsOff sc hands b ports sites =
+    (i : ℕ) (s : Site) → slice_get (of_kind Biu sites) i ≡ Some s → is_good_at sc (moment sc hands b) Biu i ≡ true → PortAt sc hands b ports i s
+
+-- wherever the run breaks off
+abbrev pub PortsBreak : Scenario → World → Type 0
+PortsBreak sc w = (b q : ℕ) → BreaksAt sc w.hands b q → PortsOff sc w.hands b w.ports w.sites
+
+-- the run breaks off once
+pub breaks-once : (sc : Scenario) (hands : List HandIn) (b q c r : ℕ) → BreaksAt sc hands b q → BreaksAt sc hands c r → b ≡ c
+breaks-once sc hands b q c r off other =
+    let le : c ≤ b = breaks-later sc hands b q c off other.running in
+    let ge : b ≤ c = breaks-later sc hands c r b other off.running in
+    omega (arith, le, ge)
+
+pub ports-break : (sc : Scenario) (b q : ℕ) (w : World) → BreaksAt sc w.hands b q → PortsOff sc w.hands b w.ports w.sites → PortsBreak sc w
+ports-break sc b q w off ports c r other = subst (λ n. PortsOff sc w.hands n w.ports w.sites) (breaks-once sc w.hands b q c r off other) ports
+
+-- What stays.
+
+-- another site of the BIU with the same row, at which no fewer ticks were had, and the same port
+port-stays : (sc : Scenario) (hands : List HandIn) (b : ℕ) (ports more : List PortState) (i : ℕ) (s z : Site) → port_at sc more i ≡ port_at sc ports i → z.row ≡ s.row
+    → s.core.had ≤ z.core.had → PortAt sc hands b ports i s → PortAt sc hands b more i z
+port-stays sc hands b ports more i s z port row had (inl waits) = inl (record { port = port ∙ waits.port; untold = λ r e. waits.untold r (sym row ∙ e) })
+port-stays sc hands b ports more i s z port row had (inr last) = inr (λ st there. let h = last st there in omega (arith, h, had))
+
+same-had : (a b : ℕ) → a ≡ b → b ≤ a
+same-had a b e = omega (arith, e)
+
+-- one BIU or RMU changes, and a message is on its way
+changes-ports : (sc : Scenario) (hands : List HandIn) (b : ℕ) (ports more : List PortState) (sites : Each Site) (me : Side) (i frame k : ℕ) (m : Option Message) (change : Site → Site) (s : Site)
+    → slice_get (of_kind me sites) i ≡ Some s
+    → ((j : ℕ) → is_node me i Biu j ≡ false → port_at sc more j ≡ port_at sc ports j)
+    → (me ≡ Biu → is_good_at sc (moment sc hands b) Biu i ≡ true → PortAt sc hands b more i (change s))
+    → PortsOff sc hands b ports sites → PortsOff sc hands b more (with_message sc me i frame k m (at_node me i change sites))
+changes-ports sc hands b ports more sites me i frame k m change s there same own h j z at good =
+    one-changes (λ side j r z. side ≡ Biu → is_good_at sc (moment sc hands b) Biu j ≡ true → PortAt sc hands b more j z) sc (λ side j. 0) sites me i frame k 0 m change s
+    (λ side j r z was is good.
+    port-stays sc hands b more more j z (reached sc me i frame k m side j z) refl (reached-tells sc me i frame k m side j z).0
+    (same-had (reached sc me i frame k m side j z).core.had z.core.had (ap (λ (c : Core). c.had) (reached-core sc me i frame k m side j z))) (was is good))
+    there own others Biu j z at refl good
+  where
+    others : (side : Side) (j : ℕ) (z : Site) → is_node me i side j ≡ false → slice_get (of_kind side sites) j ≡ Some z → side ≡ Biu → is_good_at sc (moment sc hands b) Biu j ≡ true
+        → PortAt sc hands b more j z
+    others Biu j z other e is good = port-stays sc hands b ports more j z z (same j other) refl (omega arith) (h j z e good)
+    others Rmu j z other e is good = absurd (cc)
+
+-- A tick.
+
+-- an RMU delivers nothing at a close
+rmu-closes : (sc : Scenario) (i : ℕ) (c : Core) (st : NodeState) (message : Option Message) (kept : NodeState)
+    → option_and_then (λ (c : Closed). c.delivered) (act_on sc.sizes sc.plan Rmu i c st message kept).closed ≡ None
+unfolding act_on
+rmu-closes sc i c st message kept = by (is_last sc.sizes sc.plan Rmu st c.had)
+  where
+    w : Window
+    w = window_here sc.sizes sc.plan Rmu st c.had
+
+    closing : Outcome
+    closing = close_window sc.sizes sc.plan Rmu i kept w (of_source c.inbox)
+
+    by : (b : Bool) → option_and_then (λ (c : Closed). c.delivered) (elim b as (λ _. Act) [
+      | true ↦ record {
+        core = record { state = closing.state; had = c.had + 1; inbox = [] };
+        epoch = epoch_at sc.sizes Rmu st c.had;
+        message = message;
+        closed = Some closing.closed;
+      }
+      | false ↦ record {
+        core = record { state = kept; had = c.had + 1; inbox = c.inbox };
+        epoch = epoch_at sc.sizes Rmu st c.had;
+        message = message;
+        closed = None;
+      }
+    ]).closed ≡ None
+    by true = rmu-none sc i kept w.slot w.stage (kept.epoch + w.first) _ (w.slot == sync_slot_of sc.sizes)
+    by false = refl
+
+-- nor at any tick
+rmu-ticks : (sc : Scenario) (ports : List PortState) (i k : ℕ) (c : Core) → option_and_then (λ (c : Closed). c.delivered) (pass_and_tick sc ports Rmu i k c).closed ≡ None
+unfolding pass_and_tick tick act_at
+rmu-ticks sc ports i k c = by (is_spent ready)
+  where
+    ready : Core
+    ready = pass_to k c
+
+    word : ℕ
+    word = word_of sc ports i (wants_in sc Rmu i ready)
+
+    st : NodeState
+    st = state_at sc.sizes sc.plan Rmu ready.state ready.had
+
+    message : Option Message
+    message = said_at sc.sizes sc.plan Rmu i st word ready.had
+
+    by : (b : Bool) → option_and_then (λ (c : Closed). c.delivered) (elim b as (λ _. Act) [
+      | true ↦ record { core = ready; epoch = None; message = None; closed = None }
+      | false ↦ act_on sc.sizes sc.plan Rmu i ready st message (state_kept sc.sizes Rmu i st word message)
+    ]).closed ≡ None
+    by true = refl
+    by false = rmu-closes sc i ready st message (state_kept sc.sizes Rmu i st word message)
+
+-- so a tick leaves the ports of all other nodes
+others-stay : (sc : Scenario) (ports : List PortState) (me : Side) (i k : ℕ) (c : Core) (j : ℕ) → is_node me i Biu j ≡ false
+    → port_at sc (with_delivery sc i (option_and_then (λ (c : Closed). c.delivered) (pass_and_tick sc ports me i k c).closed) ports) j ≡ port_at sc ports j
+others-stay sc ports Biu i k c j other = port-kept sc i j (option_and_then (λ (c : Closed). c.delivered) (pass_and_tick sc ports Biu i k c).closed) ports (λ e. itself j i e other)
+  where
+    itself : (a b : ℕ) → a ≡ b → (a == b) ≡ false → ⊥
+    itself a b e h = grind (arith, nat_tests)
+others-stay sc ports Rmu i k c j other = ap (λ d. port_at sc (with_delivery sc i d ports) j) (rmu-ticks sc ports i k c)
+
+-- the next tick of a BIU is the last of the stage, or comes after it
+last-or-later : (sc : Scenario) (N : ℕ → List HandIn → ℕ → (Side → ℕ → ℕ → Bool) → Each Site → Type 0) (hands : List HandIn) (b q : ℕ) (sent : Side → ℕ → ℕ → Bool) (ports : List PortState) (sites : Each Site)
+    → (i : ℕ) (s : Site) (a : Timed) → IsLawful sc → KeepsNodes sc q (N q) → BreaksAt sc hands b q → NodesOff sc N hands b q sent sites → slice_get (of_kind Biu sites) i ≡ Some s → s.ahead ≡ Some a
+    → is_good_at sc (moment sc hands b) Biu i ≡ true → PortAt sc hands b ports i s
+    → (st : NodeState) → slice_get (of_kind Biu (moment sc hands b).nodes) i ≡ Some st → last_tick sc (moment sc hands b) Biu st ≤ a.tick
+last-or-later sc N hands b q sent ports sites i s a lawful keeps off h there pend good port st state = of-port port
+  where
+    m : Moment
+    m = moment sc hands b
+
+    clock : Timeline
+    clock = clock_of sc Biu i
+
+    moves : Moves clock
+    moves = moves-of sc lawful Biu i (good-clock sc lawful Biu i m.frame (slot_numbered sc.sizes m.window) good)
+
+    ahead : (s.core.had ≤ a.tick) × (a.time ≡ time_of clock a.tick)
+    ahead = keeps.ahead hands b off sent sites h.nodes Biu i s there a pend
+
+    stage : m.window < stages_in sc.sizes
+    stage = let small = off.small in let window = off.window in omega (arith, small, window)
+
+    of-tells : PortWaits sc hands b ports i s → TellsStage sc hands b Biu i s → last_tick sc m Biu st ≤ a.tick
+    of-tells waits tells =
+        let less : number_at sc.sizes tells.row.place < b = waits.untold tells.row tells.is in
+        let same : number_at sc.sizes tells.row.place ≡ b = ap (number_at sc.sizes) tells.place ∙ number-is sc hands b stage in
+        absurd (omega (arith, less, same))
+
+    of-waits : PortWaits sc hands b ports i s → WaitsLast sc hands b Biu i s → last_tick sc m Biu st ≤ a.tick
+    of-waits waits last =
+        let timed : last.a ≡ a = some-same last.a a (sym last.pends ∙ pend) in
+        let node : last.st ≡ st = some-same last.st st (sym last.state ∙ state) in
+        let time : a.time ≡ time_of clock (last_tick sc m Biu st) =
+        ap (λ (a : Timed). a.time) (sym timed) ∙ last.time ∙ ap (λ (st : NodeState). time_of clock (last_tick sc m Biu st)) node in
+        elim (cases_lt a.tick (last_tick sc m Biu st)) [
+          | inr ge ↦ ge
+          | inl lt ↦
+              let up : time_of clock a.tick < time_of clock (last_tick sc m Biu st) = times_rise_strictly clock moves a.tick (last_tick sc m Biu st) lt in
+              absurd (omega (arith, up, time, ahead.1))
+        ]
+
+    of-port : PortAt sc hands b ports i s → last_tick sc m Biu st ≤ a.tick
+    of-port (inr had) = let past = had st state in omega (arith, past, ahead.0)
+    of-port (inl waits) = elim (h.live Biu i s there good) [
+      | inr tells ↦ of-tells waits tells
+      | inl runs ↦ elim (keeps.waits hands b off sent sites h.nodes Biu i s there runs good) [ inl last ↦ of-waits waits last | inr tells ↦ of-tells waits tells ]
+    ]
+
+-- so it has had it then
+own-last : (sc : Scenario) (N : ℕ → List HandIn → ℕ → (Side → ℕ → ℕ → Bool) → Each Site → Type 0) (hands : List HandIn) (b q : ℕ) (sent : Side → ℕ → ℕ → Bool) (ports : List PortState) (sites : Each Site)
+    → (me : Side) (i : ℕ) (s : Site) (a : Timed) → IsLawful sc → KeepsNodes sc q (N q) → BreaksAt sc hands b q → NodesOff sc N hands b q sent sites → slice_get (of_kind me sites) i ≡ Some s → s.ahead ≡ Some a
+    → FirstOf sc hands b a.time → PortsOff sc hands b ports sites → me ≡ Biu → is_good_at sc (moment sc hands b) Biu i ≡ true
+    → HasHadLast sc hands b i (after_act sc ports me i (pass_and_tick sc ports me i a.tick s.core) s)
+own-last sc N hands b q sent ports sites Rmu i s a lawful keeps off h there pend first old is good = absurd (cc)
+own-last sc N hands b q sent ports sites Biu i s a lawful keeps off h there pend first old is good = λ st state.
+    let ahead = keeps.ahead hands b off sent sites h.nodes Biu i s there a pend in
+    let clock : Timeline = clock_of sc Biu i in
+    let soon : a.time ≤ time_of (clock_of sc first.you first.j) (last_tick sc (moment sc hands b) first.you first.yours) = first.first in
+    let at_tick : FirstOf sc hands b (time_of clock a.tick) = record {
+      you = first.you;
+      j = first.j;
+      yours = first.yours;
+      there = first.there;
+      good = first.good;
+      first = omega (arith, soon, ahead.1);
+    } in
+    let le : last_tick sc (moment sc hands b) Biu st ≤ a.tick = last-or-later sc N hands b q sent ports sites i s a lawful keeps off h there pend good (old i s there good) st state in
+    let counted : (after_act sc ports Biu i (pass_and_tick sc ports Biu i a.tick s.core) s).core.had ≡ a.tick + 1 =
+    acted-had sc ports Biu i a.tick s (has-later sc hands lawful b q (time_of clock a.tick) off at_tick Biu i good) ahead.0 in
+    omega (arith, le, counted)
+
+-- Events.
+
+arrival-had : (sc : Scenario) (me : Side) (i n : ℕ) (c : Coming) (s : Site) → s.core.had ≤ (after_arrival sc me i n c s).core.had
+unfolding after_arrival
+arrival-had sc me i n c s =
+    let same = arrive-same sc.sizes me (pass_to (stamp_of (clock_of sc me i) c.time) s.core) c.from c.bytes in
+    omega (arith, same.1)
+
+-- an event keeps the ports so
+pub ports-off : (sc : Scenario) (N : ℕ → List HandIn → ℕ → (Side → ℕ → ℕ → Bool) → Each Site → Type 0) (b q : ℕ) (sent : Side → ℕ → ℕ → Bool) (w : World) (me : Side) (i t : ℕ) (s : Site) (p : Pending)
+    → IsLawful sc → KeepsNodes sc q (N q) → BreaksAt sc w.hands b q → NodesOff sc N w.hands b q sent w.sites → slice_get (of_kind me w.sites) i ≡ Some s
+    → IsReady t s p → FirstOf sc w.hands b t → PortsOff sc w.hands b w.ports w.sites
+    → PortsOff sc w.hands b (with_pending sc w me i s p).ports (with_pending sc w me i s p).sites
+unfolding with_act
+ports-off sc N b q sent w me i t s (Tick k) lawful keeps off h there ready first old =
+    let a : Timed = ready.0 in
+    let time : a.time ≡ t = ready.1.1.1.0 in
+    let x : Act = pass_and_tick sc w.ports me i a.tick s.core in
+    let more : List PortState = with_delivery sc i (option_and_then (λ (c : Closed). c.delivered) x.closed) w.ports in
+    let soon : FirstOf sc w.hands b a.time = subst (FirstOf sc w.hands b) (sym time) first in
+    let after : PortsOff sc w.hands b (with_act sc w me i a.tick x).ports (with_act sc w me i a.tick x).sites =
+    changes-ports sc w.hands b w.ports more w.sites me i x.core.state.frame a.tick x.message (after_act sc w.ports me i x) s there
+    (others-stay sc w.ports me i a.tick s.core)
+    (λ is good. inr (own-last sc N w.hands b q sent w.ports w.sites me i s a lawful keeps off h there ready.1.0 soon old is good)) old in
+    subst (λ k. PortsOff sc w.hands b (with_act sc w me i k (pass_and_tick sc w.ports me i k s.core)).ports (with_act sc w me i k (pass_and_tick sc w.ports me i k s.core)).sites) ready.1.1.0 after
+ports-off sc N b q sent w me i t s (Arrival n c) lawful keeps off h there ready first old =
+    let none : Option Message = None in
+    changes-ports sc w.hands b w.ports w.ports w.sites me i 0 0 none (after_arrival sc me i n c) s there (λ j other. refl)
+    (λ is good.
+    port-stays sc w.hands b w.ports w.ports i s (after_arrival sc me i n c s) refl (arrival-keeps sc me i n c s).0 (arrival-had sc me i n c s)
+    (old i s (subst (λ side. slice_get (of_kind side w.sites) i ≡ Some s) is there) good)) old

@@ -1,0 +1,251 @@
+-- For the law that events are rounds where the premise on faults is broken in a sync slot: the nodes of a world in which the
+-- run breaks off at moment p. Each node that is good there waits for its last tick of the window, or has told its row of it. What happens at
+-- a node keeps this.
+use Rattle.std.proofs.Common.{◌≡◌, ℕ, ◌+◌, ◌^◌, ◌<◌, ◌≤◌, ◌==◌, Bool, true, false, List, [], refl, ap, sym, ◌∙◌, subst, arith, Option, Some, None, slice_get, option_map}
+use Rattle.rb_base.specs.Nodes.{Side}
+use Rattle.rb_base.specs.Sizes.{sync_slot_of}
+use Rattle.rb_rules.specs.declared.closing.Closed.{Closed as Shown}
+use Rattle.rb_rules.specs.declared.record.Epoch.{Epoch}
+use Rattle.rb_rules.specs.declared.role.Role.TheVariants.{Sync}
+use Rattle.rb_rules.specs.declared.plan.Window.{Window}
+use Rattle.rb_rules.specs.Book.{Row, of_kind}
+use Rattle.rb_rules.specs.Clock.{stamp_of, time_of}
+use Rattle.rb_rules.specs.Core.{Act, Core, next_tick, of_source, pass_to}
+use Rattle.rb_rules.specs.Goodness.{Scenario, clock_of, is_good}
+use Rattle.rb_rules.specs.Hearing.{Coming, Span, row_of}
+use Rattle.rb_rules.specs.NodeState.{NodeState}
+use Rattle.rb_rules.specs.Ports.{HandIn, PortState}
+use Rattle.rb_rules.specs.Rounds.{Moment, go_through, moment, sent_in, window_in}
+use Rattle.rb_rules.specs.Slots.{listens}
+use Rattle.rb_rules.specs.WorldStep.{Site, Timed, after_act, after_arrival, await, coming_from, enter, pass_and_tick, proceed, says_in, span_from, stop, with_close, with_epoch}
+use Rattle.rb_rules.proofs.QuietTicks.{arrive-same}
+use Rattle.rb_rules.proofs.RoundStates.{HasTicks}
+use Rattle.rb_rules.proofs.Stamps.{Moves}
+use Rattle.rb_laws_synchrony.proofs.Times.{stamp_to}
+use Rattle.rb_laws_events.specs.Closing.{stages_in}
+use Rattle.rb_laws_events.proofs.ClosingTicks.{closing_of, spoken}
+use Rattle.rb_laws_events.proofs.Invariant.{NodeStands, is_good_at, last_tick, word_at}
+use Rattle.rb_laws_events.proofs.LastCloses.{ShowsRounds}
+use Rattle.rb_laws_events.proofs.NodeActs.{IsInWindow}
+use Rattle.rb_laws_events.proofs.NodeClosing.{closed-stage}
+use Rattle.rb_laws_events.proofs.NodeSends.{KeepsTime}
+use Rattle.rb_laws_events.proofs.NodeTicks.{like-itself, like-keeps}
+use Rattle.rb_laws_events.proofs.PastTicks.{IsPast, TellsNone, past-arrival, past-kept, past-tick}
+use Rattle.rb_laws_events.proofs.StageOrder.{last_of}
+use Rattle.rb_laws_events.proofs.Takes.{busy-later}
+use Rattle.rb_laws_events.proofs.TickWindows.{first_of}
+
+-- a node that listens in the window waits for its last tick
+pub record WaitsHearing (sc : Scenario) (hands : List HandIn) (sent : Side → ℕ → ℕ → Bool) (now : ℕ) (me : Side) (i p : ℕ) (s : Site) : Type 0 where
+  pub st : NodeState
+  pub a : Timed
+  pub stands : NodeStands sc hands sent now me i p s st a
+  pub hears : listens me Sync (window_in sc (moment sc hands p) me st).stage ≡ true
+  pub last : a.tick ≡ last_tick sc (moment sc hands p) me st
+
+-- and one that doesn't. Anything may have come to it
+pub record WaitsDeaf (sc : Scenario) (hands : List HandIn) (me : Side) (i p : ℕ) (s : Site) : Type 0 where
+  pub st : NodeState
+  pub a : Timed
+  pub state : slice_get (of_kind me (moment sc hands p).nodes) i ≡ Some st
+  pub good : is_good_at sc (moment sc hands p) me i ≡ true
+  pub slot : (window_in sc (moment sc hands p) me st).slot ≡ sync_slot_of sc.sizes
+  pub deaf : listens me Sync (window_in sc (moment sc hands p) me st).stage ≡ false
+  pub stands : IsInWindow sc.sizes sc.plan me i st (moment sc hands p).window (word_at sc (moment sc hands p) me i st) a.tick s.core.state
+  pub from : st.epoch + first_of sc.sizes sc.plan me st (moment sc hands p).window ≤ s.core.had
+  pub had : s.core.had ≤ a.tick
+  pub small : a.tick < 2 ^ 31
+  pub pends : s.ahead ≡ Some a
+  pub at_time : a.time ≡ time_of (clock_of sc me i) a.tick
+  pub last : a.tick ≡ last_tick sc (moment sc hands p) me st
+
+-- a node that has told its row of the window
+pub record HasClosed (sc : Scenario) (hands : List HandIn) (me : Side) (i p : ℕ) (s : Site) : Type 0 where
+  pub st : NodeState
+  pub state : slice_get (of_kind me (moment sc hands p).nodes) i ≡ Some st
+  pub good : is_good_at sc (moment sc hands p) me i ≡ true
+  pub row : Row
+  pub told : s.row ≡ Some row
+  pub is : (go_through sc (moment sc hands p) (sent_in sc (moment sc hands p)) me i st (window_in sc (moment sc hands p) me st)).row ≡ Some row
+  pub past : IsPast sc.sizes sc.plan me st.frame st.epoch ((moment sc hands p).window + 1) s.core.state s.core.had
+  pub keeps : listens me Sync (window_in sc (moment sc hands p) me st).stage ≡ false → KeepsTime sc.sizes sc.plan me s.core.state
+  pub ahead : (a : Timed) → s.ahead ≡ Some a → (s.core.had ≤ a.tick) × (a.time ≡ time_of (clock_of sc me i) a.tick)
+
+-- Arrivals.
+
+arrival-had : (sc : Scenario) (me : Side) (i n : ℕ) (c : Coming) (s : Site) (a : Timed) → Moves (clock_of sc me i) → c.time ≤ a.time → a.time ≡ time_of (clock_of sc me i) a.tick → s.core.had ≤ a.tick
+    → ((after_arrival sc me i n c s).core.state ≡ s.core.state) × (((after_arrival sc me i n c s).core.had ≤ a.tick) × (s.core.had ≤ (after_arrival sc me i n c s).core.had))
+unfolding after_arrival
+arrival-had sc me i n c s a moves before at_time had =
+    let stamp : ℕ = stamp_of (clock_of sc me i) c.time in
+    let in_time : stamp ≤ a.tick = stamp_to (clock_of sc me i) moves c.time a.tick (omega (arith, before, at_time)) in
+    let passed : Core = pass_to stamp s.core in
+    let same = arrive-same sc.sizes me passed c.from c.bytes in
+    let most : passed.had ≤ a.tick = omega (arith, in_time, had) in
+    let least : s.core.had ≤ passed.had = omega arith in
+    (same.0, (omega (arith, same.1, most), omega (arith, same.1, least)))
+
+pub deaf-arrives : (sc : Scenario) (hands : List HandIn) (me : Side) (i p n : ℕ) (c : Coming) (s : Site) → Moves (clock_of sc me i) → (h : WaitsDeaf sc hands me i p s) → c.time ≤ h.a.time
+    → WaitsDeaf sc hands me i p (after_arrival sc me i n c s)
+unfolding after_arrival
+deaf-arrives sc hands me i p n c s moves h before =
+    let m : Moment = moment sc hands p in
+    let kept = arrival-had sc me i n c s h.a moves before h.at_time h.had in
+    record {
+      st = h.st;
+      a = h.a;
+      state = h.state;
+      good = h.good;
+      slot = h.slot;
+      deaf = h.deaf;
+      stands = subst (IsInWindow sc.sizes sc.plan me i h.st m.window (word_at sc m me i h.st) h.a.tick) (sym kept.0) h.stands;
+      from = let from = h.from in omega (arith, from, kept.1.1);
+      had = kept.1.0;
+      small = h.small;
+      pends = h.pends;
+      at_time = h.at_time;
+      last = h.last;
+    }
+
+pub closed-arrives : (sc : Scenario) (hands : List HandIn) (me : Side) (i p n : ℕ) (c : Coming) (s : Site) → Moves (clock_of sc me i) → HasClosed sc hands me i p s
+    → ((a : Timed) → s.ahead ≡ Some a → c.time ≤ a.time) → HasClosed sc hands me i p (after_arrival sc me i n c s)
+unfolding after_arrival
+closed-arrives sc hands me i p n c s moves h before =
+    let m : Moment = moment sc hands p in
+    let passed : Core = pass_to (stamp_of (clock_of sc me i) c.time) s.core in
+    let more : s.core.had ≤ passed.had = omega arith in
+    let later : IsPast sc.sizes sc.plan me h.st.frame h.st.epoch (m.window + 1) passed.state passed.had =
+    past-kept sc.sizes sc.plan me i h.st.frame h.st.epoch (m.window + 1) s.core.state s.core.state s.core.had passed.had (like-itself sc.sizes sc.plan me i s.core.state) refl more h.past in
+    record {
+      st = h.st;
+      state = h.state;
+      good = h.good;
+      row = h.row;
+      told = h.told;
+      is = h.is;
+      keeps = λ deaf. subst (KeepsTime sc.sizes sc.plan me) (sym (arrive-same sc.sizes me passed c.from c.bytes).0) (h.keeps deaf);
+      past = past-arrival sc.sizes sc.plan me h.st.frame h.st.epoch (m.window + 1) passed c.from c.bytes later;
+      ahead = λ a e.
+          let was = h.ahead a e in
+          ((arrival-had sc me i n c s a moves (before a e) was.1 was.0).1.0, was.1);
+    }
+
+-- Ticks.
+
+-- what comes after a tick leaves what the node has told of stages, and its core
+pub record Proceeds (sc : Scenario) (me : Side) (i : ℕ) (row : Option Row) (core : Core) (z : Site) : Type 0 where
+  pub row_is : z.row ≡ row
+  pub core_is : z.core ≡ core
+  pub ahead : (a : Timed) → z.ahead ≡ Some a → (core.had ≤ a.tick) × (a.time ≡ time_of (clock_of sc me i) a.tick)
+
+awaits : (sc : Scenario) (me : Side) (i : ℕ) (more : List Coming) (s : Site) → Proceeds sc me i s.row s.core (await sc me i more s)
+awaits sc me i more s = record {
+  row_is = refl;
+  core_is = refl;
+  ahead = by (next_tick sc.sizes sc.plan me i s.core) (λ k e. busy-later sc.sizes sc.plan me i s.core.state _ s.core.had k e);
+}
+  where
+    by : (o : Option ℕ) → ((k : ℕ) → o ≡ Some k → s.core.had ≤ k) → (a : Timed)
+        → option_map (λ k. let t : Timed = record { tick = k; time = time_of (clock_of sc me i) k } in t) o ≡ Some a
+        → (s.core.had ≤ a.tick) × (a.time ≡ time_of (clock_of sc me i) a.tick)
+    by None later a e = cc
+    by (Some k) later a e =
+        let same : (let t : Timed = record { tick = k; time = time_of (clock_of sc me i) k } in t) ≡ a = cc in
+        subst (λ (a : Timed). (s.core.had ≤ a.tick) × (a.time ≡ time_of (clock_of sc me i) a.tick)) same (later k refl, refl)
+
+none-pends : (sc : Scenario) (me : Side) (i : ℕ) (s : Site) → Proceeds sc me i s.row s.core (stop s)
+none-pends sc me i s = record { row_is = refl; core_is = refl; ahead = λ a e. absurd (cc) }
+
+enters : (sc : Scenario) (me : Side) (i : ℕ) (o : Option Span) (s : Site) → Proceeds sc me i s.row s.core (enter sc me i o s)
+enters sc me i None s = awaits sc me i [] s
+enters sc me i (Some span) s = by (is_good sc me i span.place.frame span.place.slot)
+  where
+    by : (b : Bool) → Proceeds sc me i s.row s.core (elim b as (λ _. Site) [ true ↦ await sc me i (says_in sc me i span) s | false ↦ stop s ])
+    by true = awaits sc me i (says_in sc me i span) s
+    by false = none-pends sc me i s
+
+pub acted : (sc : Scenario) (ports : List PortState) (me : Side) (i : ℕ) (x : Act) (s : Site)
+    → Proceeds sc me i (with_close me i x.core.state x.closed (record s { core = x.core })).row x.core (after_act sc ports me i x s)
+unfolding after_act proceed
+acted sc ports me i x s =
+    let s1 : Site = record s { core = x.core } in
+    let s2 : Site = with_close me i x.core.state x.closed s1 in
+    let s3 : Site = with_epoch sc ports me i x.epoch s2 in
+    let row : s3.row ≡ s2.row = of-epoch x.epoch s2 in
+    let core : s3.core ≡ x.core = epoch-core x.epoch s2 ∙ close-core x.closed s1 in
+    let go : Proceeds sc me i s3.row s3.core (enter sc me i (span_from sc.sizes sc.plan me s3.core.state s3.core.had) s3) = enters sc me i (span_from sc.sizes sc.plan me s3.core.state s3.core.had) s3 in
+    subst (λ c. Proceeds sc me i s2.row c (enter sc me i (span_from sc.sizes sc.plan me s3.core.state s3.core.had) s3)) core
+    (subst (λ r. Proceeds sc me i r s3.core (enter sc me i (span_from sc.sizes sc.plan me s3.core.state s3.core.had) s3)) row go)
+  where
+    of-epoch : (e : Option Epoch) (s : Site) → (with_epoch sc ports me i e s).row ≡ s.row
+    of-epoch None s = refl
+    of-epoch (Some e) s = refl
+
+    epoch-core : (e : Option Epoch) (s : Site) → (with_epoch sc ports me i e s).core ≡ s.core
+    epoch-core None s = refl
+    epoch-core (Some e) s = refl
+
+    close-core : (c : Option Shown) (s : Site) → (with_close me i x.core.state c s).core ≡ s.core
+    close-core None s = refl
+    close-core (Some c) s = refl
+
+-- a node that has told its row tells nothing at a tick before the last of the next window
+pub closed-ticks : (sc : Scenario) (hands : List HandIn) (ports : List PortState) (me : Side) (i p k : ℕ) (s : Site) → HasTicks sc.plan → (moment sc hands p).window + 1 ≤ stages_in sc.sizes
+    → (h : HasClosed sc hands me i p s) → s.core.had ≤ k → k < s.core.state.epoch + last_of sc.sizes sc.plan me s.core.state ((moment sc hands p).window + 1)
+    → HasClosed sc hands me i p (after_act sc ports me i (pass_and_tick sc ports me i k s.core) s)
+unfolding pass_and_tick
+closed-ticks sc hands ports me i p k s ticks le h had before =
+    let n : ℕ = (moment sc hands p).window + 1 in
+    let c : Core = pass_to k s.core in
+    let c_had : c.had ≡ k = omega arith in
+    let x : Act = pass_and_tick sc ports me i k s.core in
+    let later : IsPast sc.sizes sc.plan me h.st.frame h.st.epoch n c.state c.had =
+    past-kept sc.sizes sc.plan me i h.st.frame h.st.epoch n s.core.state s.core.state s.core.had c.had (like-itself sc.sizes sc.plan me i s.core.state) refl (omega arith) h.past in
+    let none : TellsNone sc.sizes sc.plan me i h.st.frame h.st.epoch n s.core.state x = past-tick sc.sizes sc.plan me i h.st.frame h.st.epoch n c _ ticks le later (omega arith) in
+    let z : Site = after_act sc ports me i x s in
+    let go : Proceeds sc me i (with_close me i x.core.state x.closed (record s { core = x.core })).row x.core z = acted sc ports me i x s in
+    let row : z.row ≡ s.row = go.row_is ∙ ap (λ c. (with_close me i x.core.state c (record s { core = x.core })).row) none.closed in
+    record {
+      st = h.st;
+      state = h.state;
+      good = h.good;
+      row = h.row;
+      told = row ∙ h.told;
+      is = h.is;
+      past = subst (λ (c : Core). IsPast sc.sizes sc.plan me h.st.frame h.st.epoch n c.state c.had) (sym go.core_is) none.past;
+      keeps = λ deaf. subst (λ (c : Core). KeepsTime sc.sizes sc.plan me c.state) (sym go.core_is) (like-keeps sc.sizes sc.plan me i s.core.state x.core.state none.like (h.keeps deaf));
+      ahead = λ a e. let was = go.ahead a e in (subst (λ (c : Core). c.had ≤ a.tick) (sym go.core_is) was.0, was.1);
+    }
+
+-- a node that closes the window with what the rounds tell of it has told its row
+pub closes-told : (sc : Scenario) (hands : List HandIn) (ports : List PortState) (me : Side) (i p k : ℕ) (s : Site) (st : NodeState) (x : Act)
+    → slice_get (of_kind me (moment sc hands p).nodes) i ≡ Some st → is_good_at sc (moment sc hands p) me i ≡ true → ShowsRounds sc (moment sc hands p) me i st s k x → ((window_in sc (moment sc hands p) me st).stage == 4) ≡ false
+    → IsPast sc.sizes sc.plan me st.frame st.epoch ((moment sc hands p).window + 1) x.core.state x.core.had
+    → (listens me Sync (window_in sc (moment sc hands p) me st).stage ≡ false → KeepsTime sc.sizes sc.plan me x.core.state)
+    → HasClosed sc hands me i p (after_act sc ports me i x s)
+closes-told sc hands ports me i p k s st x there good h stage past keeps =
+    let m : Moment = moment sc hands p in
+    let w : Window = window_in sc m me st in
+    let z : Site = after_act sc ports me i x s in
+    let row : Row = row_of me i x.core.state (coming_from s.got) h.shown in
+    let go : Proceeds sc me i (with_close me i x.core.state x.closed (record s { core = x.core })).row x.core z = acted sc ports me i x s in
+    let same : h.shown ≡ (closing_of sc m me i st w s.core.inbox).closed = some-same h.shown _ (sym h.closed ∙ h.act.closed) in
+    let its : h.shown.place.stage ≡ w.stage = ap (λ (c : Shown). c.place.stage) same ∙ closed-stage sc.sizes sc.plan me i (spoken sc m me i st w) w (of_source s.core.inbox) in
+    let no_tail : (h.shown.place.stage == 4) ≡ false = ap (λ n. n == 4) its ∙ stage in
+    let told : z.row ≡ Some row =
+    go.row_is ∙ ap (λ c. (with_close me i x.core.state c (record s { core = x.core })).row) h.closed
+    ∙ ap (λ b. elim b as (λ _. Option Row) [ true ↦ s.row | false ↦ Some row ]) no_tail in
+    record {
+      st = st;
+      state = there;
+      good = good;
+      row = row;
+      told = told;
+      is = h.row;
+      past = subst (λ (c : Core). IsPast sc.sizes sc.plan me st.frame st.epoch (m.window + 1) c.state c.had) (sym go.core_is) past;
+      keeps = λ deaf. subst (λ (c : Core). KeepsTime sc.sizes sc.plan me c.state) (sym go.core_is) (keeps deaf);
+      ahead = λ a e. let was = go.ahead a e in (subst (λ (c : Core). c.had ≤ a.tick) (sym go.core_is) was.0, was.1);
+    }
+  where
+    some-same : (a b : Shown) → Some a ≡ Some b → a ≡ b
+    some-same a b e = cc

@@ -1,0 +1,272 @@
+-- For the law that cores follow the rounds: where the run breaks off, a core that has closed the breaking stage stands in a moment by which
+-- the run has ended, and each other one still holds the state of the rounds.
+use Rattle.std.proofs.Common.{◌≡◌, ℕ, zero, suc, ◌+◌, ◌*◌, ◌-◌, ◌<◌, ◌≤◌, ◌⊎◌, Bool, true, false, refl, ap, sym, ◌∙◌, subst, arith, inl, inr, List, Option, Some, None, slice_get}
+use Rattle.std.proofs.lemmas.Bool.{cases_lt}
+use Rattle.std.proofs.lemmas.Nat.{mul-le}
+use Rattle.rb_base.specs.Nodes.{Side}
+use Rattle.rb_base.specs.Nodes.Side.{Biu}
+use Rattle.rb_base.specs.Sizes.{Sizes, sync_slot_of}
+use Rattle.rb_rules.specs.declared.plan.Plan.{Plan}
+use Rattle.rb_rules.specs.declared.plan.Window.{Window}
+use Rattle.rb_rules.specs.Book.{of_kind}
+use Rattle.rb_rules.specs.Conviction.{turn}
+use Rattle.rb_rules.specs.Core.{Core, is_tick, state_at, window_here}
+use Rattle.rb_rules.specs.Goodness.{Scenario}
+use Rattle.rb_rules.specs.Hearing.{port_at}
+use Rattle.rb_rules.specs.Lawful.{IsLawful}
+use Rattle.rb_rules.specs.Moments.{IsRunning}
+use Rattle.rb_rules.specs.NodeState.{NodeState}
+use Rattle.rb_rules.specs.Ports.{HandIn}
+use Rattle.rb_rules.specs.Rounds.{Moment, moment, windows_in}
+use Rattle.rb_rules.specs.SyncStage.{new_epoch_of}
+use Rattle.rb_rules.specs.WorldStep.{Site, Timed, World, world_after}
+use Rattle.rb_rules.proofs.RoundStates.{HasTicks}
+use Rattle.rb_laws_events.specs.Closing.{stages_in}
+use Rattle.rb_laws_events.specs.OwnMoments.{CoresFollowTheRounds, FollowsTheRounds, HoldsTheRounds, HoldsTheState, RunningNode, moment_of, open_window, own_moment, ready_state}
+use Rattle.rb_laws_events.proofs.BreakMessages.{SiteBreaks}
+use Rattle.rb_laws_events.proofs.BreakNodes.{BreaksAt}
+use Rattle.rb_laws_events.proofs.BreakPorts.{PortsBreak}
+use Rattle.rb_laws_events.proofs.BreakSites.{HasClosed, WaitsDeaf, WaitsHearing}
+use Rattle.rb_laws_events.proofs.CloseOrder.{has-ticks}
+use Rattle.rb_laws_events.proofs.CoreStates.{IsThere, StandsIn, is-there, window-place}
+use Rattle.rb_laws_events.proofs.CoresHold.{run-holds}
+use Rattle.rb_laws_events.proofs.EventsHold.{any, keeps, nodes_at}
+use Rattle.rb_laws_events.proofs.EveryWorld.{AnyWorld}
+use Rattle.rb_laws_events.proofs.Invariant.{is_good_at, last_tick}
+use Rattle.rb_laws_events.proofs.LastSites.{AwaitsNext, HasToldLast, SiteLast}
+use Rattle.rb_laws_events.proofs.MomentBooks.{number-of}
+use Rattle.rb_laws_events.proofs.NodeTicks.{tail-first}
+use Rattle.rb_laws_events.proofs.RoundNodes.{moments-stand}
+use Rattle.rb_laws_events.proofs.StageOrder.{last_of}
+use Rattle.rb_laws_events.proofs.TickWindows.{Tiles, first_of, here-is, tail-here, tiles}
+use Rattle.rb_laws_events.proofs.UpToThere.{breaks-later}
+
+true-false : {P : Type 0} → true ≡ false → P
+true-false e = absurd (cc)
+
+-- The window of a late tick.
+
+at-or-later : (sizes : Sizes) (plan : Plan) (me : Side) (st : NodeState) (k d n : ℕ) → HasTicks plan → n + d ≡ stages_in sizes → st.epoch + first_of sizes plan me st n ≤ k
+    → n + 1 ≤ 3 * (window_here sizes plan me st k).slot + (window_here sizes plan me st k).stage
+at-or-later sizes plan me st k zero n ticks is from =
+    let same : n ≡ stages_in sizes = omega (arith, is) in
+    let here = tail-here sizes plan me st k ticks (subst (λ n. st.epoch + first_of sizes plan me st n ≤ k) same from) in
+    let place : 3 * (window_here sizes plan me st k).slot + (window_here sizes plan me st k).stage ≡ stages_in sizes + 1 =
+    ap (λ (w : Window). 3 * w.slot + w.stage) here ∙ window-place sizes plan me st (stages_in sizes) (omega arith) in
+    omega (arith, place, same)
+at-or-later sizes plan me st k (suc d) n ticks is from =
+    elim (cases_lt (st.epoch + last_of sizes plan me st n) k) [
+      | inr within ↦
+          let here = here-is sizes plan me st n k ticks (omega (arith, is)) (record { from = from; to = within }) in
+          let place : 3 * (window_here sizes plan me st k).slot + (window_here sizes plan me st k).stage ≡ n + 1 =
+          ap (λ (w : Window). 3 * w.slot + w.stage) here ∙ window-place sizes plan me st n (omega (arith, is)) in
+          omega (arith, place)
+      | inl past ↦
+          let t : Tiles sizes plan me st n = tiles sizes plan me st n ticks (omega (arith, is)) in
+          let next : first_of sizes plan me st (n + 1) ≡ last_of sizes plan me st n + 1 = t.next in
+          let rest : n + 1 + 1 ≤ 3 * (window_here sizes plan me st k).slot + (window_here sizes plan me st k).stage =
+          at-or-later sizes plan me st k d (n + 1) ticks (omega (arith, is)) (omega (arith, next, past)) in
+          omega (arith, rest)
+    ]
+
+-- Turning.
+
+turning : Sizes → Plan → Side → NodeState → Bool → Option ℕ → NodeState
+turning sizes plan me st b next = elim b [ true ↦ elim next [ None ↦ st | Some epoch ↦ turn sizes plan.probation me epoch st ] | false ↦ st ]
+
+turns-or-not : (sizes : Sizes) (plan : Plan) (me : Side) (st : NodeState) (k : ℕ) → (state_at sizes plan me st k ≡ st) ⊎ ((state_at sizes plan me st k).frame ≡ st.frame + 1)
+unfolding state_at turn turning
+turns-or-not sizes plan me st k = by (is_tick (new_epoch_of plan me st) k) (new_epoch_of plan me st)
+  where
+    by : (b : Bool) (next : Option ℕ) → (turning sizes plan me st b next ≡ st) ⊎ ((turning sizes plan me st b next).frame ≡ st.frame + 1)
+    by false next = inl refl
+    by true None = inl refl
+    by true (Some epoch) = inr refl
+
+-- Past the breaking stage.
+
+later-frame : (f g w s slot stage q b : ℕ) → b ≡ f * w + (3 * s + q) → q < 3 → w ≡ 3 * s + 5 → f + 1 ≤ g → suc b ≤ g * w + 3 * slot + stage - 1
+later-frame f g w s slot stage q b is small long more =
+    let up : (f + 1) * w ≤ g * w = mul-le (f + 1) w g w more (omega arith) in
+    let one : (f + 1) * w ≡ f * w + w = omega arith in
+    omega (arith, is, small, long, up, one)
+
+same-frame : (f w s slot stage q b : ℕ) → b ≡ f * w + (3 * s + q) → 3 * s + q + 1 + 1 ≤ 3 * slot + stage → suc b ≤ f * w + 3 * slot + stage - 1
+same-frame f w s slot stage q b is late = omega (arith, is, late)
+
+-- a core of the breaking frame that is past the stage, or of a later frame, stands in a moment by which the run has ended
+record IsLate (sc : Scenario) (hands : List HandIn) (me : Side) (b q : ℕ) (c : Core) : Type 0 where
+  place : ((c.state.frame ≡ (moment sc hands b).frame) × (c.state.epoch + first_of sc.sizes sc.plan me c.state (3 * sync_slot_of sc.sizes + q + 1) ≤ c.had))
+      ⊎ ((moment sc hands b).frame + 1 ≤ c.state.frame)
+
+late-ended : {P : Type 0} (sc : Scenario) (hands : List HandIn) (me : Side) (b q : ℕ) (c : Core) → HasTicks sc.plan → BreaksAt sc hands b q → IsLate sc hands me b q c
+    → IsRunning (own_moment sc hands me c) → P
+late-ended {P} sc hands me b q c ticks off late running = absurd (no (turns-or-not sc.sizes sc.plan me c.state c.had) late.place)
+  where
+    s : ℕ
+    s = sync_slot_of sc.sizes
+
+    m : Moment
+    m = moment sc hands b
+
+    w : ℕ
+    w = windows_in sc.sizes + 1
+
+    y : NodeState
+    y = ready_state sc me c
+
+    small : q < 3
+    small = off.small
+
+    is : b ≡ m.frame * w + (3 * s + q)
+    is = (number-of sc hands b).0 ∙ ap (λ n. m.frame * w + n) off.window
+
+    ended : suc b ≤ y.frame * w + 3 * (open_window sc me c).slot + (open_window sc me c).stage - 1 → ⊥
+    ended le =
+        let not_past : y.frame * w + 3 * (open_window sc me c).slot + (open_window sc me c).stage - 1 ≤ b = breaks-later sc hands b q _ off running in
+        absurd (omega (arith, le, not_past))
+
+    beyond : m.frame + 1 ≤ y.frame → ⊥
+    beyond more = ended (later-frame m.frame y.frame w s (open_window sc me c).slot (open_window sc me c).stage q b is small (omega arith) more)
+
+    no : (y ≡ c.state) ⊎ (y.frame ≡ c.state.frame + 1)
+        → ((c.state.frame ≡ m.frame) × (c.state.epoch + first_of sc.sizes sc.plan me c.state (3 * s + q + 1) ≤ c.had)) ⊎ (m.frame + 1 ≤ c.state.frame) → ⊥
+    no (inr turned) (inl here) = let f = here.0 in beyond (omega (arith, turned, f))
+    no (inr turned) (inr more) = beyond (omega (arith, turned, more))
+    no (inl stays) (inr more) = beyond (subst (λ (z : NodeState). m.frame + 1 ≤ z.frame) (sym stays) more)
+    no (inl stays) (inl here) =
+        let f : y.frame ≡ m.frame = ap (λ (z : NodeState). z.frame) stays ∙ here.0 in
+        let window : open_window sc me c ≡ window_here sc.sizes sc.plan me c.state c.had = ap (λ z. window_here sc.sizes sc.plan me z c.had) stays in
+        let far : 3 * s + q + 1 + 1 ≤ 3 * (window_here sc.sizes sc.plan me c.state c.had).slot + (window_here sc.sizes sc.plan me c.state c.had).stage =
+        at-or-later sc.sizes sc.plan me c.state c.had (2 - q) (3 * s + q + 1) ticks (omega (arith, small)) here.1 in
+        let late : 3 * s + q + 1 + 1 ≤ 3 * (open_window sc me c).slot + (open_window sc me c).stage =
+        subst (λ (z : Window). 3 * s + q + 1 + 1 ≤ 3 * z.slot + z.stage) (sym window) far in
+        let is_here : b ≡ y.frame * w + (3 * s + q) = is ∙ ap (λ f. f * w + (3 * s + q)) (sym f) in
+        ended (same-frame y.frame w s (open_window sc me c).slot (open_window sc me c).stage q b is_here late)
+
+-- Nodes.
+
+-- a node that waits for its last tick of the stage stands in the moment before it
+record IsStill (sc : Scenario) (hands : List HandIn) (me : Side) (i b : ℕ) (c : Core) : Type 0 where
+  there : IsThere sc hands me i b c
+  st : NodeState
+  state : slice_get (of_kind me (moment sc hands b).nodes) i ≡ Some st
+  had : c.had ≤ last_tick sc (moment sc hands b) me st
+
+of-hearing : (sc : Scenario) (hands : List HandIn) (sent : Side → ℕ → ℕ → Bool) (now : ℕ) (me : Side) (i p : ℕ) (s : Site) → HasTicks sc.plan → WaitsHearing sc hands sent now me i p s
+    → IsStill sc hands me i p s.core
+of-hearing sc hands sent now me i p s ticks h =
+    let stands : StandsIn sc hands me i p s.core h.st h.a.tick = record {
+      state = h.stands.state;
+      good = h.stands.good;
+      stands = h.stands.stands;
+      from = h.stands.from;
+      later = h.stands.receives.is_next.later;
+    } in
+    record {
+      there = is-there sc hands me i p s.core h.st h.a.tick ticks stands;
+      st = h.st;
+      state = h.stands.state;
+      had = let later = h.stands.receives.is_next.later in let to = h.stands.stands.at.to in omega (arith, later, to);
+    }
+
+of-deaf : (sc : Scenario) (hands : List HandIn) (me : Side) (i p : ℕ) (s : Site) → HasTicks sc.plan → WaitsDeaf sc hands me i p s → IsStill sc hands me i p s.core
+of-deaf sc hands me i p s ticks h =
+    let stands : StandsIn sc hands me i p s.core h.st h.a.tick = record { state = h.state; good = h.good; stands = h.stands; from = h.from; later = h.had } in
+    record {
+      there = is-there sc hands me i p s.core h.st h.a.tick ticks stands;
+      st = h.st;
+      state = h.state;
+      had = let later = h.had in let to = h.stands.at.to in omega (arith, later, to);
+    }
+
+closed-late : (sc : Scenario) (hands : List HandIn) (me : Side) (i b q : ℕ) (s : Site) → HasTicks sc.plan → BreaksAt sc hands b q → HasClosed sc hands me i b s → IsLate sc hands me b q s.core
+closed-late sc hands me i b q s ticks off h =
+    let frame : h.st.frame ≡ (moment sc hands b).frame = ((moments-stand sc hands b ticks).stands me i h.st h.state h.good).frame in
+    record {
+      place = inl (h.past.in_frame ∙ frame, subst (λ n. s.core.state.epoch + first_of sc.sizes sc.plan me s.core.state (n + 1) ≤ s.core.had) off.window h.past.from);
+    }
+
+told-late : (sc : Scenario) (hands : List HandIn) (me : Side) (i b : ℕ) (s : Site) (a : Timed) → HasTicks sc.plan → BreaksAt sc hands b 2 → HasToldLast sc hands me i b s → s.ahead ≡ Some a
+    → IsLate sc hands me b 2 s.core
+told-late sc hands me i b s a ticks off h pends =
+    let frame : h.st.frame ≡ (moment sc hands b).frame = ((moments-stand sc hands b ticks).stands me i h.st h.state h.good).frame in
+    let next : AwaitsNext sc me i h.st h.x s.core a = h.ahead a pends in
+    elim next.after [
+      | inl tail ↦
+          let t = tail.0 in
+          let epoch = t.epoch in
+          let from = t.from in
+          let first = tail-first sc.sizes sc.plan me s.core.state in
+          let same : 3 * sync_slot_of sc.sizes + 2 + 1 ≡ stages_in sc.sizes = omega arith in
+          let le : s.core.state.epoch + first_of sc.sizes sc.plan me s.core.state (stages_in sc.sizes) ≤ s.core.had = omega (arith, epoch, from, first) in
+          record { place = inl (t.in_frame ∙ frame, subst (λ n. s.core.state.epoch + first_of sc.sizes sc.plan me s.core.state n ≤ s.core.had) (sym same) le) }
+      | inr turned ↦ let f = turned.in_frame in record { place = inr (omega (arith, f, frame)) }
+    ]
+
+-- where the run breaks off with one of the first two stages
+early-node : (sc : Scenario) (hands : List HandIn) (sent : Side → ℕ → ℕ → Bool) (now b q : ℕ) (me : Side) (i : ℕ) (s : Site) → HasTicks sc.plan → BreaksAt sc hands b q → s.runs ≡ true
+    → SiteBreaks sc hands sent now b me i s → IsRunning (own_moment sc hands me s.core) → IsStill sc hands me i b s.core
+early-node sc hands sent now b q me i s ticks off runs (inl stopped) running = true-false (sym runs ∙ stopped.runs)
+early-node sc hands sent now b q me i s ticks off runs (inr (inl hearing)) running = of-hearing sc hands sent now me i b s ticks hearing
+early-node sc hands sent now b q me i s ticks off runs (inr (inr (inl deaf))) running = of-deaf sc hands me i b s ticks deaf
+early-node sc hands sent now b q me i s ticks off runs (inr (inr (inr closed))) running =
+    late-ended sc hands me b q s.core ticks off (closed-late sc hands me i b q s ticks off closed) running
+
+-- and with the last
+last-node : (sc : Scenario) (hands : List HandIn) (sent : Side → ℕ → ℕ → Bool) (b : ℕ) (me : Side) (i : ℕ) (s : Site) (a : Timed) → HasTicks sc.plan → BreaksAt sc hands b 2 → s.runs ≡ true
+    → s.ahead ≡ Some a → SiteLast sc hands sent b me i s → IsRunning (own_moment sc hands me s.core) → IsStill sc hands me i b s.core
+last-node sc hands sent b me i s a ticks off runs pends (inl stopped) running = true-false (sym runs ∙ stopped.runs)
+last-node sc hands sent b me i s a ticks off runs pends (inr (inl ahead)) running = of-hearing sc hands sent ahead.now me i b (record s { coming = ahead.mine }) ticks ahead.waits
+last-node sc hands sent b me i s a ticks off runs pends (inr (inr (inl deaf))) running = of-deaf sc hands me i b s ticks deaf
+last-node sc hands sent b me i s a ticks off runs pends (inr (inr (inr told))) running =
+    late-ended sc hands me b 2 s.core ticks off (told-late sc hands me i b s a ticks off told pends) running
+
+-- Worlds.
+
+any-node : (sc : Scenario) → IsLawful sc → (q : ℕ) (w : World) (b : ℕ) (sent : Side → ℕ → ℕ → Bool) → q < 3 → BreaksAt sc w.hands b q
+    → nodes_at sc q w.hands b sent w.sites → (me : Side) (node : RunningNode w me) → IsRunning (moment_of sc node) → IsStill sc w.hands me node.index b node.site.core
+any-node sc lawful zero w b sent small off h me node running =
+    let site = h me node.index node.site node.there in
+    early-node sc w.hands sent site.0 b 0 me node.index node.site (has-ticks sc lawful) off node.runs site.1 running
+any-node sc lawful (suc zero) w b sent small off h me node running =
+    let site = h me node.index node.site node.there in
+    early-node sc w.hands sent site.0 b 1 me node.index node.site (has-ticks sc lawful) off node.runs site.1 running
+any-node sc lawful (suc (suc zero)) w b sent small off h me node running =
+    last-node sc w.hands sent b me node.index node.site node.ahead (has-ticks sc lawful) off node.runs node.pends (h me node.index node.site node.there) running
+any-node sc lawful (suc (suc (suc q))) w b sent small off h me node running = absurd (omega (arith, small))
+
+-- a node that runs was good there
+good-there : (sc : Scenario) → IsLawful sc → (q : ℕ) (w : World) (b : ℕ) (sent : Side → ℕ → ℕ → Bool) → BreaksAt sc w.hands b q → nodes_at sc q w.hands b sent w.sites
+    → (me : Side) (node : RunningNode w me) → is_good_at sc (moment sc w.hands b) me node.index ≡ true
+good-there sc lawful q w b sent off h me node = elim ((keeps sc lawful q off.small).goes w.hands b off sent w.sites h me node.index node.site node.there) [
+  | inl stopped ↦ true-false (sym node.runs ∙ stopped.runs)
+  | inr good ↦ good
+]
+
+past : (sc : Scenario) → IsLawful sc → (q : ℕ) (w : World) (b : ℕ) (sent : Side → ℕ → ℕ → Bool) → BreaksAt sc w.hands b q → nodes_at sc q w.hands b sent w.sites → PortsBreak sc w
+    → FollowsTheRounds sc w
+past sc lawful q w b sent off h ports = record {
+  cores = λ me node running.
+      let still : IsStill sc w.hands me node.index b node.site.core = any-node sc lawful q w b sent off.small off h me node running in
+      subst (λ (m : Moment). HoldsTheState sc m me node.index node.site.core) (sym still.there.moment_is) still.there.holds;
+  ports = λ node running.
+      let still : IsStill sc w.hands Biu node.index b node.site.core = any-node sc lawful q w b sent off.small off h Biu node running in
+      elim (ports b q off node.index node.site node.there (good-there sc lawful q w b sent off h Biu node)) [
+        | inl waits ↦ waits.port ∙ ap (λ (m : Moment). port_at sc m.ports node.index) (sym still.there.moment_is)
+        | inr last ↦
+            let had : last_tick sc (moment sc w.hands b) Biu still.st < node.site.core.had = last still.st still.state in
+            let le = still.had in
+            absurd (omega (arith, had, le))
+      ];
+}
+
+follows : (sc : Scenario) → IsLawful sc → (w : World) → AnyWorld sc (nodes_at sc) w → FollowsTheRounds sc w
+follows sc lawful w (inl run) =
+    let h : HoldsTheRounds sc w = run-holds sc w lawful run.stands in
+    record { cores = λ me node running. h.cores me node; ports = λ node running. h.ports node }
+follows sc lawful w (inr (inl off)) = let k = off.stands in past sc lawful k.q w k.b k.sent k.off k.nodes.nodes off.ports
+follows sc lawful w (inr (inr over)) = past sc lawful over.q w over.b over.sent over.off over.nodes over.ports
+
+pub cores-follow : CoresFollowTheRounds
+cores-follow sc lawful choices = follows sc lawful (world_after sc choices) (any sc lawful choices)

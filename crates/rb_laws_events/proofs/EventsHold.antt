@@ -1,0 +1,87 @@
+-- What holds of runs event by event in every lawful scenario.
+use Rattle.std.proofs.Common.{◌≡◌, ℕ, zero, suc, ◌^◌, ◌<◌, Bool, true, false, List, sym, ◌∙◌, arith, inl, inr, Some, slice_get}
+use Rattle.rb_base.specs.Nodes.{Side}
+use Rattle.rb_rules.specs.Book.{Each, of_kind}
+use Rattle.rb_rules.specs.Goodness.{Scenario}
+use Rattle.rb_rules.specs.Lawful.{IsLawful}
+use Rattle.rb_rules.specs.Ports.{HandIn}
+use Rattle.rb_rules.specs.WorldStep.{Choice, Site, World, needs_no_event, world_after}
+use Rattle.rb_laws_events.specs.Laws.{EventsAreRoundsInLawful, EveryRunEndsInLawful, OneTurnARecordInLawful, SomethingIsDueInLawful}
+use Rattle.rb_laws_events.proofs.BreakKeeps.{early-keeps}
+use Rattle.rb_laws_events.proofs.BreakNodes.{KeepsNodes}
+use Rattle.rb_laws_events.proofs.BreakOff.{left-off, runs-small}
+use Rattle.rb_laws_events.proofs.BreakRuns.{WaitsYet, waits-yet}
+use Rattle.rb_laws_events.proofs.BreakWorld.{NodesBreak}
+use Rattle.rb_laws_events.proofs.Behind.{IsBehind}
+use Rattle.rb_laws_events.proofs.EveryWorld.{AnyWorld, any-after, events-are-rounds}
+use Rattle.rb_laws_events.proofs.LastKeeps.{NodesLast, last-keeps}
+use Rattle.rb_laws_events.proofs.OneTake.{StandsInRounds, world-waits}
+use Rattle.rb_laws_events.proofs.Progress.{SomePends, something-is-due}
+use Rattle.rb_laws_events.proofs.RunsEnd.{HasTicksLeft, every-run-ends, in-rounds-left}
+use Rattle.rb_laws_events.proofs.TickRooms.{has-room}
+use Rattle.rb_laws_events.proofs.Turns.{turns-are-next}
+use Rattle.rb_laws_events.proofs.WorldStands.{IsUp, sent_by}
+
+true-false : {P : Type 0} → true ≡ false → P
+true-false e = absurd (cc)
+
+-- what the nodes keep where the run breaks off with stage q of a sync slot
+abbrev pub nodes_at : Scenario → ℕ → List HandIn → ℕ → (Side → ℕ → ℕ → Bool) → Each Site → Type 0
+nodes_at sc zero = NodesBreak sc
+nodes_at sc (suc zero) = NodesBreak sc
+nodes_at sc (suc (suc q)) = NodesLast sc
+
+pub keeps : (sc : Scenario) → IsLawful sc → (q : ℕ) → q < 3 → KeepsNodes sc q (nodes_at sc q)
+keeps sc lawful zero small = early-keeps sc lawful (has-room sc lawful) 0 (omega arith)
+keeps sc lawful (suc zero) small = early-keeps sc lawful (has-room sc lawful) 1 (omega arith)
+keeps sc lawful (suc (suc zero)) small = last-keeps sc lawful (has-room sc lawful)
+keeps sc lawful (suc (suc (suc q))) small = absurd (omega (arith, small))
+
+pub any : (sc : Scenario) → IsLawful sc → (choices : List Choice) → AnyWorld sc (nodes_at sc) (world_after sc choices)
+any sc lawful = any-after sc (nodes_at sc) lawful (has-room sc lawful) (keeps sc lawful)
+
+pub events-hold : EventsAreRoundsInLawful
+events-hold sc lawful = events-are-rounds sc (nodes_at sc) (any sc lawful)
+
+-- where the next record needs an event, a tick is pending
+some-pends : (sc : Scenario) → IsLawful sc → (w : World) → AnyWorld sc (nodes_at sc) w → w.book.ended ≡ false → needs_no_event sc w.book.upcoming ≡ false → SomePends w
+some-pends sc lawful w (inl run) going needs =
+    let h : StandsInRounds sc w = run.stands in
+    let waits = world-waits sc h.now h.at w h.stands going needs in
+    let behind : IsBehind sc w.hands h.at w.sites waits.0 = waits.1.behind in
+    let up : IsUp sc w.hands (sent_by sc w.hands h.at w.sites) h.now behind.me behind.i (h.at behind.me behind.i) behind.s = h.stands.sites.up behind.me behind.i behind.s behind.there behind.runs in
+    record { me = behind.me; i = behind.i; s = behind.s; a = up.a; there = behind.there; pends = up.stands.receives.pends }
+some-pends sc lawful w (inr (inl off)) going needs =
+    let k = off.stands in
+    let yet : WaitsYet sc w.hands k.b w.sites = waits-yet sc (nodes_at sc) w.hands k.b k.q k.sent w.sites (keeps sc lawful k.q k.off.small) k.off k.nodes k.open_still in
+    record { me = yet.me; i = yet.i; s = yet.s; a = yet.waits.a; there = yet.there; pends = yet.waits.pends }
+some-pends sc lawful w (inr (inr over)) going needs = true-false (sym over.ended ∙ going)
+
+pub due-holds : SomethingIsDueInLawful
+due-holds sc lawful = something-is-due sc (λ choices. some-pends sc lawful (world_after sc choices) (any sc lawful choices))
+
+pub turns-hold : OneTurnARecordInLawful
+turns-hold sc lawful = turns-are-next sc (events-hold sc lawful)
+
+-- as long as the run has not ended each tick that may be taken is one of those that its node may have
+pub ticks-left : (sc : Scenario) → IsLawful sc → (w : World) → AnyWorld sc (nodes_at sc) w → w.book.ended ≡ false → HasTicksLeft sc w
+ticks-left sc lawful w (inl run) going = in-rounds-left sc w run.stands
+ticks-left sc lawful w (inr (inl off)) going = record { counts = off.stands.nodes.counts; left = left-off sc (nodes_at sc) w lawful (keeps sc lawful) off }
+ticks-left sc lawful w (inr (inr over)) going = true-false (sym over.ended ∙ going)
+
+-- and a node that runs has some left
+runs-left : (sc : Scenario) → IsLawful sc → (w : World) → AnyWorld sc (nodes_at sc) w → (me : Side) (i : ℕ) (s : Site) → slice_get (of_kind me w.sites) i ≡ Some s → s.runs ≡ true → s.core.had < 2 ^ 31
+runs-left sc lawful w (inl run) me i s there runs =
+    let h : StandsInRounds sc w = run.stands in
+    let up : IsUp sc w.hands (sent_by sc w.hands h.at w.sites) h.now me i (h.at me i) s = h.stands.sites.up me i s there runs in
+    let had = up.stands.receives.is_next.later in
+    let below = up.stands.receives.is_next.below in
+    omega (arith, had, below)
+runs-left sc lawful w (inr (inl off)) me i s there runs =
+    let k = off.stands in
+    runs-small sc (nodes_at sc) w.hands k.b k.q k.sent w.sites (keeps sc lawful k.q k.off.small) k.off k.nodes me i s there runs
+runs-left sc lawful w (inr (inr over)) me i s there runs = over.small me i s there runs
+
+pub ends-hold : EveryRunEndsInLawful
+ends-hold sc lawful =
+    every-run-ends sc (λ choices. ticks-left sc lawful (world_after sc choices) (any sc lawful choices)) (λ choices. runs-left sc lawful (world_after sc choices) (any sc lawful choices))

@@ -1,0 +1,220 @@
+-- For the law that pending events are few where the run breaks off with the first or the second stage of the sync slot: a node that has told its row
+-- sends one message at most until all have told, and enters no window.
+use Rattle.std.proofs.Common.{◌≡◌, ℕ, zero, suc, ◌+◌, ◌-◌, ◌*◌, ◌^◌, ◌<◌, ◌≤◌, ◌==◌, ◌⊎◌, Bool, true, false, List, refl, ap, sym, ◌∙◌, subst, arith, inl, inr, Option, Some, None, length}
+use Rattle.std.proofs.lemmas.Bool.Decides.{nat_tests}
+use Rattle.rb_base.specs.Nodes.{Side}
+use Rattle.rb_base.specs.Sizes.{Sizes, sync_slot_of}
+use Rattle.rb_rules.specs.declared.message.Message.{Message}
+use Rattle.rb_rules.specs.declared.plan.Plan.{Plan}
+use Rattle.rb_rules.specs.declared.plan.Window.{Window}
+use Rattle.rb_rules.specs.Core.{Act, Core, pass_to, said_at, state_at, window_here}
+use Rattle.rb_rules.specs.Goodness.{Scenario}
+use Rattle.rb_rules.specs.Hearing.{Span, span_of, window_numbered}
+use Rattle.rb_rules.specs.Lawful.{IsLawful}
+use Rattle.rb_rules.specs.Moments.{IsRunning}
+use Rattle.rb_rules.specs.NodeState.{NodeState}
+use Rattle.rb_rules.specs.Ports.{HandIn, PortState}
+use Rattle.rb_rules.specs.Rounds.{moment}
+use Rattle.rb_rules.specs.WorldStep.{Site, Timed, after_act, pass_and_tick, span_from, wants_in, word_of}
+use Rattle.rb_rules.proofs.WindowNumbers.{sync-numbered}
+use Rattle.rb_laws_events.specs.Closing.{stages_in}
+use Rattle.rb_laws_events.proofs.BreakEvents.{TickBreaks, site-ticks}
+use Rattle.rb_laws_events.proofs.BreakMessages.{SiteBreaks}
+use Rattle.rb_laws_events.proofs.BreakSites.{HasClosed, acted}
+use Rattle.rb_laws_events.proofs.BreakTicks.{before-next, closed-goes-on}
+use Rattle.rb_laws_events.proofs.FewEntered.{BringsFew, act-brings}
+use Rattle.rb_laws_events.proofs.FewOff.{StepsOn, messages_in}
+use Rattle.rb_laws_events.proofs.FewSent.{CallsAlike, HasSpoken, IsSentThen, SaysAt, said-then, says-some, speaks-once, spoken-kept, spoken-quiet}
+use Rattle.rb_laws_events.proofs.FewQuiet.{deaf-quiet, hearing-quiet}
+use Rattle.rb_laws_events.proofs.NodeActs.{HasRoom}
+use Rattle.rb_laws_events.proofs.NodeTicks.{like-tick}
+use Rattle.rb_laws_events.proofs.PastTicks.{TellsNone, past-tick, turns-later, IsPast}
+use Rattle.rb_laws_events.proofs.StageOrder.{last_of}
+use Rattle.rb_laws_events.proofs.Takes.{tick-had}
+use Rattle.rb_laws_events.proofs.TickWindows.{IsTickIn, first_of, here-is}
+
+-- no window begins after the first tick of one
+pub no-begin : (sizes : Sizes) (plan : Plan) (me : Side) (y : NodeState) (n k : ℕ) → HasRoom plan → n ≤ stages_in sizes → state_at sizes plan me y k ≡ y → IsTickIn sizes plan me y n k
+    → y.epoch + first_of sizes plan me y n < k → span_from sizes plan me y k ≡ None
+no-begin sizes plan me y n k room le now at after =
+    let here : window_here sizes plan me y k ≡ window_numbered sizes plan me y n = here-is sizes plan me y n k room.ticks le at in
+    let test : (y.epoch + first_of sizes plan me y n == k) ≡ false = below (y.epoch + first_of sizes plan me y n) k after in
+    ap (λ z. elim ((span_of z (window_here sizes plan me z k)).first == k) as (λ _. Option Span) [ true ↦ Some (span_of z (window_here sizes plan me z k)) | false ↦ None ]) now
+    ∙ ap (λ w. elim ((span_of y w).first == k) as (λ _. Option Span) [ true ↦ Some (span_of y w) | false ↦ None ]) here
+    ∙ ap (λ b. elim b as (λ _. Option Span) [ true ↦ Some (span_of y (window_numbered sizes plan me y n)) | false ↦ None ]) test
+  where
+    below : (a b : ℕ) → a < b → (a == b) ≡ false
+    below a b h = grind (arith, nat_tests)
+
+-- the slot of the windows from the sync slot's first on
+pub slot-in-sync : (sizes : Sizes) (plan : Plan) (me : Side) (y : NodeState) (n : ℕ) → 3 * sync_slot_of sizes ≤ n → n ≤ stages_in sizes → (window_numbered sizes plan me y n).slot ≡ sync_slot_of sizes
+slot-in-sync sizes plan me y n le small =
+    let q : ℕ = n - 3 * sync_slot_of sizes in
+    let is : 3 * sync_slot_of sizes + q ≡ n = omega (arith, le) in
+    subst (λ n. (window_numbered sizes plan me y n).slot ≡ sync_slot_of sizes) is (by q (omega (arith, le, small)))
+  where
+    by : (q : ℕ) → q < 4 → (window_numbered sizes plan me y (3 * sync_slot_of sizes + q)).slot ≡ sync_slot_of sizes
+    by zero lt = ap (λ (w : Window). w.slot) (sync-numbered sizes plan me y 0)
+    by (suc zero) lt = ap (λ (w : Window). w.slot) (sync-numbered sizes plan me y 1)
+    by (suc (suc zero)) lt = ap (λ (w : Window). w.slot) (sync-numbered sizes plan me y 2)
+    by (suc (suc (suc zero))) lt = ap (λ (w : Window). w.slot) (sync-numbered sizes plan me y 3)
+    by (suc (suc (suc (suc q)))) lt = absurd (omega (arith, lt))
+
+-- what a node may do yet: r messages, e windows
+abbrev pub MayBreak : Scenario → List HandIn → ℕ → Side → ℕ → ℕ → ℕ → Site → Type 0
+MayBreak sc hands p me i r e s =
+    ((1 ≤ r) × (1 ≤ e)) ⊎ (HasClosed sc hands me i p s × ((1 ≤ r) ⊎ HasSpoken sc.sizes sc.plan me s.core.state s.core.had))
+
+pub once-more : (e l : ℕ) → 1 ≤ e → l ≤ e * l
+once-more zero l le = absurd (omega (arith, le))
+once-more (suc e) l le = omega arith
+
+-- the tick with which it tells its row
+tells-few : (sc : Scenario) (hands : List HandIn) (ports : List PortState) (p : ℕ) (me : Side) (i k : ℕ) (s : Site) (r e : ℕ)
+    → HasClosed sc hands me i p (after_act sc ports me i (pass_and_tick sc ports me i k s.core) s) → (pass_and_tick sc ports me i k s.core).message ≡ None → 1 ≤ r → 1 ≤ e
+    → StepsOn sc (MayBreak sc hands p me i) (pass_and_tick sc ports me i k s.core).message s (after_act sc ports me i (pass_and_tick sc ports me i k s.core) s) r e
+tells-few sc hands ports p me i k s r e closes quiet some one =
+    let x : Act = pass_and_tick sc ports me i k s.core in
+    let brings : BringsFew sc me x s (after_act sc ports me i x s) = act-brings sc ports me i x s in
+    let most = brings.most in
+    let more = once-more e (length sc.says) one in
+    let none : messages_in x.message ≡ 0 = ap messages_in quiet in
+    record { sends = r; enters = 0; may = inr (closes, inl some); sent = omega (arith, none); room = omega (arith, most, more) }
+
+-- a tick after it
+closed-few : (sc : Scenario) (hands : List HandIn) → IsLawful sc → HasRoom sc.plan → (sent : Side → ℕ → ℕ → Bool) (ports : List PortState) (p q : ℕ) → IsRunning (moment sc hands p) → q < 2
+    → (moment sc hands p).window ≡ 3 * sync_slot_of sc.sizes + q → (me : Side) (i : ℕ) (s : Site) (a : Timed) (r e : ℕ) → TickBreaks sc hands sent ports p me i s a → a.tick < 2 ^ 31
+    → HasClosed sc hands me i p s → (1 ≤ r) ⊎ HasSpoken sc.sizes sc.plan me s.core.state s.core.had
+    → StepsOn sc (MayBreak sc hands p me i) (pass_and_tick sc ports me i a.tick s.core).message s (after_act sc ports me i (pass_and_tick sc ports me i a.tick s.core) s) r e
+unfolding pass_and_tick
+closed-few sc hands lawful room sent ports p q running small at me i s a r e t few h once = by x.message refl
+  where
+    n : ℕ
+    n = (moment sc hands p).window + 1
+
+    le : n ≤ stages_in sc.sizes
+    le = omega (arith, at, small)
+
+    had : s.core.had ≤ a.tick
+    had = (h.ahead a t.pend).0
+
+    c : Core
+    c = pass_to a.tick s.core
+
+    c_had : c.had ≡ a.tick
+    c_had = omega (arith, had)
+
+    word : ℕ
+    word = word_of sc ports i (wants_in sc me i c)
+
+    x : Act
+    x = pass_and_tick sc ports me i a.tick s.core
+
+    z : Site
+    z = after_act sc ports me i x s
+
+    before : a.tick < s.core.state.epoch + last_of sc.sizes sc.plan me s.core.state n
+    before = before-next sc hands lawful room p q running small at me i s h t.you t.j t.yours t.there t.good a (h.ahead a t.pend).1 t.first
+
+    later : IsPast sc.sizes sc.plan me h.st.frame h.st.epoch n c.state c.had
+    later =
+        let first = h.past.from in
+        record { in_frame = h.past.in_frame; epoch = h.past.epoch; from = omega (arith, first, c_had, had); next = h.past.next }
+
+    none : TellsNone sc.sizes sc.plan me i h.st.frame h.st.epoch n s.core.state x
+    none = past-tick sc.sizes sc.plan me i h.st.frame h.st.epoch n c word room.ticks le later (omega (arith, before, c_had))
+
+    in_it : IsTickIn sc.sizes sc.plan me s.core.state n c.had
+    in_it = let from = later.from in record { from = from; to = omega (arith, before, c_had) }
+
+    now : state_at sc.sizes sc.plan me s.core.state c.had ≡ s.core.state
+    now = turns-later sc.sizes sc.plan me s.core.state n c.had room.ticks h.past.next le in_it
+
+    ticked : x.core.had ≡ c.had + 1
+    ticked = tick-had sc.sizes sc.plan me i c word (omega (arith, c_had, few))
+
+    alike : CallsAlike s.core.state x.core.state
+    alike = record { epoch = none.like.epoch; k1 = none.like.k1; k2 = none.like.k2 }
+
+    core : z.core ≡ x.core
+    core = (acted sc ports me i x s).core_is
+
+    closes : HasClosed sc hands me i p z
+    closes = closed-goes-on sc hands lawful room ports p q running small at me i s h t.you t.j t.yours t.there t.good a t.pend t.first
+
+    spoken : HasSpoken sc.sizes sc.plan me x.core.state x.core.had → HasSpoken sc.sizes sc.plan me z.core.state z.core.had
+    spoken g = subst (λ (c : Core). HasSpoken sc.sizes sc.plan me c.state c.had) (sym core) g
+
+    at_next : IsTickIn sc.sizes sc.plan me x.core.state n x.core.had
+    at_next =
+        let from = in_it.from in
+        subst (IsTickIn sc.sizes sc.plan me x.core.state n) (sym ticked)
+        (like-tick sc.sizes sc.plan me i s.core.state x.core.state n (c.had + 1) none.like (record { from = omega (arith, from); to = omega (arith, before, c_had) }))
+
+    quiet : span_from sc.sizes sc.plan me x.core.state x.core.had ≡ None
+    quiet =
+        let from = in_it.from in
+        let first : first_of sc.sizes sc.plan me x.core.state n ≡ first_of sc.sizes sc.plan me s.core.state n = ap (λ (w : Window). w.first) (none.like.windows n) in
+        let epoch : x.core.state.epoch ≡ s.core.state.epoch = none.like.epoch in
+        no-begin sc.sizes sc.plan me x.core.state n x.core.had room le (turns-later sc.sizes sc.plan me x.core.state n x.core.had room.ticks none.past.next le at_next) at_next
+        (omega (arith, from, first, epoch, ticked))
+
+    brings : length z.coming ≤ length s.coming
+    brings = (act-brings sc ports me i x s).none quiet
+
+    slot : (window_here sc.sizes sc.plan me s.core.state c.had).slot ≡ sync_slot_of sc.sizes
+    slot = ap (λ (w : Window). w.slot) (here-is sc.sizes sc.plan me s.core.state n c.had room.ticks le in_it) ∙ slot-in-sync sc.sizes sc.plan me s.core.state n (omega (arith, at)) le
+
+    by : (m : Option Message) → x.message ≡ m → StepsOn sc (MayBreak sc hands p me i) x.message s z r e
+    by None f = record {
+      sends = r;
+      enters = e;
+      may = inr (
+        closes,
+        elim once [
+          | inl one ↦ inl one
+          | inr g ↦ inr (spoken (spoken-kept sc.sizes sc.plan me s.core.state x.core.state s.core.had x.core.had alike (omega (arith, had, c_had, ticked)) g))
+        ],
+      );
+      sent = let none : messages_in x.message ≡ 0 = ap messages_in f in omega (arith, none);
+      room = omega (arith, brings);
+    }
+    by (Some m) f =
+        let says : SaysAt sc.sizes sc.plan me i c word m x = says-some sc.sizes sc.plan me i c word m f in
+        let said : said_at sc.sizes sc.plan me i s.core.state word c.had ≡ Some m = ap (λ y. said_at sc.sizes sc.plan me i y word c.had) (sym now) ∙ says.said in
+        let then_sent : IsSentThen sc.sizes sc.plan me i s.core.state (sync_slot_of sc.sizes) word c.had = said-then sc.sizes sc.plan me i s.core.state (sync_slot_of sc.sizes) word c.had m slot said in
+        elim once [
+          | inr g ↦ spoken-quiet sc.sizes sc.plan me i s.core.state c.had word then_sent
+              (spoken-kept sc.sizes sc.plan me s.core.state s.core.state s.core.had c.had (record { epoch = refl; k1 = refl; k2 = refl }) (omega (arith, had, c_had)) g)
+          | inl one ↦ record {
+            sends = r - 1;
+            enters = e;
+            may = inr (
+              closes,
+              inr (spoken (spoken-kept sc.sizes sc.plan me s.core.state x.core.state (c.had + 1) x.core.had alike (omega (arith, ticked))
+                  (speaks-once sc.sizes sc.plan me i s.core.state n c.had word room (omega (arith, at)) le in_it then_sent))),
+            );
+            sent = let one_sent : messages_in x.message ≡ 1 = ap messages_in f in omega (arith, one_sent, one);
+            room = omega (arith, brings);
+          }
+        ]
+
+none-pends : {P : Type 0} (a : Timed) (o : Option Timed) → o ≡ None → o ≡ Some a → P
+none-pends a None e f = cc
+none-pends a (Some b) e f = cc
+
+-- a due tick
+pub breaks-few : (sc : Scenario) (hands : List HandIn) → IsLawful sc → HasRoom sc.plan → (sent : Side → ℕ → ℕ → Bool) (now : ℕ) (ports : List PortState) (p q : ℕ) → IsRunning (moment sc hands p) → q < 2
+    → (moment sc hands p).window ≡ 3 * sync_slot_of sc.sizes + q → (me : Side) (i : ℕ) (s : Site) (a : Timed) (r e : ℕ) → TickBreaks sc hands sent ports p me i s a → a.tick < 2 ^ 31
+    → SiteBreaks sc hands sent now p me i s → MayBreak sc hands p me i r e s
+    → StepsOn sc (MayBreak sc hands p me i) (pass_and_tick sc ports me i a.tick s.core).message s (after_act sc ports me i (pass_and_tick sc ports me i a.tick s.core) s) r e
+breaks-few sc hands lawful room sent now ports p q running small at me i s a r e t few h (inr told) = closed-few sc hands lawful room sent ports p q running small at me i s a r e t few told.0 told.1
+breaks-few sc hands lawful room sent now ports p q running small at me i s a r e t few (inl stopped) (inl more) = none-pends a s.ahead stopped.ahead t.pend
+breaks-few sc hands lawful room sent now ports p q running small at me i s a r e t few (inr (inl h)) (inl more) =
+    tells-few sc hands ports p me i a.tick s r e (site-ticks sc hands lawful room sent now ports p q running small at me i s a t (inr (inl h)))
+    (hearing-quiet sc hands lawful room sent now ports p q running (omega arith) at me i s a t h) more.0 more.1
+breaks-few sc hands lawful room sent now ports p q running small at me i s a r e t few (inr (inr (inl h))) (inl more) =
+    tells-few sc hands ports p me i a.tick s r e (site-ticks sc hands lawful room sent now ports p q running small at me i s a t (inr (inr (inl h))))
+    (deaf-quiet sc hands lawful room sent ports p q running (omega arith) at me i s a t h) more.0 more.1
+breaks-few sc hands lawful room sent now ports p q running small at me i s a r e t few (inr (inr (inr h))) (inl more) =
+    closed-few sc hands lawful room sent ports p q running small at me i s a r e t few h (inl more.0)

@@ -1,0 +1,192 @@
+-- For the law that pending events are few where the run breaks off in a sync slot: in the sync slot, after its first stage, a node sends one message at
+-- most, whatever middles it keeps.
+use Rattle.std.proofs.Common.{◌≡◌, ℕ, ◌+◌, ◌-◌, ◌*◌, ◌<◌, ◌≤◌, ◌==◌, ◌||◌, ◌&&◌, ◌⊎◌, Bool, true, false, [], refl, ap, sym, ◌∙◌, subst, arith, inl, inr, Option, Some, None, option_map, if◌then◌else◌}
+use Rattle.std.specs.Option.{option_or}
+use Rattle.std.proofs.lemmas.Bool.Decides.{nat_tests}
+use Rattle.rb_base.specs.Nodes.{Side, other}
+use Rattle.rb_base.specs.Nodes.Side.{Biu, Rmu}
+use Rattle.rb_base.specs.Sizes.{Sizes, sync_slot_of}
+use Rattle.rb_rules.specs.declared.message.Message.{Message}
+use Rattle.rb_rules.specs.declared.plan.Plan.{Plan}
+use Rattle.rb_rules.specs.declared.role.Role.TheVariants.{Sync}
+use Rattle.rb_rules.specs.Core.{Act, Core, act_at, act_on, epoch_at, if_at, is_last, is_spent, of_source, said_at, state_at, state_kept, tick, window_here}
+use Rattle.rb_rules.specs.ExactStage.{Outcome}
+use Rattle.rb_rules.specs.Hearing.{Sending, close_window, sending}
+use Rattle.rb_rules.specs.NodeState.{NodeState}
+use Rattle.rb_rules.specs.Plan.{f0_of}
+use Rattle.rb_rules.specs.Slots.{listens}
+use Rattle.rb_rules.specs.SyncStage.{call_tick_of}
+use Rattle.rb_laws_synchrony.proofs.TakenCalls.{call_sent}
+use Rattle.rb_laws_events.specs.Closing.{stages_in}
+use Rattle.rb_laws_events.proofs.NodeActs.{HasRoom}
+use Rattle.rb_laws_events.proofs.StageOrder.{last_of, last-same}
+use Rattle.rb_laws_events.proofs.TickWindows.{IsTickIn, ends-before-later, first_of}
+
+-- what the node may call in the sync slot has gone out before this tick
+abbrev pub HasSpoken : Sizes → Plan → Side → NodeState → ℕ → Type 0
+HasSpoken sizes plan me st had = (stage t : ℕ) → listens (other me) Sync stage ≡ true → call_tick_of sizes plan st stage ≡ Some t → t < had
+
+-- states with the same ticks of calls
+pub record CallsAlike (st y : NodeState) : Type 0 where
+  pub epoch : y.epoch ≡ st.epoch
+  pub k1 : y.k1 ≡ st.k1
+  pub k2 : y.k2 ≡ st.k2
+
+pub same-call : (sizes : Sizes) (plan : Plan) (st y : NodeState) (stage : ℕ) → CallsAlike st y → call_tick_of sizes plan y stage ≡ call_tick_of sizes plan st stage
+same-call sizes plan st y stage h =
+    ap (λ e. if stage == 1 then Some (e + f0_of sizes plan + plan.h) else (if stage == 2 then option_map (λ k1. k1 + plan.l) y.k1 else option_map (λ k2. k2 + plan.v) y.k2)) h.epoch
+    ∙ ap (λ k. if stage == 1 then Some (st.epoch + f0_of sizes plan + plan.h) else (if stage == 2 then option_map (λ k1. k1 + plan.l) k else option_map (λ k2. k2 + plan.v) y.k2)) h.k1
+    ∙ ap (λ k. if stage == 1 then Some (st.epoch + f0_of sizes plan + plan.h) else (if stage == 2 then option_map (λ k1. k1 + plan.l) st.k1 else option_map (λ k2. k2 + plan.v) k)) h.k2
+
+pub spoken-kept : (sizes : Sizes) (plan : Plan) (me : Side) (st y : NodeState) (had more : ℕ) → CallsAlike st y → had ≤ more → HasSpoken sizes plan me st had → HasSpoken sizes plan me y more
+spoken-kept sizes plan me st y had more like le h stage t heard e = let lt = h stage t heard (sym (same-call sizes plan st y stage like) ∙ e) in omega (arith, lt, le)
+
+-- A message.
+
+-- a message of the slot in which the tick stands, and this is its tick
+pub record IsSentThen (sizes : Sizes) (plan : Plan) (me : Side) (i : ℕ) (st : NodeState) (slot word k : ℕ) : Type 0 where
+  pub stage : ℕ
+  pub x : Sending
+  pub sends : sending sizes plan me i st slot stage word ≡ Some x
+  pub tick : x.tick ≡ k
+
+same-of : (a b : ℕ) → (a == b) ≡ true → a ≡ b
+same-of a b h = grind (arith, nat_tests)
+
+if-some : (k : ℕ) (o : Option Sending) (m : Message) → if_at k o ≡ Some m → (x : Sending) × ((o ≡ Some x) × (x.tick ≡ k))
+if-some k None m e = absurd (cc)
+if-some k (Some x) m e = by (x.tick == k) refl e
+  where
+    by : (b : Bool) → (x.tick == k) ≡ b → (elim b as (λ _. Option Message) [ true ↦ Some x.message | false ↦ None ]) ≡ Some m → (y : Sending) × ((Some x ≡ Some y) × (y.tick ≡ k))
+    by true f e = (x, (refl, same-of x.tick k f))
+    by false f e = absurd (cc)
+
+either : (a b : Option Message) (m : Message) → option_or a b ≡ Some m → (a ≡ Some m) ⊎ (b ≡ Some m)
+either None b m e = inr e
+either (Some x) b m e = inl e
+
+pub said-then : (sizes : Sizes) (plan : Plan) (me : Side) (i : ℕ) (st : NodeState) (slot word k : ℕ) (m : Message) → (window_here sizes plan me st k).slot ≡ slot → said_at sizes plan me i st word k ≡ Some m
+    → IsSentThen sizes plan me i st slot word k
+unfolding said_at
+said-then sizes plan me i st slot word k m is e =
+    subst (λ slot. IsSentThen sizes plan me i st slot word k) is (by (either (o 1) (option_or (o 2) (o 3)) m e))
+  where
+    here : ℕ
+    here = (window_here sizes plan me st k).slot
+
+    o : ℕ → Option Message
+    o stage = if_at k (sending sizes plan me i st here stage word)
+
+    of : (stage : ℕ) → o stage ≡ Some m → IsSentThen sizes plan me i st here word k
+    of stage e = let x = if-some k (sending sizes plan me i st here stage word) m e in record { stage = stage; x = x.0; sends = x.1.0; tick = x.1.1 }
+
+    by : (o 1 ≡ Some m) ⊎ (option_or (o 2) (o 3) ≡ Some m) → IsSentThen sizes plan me i st here word k
+    by (inl e) = of 1 e
+    by (inr e) = elim (either (o 2) (o 3) m e) [ inl e ↦ of 2 e | inr e ↦ of 3 e ]
+
+-- a core that says something counts the tick
+pub record SaysAt (sizes : Sizes) (plan : Plan) (me : Side) (i : ℕ) (c : Core) (word : ℕ) (m : Message) (x : Act) : Type 0 where
+  pub said : said_at sizes plan me i (state_at sizes plan me c.state c.had) word c.had ≡ Some m
+  pub had : x.core.had ≡ c.had + 1
+
+pub says-some : (sizes : Sizes) (plan : Plan) (me : Side) (i : ℕ) (c : Core) (word : ℕ) (m : Message) → (tick sizes plan me i c word).message ≡ Some m
+    → SaysAt sizes plan me i c word m (tick sizes plan me i c word)
+unfolding tick act_at act_on
+says-some sizes plan me i c word m = by (is_spent c)
+  where
+    st : NodeState
+    st = state_at sizes plan me c.state c.had
+
+    o : Option Message
+    o = said_at sizes plan me i st word c.had
+
+    kept : NodeState
+    kept = state_kept sizes me i st word o
+
+    closing : Outcome
+    closing = close_window sizes plan me i kept (window_here sizes plan me st c.had) (of_source c.inbox)
+
+    acts : Bool → Act
+    acts b = elim b as (λ _. Act) [
+      | true ↦ record {
+        core = record { state = closing.state; had = c.had + 1; inbox = [] };
+        epoch = epoch_at sizes me st c.had;
+        message = o;
+        closed = Some closing.closed;
+      }
+      | false ↦ record {
+        core = record { state = kept; had = c.had + 1; inbox = c.inbox };
+        epoch = epoch_at sizes me st c.had;
+        message = o;
+        closed = None;
+      }
+    ]
+
+    go : (b : Bool) → (acts b).message ≡ Some m → SaysAt sizes plan me i c word m (acts b)
+    go true e = record { said = e; had = refl }
+    go false e = record { said = e; had = refl }
+
+    still : Act
+    still = record { core = c; epoch = None; message = None; closed = None }
+
+    by : (b : Bool) → (elim b as (λ _. Act) [ true ↦ still | false ↦ acts (is_last sizes plan me st c.had) ]).message ≡ Some m
+        → SaysAt sizes plan me i c word m (elim b as (λ _. Act) [ true ↦ still | false ↦ acts (is_last sizes plan me st c.had) ])
+    by true e = absurd (cc)
+    by false e = go (is_last sizes plan me st c.had) e
+
+-- One message.
+
+or-of : (a b : Bool) → (a || b) ≡ true → (a ≡ true) ⊎ (b ≡ true)
+or-of true b e = inl refl
+or-of false b e = inr e
+
+and-left : (a b : Bool) → (a && b) ≡ true → a ≡ true
+and-left true b e = refl
+and-left false b e = cc
+
+-- a node calls in one stage after the first
+calls-in : (me : Side) (stage : ℕ) → listens (other me) Sync stage ≡ true → (stage ≡ 1) ⊎ (stage ≡ elim me as (λ _. ℕ) [ Biu ↦ 3 | Rmu ↦ 2 ])
+calls-in Biu stage e = elim (or-of (stage == 1) _ e) [ inl f ↦ inl (same-of stage 1 f) | inr f ↦ inr (same-of stage 3 (and-left (stage == 3) _ f)) ]
+calls-in Rmu stage e = inr (same-of stage 2 e)
+
+same-some : (a b : ℕ) → Some a ≡ Some b → a ≡ b
+same-some a b e = cc
+
+-- the call of the first stage is over
+first-over : (sizes : Sizes) (plan : Plan) (me : Side) (st : NodeState) (n k t : ℕ) → HasRoom plan → 3 * sync_slot_of sizes < n → n ≤ stages_in sizes → IsTickIn sizes plan me st n k
+    → call_tick_of sizes plan st 1 ≡ Some t → t < k
+first-over sizes plan me st n k t room lt le at e =
+    let tick : st.epoch + 3 * sync_slot_of sizes * plan.l + plan.h ≡ t = same-some _ _ e in
+    let last : last_of sizes plan me st (3 * sync_slot_of sizes) ≡ 3 * sync_slot_of sizes * plan.l + plan.l - 1 = last-same sizes plan me st (3 * sync_slot_of sizes) (omega arith) in
+    let before : last_of sizes plan me st (3 * sync_slot_of sizes) < first_of sizes plan me st n = ends-before-later sizes plan me st (3 * sync_slot_of sizes) n room.ticks lt le in
+    let from : st.epoch + first_of sizes plan me st n ≤ k = at.from in
+    let h : plan.h < plan.l = room.inside.in_l in
+    omega (arith, tick, last, before, from, h)
+
+-- after a message nothing more is said in the slot
+pub speaks-once : (sizes : Sizes) (plan : Plan) (me : Side) (i : ℕ) (st : NodeState) (n k word : ℕ) → HasRoom plan → 3 * sync_slot_of sizes < n → n ≤ stages_in sizes → IsTickIn sizes plan me st n k
+    → IsSentThen sizes plan me i st (sync_slot_of sizes) word k → HasSpoken sizes plan me st (k + 1)
+speaks-once sizes plan me i st n k word room lt le at h stage t heard e =
+    let its = call_sent sizes plan me i st h.stage word h.x h.sends in
+    let tick : h.x.tick ≡ k = h.tick in
+    elim (calls-in me stage heard) [
+      | inl one ↦
+          let before = first-over sizes plan me st n k t room lt le at (ap (call_tick_of sizes plan st) (sym one) ∙ e) in
+          omega (arith, before)
+      | inr here ↦ elim (calls-in me h.stage its.1) [
+        | inl one ↦
+            let before = first-over sizes plan me st n k h.x.tick room lt le at (ap (call_tick_of sizes plan st) (sym one) ∙ its.0) in
+            absurd (omega (arith, before, tick))
+        | inr too ↦
+            let ticks : t ≡ h.x.tick = same-some t h.x.tick (sym e ∙ ap (call_tick_of sizes plan st) (here ∙ sym too) ∙ its.0) in
+            omega (arith, ticks, tick)
+      ]
+    ]
+
+-- and it says nothing where all has been said
+pub spoken-quiet : {P : Type 0} (sizes : Sizes) (plan : Plan) (me : Side) (i : ℕ) (st : NodeState) (k word : ℕ) → IsSentThen sizes plan me i st (sync_slot_of sizes) word k → HasSpoken sizes plan me st k → P
+spoken-quiet sizes plan me i st k word h spoken =
+    let its = call_sent sizes plan me i st h.stage word h.x h.sends in
+    let lt : h.x.tick < k = spoken h.stage h.x.tick its.1 its.0 in
+    let tick : h.x.tick ≡ k = h.tick in
+    absurd (omega (arith, lt, tick))

@@ -1,0 +1,190 @@
+-- For the law that events are rounds where the premise on faults is broken in a sync slot: a due tick of a node of a world in which
+-- the run breaks off with the last stage of the sync slot. After it the node has told its row, and what it says comes to those that listen in
+-- the stage after their last tick of it.
+use Rattle.std.proofs.Common.{◌≡◌, ℕ, ◌+◌, ◌*◌, ◌-◌, ◌<◌, ◌≤◌, ◌==◌, Bool, true, false, List, refl, ap, sym, ◌∙◌, subst, arith, inl, inr, Option, Some, None, slice_get, lit<}
+use Rattle.std.proofs.lemmas.Bool.{cases_lt}
+use Rattle.std.proofs.lemmas.Bool.Decides.{nat_tests}
+use Rattle.rb_base.specs.Nodes.{Side, other}
+use Rattle.rb_base.specs.Nodes.Side.{Biu, Rmu}
+use Rattle.rb_base.specs.Sizes.{sync_slot_of}
+use Rattle.rb_base.specs.declared.values.Place.{Place}
+use Rattle.rb_rules.specs.declared.message.Message.{Message}
+use Rattle.rb_rules.specs.declared.plan.Window.{Window}
+use Rattle.rb_rules.specs.declared.role.Role.TheVariants.{Sync}
+use Rattle.rb_rules.specs.Book.{of_kind}
+use Rattle.rb_rules.specs.Clock.{time_of}
+use Rattle.rb_rules.specs.Core.{if_at}
+use Rattle.rb_rules.specs.Goodness.{Scenario, clock_of, is_good}
+use Rattle.rb_rules.specs.Hearing.{Sending, coming_of}
+use Rattle.rb_rules.specs.Lawful.{IsLawful}
+use Rattle.rb_rules.specs.Links.{delay_of, name_of}
+use Rattle.rb_rules.specs.Moments.{IsRunning}
+use Rattle.rb_rules.specs.NodeState.{NodeState}
+use Rattle.rb_rules.specs.Plan.{tail_start_of}
+use Rattle.rb_rules.specs.Ports.{HandIn, PortState}
+use Rattle.rb_rules.specs.Rounds.{Moment, IsGoodIn, moment, window_in}
+use Rattle.rb_rules.specs.Slots.{listens, same_side}
+use Rattle.rb_rules.specs.SyncStage.{new_epoch_of}
+use Rattle.rb_rules.specs.WorldStep.{Site, Timed, after_act, pass_and_tick}
+use Rattle.rb_rules.proofs.Drift.{times_rise_to}
+use Rattle.rb_laws_agreement.proofs.NodeWindows.{Windows, sync_windows_are}
+use Rattle.rb_laws_synchrony.proofs.NextMessages.{next_message}
+use Rattle.rb_laws_synchrony.proofs.Synchrony.{IsSynchronous, synchrony}
+use Rattle.rb_laws_synchrony.proofs.TakenCalls.{IsStage, is_set}
+use Rattle.rb_laws_events.proofs.BreakEnters.{sent-then}
+use Rattle.rb_laws_events.proofs.BreakEvents.{TickBreaks}
+use Rattle.rb_laws_events.proofs.BreakSites.{WaitsDeaf}
+use Rattle.rb_laws_events.proofs.CloseOrder.{good-clock, shortest-some, times-apart}
+use Rattle.rb_laws_events.proofs.FrameTimes.{BegunWell, begun-well, good-node}
+use Rattle.rb_laws_events.proofs.Invariant.{is_good_at, last_tick, word_at}
+use Rattle.rb_laws_events.proofs.LastCloses.{shows-deaf}
+use Rattle.rb_laws_events.proofs.LastEnds.{deaf-last, hearing-last, third-stage}
+use Rattle.rb_laws_events.proofs.LastSites.{HasToldLast, SiteLast, WaitsAhead}
+use Rattle.rb_laws_events.proofs.LastTicks.{told-goes, told-ticks}
+use Rattle.rb_laws_events.proofs.NodeActs.{HasRoom}
+use Rattle.rb_laws_events.proofs.NodeSends.{sending_at}
+use Rattle.rb_laws_events.proofs.PlanNumbers.{fits}
+use Rattle.rb_laws_events.proofs.ReceiverHears.{way-least}
+use Rattle.rb_laws_events.proofs.RoundNodes.{slot-is}
+use Rattle.rb_laws_events.proofs.SameHeard.{Every}
+use Rattle.rb_laws_events.proofs.SentChanges.{sending-of-is}
+use Rattle.rb_laws_events.proofs.StageOrder.{Apart, apart-turn, last_of, last-same}
+
+-- Times.
+
+-- no good node comes to the last tick of the first window of its next frame as long as another waits for its last tick of the stage
+pub closes-later : (sc : Scenario) (hands : List HandIn) → IsLawful sc → (p : ℕ) → IsRunning (moment sc hands p) → (moment sc hands p).window ≡ 3 * sync_slot_of sc.sizes + 2
+    → (you : Side) (j : ℕ) (yours : NodeState) → slice_get (of_kind you (moment sc hands p).nodes) j ≡ Some yours → is_good_at sc (moment sc hands p) you j ≡ true
+    → (me : Side) (i : ℕ) (st : NodeState) → slice_get (of_kind me (moment sc hands p).nodes) i ≡ Some st → is_good_at sc (moment sc hands p) me i ≡ true
+    → (x k : ℕ) → st.epoch + tail_start_of sc.sizes sc.plan ≤ x → time_of (clock_of sc me i) k ≤ time_of (clock_of sc you j) (last_tick sc (moment sc hands p) you yours) → k + 1 < x + sc.plan.l
+closes-later sc hands lawful p running at you j yours there2 good2 me i st there good x k low le =
+    let m : Moment = moment sc hands p in
+    let well : BegunWell sc m = begun-well sc hands lawful p running in
+    let a : ℕ = last_of sc.sizes sc.plan you yours m.window in
+    let b : ℕ = tail_start_of sc.sizes sc.plan + last_of sc.sizes sc.plan me st 0 in
+    let yours_good : IsGoodIn sc m you j yours = (there2, ap (is_good sc you j m.frame) (slot-is sc.sizes sc.plan you yours m.window) ∙ good2) in
+    let mine_good : IsGoodIn sc m me i st = (there, ap (is_good sc me i m.frame) (slot-is sc.sizes sc.plan me st m.window) ∙ good) in
+    let rooms : Apart sc.plan a b =
+    subst (λ w. Apart sc.plan (last_of sc.sizes sc.plan you yours w) b) (sym at)
+    (apart-turn sc.sizes sc.plan you me yours st (fits sc.sizes sc.plan lawful.plan lawful.feasible) lawful.plan.l.0 (shortest-some sc lawful)) in
+    let early : time_of (clock_of sc you j) (yours.epoch + a) < time_of (clock_of sc me i) (st.epoch + b) =
+    times-apart sc lawful (clock_of sc you j) (clock_of sc me i) yours.epoch st.epoch a b (good-clock sc lawful you j m.frame (window_in sc m you yours).slot yours_good.1)
+    (good-clock sc lawful me i m.frame (window_in sc m me st).slot mine_good.1) (well.together you me j i yours st yours_good mine_good) rooms in
+    let last : last_of sc.sizes sc.plan me st 0 ≡ 0 * sc.plan.l + sc.plan.l - 1 = last-same sc.sizes sc.plan me st 0 (omega arith) in
+    let some : 1 ≤ sc.plan.l = lawful.plan.l.0 in
+    elim (cases_lt k (st.epoch + b)) [
+      | inl lt ↦ omega (arith, lt, last, low, some)
+      | inr ge ↦
+          let up : time_of (clock_of sc me i) (st.epoch + b) ≤ time_of (clock_of sc me i) k = times_rise_to (clock_of sc me i) (st.epoch + b) k ge in
+          absurd (omega (arith, up, early, le))
+    ]
+
+-- what a BIU says in the first window of its next frame comes after the last tick of the stage at any RMU
+comes-later : (sc : Scenario) (hands : List HandIn) → IsLawful sc → (p : ℕ) → IsRunning (moment sc hands p) → (at : (moment sc hands p).window ≡ 3 * sync_slot_of sc.sizes + 2)
+    → (n : ℕ) (yours : NodeState) → slice_get (of_kind Rmu (moment sc hands p).nodes) n ≡ Some yours → is_good_at sc (moment sc hands p) Rmu n ≡ true
+    → (i : ℕ) (st : NodeState) → slice_get (of_kind Biu (moment sc hands p).nodes) i ≡ Some st → is_good_at sc (moment sc hands p) Biu i ≡ true
+    → (x k frame : ℕ) (msg : Message) → new_epoch_of sc.plan Biu st ≡ Some x → x + sc.plan.h ≤ k
+    → time_of (clock_of sc Rmu n) (last_tick sc (moment sc hands p) Rmu yours) < (coming_of sc Rmu n i frame (record { tick = k; message = msg })).time
+comes-later sc hands lawful p running at n yours there2 good2 i st there good x k frame msg known late =
+    let m : Moment = moment sc hands p in
+    let s : IsSynchronous sc hands p = synchrony sc hands lawful p running in
+    let c : IsStage sc hands p m s.shared 2 = record { law = lawful; agree = s.agree; small = lit< tt; at = at } in
+    let ws : Windows sc m (sync_slot_of sc.sizes) 3 = sync_windows_are sc m 2 (lit< tt) at in
+    let before : time_of (clock_of sc Rmu n) (yours.epoch + (is_set sc hands p m s.shared 2 c).ws.last Rmu yours) < time_of (clock_of sc Biu i) (x + sc.plan.h) + sc.plan.dmin =
+    next_message sc m s.shared s.low (is_set sc hands p m s.shared 2 c) at s.near n i yours st (good-node sc m Rmu n yours there2 good2) (good-node sc m Biu i st there good) x known in
+    let its_last : (is_set sc hands p m s.shared 2 c).ws.last Rmu yours ≡ last_of sc.sizes sc.plan Rmu yours m.window = sym (ap (λ (w : Window). w.last) ((is_set sc hands p m s.shared 2 c).ws.are Rmu yours)) in
+    let end : time_of (clock_of sc Rmu n) (yours.epoch + (is_set sc hands p m s.shared 2 c).ws.last Rmu yours) ≡ time_of (clock_of sc Rmu n) (last_tick sc m Rmu yours) =
+    ap (λ o. time_of (clock_of sc Rmu n) (yours.epoch + o)) its_last in
+    let up : time_of (clock_of sc Biu i) (x + sc.plan.h) ≤ time_of (clock_of sc Biu i) k = times_rise_to (clock_of sc Biu i) (x + sc.plan.h) k late in
+    let place : Place = record { frame = frame; slot = msg.slot; stage = msg.stage } in
+    let delay : sc.plan.dmin ≤ delay_of sc.delays (name_of Biu i) (name_of Rmu n) place = way-least sc lawful (name_of Biu i) (name_of Rmu n) place in
+    omega (arith, before, end, up, delay)
+
+-- A due tick.
+
+same-timed : (a b : Timed) → Some a ≡ Some b → a ≡ b
+same-timed a b e = cc
+
+none-pends : {P : Type 0} (a : Timed) (o : Option Timed) → o ≡ None → o ≡ Some a → P
+none-pends a None e f = cc
+none-pends a (Some b) e f = cc
+
+-- a node that has told its row ends no stage with it
+pub before-end : (sc : Scenario) (hands : List HandIn) (sent : Side → ℕ → ℕ → Bool) → IsLawful sc → (ports : List PortState) (p : ℕ) → IsRunning (moment sc hands p) → (moment sc hands p).window ≡ 3 * sync_slot_of sc.sizes + 2
+    → (me : Side) (i : ℕ) (s : Site) (a : Timed) → TickBreaks sc hands sent ports p me i s a → (h : HasToldLast sc hands me i p s) → a.tick + 1 < h.x + sc.plan.l
+before-end sc hands sent lawful ports p running at me i s a t h =
+    let at_time : a.time ≡ time_of (clock_of sc me i) a.tick = (h.ahead a t.pend).at_time in
+    let first : a.time ≤ time_of (clock_of sc t.you t.j) (last_tick sc (moment sc hands p) t.you t.yours) = t.first in
+    closes-later sc hands lawful p running at t.you t.j t.yours t.there t.good me i h.st h.state h.good h.x a.tick h.low (omega (arith, at_time, first))
+
+-- after it the node has told its row
+pub last-ticks : (sc : Scenario) (hands : List HandIn) → IsLawful sc → HasRoom sc.plan → (sent : Side → ℕ → ℕ → Bool) (ports : List PortState) (p : ℕ) → IsRunning (moment sc hands p)
+    → (moment sc hands p).window ≡ 3 * sync_slot_of sc.sizes + 2 → (me : Side) (i : ℕ) (s : Site) (a : Timed) → TickBreaks sc hands sent ports p me i s a → SiteLast sc hands sent p me i s
+    → HasToldLast sc hands me i p (after_act sc ports me i (pass_and_tick sc ports me i a.tick s.core) s)
+last-ticks sc hands lawful room sent ports p running at me i s a t (inl stopped) = none-pends a s.ahead stopped.ahead t.pend
+last-ticks sc hands lawful room sent ports p running at me i s a t (inr (inl h)) =
+    let same : h.waits.a ≡ a = same-timed h.waits.a a (sym h.waits.stands.receives.pends ∙ t.pend) in
+    subst (λ (b : Timed). HasToldLast sc hands me i p (after_act sc ports me i (pass_and_tick sc ports me i b.tick s.core) s)) same
+    (hearing-last sc hands lawful room sent ports p running at me i s h (t.frame h.waits.st h.waits.stands.state h.waits.stands.good) t.all_sent (t.words h.waits.st h.waits.stands.state)
+    (subst (λ (b : Timed). Every (λ c. b.time < c.time) s.coming) (sym same) t.later))
+last-ticks sc hands lawful room sent ports p running at me i s a t (inr (inr (inl h))) =
+    let same : h.a ≡ a = same-timed h.a a (sym h.pends ∙ t.pend) in
+    subst (λ (b : Timed). HasToldLast sc hands me i p (after_act sc ports me i (pass_and_tick sc ports me i b.tick s.core) s)) same
+    (deaf-last sc hands lawful room ports p running at me i s h (t.words h.st h.state))
+last-ticks sc hands lawful room sent ports p running at me i s a t (inr (inr (inr h))) =
+    told-ticks sc hands ports me i p s a room h t.pend (before-end sc hands sent lawful ports p running at me i s a t h)
+
+-- a node that does not listen in the stage has said all of it before its last tick
+deaf-quiet : (sc : Scenario) (hands : List HandIn) → IsLawful sc → HasRoom sc.plan → (sent : Side → ℕ → ℕ → Bool) (ports : List PortState) (p : ℕ) → IsRunning (moment sc hands p)
+    → (moment sc hands p).window ≡ 3 * sync_slot_of sc.sizes + 2 → (me : Side) (i : ℕ) (s : Site) (a : Timed) → TickBreaks sc hands sent ports p me i s a → WaitsDeaf sc hands me i p s
+    → (pass_and_tick sc ports me i a.tick s.core).message ≡ None
+deaf-quiet sc hands lawful room sent ports p running at me i s a t h =
+    let same : h.a ≡ a = same-timed h.a a (sym h.pends ∙ t.pend) in
+    let shows = shows-deaf sc m ports me i s h.st h.a.tick room h.good h.stands h.had h.small (t.words h.st h.state) h.last h.slot h.deaf in
+    let end : time_of (clock_of sc me i) h.a.tick ≡ time_of (clock_of sc me i) (last_tick sc m me h.st) = ap (time_of (clock_of sc me i)) h.last in
+    let none : if_at h.a.tick (sending_at sc.sizes sc.plan me i h.st m.window (word_at sc m me i h.st)) ≡ None =
+    gone h.a.tick (sending_at sc.sizes sc.plan me i h.st m.window (word_at sc m me i h.st))
+    (λ x e. sent-then sc hands lawful p 2 running (lit< tt) at me i h.st h.state h.good me i h.st h.state h.good h.a h.at_time (omega (arith, end, h.at_time)) x
+    (sending-of-is sc m me i h.st h.state ∙ e)) in
+    subst (λ (b : Timed). (pass_and_tick sc ports me i b.tick s.core).message ≡ None) same (shows.act.message ∙ none)
+  where
+    m : Moment
+    m = moment sc hands p
+
+    differs : (a b : ℕ) → a < b → (a == b) ≡ false
+    differs a b h = grind (arith, nat_tests)
+
+    gone : (k : ℕ) (o : Option Sending) → ((x : Sending) → o ≡ Some x → x.tick < k) → if_at k o ≡ None
+    gone k None h = refl
+    gone k (Some x) h = ap (λ b. elim b as (λ _. Option Message) [ true ↦ Some x.message | false ↦ None ]) (differs x.tick k (h x refl))
+
+none-some : {X P : Type 0} (o : Option X) (x : X) → o ≡ None → o ≡ Some x → P
+none-some None x e f = cc
+none-some (Some y) x e f = cc
+
+true-false : true ≡ false → ⊥
+true-false e = cc
+
+-- and what the node says comes to a node that listens in the stage after that one's last tick
+pub ticks-late : (sc : Scenario) (hands : List HandIn) → IsLawful sc → HasRoom sc.plan → (sent : Side → ℕ → ℕ → Bool) (ports : List PortState) (p : ℕ) → IsRunning (moment sc hands p)
+    → (moment sc hands p).window ≡ 3 * sync_slot_of sc.sizes + 2 → (me : Side) (i : ℕ) (s : Site) (a : Timed) → TickBreaks sc hands sent ports p me i s a → SiteLast sc hands sent p me i s
+    → (frame : ℕ) (side : Side) (n : ℕ) (z : Site) (w : WaitsAhead sc hands sent side n p z) → same_side side (other me) ≡ true
+    → (msg : Message) → (pass_and_tick sc ports me i a.tick s.core).message ≡ Some msg → w.waits.a.time < (coming_of sc side n i frame (record { tick = a.tick; message = msg })).time
+ticks-late sc hands lawful room sent ports p running at Biu i s a t h frame Biu n z w kind msg e = cc
+ticks-late sc hands lawful room sent ports p running at Rmu i s a t h frame Rmu n z w kind msg e = cc
+ticks-late sc hands lawful room sent ports p running at Rmu i s a t h frame Biu n z w kind msg e =
+    absurd (true-false (sym w.waits.hears ∙ ap (listens Biu Sync) (third-stage sc (moment sc hands p) at Biu w.waits.st)))
+ticks-late sc hands lawful room sent ports p running at Biu i s a t h frame Rmu n z w kind msg e = by h
+  where
+    by : SiteLast sc hands sent p Biu i s → w.waits.a.time < (coming_of sc Rmu n i frame (record { tick = a.tick; message = msg })).time
+    by (inl stopped) = none-pends a s.ahead stopped.ahead t.pend
+    by (inr (inl b)) = absurd (true-false (sym b.waits.hears ∙ ap (listens Biu Sync) (third-stage sc (moment sc hands p) at Biu b.waits.st)))
+    by (inr (inr (inl b))) = none-some (pass_and_tick sc ports Biu i a.tick s.core).message msg (deaf-quiet sc hands lawful room sent ports p running at Biu i s a t b) e
+    by (inr (inr (inr b))) =
+        let m : Moment = moment sc hands p in
+        let late : b.x + sc.plan.h ≤ a.tick = (told-goes sc hands ports Biu i p s a room b t.pend (before-end sc hands sent lawful ports p running at Biu i s a t b)).message refl msg e in
+        let comes : time_of (clock_of sc Rmu n) (last_tick sc m Rmu w.waits.st) < (coming_of sc Rmu n i frame (record { tick = a.tick; message = msg })).time =
+        comes-later sc hands lawful p running at n w.waits.st w.waits.stands.state w.waits.stands.good i b.st b.state b.good b.x a.tick frame msg (b.calls refl) late in
+        let at_time : w.waits.a.time ≡ time_of (clock_of sc Rmu n) w.waits.a.tick = w.waits.stands.receives.at_time in
+        let its : time_of (clock_of sc Rmu n) w.waits.a.tick ≡ time_of (clock_of sc Rmu n) (last_tick sc m Rmu w.waits.st) = ap (time_of (clock_of sc Rmu n)) w.waits.last in
+        omega (arith, comes, at_time, its)

@@ -1,0 +1,162 @@
+-- For the law that events are rounds where the premise on faults is broken in a sync slot: what a node does after it has
+-- closed the stage with which the run breaks off. Whatever middles it keeps, it tells nothing up to the last tick of the next window.
+use Rattle.std.proofs.Common.{◌≡◌, ℕ, ◌+◌, ◌<◌, ◌≤◌, ◌==◌, ◌&&◌, if◌then◌else◌, Bool, true, false, List, [], ◌∷◌, ◌++◌, not, nat_lt, refl, ap, sym, ◌∙◌, subst, arith, inl, inr, Option, Some, None, is_some}
+use Rattle.std.proofs.lemmas.Bool.{cases_lt}
+use Rattle.std.proofs.lemmas.Bool.Decides.{nat_tests}
+use Rattle.rb_base.specs.Nodes.{Side, other}
+use Rattle.rb_base.specs.Sizes.{Sizes}
+use Rattle.rb_rules.specs.declared.message.Message.{Message}
+use Rattle.rb_rules.specs.declared.plan.Plan.{Plan}
+use Rattle.rb_rules.specs.Core.{Act, Core, act_at, act_on, arrive, epoch_at, is_last, is_spent, is_tick, of_source, said_at, state_at, state_kept, tick, window_here}
+use Rattle.rb_rules.specs.ExactStage.{Outcome, says}
+use Rattle.rb_rules.specs.Hearing.{close_window}
+use Rattle.rb_rules.specs.NodeState.{NodeState}
+use Rattle.rb_rules.specs.NodeSteps.{turn_if_known}
+use Rattle.rb_rules.specs.Plan.{tail_start_of}
+use Rattle.rb_rules.specs.Slots.{count_of}
+use Rattle.rb_rules.specs.SyncStage.{new_epoch_of}
+use Rattle.rb_rules.proofs.RoundStates.{HasTicks}
+use Rattle.rb_laws_events.specs.Closing.{stages_in}
+use Rattle.rb_laws_events.proofs.NodeTicks.{Like, like-kept, like-itself, past-tail, tail-first}
+use Rattle.rb_laws_events.proofs.StageOrder.{last_of}
+use Rattle.rb_laws_events.proofs.TickWindows.{IsTickIn, ends-before-later, first_of, last-is}
+
+-- a node of a frame that began at tick e stands in window n or beyond, and its next frame begins after all stages of this one
+pub record IsPast (sizes : Sizes) (plan : Plan) (me : Side) (frame e n : ℕ) (c : NodeState) (had : ℕ) : Type 0 where
+  pub in_frame : c.frame ≡ frame
+  pub epoch : c.epoch ≡ e
+  pub from : c.epoch + first_of sizes plan me c n ≤ had
+  pub next : (x : ℕ) → new_epoch_of plan me c ≡ Some x → c.epoch + tail_start_of sizes plan ≤ x
+
+-- it turns at no tick of the window
+pub turns-later : (sizes : Sizes) (plan : Plan) (me : Side) (c : NodeState) (n k : ℕ) → HasTicks plan → ((x : ℕ) → new_epoch_of plan me c ≡ Some x → c.epoch + tail_start_of sizes plan ≤ x)
+    → n ≤ stages_in sizes → IsTickIn sizes plan me c n k → state_at sizes plan me c k ≡ c
+unfolding state_at
+turns-later sizes plan me c n k ticks next le at =
+    ap (λ b. elim b as (λ _. NodeState) [ true ↦ turn_if_known sizes plan me c | false ↦ c ]) (no-tick (new_epoch_of plan me c) later)
+  where
+    differs : (a b : ℕ) → b < a → (a == b) ≡ false
+    differs a b h = grind (arith, nat_tests)
+
+    no-tick : (o : Option ℕ) → ((x : ℕ) → o ≡ Some x → k < x) → is_tick o k ≡ false
+    no-tick None h = refl
+    no-tick (Some x) h = differs x k (h x refl)
+
+    later : (x : ℕ) → new_epoch_of plan me c ≡ Some x → k < x
+    later x e =
+        let low : c.epoch + tail_start_of sizes plan ≤ x = next x e in
+        let to : k ≤ c.epoch + last_of sizes plan me c n = at.to in
+        elim (cases_lt n (stages_in sizes)) [
+          | inl lt ↦
+              let before : last_of sizes plan me c n < first_of sizes plan me c (stages_in sizes) = ends-before-later sizes plan me c n (stages_in sizes) ticks lt (omega arith) in
+              let first : first_of sizes plan me c (stages_in sizes) ≡ tail_start_of sizes plan = tail-first sizes plan me c in
+              omega (arith, low, to, before, first)
+          | inr ge ↦
+              let same : n ≡ stages_in sizes = omega (arith, le, ge) in
+              past-tail sizes plan me c k x ticks low (subst (λ n. IsTickIn sizes plan me c n k) same at) e
+        ]
+
+-- what it says changes neither its frame nor its windows
+kept-like : (sizes : Sizes) (plan : Plan) (me : Side) (i : ℕ) (c : NodeState) (word : ℕ) (m : Option Message) → Like sizes plan me i c (state_kept sizes me i c word m) × ((state_kept sizes me i c word m).frame ≡ c.frame)
+kept-like sizes plan me i c word None = (like-itself sizes plan me i c, refl)
+kept-like sizes plan me i c word (Some m) =
+    (like-kept sizes plan me i c m.slot m.stage word, by ((m.stage == 1) && is_some (says sizes me i c m.slot m.stage word)))
+  where
+    by : (b : Bool) → (if b then record c { sent = says sizes me i c m.slot m.stage word } else c).frame ≡ c.frame
+    by true = refl
+    by false = refl
+
+pub past-kept : (sizes : Sizes) (plan : Plan) (me : Side) (i frame e n : ℕ) (c y : NodeState) (had more : ℕ) → Like sizes plan me i c y → y.frame ≡ c.frame → had ≤ more
+    → IsPast sizes plan me frame e n c had → IsPast sizes plan me frame e n y more
+past-kept sizes plan me i frame e n c y had more like same le h =
+    let first : first_of sizes plan me y n ≡ first_of sizes plan me c n = ap (λ w. w.first) (like.windows n) in
+    let epoch : y.epoch ≡ c.epoch = like.epoch in
+    record {
+      in_frame = same ∙ h.in_frame;
+      epoch = epoch ∙ h.epoch;
+      from = omega (arith, first, epoch, h.from, le);
+      next = λ x known. omega (arith, epoch, h.next x (sym like.next ∙ known));
+    }
+
+-- what an act gives in which no window ends
+pub record TellsNone (sizes : Sizes) (plan : Plan) (me : Side) (i frame e n : ℕ) (was : NodeState) (x : Act) : Type 0 where
+  pub closed : x.closed ≡ None
+  pub like : Like sizes plan me i was x.core.state
+  pub past : IsPast sizes plan me frame e n x.core.state x.core.had
+
+-- at a tick of the window before its last a node that stands in it closes no window
+pub past-tick : (sizes : Sizes) (plan : Plan) (me : Side) (i frame e n : ℕ) (c : Core) (word : ℕ) → HasTicks plan → n ≤ stages_in sizes → IsPast sizes plan me frame e n c.state c.had
+    → c.had < c.state.epoch + last_of sizes plan me c.state n → TellsNone sizes plan me i frame e n c.state (tick sizes plan me i c word)
+unfolding tick act_at act_on
+past-tick sizes plan me i frame e n c word ticks le h before = by (is_spent c)
+  where
+    st : NodeState
+    st = c.state
+
+    at : IsTickIn sizes plan me st n c.had
+    at = record { from = h.from; to = omega (arith, before) }
+
+    now : state_at sizes plan me st c.had ≡ st
+    now = turns-later sizes plan me st n c.had ticks h.next le at
+
+    differs : (a b : ℕ) → a < b → (a == b) ≡ false
+    differs a b h = grind (arith, nat_tests)
+
+    not-last : is_last sizes plan me st c.had ≡ false
+    not-last = last-is sizes plan me st n c.had ticks le at ∙ differs c.had (st.epoch + last_of sizes plan me st n) before
+
+    act : (m : Option Message) → TellsNone sizes plan me i frame e n c.state (act_on sizes plan me i c st m (state_kept sizes me i st word m))
+    act m = go (is_last sizes plan me st c.had) not-last
+      where
+        kept : NodeState
+        kept = state_kept sizes me i st word m
+
+        closing : Outcome
+        closing = close_window sizes plan me i kept (window_here sizes plan me st c.had) (of_source c.inbox)
+
+        acts : Bool → Act
+        acts b = elim b as (λ _. Act) [
+          | true ↦ record {
+            core = record { state = closing.state; had = c.had + 1; inbox = [] };
+            epoch = epoch_at sizes me st c.had;
+            message = m;
+            closed = Some closing.closed;
+          }
+          | false ↦ record {
+            core = record { state = kept; had = c.had + 1; inbox = c.inbox };
+            epoch = epoch_at sizes me st c.had;
+            message = m;
+            closed = None;
+          }
+        ]
+
+        go : (b : Bool) → b ≡ false → TellsNone sizes plan me i frame e n c.state (acts b)
+        go true e = cc
+        go false _ =
+            let like = kept-like sizes plan me i st word m in
+            record { closed = refl; like = like.0; past = past-kept sizes plan me i frame e n st kept c.had (c.had + 1) like.0 like.1 (omega arith) h }
+
+    by : (b : Bool) → TellsNone sizes plan me i frame e n c.state (elim b as (λ _. Act) [
+      | true ↦ record { core = c; epoch = None; message = None; closed = None }
+      | false ↦ act_at sizes plan me i c word
+    ])
+    by true = record { closed = refl; like = like-itself sizes plan me i c.state; past = h }
+    by false =
+        subst (λ z. TellsNone sizes plan me i frame e n c.state (act_on sizes plan me i c z (said_at sizes plan me i z word c.had) (state_kept sizes me i z word (said_at sizes plan me i z word c.had))))
+        (sym now) (act (said_at sizes plan me i st word c.had))
+
+-- nor does it where something comes
+pub past-arrival : (sizes : Sizes) (plan : Plan) (me : Side) (frame e n : ℕ) (c : Core) (j : ℕ) (bytes : List ℕ) → IsPast sizes plan me frame e n c.state c.had
+    → IsPast sizes plan me frame e n (arrive sizes me c j bytes).state (arrive sizes me c j bytes).had
+unfolding arrive
+past-arrival sizes plan me frame e n c j bytes h = by (nat_lt j (count_of (other me) sizes) && not (is_spent c))
+  where
+    comes : Bool → Core
+    comes b = elim b as (λ _. Core) [
+      | true ↦ record c { inbox = c.inbox ++ (j, record { stamp = c.had; bytes = bytes }) ∷ [] }
+      | false ↦ c
+    ]
+
+    by : (b : Bool) → IsPast sizes plan me frame e n (comes b).state (comes b).had
+    by true = h
+    by false = h

@@ -1,0 +1,58 @@
+-- For the law that something is due: as long as something is pending, some event is due.
+use Rattle.std.proofs.Common.{◌≡◌, ℕ, ◌≤◌, ◌||◌, false, List, [], ◌∷◌, ◌++◌, flat_map, length, map, refl, ap, ◌∙◌, subst, arith, Option, Some, None, option_map, option_to_list, slice_get}
+use Rattle.rb_base.specs.Nodes.{Side}
+use Rattle.rb_base.specs.Nodes.Side.{Biu, Rmu}
+use Rattle.rb_rules.specs.Book.{in_order, of_kind}
+use Rattle.rb_rules.specs.Goodness.{Scenario}
+use Rattle.rb_rules.specs.Hearing.{Coming}
+use Rattle.rb_rules.specs.WorldStep.{Choice, Due, Site, Timed, World, due_of, least, needs_no_event, times_of, world_after}
+use Rattle.rb_laws_events.specs.Laws.{SomethingIsDue}
+use Rattle.rb_laws_events.proofs.DueEvents.{every-at, every-back, every-front, every-unflat, least-none, some-due}
+use Rattle.rb_laws_events.proofs.SameHeard.{Every}
+use Rattle.rb_laws_events.proofs.WorldNodes.{worlds-known}
+
+-- a node with a pending tick
+pub record SomePends (w : World) : Type 0 where
+  pub me : Side
+  pub i : ℕ
+  pub s : Site
+  pub a : Timed
+  pub there : slice_get (of_kind me w.sites) i ≡ Some s
+  pub pends : s.ahead ≡ Some a
+
+-- its next tick is among all that pends
+some-time : (w : World) (me : Side) (i : ℕ) (s : Site) (a : Timed) → slice_get (of_kind me w.sites) i ≡ Some s → s.ahead ≡ Some a
+    → (t : ℕ) × (least (flat_map times_of (in_order w.sites)) ≡ Some t)
+some-time w me i s a there pend = by (least (flat_map times_of (in_order w.sites))) refl
+  where
+    own : Every (λ u. ⊥) (times_of s) → ⊥
+    own all = (subst (λ o. Every (λ (u : ℕ). ⊥) (option_to_list (option_map (λ (a : Timed). a.time) o) ++ map (λ (c : Coming). c.time) s.coming)) pend all).0
+
+    at : (me : Side) → slice_get (of_kind me w.sites) i ≡ Some s → Every (λ s. Every (λ u. ⊥) (times_of s)) (w.sites.bius ++ w.sites.rmus) → Every (λ u. ⊥) (times_of s)
+    at Biu e all = every-at (λ s. Every (λ u. ⊥) (times_of s)) w.sites.bius i s e (every-front (λ s. Every (λ u. ⊥) (times_of s)) w.sites.bius w.sites.rmus all)
+    at Rmu e all = every-at (λ s. Every (λ u. ⊥) (times_of s)) w.sites.rmus i s e (every-back (λ s. Every (λ u. ⊥) (times_of s)) w.sites.bius w.sites.rmus all)
+
+    by : (o : Option ℕ) → least (flat_map times_of (in_order w.sites)) ≡ o → (t : ℕ) × (least (flat_map times_of (in_order w.sites)) ≡ Some t)
+    by (Some t) e = (t, e)
+    by None e =
+        let none : Every (λ u. ⊥) (flat_map times_of (in_order w.sites)) = least-none (λ u. ⊥) (flat_map times_of (in_order w.sites)) e in
+        absurd (own (at me there (every-unflat (λ u. ⊥) times_of (in_order w.sites) none)))
+
+-- where a tick is pending, some event is due
+due-where-pends : (sc : Scenario) (choices : List Choice) → SomePends (world_after sc choices)
+    → (world_after sc choices).book.ended ≡ false → needs_no_event sc (world_after sc choices).book.upcoming ≡ false → 1 ≤ length (due_of sc (world_after sc choices))
+due-where-pends sc choices node going needs =
+    let w : World = world_after sc choices in
+    let pending = some-time w node.me node.i node.s node.a node.there node.pends in
+    let goes : (w.book.ended || needs_no_event sc w.book.upcoming) ≡ false = ap (λ b. b || needs_no_event sc w.book.upcoming) going ∙ needs in
+    some-item (due_of sc w) (some-due sc w pending.0 (record { known = (worlds-known sc choices).known }) goes pending.1)
+  where
+    some-item : (ds : List Due) → (ds ≡ [] → ⊥) → 1 ≤ length ds
+    some-item [] never = absurd (never refl)
+    some-item (d ∷ ds) never = omega arith
+
+-- so the law holds where in each world in which the next record needs an event some tick is pending
+pub something-is-due : (sc : Scenario)
+    → ((choices : List Choice) → (world_after sc choices).book.ended ≡ false → needs_no_event sc (world_after sc choices).book.upcoming ≡ false → SomePends (world_after sc choices))
+    → SomethingIsDue sc
+something-is-due sc pends choices going needs = due-where-pends sc choices (pends choices going needs) going needs

@@ -1,0 +1,163 @@
+-- For the law that every run ends: where each world has ticks left, only so many events are taken, whatever is chosen.
+use Rattle.std.proofs.Common.{◌≡◌, ℕ, zero, suc, ◌+◌, ◌*◌, ◌^◌, ◌<◌, ◌≤◌, ◌==◌, ◌&&◌, Bool, true, false, List, [], ◌∷◌, ◌++◌, length, map, refl, sym, ◌∙◌, subst, arith, Option, Some, None, slice_get}
+use Rattle.std.specs.List.{range_with_len}
+use Rattle.std.proofs.lemmas.Nat.{mul-le}
+use Rattle.rb_base.specs.Nodes.{Side}
+use Rattle.rb_base.specs.Nodes.Side.{Biu, Rmu}
+use Rattle.rb_rules.specs.Book.{of_kind}
+use Rattle.rb_rules.specs.Core.{Act}
+use Rattle.rb_rules.specs.Goodness.{Scenario, is_good}
+use Rattle.rb_rules.specs.Ports.{with_state}
+use Rattle.rb_rules.specs.Slots.{count_of, same_side}
+use Rattle.rb_rules.specs.WorldStep.{Choice, Due, Pending, Site, Timed, World, after_act, after_arrival, at_node, choose, due_of, first_world, frame_in, fresh_site, go_on, hand, happens, pass_and_tick, proceed, settle, span_from, take, take_if_due, with_act, with_pending, world_after}
+use Rattle.rb_rules.specs.WorldStep.Choice.{Take, GoOn, Hand}
+use Rattle.rb_rules.specs.WorldStep.Pending.{Tick, Arrival}
+use Rattle.rb_rules.specs.WorldStep.Way.{ByAnEvent, ByItself}
+use Rattle.rb_rules.proofs.WindowNumbers.{length-each}
+use Rattle.rb_laws_events.specs.Laws.{EveryRunEnds, most_at_once, most_takes, nodes_of, taken_by, takes_from}
+use Rattle.rb_laws_events.proofs.DueEvents.{IsDue, IsReady}
+use Rattle.rb_laws_events.proofs.EveryWorld.{after-more, due-going}
+use Rattle.rb_laws_events.proofs.OneEvent.{all-pend, up-there}
+use Rattle.rb_laws_events.proofs.OneTake.{StandsInRounds}
+use Rattle.rb_laws_events.proofs.Takes.{LeavesFew, all_left, arrival-left, enter-few, left_of, message-left, one-less, sum_left, tick-left, ticks_left}
+use Rattle.rb_laws_events.proofs.WorldNodes.{events-due, settle-sites}
+use Rattle.rb_laws_events.proofs.WorldStands.{AllPend, IsUp, sent_by, some-same}
+
+-- A take.
+
+-- a world in which each tick that may be taken is one of those that its node may have
+pub record HasTicksLeft (sc : Scenario) (w : World) : Type 0 where
+  pub counts : (me : Side) → length (of_kind me w.sites) ≡ count_of me sc.sizes
+  pub left : (me : Side) (i : ℕ) (s : Site) (a : Timed) → slice_get (of_kind me w.sites) i ≡ Some s → s.ahead ≡ Some a → AllPend a.time w.sites → (s.core.had ≤ a.tick) × (a.tick < 2 ^ 31)
+
+-- as each world that stands in the rounds is
+pub in-rounds-left : (sc : Scenario) (w : World) → StandsInRounds sc w → HasTicksLeft sc w
+in-rounds-left sc w h = record {
+  counts = h.stands.sites.counts;
+  left = λ me i s a there pend first.
+      let up : IsUp sc w.hands (sent_by sc w.hands h.at w.sites) h.now me i (h.at me i) s = up-there sc h.now h.at w me i s a h.stands.sites there pend in
+      let same : up.a ≡ a = some-same up.a a (sym up.stands.receives.pends ∙ pend) in
+      subst (λ (a : Timed). (s.core.had ≤ a.tick) × (a.tick < 2 ^ 31)) same (up.stands.receives.is_next.later, up.stands.receives.is_next.below);
+}
+
+nodes-there : (sc : Scenario) (w : World) (me : Side) (i : ℕ) (change : Site → Site) → HasTicksLeft sc w
+    → length (at_node me i change w.sites).bius + length (at_node me i change w.sites).rmus ≡ nodes_of sc.sizes
+nodes-there sc w me i change h =
+    let make : Side → ℕ → Site → Site = λ side n s. elim (same_side side me && (n == i)) as (λ _. Site) [ true ↦ change s | false ↦ s ] in
+    let bius : length (at_node me i change w.sites).bius ≡ sc.sizes.bius = length-each make w.sites Biu ∙ h.counts Biu in
+    let rmus : length (at_node me i change w.sites).rmus ≡ sc.sizes.rmus = length-each make w.sites Rmu ∙ h.counts Rmu in
+    omega (arith, bius, rmus)
+
+pending-less : (sc : Scenario) (w : World) (me : Side) (i t : ℕ) (s : Site) (p : Pending) → HasTicksLeft sc w → slice_get (of_kind me w.sites) i ≡ Some s → IsReady t s p → AllPend t w.sites
+    → all_left (most_at_once sc) (with_pending sc w me i s p).sites + 1 ≤ all_left (most_at_once sc) w.sites
+unfolding with_act
+pending-less sc w me i t s (Tick k) h there ready first =
+    let most : ℕ = most_at_once sc in
+    let a : Timed = ready.0 in
+    let room = h.left me i s a there ready.1.0 (subst (λ t. AllPend t w.sites) (sym ready.1.1.1.0) first) in
+    let x : Act = pass_and_tick sc w.ports me i a.tick s.core in
+    let change : Site → Site = after_act sc w.ports me i x in
+    let one = one-less most change me i (nodes_of sc.sizes + 1) w.sites s there (tick-left sc w.ports me i a s ready.1.0 room.0 room.1) in
+    let sent = message-left most sc me i x.core.state.frame a.tick x.message (at_node me i change w.sites) in
+    let many = nodes-there sc w me i change h in
+    subst (λ k. all_left most (with_act sc w me i k (pass_and_tick sc w.ports me i k s.core)).sites + 1 ≤ all_left most w.sites) ready.1.1.0 (omega (arith, one, sent, many))
+pending-less sc w me i t s (Arrival n c) h there ready first =
+    one-less (most_at_once sc) (after_arrival sc me i n c) me i 1 w.sites s there (arrival-left sc me i n c s ready.0)
+
+happens-less : (sc : Scenario) (w : World) (d : Due) → HasTicksLeft sc w → IsDue w d → all_left (most_at_once sc) (happens sc w d).sites + 1 ≤ all_left (most_at_once sc) w.sites
+unfolding happens
+happens-less sc w d h due =
+    subst (λ o. all_left (most_at_once sc) (elim o as (λ _. World) [ None ↦ w | Some s ↦ with_pending sc w d.side d.node s d.pending ]).sites + 1 ≤ all_left (most_at_once sc) w.sites)
+    (sym due.there) (pending-less sc w d.side d.node due.t due.s d.pending h due.there due.ready (all-pend w due.t due.first))
+
+-- A choice.
+
+choice-less : (sc : Scenario) (choices : List Choice) (c : Choice) → ((world_after sc choices).book.ended ≡ false → HasTicksLeft sc (world_after sc choices))
+    → taken_by sc (world_after sc choices) c + all_left (most_at_once sc) (choose sc (world_after sc choices) c).sites ≤ all_left (most_at_once sc) (world_after sc choices).sites
+unfolding take go_on hand
+choice-less sc choices (Take i) h = by (slice_get (due_of sc (world_after sc choices)) i) refl
+  where
+    by : (o : Option Due) → slice_get (due_of sc (world_after sc choices)) i ≡ o
+        → (elim o as (λ _. ℕ) [ None ↦ 0 | Some d ↦ 1 ]) + all_left (most_at_once sc) (take_if_due sc (world_after sc choices) o).sites
+        ≤ all_left (most_at_once sc) (world_after sc choices).sites
+    by None e = omega arith
+    by (Some d) e =
+        let w : World = world_after sc choices in
+        let less = happens-less sc w d (h (due-going sc w i d e).0) (events-due sc choices i d e) in
+        let same : (take_if_due sc w (Some d)).sites ≡ (happens sc w d).sites = settle-sites sc ByAnEvent 2 (happens sc w d) in
+        subst (λ sites. 1 + all_left (most_at_once sc) sites ≤ all_left (most_at_once sc) w.sites) (sym same) (omega (arith, less))
+choice-less sc choices GoOn h = by (world_after sc choices).book.ended
+  where
+    by : (b : Bool) → 0 + all_left (most_at_once sc) (elim b as (λ _. World) [ true ↦ world_after sc choices | false ↦ settle sc ByItself 2 (world_after sc choices) ]).sites
+        ≤ all_left (most_at_once sc) (world_after sc choices).sites
+    by true = omega arith
+    by false =
+        subst (λ sites. 0 + all_left (most_at_once sc) sites ≤ all_left (most_at_once sc) (world_after sc choices).sites)
+        (sym (settle-sites sc ByItself 2 (world_after sc choices))) (omega arith)
+choice-less sc choices (Hand biu state) h = by (world_after sc choices) (frame_in (world_after sc choices).turn)
+  where
+    inner : (w x : World) (b : Bool) → x.sites ≡ w.sites → 0 + all_left (most_at_once sc) (elim b as (λ _. World) [ true ↦ x | false ↦ w ]).sites ≤ all_left (most_at_once sc) w.sites
+    inner w x true e = subst (λ sites. 0 + all_left (most_at_once sc) sites ≤ all_left (most_at_once sc) w.sites) (sym e) (omega arith)
+    inner w x false e = omega arith
+
+    by : (w : World) (o : Option ℕ) → 0 + all_left (most_at_once sc) (elim o as (λ _. World) [
+      | None ↦ w
+      | Some frame ↦ elim (is_good sc Biu biu frame 0) [
+        | true ↦ record w { ports = with_state biu state w.ports; hands = w.hands ++ record { frame = frame; biu = biu; state = state } ∷ [] }
+        | false ↦ w
+      ]
+    ]).sites ≤ all_left (most_at_once sc) w.sites
+    by w None = omega arith
+    by w (Some frame) = inner w (record w { ports = with_state biu state w.ports; hands = w.hands ++ record { frame = frame; biu = biu; state = state } ∷ [] }) (is_good sc Biu biu frame 0) refl
+
+-- All choices.
+
+choices-less : (sc : Scenario) → ((choices : List Choice) → (world_after sc choices).book.ended ≡ false → HasTicksLeft sc (world_after sc choices)) → (before rest : List Choice)
+    → takes_from sc (world_after sc before) rest ≤ all_left (most_at_once sc) (world_after sc before).sites
+choices-less sc stands before [] = omega arith
+choices-less sc stands before (c ∷ rest) =
+    let w : World = world_after sc before in
+    let one = choice-less sc before c (stands before) in
+    let more = choices-less sc stands (before ++ c ∷ []) rest in
+    let then_more : takes_from sc (choose sc w c) rest ≤ all_left (most_at_once sc) (choose sc w c).sites =
+    subst (λ (w : World). takes_from sc w rest ≤ all_left (most_at_once sc) w.sites) (after-more sc before c) more in
+    omega (arith, one, then_more)
+
+-- The first world.
+
+sum-made : (most all : ℕ) (make : ℕ → Site) (a n : ℕ) → ((k : ℕ) → left_of most (make k) ≤ all) → sum_left most (map make (range_with_len a n)) ≤ n * all
+sum-made most all make a zero each = omega arith
+sum-made most all make a (suc n) each =
+    let head : left_of most (make a) ≤ all = each a in
+    let rest = sum-made most all make (a + 1) n each in
+    let more : suc n * all ≡ all + n * all = omega arith in
+    omega (arith, head, rest, more)
+
+fresh-left : (sc : Scenario) (me : Side) (i : ℕ) → left_of (most_at_once sc) (proceed sc me i (fresh_site sc.sizes me)) ≤ 2 ^ 31 * (most_at_once sc + 1) + most_at_once sc
+unfolding left_of proceed
+fresh-left sc me i =
+    let s : Site = fresh_site sc.sizes me in
+    let z : Site = proceed sc me i s in
+    let few : LeavesFew sc 0 s z = enter-few sc me i (span_from sc.sizes sc.plan me s.core.state s.core.had) s in
+    let ticks : ticks_left z.ahead ≤ 2 ^ 31 = let le = few.ticks in omega (arith, le) in
+    let up : ticks_left z.ahead * (most_at_once sc + 1) ≤ 2 ^ 31 * (most_at_once sc + 1) = mul-le (ticks_left z.ahead) (most_at_once sc + 1) (2 ^ 31) (most_at_once sc + 1) ticks (omega arith) in
+    let coming = few.coming in
+    omega (arith, up, coming)
+
+first-left : (sc : Scenario) → all_left (most_at_once sc) (first_world sc).sites ≤ most_takes sc
+unfolding first_world
+first-left sc =
+    let most : ℕ = most_at_once sc in
+    let all : ℕ = 2 ^ 31 * (most + 1) + most in
+    let bius = sum-made most all (λ i. proceed sc Biu i (fresh_site sc.sizes Biu)) 0 sc.sizes.bius (fresh-left sc Biu) in
+    let rmus = sum-made most all (λ i. proceed sc Rmu i (fresh_site sc.sizes Rmu)) 0 sc.sizes.rmus (fresh-left sc Rmu) in
+    let both : nodes_of sc.sizes * all ≡ sc.sizes.bius * all + sc.sizes.rmus * all = omega arith in
+    omega (arith, bius, rmus, both)
+
+-- where each world has ticks left, only so many events are taken
+pub every-run-ends : (sc : Scenario) → ((choices : List Choice) → (world_after sc choices).book.ended ≡ false → HasTicksLeft sc (world_after sc choices))
+    → ((choices : List Choice) (me : Side) (i : ℕ) (s : Site) → slice_get (of_kind me (world_after sc choices).sites) i ≡ Some s → s.runs ≡ true → s.core.had < 2 ^ 31) → EveryRunEnds sc
+every-run-ends sc left room = record {
+  few = λ choices. let less = choices-less sc left [] choices in let first = first-left sc in omega (arith, less, first);
+  room = room;
+}

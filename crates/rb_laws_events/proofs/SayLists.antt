@@ -1,0 +1,273 @@
+-- For the law that events are rounds: what nodes that are not good say in a window that opens: it comes in the
+-- window, and stands together with what good nodes have already sent for it.
+use Rattle.std.proofs.Common.{◌≡◌, ℕ, zero, suc, ◌+◌, ◌<◌, ◌≤◌, ◌==◌, ◌&&◌, ◌⊎◌, nat_le, nat_lt, Bool, true, false, cond, All, List, [], ◌∷◌, ◌++◌, filter, flat_map, map, length, refl, ap, sym, ◌∙◌, subst, arith, inl, inr}
+use Rattle.std.specs.List.{range_with_len}
+use Rattle.std.proofs.lemmas.Bool.{cases_lt, and_parts, leb-true}
+use Rattle.std.proofs.lemmas.Bool.Decides.{nat_tests}
+use Rattle.std.proofs.lemmas.List.{append-nil}
+use Rattle.std.proofs.lemmas.List.Elements.{filter-append, All-head, All-tail}
+use Rattle.rb_base.specs.Nodes.{Side, other}
+use Rattle.rb_base.specs.Nodes.Side.{Biu, Rmu}
+use Rattle.rb_base.specs.Sizes.{Sizes}
+use Rattle.rb_base.specs.declared.node.NodeName.{NodeName}
+use Rattle.rb_base.specs.declared.node.NodeName.TheVariants as node
+use Rattle.rb_rules.specs.declared.message.Version.{Version}
+use Rattle.rb_rules.specs.declared.say.Say.{Say}
+use Rattle.rb_rules.specs.Clock.{Timeline, tick_length, time_of}
+use Rattle.rb_rules.specs.Goodness.{Scenario, is_good, clock_of}
+use Rattle.rb_rules.specs.Hearing.{Coming, Span, coming_said, is_said, said_by}
+use Rattle.rb_rules.specs.Lawful.{IsLawful, IsNodeOf, IsSayOf}
+use Rattle.rb_rules.specs.Links.{covers, name_of, same_node, stands_for}
+use Rattle.rb_rules.specs.Plan.{shortest_of, longest_of}
+use Rattle.rb_rules.specs.Slots.{count_of}
+use Rattle.rb_rules.specs.WorldStep.{says_in}
+use Rattle.rb_rules.proofs.Drift.{HasLengths, times_rise_to}
+use Rattle.rb_laws_events.proofs.PendingLists.{Hears, is_later, is_now}
+use Rattle.rb_laws_events.proofs.SameHeard.{Every, IsOneOf}
+
+-- Times.
+
+-- what is said for a window comes at one of its ticks, or less than a tick before
+abbrev pub ComesIn : Timeline → Span → Coming → Type 0
+ComesIn clock span c = ((m : ℕ) → span.first ≡ suc m → time_of clock m < c.time) × (c.time ≤ time_of clock span.last)
+
+said-comes : (sc : Scenario) (me : Side) (i j : ℕ) (span : Span) (version : Version) (s : Say) → HasLengths (shortest_of sc.plan) (longest_of sc.plan) (clock_of sc me i)
+    → s.early < shortest_of sc.plan → span.first + s.offset ≤ span.last → ComesIn (clock_of sc me i) span (coming_said version (clock_of sc me i) j span s)
+said-comes sc me i j span version s lengths early within =
+    let clock : Timeline = clock_of sc me i in (
+      λ m e.
+          let low : shortest_of sc.plan ≤ tick_length clock m = (lengths m).0 in
+          let next : time_of clock (suc m) ≡ time_of clock m + tick_length clock m = refl in
+          let up : time_of clock (suc m) ≤ time_of clock (span.first + s.offset) = times_rise_to clock (suc m) (span.first + s.offset) (omega arith) in
+          omega (arith, low, next, up, early),
+      let up : time_of clock (span.first + s.offset) ≤ time_of clock span.last = times_rise_to clock (span.first + s.offset) span.last within in
+          omega arith,
+    )
+
+pub said-all : (sc : Scenario) (me : Side) (i j : ℕ) (span : Span) → HasLengths (shortest_of sc.plan) (longest_of sc.plan) (clock_of sc me i)
+    → (says : List Say) → All (IsSayOf sc) says
+    → Every (ComesIn (clock_of sc me i) span) (map (coming_said sc.plan.version (clock_of sc me i) j span) (filter (is_said me i j span) says))
+said-all sc me i j span lengths [] all = tt
+said-all sc me i j span lengths (s ∷ ss) all = by (is_said me i j span s) refl (said-all sc me i j span lengths ss (All-tail (IsSayOf sc) s ss all))
+  where
+    by : (b : Bool) → is_said me i j span s ≡ b
+        → Every (ComesIn (clock_of sc me i) span) (map (coming_said sc.plan.version (clock_of sc me i) j span) (filter (is_said me i j span) ss))
+        → Every (ComesIn (clock_of sc me i) span) (map (coming_said sc.plan.version (clock_of sc me i) j span) (cond b (s ∷ filter (is_said me i j span) ss) (filter (is_said me i j span) ss)))
+    by true e rest =
+        let its : IsSayOf sc s = All-head (IsSayOf sc) s ss all in
+        let parts = and_parts (same_node s.from (name_of (other me) j) && stands_for s.to (name_of me i) && covers s.frames s.slots s.stages span.place)
+        (nat_le (span.first + s.offset) span.last) e in
+        (said-comes sc me i j span sc.plan.version s lengths its.early (leb-true (span.first + s.offset) span.last parts.1), rest)
+    by false e rest = rest
+
+pub said-in-window : (sc : Scenario) → IsLawful sc → (me : Side) (i j : ℕ) (span : Span) → HasLengths (shortest_of sc.plan) (longest_of sc.plan) (clock_of sc me i)
+    → Every (ComesIn (clock_of sc me i) span) (said_by sc me i span j)
+said-in-window sc lawful me i j span lengths = said-all sc me i j span lengths sc.says lawful.says
+
+-- Sources.
+
+-- only nodes of the bus say anything
+same-index : (sizes : Sizes) (side : Side) (from : NodeName) (j : ℕ) → IsNodeOf sizes from → same_node from (name_of side j) ≡ true → j < count_of side sizes
+same-index sizes Biu (node.Biu i) j h e = let same : i ≡ j = grind (arith, nat_tests) in omega arith
+same-index sizes Biu (node.Rmu i) j h e = cc
+same-index sizes Rmu (node.Biu i) j h e = cc
+same-index sizes Rmu (node.Rmu i) j h e = let same : i ≡ j = grind (arith, nat_tests) in omega arith
+
+none-said-of : (sc : Scenario) (me : Side) (i j : ℕ) (span : Span) → count_of (other me) sc.sizes ≤ j → (says : List Say) → All (IsSayOf sc) says
+    → filter (is_said me i j span) says ≡ []
+none-said-of sc me i j span over [] all = refl
+none-said-of sc me i j span over (s ∷ ss) all = by (is_said me i j span s) refl (none-said-of sc me i j span over ss (All-tail (IsSayOf sc) s ss all))
+  where
+    by : (b : Bool) → is_said me i j span s ≡ b → filter (is_said me i j span) ss ≡ []
+        → cond b (s ∷ filter (is_said me i j span) ss) (filter (is_said me i j span) ss) ≡ []
+    by true e rest =
+        let its : IsSayOf sc s = All-head (IsSayOf sc) s ss all in
+        let a = and_parts (same_node s.from (name_of (other me) j) && stands_for s.to (name_of me i) && covers s.frames s.slots s.stages span.place)
+        (nat_le (span.first + s.offset) span.last) e in
+        let b = and_parts (same_node s.from (name_of (other me) j) && stands_for s.to (name_of me i)) (covers s.frames s.slots s.stages span.place) a.0 in
+        let c = and_parts (same_node s.from (name_of (other me) j)) (stands_for s.to (name_of me i)) b.0 in
+        let below : j < count_of (other me) sc.sizes = same-index sc.sizes (other me) s.from j its.from c.0 in
+        absurd (omega arith)
+    by false e rest = rest
+
+pub none-said : (sc : Scenario) → IsLawful sc → (me : Side) (i j : ℕ) (span : Span) → count_of (other me) sc.sizes ≤ j → said_by sc me i span j ≡ []
+none-said sc lawful me i j span over =
+    ap (map (coming_said sc.plan.version (clock_of sc me i) j span)) (none-said-of sc me i j span over sc.says lawful.says)
+
+-- what is made of one source is of that source
+map-from : {X : Type 0} (j : ℕ) (f : X → Coming) → ((x : X) → (f x).from ≡ j) → (xs : List X) → Every (λ c. c.from ≡ j) (map f xs)
+map-from j f its [] = tt
+map-from j f its (x ∷ xs) = (its x, map-from j f its xs)
+
+said-from : (sc : Scenario) (me : Side) (i : ℕ) (span : Span) (j : ℕ) → Every (λ c. c.from ≡ j) (said_by sc me i span j)
+said-from sc me i span j = map-from j (coming_said sc.plan.version (clock_of sc me i) j span) (λ s. refl) (filter (is_said me i j span) sc.says)
+
+-- Lists by source.
+
+filter-all : (q : Coming → Bool) (xs : List Coming) → Every (λ c. q c ≡ true) xs → filter q xs ≡ xs
+filter-all q [] e = refl
+filter-all q (x ∷ xs) e = ap (λ b. cond b (x ∷ filter q xs) (filter q xs)) e.0 ∙ ap (λ l. x ∷ l) (filter-all q xs e.1)
+
+filter-no : (q : Coming → Bool) (xs : List Coming) → Every (λ c. q c ≡ false) xs → filter q xs ≡ []
+filter-no q [] e = refl
+filter-no q (x ∷ xs) e = ap (λ b. cond b (x ∷ filter q xs) (filter q xs)) e.0 ∙ filter-no q xs e.1
+
+pub every-to : (P Q : Coming → Type 0) → ((c : Coming) → P c → Q c) → (xs : List Coming) → Every P xs → Every Q xs
+every-to P Q f [] e = tt
+every-to P Q f (x ∷ xs) e = (f x e.0, every-to P Q f xs e.1)
+
+pub every-both : (P Q : Coming → Type 0) (xs : List Coming) → Every P xs → Every Q xs → Every (λ c. P c × Q c) xs
+every-both P Q [] a b = tt
+every-both P Q (x ∷ xs) a b = ((a.0, b.0), every-both P Q xs a.1 b.1)
+
+same-true : (a b : ℕ) → a ≡ b → (a == b) ≡ true
+same-true a b h = grind (arith, nat_tests)
+
+not-same : (a j k : ℕ) → a ≡ k → (k < j) ⊎ (j < k) → (a == j) ≡ false
+not-same a j k e (inl lt) = grind (arith, nat_tests)
+not-same a j k e (inr gt) = grind (arith, nat_tests)
+
+le-true : (a b : ℕ) → a ≤ b → nat_le a b ≡ true
+le-true a b h = grind (arith, nat_tests)
+
+lt-false : (a b : ℕ) → b ≤ a → nat_lt a b ≡ false
+lt-false a b h = grind (arith, nat_tests)
+
+-- of another source nothing passes
+others-now : (j k u : ℕ) (xs : List Coming) → (k < j) ⊎ (j < k) → Every (λ c. c.from ≡ k) xs → filter (is_now j u) xs ≡ []
+others-now j k u xs h e =
+    filter-no (is_now j u) xs (every-to (λ c. c.from ≡ k) (λ c. is_now j u c ≡ false) (λ c f. ap (λ b. b && nat_le c.time u) (not-same c.from j k f h)) xs e)
+
+-- and of the source all that comes by the time
+own-now : (j u : ℕ) (xs : List Coming) → Every (λ c. c.from ≡ j) xs → Every (λ c. c.time ≤ u) xs → filter (is_now j u) xs ≡ xs
+own-now j u xs e times =
+    filter-all (is_now j u) xs
+    (every-to (λ c. (c.from ≡ j) × (c.time ≤ u)) (λ c. is_now j u c ≡ true)
+    (λ c h. ap (λ b. b && nat_le c.time u) (same-true c.from j h.0) ∙ le-true c.time u h.1) xs (every-both (λ c. c.from ≡ j) (λ c. c.time ≤ u) xs e times))
+
+and-none : (b : Bool) → (b && false) ≡ false
+and-none true = refl
+and-none false = refl
+
+none-later : (j u : ℕ) (xs : List Coming) → Every (λ c. c.time ≤ u) xs → filter (is_later j u) xs ≡ []
+none-later j u xs times =
+    filter-no (is_later j u) xs
+    (every-to (λ c. c.time ≤ u) (λ c. is_later j u c ≡ false) (λ c le. ap (λ b. (c.from == j) && b) (lt-false u c.time le) ∙ and-none (c.from == j)) xs times)
+
+flat-miss : (j u : ℕ) (f : ℕ → List Coming) (a n : ℕ) → ((k : ℕ) → Every (λ c. c.from ≡ k) (f k)) → (j < a) ⊎ (a + n ≤ j)
+    → filter (is_now j u) (flat_map f (range_with_len a n)) ≡ []
+flat-miss j u f a zero its out = refl
+flat-miss j u f a (suc n) its out =
+    let rest : filter (is_now j u) (flat_map f (range_with_len (a + 1) n)) ≡ [] = flat-miss j u f (a + 1) n its (elim out [ inl lt ↦ inl (omega arith) | inr ge ↦ inr (omega arith) ]) in
+    filter-append (is_now j u) (f a) (flat_map f (range_with_len (a + 1) n))
+    ∙ ap (λ l. l ++ filter (is_now j u) (flat_map f (range_with_len (a + 1) n)))
+    (others-now j a u (f a) (elim out [ inl lt ↦ inr lt | inr ge ↦ inl (omega arith) ]) (its a))
+    ∙ rest
+
+flat-hit : (j u : ℕ) (f : ℕ → List Coming) (a n : ℕ) → ((k : ℕ) → Every (λ c. c.from ≡ k) (f k)) → Every (λ c. c.time ≤ u) (f j) → a ≤ j → j < a + n
+    → filter (is_now j u) (flat_map f (range_with_len a n)) ≡ f j
+flat-hit j u f a zero its times lo hi = absurd (omega arith)
+flat-hit j u f a (suc n) its times lo hi =
+    filter-append (is_now j u) (f a) (flat_map f (range_with_len (a + 1) n))
+    ∙ elim (cases_lt a j) [
+      | inl lt ↦
+          ap (λ l. l ++ filter (is_now j u) (flat_map f (range_with_len (a + 1) n))) (others-now j a u (f a) (inl lt) (its a))
+          ∙ flat-hit j u f (a + 1) n its times (omega arith) (omega arith)
+      | inr ge ↦
+          let same : j ≡ a = omega arith in
+          let own : filter (is_now j u) (f j) ≡ f j = own-now j u (f j) (its j) times in
+          let own_a : filter (is_now j u) (f a) ≡ f j = ap (λ k. filter (is_now j u) (f k)) (sym same) ∙ own in
+          ap (λ l. l ++ filter (is_now j u) (flat_map f (range_with_len (a + 1) n))) own_a
+          ∙ ap (λ l. f j ++ l) (flat-miss j u f (a + 1) n its (inl (omega arith)))
+          ∙ append-nil (f j)
+    ]
+
+-- A window opens.
+
+-- what node k of the other kind says in it, if it is not good
+abbrev pub said_if : Scenario → Side → ℕ → Span → ℕ → List Coming
+said_if sc me i span k = elim (is_good sc (other me) k span.place.frame span.place.slot) [ true ↦ [] | false ↦ said_by sc me i span k ]
+
+said-if-from : (sc : Scenario) (me : Side) (i : ℕ) (span : Span) (k : ℕ) → Every (λ c. c.from ≡ k) (said_if sc me i span k)
+said-if-from sc me i span k = by (is_good sc (other me) k span.place.frame span.place.slot)
+  where
+    by : (b : Bool) → Every (λ c. c.from ≡ k) (elim b as (λ _. List Coming) [ true ↦ [] | false ↦ said_by sc me i span k ])
+    by true = tt
+    by false = said-from sc me i span k
+
+pub said-if-in : (sc : Scenario) → IsLawful sc → (me : Side) (i : ℕ) (span : Span) → HasLengths (shortest_of sc.plan) (longest_of sc.plan) (clock_of sc me i)
+    → (k : ℕ) → Every (ComesIn (clock_of sc me i) span) (said_if sc me i span k)
+said-if-in sc lawful me i span lengths k = by (is_good sc (other me) k span.place.frame span.place.slot)
+  where
+    by : (b : Bool) → Every (ComesIn (clock_of sc me i) span) (elim b as (λ _. List Coming) [ true ↦ [] | false ↦ said_by sc me i span k ])
+    by true = tt
+    by false = said-in-window sc lawful me i k span lengths
+
+every-flat : (P : Coming → Type 0) (f : ℕ → List Coming) (a n : ℕ) → ((k : ℕ) → Every P (f k)) → Every P (flat_map f (range_with_len a n))
+every-flat P f a zero all = tt
+every-flat P f a (suc n) all = join (f a) (flat_map f (range_with_len (a + 1) n)) (all a) (every-flat P f (a + 1) n all)
+  where
+    join : (xs ys : List Coming) → Every P xs → Every P ys → Every P (xs ++ ys)
+    join [] ys a b = b
+    join (x ∷ xs) ys a b = (a.0, join xs ys a.1 b)
+
+-- all that is said in it comes in it
+pub says-come-in : (sc : Scenario) → IsLawful sc → (me : Side) (i : ℕ) (span : Span) → HasLengths (shortest_of sc.plan) (longest_of sc.plan) (clock_of sc me i)
+    → Every (ComesIn (clock_of sc me i) span) (says_in sc me i span)
+unfolding says_in
+says-come-in sc lawful me i span lengths = every-flat (ComesIn (clock_of sc me i) span) (said_if sc me i span) 0 (count_of (other me) sc.sizes) (said-if-in sc lawful me i span lengths)
+
+-- what is said of source j
+pub says-now : (sc : Scenario) → IsLawful sc → (me : Side) (i : ℕ) (span : Span) → HasLengths (shortest_of sc.plan) (longest_of sc.plan) (clock_of sc me i)
+    → (j : ℕ) → filter (is_now j (time_of (clock_of sc me i) span.last)) (says_in sc me i span) ≡ said_if sc me i span j
+unfolding says_in
+says-now sc lawful me i span lengths j =
+    let u : ℕ = time_of (clock_of sc me i) span.last in
+    let times : Every (λ c. c.time ≤ u) (said_if sc me i span j) =
+    every-to (ComesIn (clock_of sc me i) span) (λ c. c.time ≤ u) (λ c h. h.1) (said_if sc me i span j) (said-if-in sc lawful me i span lengths j) in
+    elim (cases_lt j (count_of (other me) sc.sizes)) [
+      | inl lt ↦ flat-hit j u (said_if sc me i span) 0 (count_of (other me) sc.sizes) (said-if-from sc me i span) times (omega arith) (omega arith)
+      | inr ge ↦
+          flat-miss j u (said_if sc me i span) 0 (count_of (other me) sc.sizes) (said-if-from sc me i span) (inr (omega arith))
+          ∙ sym (none (is_good sc (other me) j span.place.frame span.place.slot) ge)
+    ]
+  where
+    none : (b : Bool) → count_of (other me) sc.sizes ≤ j → (elim b as (λ _. List Coming) [ true ↦ [] | false ↦ said_by sc me i span j ]) ≡ []
+    none true ge = refl
+    none false ge = none-said sc lawful me i j span ge
+
+each-itself : (xs ys : List Coming) → ((x : Coming) → IsOneOf x xs → IsOneOf x ys) → Every (λ c. IsOneOf c ys) xs
+each-itself [] ys f = tt
+each-itself (x ∷ xs) ys f = (f x (inl refl), each-itself xs ys (λ z h. f z (inr h)))
+
+-- with what is said in the window the lists go together
+pub say-more : (j u : ℕ) (coming says said sent next : List Coming) → filter (is_now j u) says ≡ said → Every (λ c. c.time ≤ u) says
+    → (said ≡ []) ⊎ (sent ≡ []) → Hears j u [] coming sent next → Hears j u [] (coming ++ says) (sent ++ said) next
+say-more j u coming says said sent next now times (inl none) h =
+    let more : filter (is_now j u) (coming ++ says) ≡ filter (is_now j u) coming =
+    filter-append (is_now j u) coming says ∙ ap (λ l. filter (is_now j u) coming ++ l) (now ∙ none) ∙ append-nil (filter (is_now j u) coming) in
+    let all : sent ++ said ≡ sent = ap (λ l. sent ++ l) none ∙ append-nil sent in
+    subst (λ l. Hears j u [] (coming ++ says) l next) (sym all) (record {
+      came = tt;
+      pends = subst (Every (λ c. IsOneOf c sent)) (sym more) h.pends;
+      as_many = ap (λ l. 0 + length l) more ∙ h.as_many;
+      later = filter-append (is_later j u) coming says ∙ ap (λ l. filter (is_later j u) coming ++ l) (none-later j u says times)
+          ∙ append-nil (filter (is_later j u) coming) ∙ h.later;
+    })
+say-more j u coming says said sent next now times (inr none) h =
+    let count : 0 + length (filter (is_now j u) coming) ≡ length sent = h.as_many in
+    let zero_sent : length sent ≡ 0 = ap length none in
+    let empty : filter (is_now j u) coming ≡ [] = no-length (filter (is_now j u) coming) (omega arith) in
+    let more : filter (is_now j u) (coming ++ says) ≡ said = filter-append (is_now j u) coming says ∙ ap (λ l. l ++ filter (is_now j u) says) empty ∙ now in
+    let all : sent ++ said ≡ said = ap (λ l. l ++ said) none in
+    subst (λ l. Hears j u [] (coming ++ says) l next) (sym all) (record {
+      came = tt;
+      pends = subst (Every (λ c. IsOneOf c said)) (sym more) (each-itself said said (λ x h. h));
+      as_many = let l : length (filter (is_now j u) (coming ++ says)) ≡ length said = ap length more in omega (arith, l);
+      later = filter-append (is_later j u) coming says ∙ ap (λ l. filter (is_later j u) coming ++ l) (none-later j u says times)
+          ∙ append-nil (filter (is_later j u) coming) ∙ h.later;
+    })
+  where
+    no-length : (xs : List Coming) → length xs ≡ 0 → xs ≡ []
+    no-length [] e = refl
+    no-length (x ∷ xs) e = absurd (omega arith)

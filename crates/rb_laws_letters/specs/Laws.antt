@@ -1,0 +1,90 @@
+-- What is proved of letters: what a reader makes of words, and what ports receive.
+use Rattle.std.specs.Prelude.{ℕ, ◌≡◌, ◌<◌, All, true, None, List, [], ◌∷◌, length}
+use Rattle.rb_rules.specs.Book.{Record}
+use Rattle.rb_rules.specs.Goodness.{Scenario}
+use Rattle.rb_rules.specs.Lawful.{IsLawful}
+use Rattle.rb_rules.specs.Ports.{HandIn}
+use Rattle.rb_rules.specs.Rounds.{records_of}
+use Rattle.rb_long.specs.Delivered.{deliveries_in, letters_of, open_at, values_of}
+use Rattle.rb_long.specs.Reading.{given_with, open_after}
+use Rattle.rb_long.specs.Spelling.{is_length, spelling_of}
+use Rattle.rb_laws_letters.specs.Offers.{IsGoodThrough, offered_by}
+use Rattle.rb_laws_letters.specs.Sent.{Call, IsFirstPart, IsLetter, Sent, after_calls, heard_words, nothing_sent, without_zeros, words_of}
+
+-- Words.
+
+-- the words of a letter, where none is open before them, give this letter alone, and leave none open
+pub record IsRead (letter : List ℕ) : Type 0 where
+  pub given : given_with None (heard_words (spelling_of letter)) ≡ letter ∷ []
+  pub after : open_after None (heard_words (spelling_of letter)) ≡ None
+
+abbrev pub LettersAreRead : Type 0
+LettersAreRead = (letter : List ℕ) → IsLetter letter → IsRead letter
+
+-- Of words that are, but for zeros anywhere between them, the first of these letters' words: the letters that they give are the first of
+-- these, each whole and once, and all of these where all their words are there
+pub record GivesTheFirst (letters : List (List ℕ)) (words : List ℕ) : Type 0 where
+  pub first : IsFirstPart (given_with None (heard_words words)) letters
+  pub all : without_zeros words ≡ words_of letters → given_with None (heard_words words) ≡ letters
+
+abbrev pub WordsGiveTheirLetters : Type 0
+WordsGiveTheirLetters =
+    (letters : List (List ℕ)) (words : List ℕ) → All IsLetter letters → IsFirstPart (without_zeros words) (words_of letters) → GivesTheFirst letters words
+
+-- Of such words is what a sender gives, whatever is pushed and whenever it is asked. All the words are there once nothing waits
+pub record SendsItsLetters (s : Sent) : Type 0 where
+  pub first : IsFirstPart (without_zeros s.words) (words_of s.taken)
+  pub all : s.waiting ≡ [] → without_zeros s.words ≡ words_of s.taken
+  pub lengths : All (λ l. is_length (length l) ≡ true) s.taken
+
+abbrev pub SendersSendTheirLetters : Type 0
+SendersSendTheirLetters = (calls : List Call) → SendsItsLetters (after_calls calls nothing_sent)
+
+-- Rounds.
+
+-- these are the first records of a scenario, or all of them
+abbrev pub AreFirst : Scenario → List HandIn → List Record → Type 0
+AreFirst sc hands records = IsFirstPart records (records_of sc hands)
+
+-- two ports have received the same of a sender
+pub record ReceiveAlike (i j sender : ℕ) (records : List Record) : Type 0 where
+  pub values : values_of i sender (deliveries_in records) ≡ values_of j sender (deliveries_in records)
+  pub letters : letters_of i sender (deliveries_in records) ≡ letters_of j sender (deliveries_in records)
+  pub left_open : open_at i sender (deliveries_in records) ≡ open_at j sender (deliveries_in records)
+
+-- So is it at BIUs that are good in each slot of these records, after each record: they receive the same letters in the same slots. A
+-- breach is no slot: all that is recorded was delivered before it
+abbrev pub GoodPortsReceiveAlike : Type 0
+GoodPortsReceiveAlike =
+    (sc : Scenario) (hands : List HandIn) → IsLawful sc → (records : List Record) → AreFirst sc hands records
+    → (i j : ℕ) → IsGoodThrough sc i records → IsGoodThrough sc j records → (sender : ℕ) → ReceiveAlike i j sender records
+
+-- Where the sender is good, a good port's values are the words that it offers, none left out and none lost. Where these are the first of
+-- some letters' words, but for zeros, the letters that the port receives are the first of these, each whole and once, and all of these
+-- where all their words were delivered
+pub record ReceivesFrom (sc : Scenario) (hands : List HandIn) (records : List Record) (receiver sender : ℕ) : Type 0 where
+  pub values : values_of receiver sender (deliveries_in records) ≡ heard_words (offered_by sc hands sender records)
+  pub first : (letters : List (List ℕ)) → All IsLetter letters → IsFirstPart (without_zeros (offered_by sc hands sender records)) (words_of letters)
+      → IsFirstPart (letters_of receiver sender (deliveries_in records)) letters
+  pub all : (letters : List (List ℕ)) → All IsLetter letters → without_zeros (offered_by sc hands sender records) ≡ words_of letters
+      → letters_of receiver sender (deliveries_in records) ≡ letters
+
+abbrev pub GoodSendersAreReceived : Type 0
+GoodSendersAreReceived =
+    (sc : Scenario) (hands : List HandIn) → IsLawful sc → (records : List Record) → AreFirst sc hands records
+    → (receiver sender : ℕ) → IsGoodThrough sc receiver records → IsGoodThrough sc sender records → ReceivesFrom sc hands records receiver sender
+
+-- So a port receives the letters that were pushed: where the words that a good sender offers are those that it was given by what it keeps
+-- its letters in, its letters arrive at a good port, the first of those that were taken, each whole and once; and all of them where none
+-- waits any more
+pub record ReceivesTheLetters (records : List Record) (receiver sender : ℕ) (s : Sent) : Type 0 where
+  pub first : IsFirstPart (letters_of receiver sender (deliveries_in records)) s.taken
+  pub all : s.waiting ≡ [] → letters_of receiver sender (deliveries_in records) ≡ s.taken
+
+abbrev pub LettersArrive : Type 0
+LettersArrive =
+    (sc : Scenario) (hands : List HandIn) → IsLawful sc → (records : List Record) → AreFirst sc hands records
+    → (receiver sender : ℕ) → IsGoodThrough sc receiver records → IsGoodThrough sc sender records
+    → (calls : List Call) → offered_by sc hands sender records ≡ (after_calls calls nothing_sent).words
+    → All (λ l. All (λ b. b < 256) l) (after_calls calls nothing_sent).taken
+    → ReceivesTheLetters records receiver sender (after_calls calls nothing_sent)

@@ -1,0 +1,99 @@
+-- What there is of one RMU among all that came with the stamps of a window.
+use Rattle.std.proofs.Common.{◌≡◌, ℕ, zero, suc, ◌+◌, ◌<◌, ◌==◌, nat_lt, Bool, true, false, List, [], ◌∷◌, ◌++◌, Some, slice_get, inl, inr, refl, sym, ◌∙◌, ap, subst, arith}
+use Rattle.std.proofs.lemmas.Bool.{cases_lt}
+use Rattle.std.proofs.lemmas.Bool.Decides.{nat_tests}
+use Rattle.rb_base.specs.Sizes.{Sizes}
+use Rattle.rb_rules.specs.Core.{of_source}
+use Rattle.rb_rules.specs.Hearing.{Coming}
+use Rattle.rb_rules.specs.Sense.{Arrival}
+use Rattle.rb_laws_agreement.proofs.Tests.{equal_from, less_true, same_some, so_not, true_or_false}
+use Rattle.rb_laws_listener_follows.proofs.FollowerRuns.{arrivals, collected}
+
+pub of-append : (xs ys : List (ℕ × Arrival)) (j : ℕ) → of_source (xs ++ ys) j ≡ of_source xs j ++ of_source ys j
+of-append [] ys j = refl
+of-append (x ∷ xs) ys j =
+    elim (true_or_false (x.0 == j)) [ inl e ↦ rw e (ap (λ l. x.1 ∷ l) (of-append xs ys j)) | inr e ↦ rw e (of-append xs ys j) ]
+
+pub of-more : (x : ℕ × Arrival) (xs : List (ℕ × Arrival)) (j : ℕ) → (x.0 == j) ≡ true → of_source (x ∷ xs) j ≡ x.1 ∷ of_source xs j
+of-more x xs j e = rw e refl
+
+pub of-other : (x : ℕ × Arrival) (xs : List (ℕ × Arrival)) (j : ℕ) → (x.0 == j) ≡ false → of_source (x ∷ xs) j ≡ of_source xs j
+of-other x xs j e = rw e refl
+
+itself : (j : ℕ) → (j == j) ≡ true
+itself j = grind (arith, nat_tests)
+
+-- a message among those of one stamp
+
+arrivals-other : (sizes : Sizes) (k : ℕ) (c : Coming) (cs : List Coming) (j : ℕ) → (c.from == j) ≡ false → of_source (arrivals sizes k (c ∷ cs)) j ≡ of_source (arrivals sizes k cs) j
+unfolding arrivals
+arrivals-other sizes k c cs j e = go (nat_lt c.from sizes.rmus)
+  where
+    go : (b : Bool)
+        → of_source (elim b as (λ _. List (ℕ × Arrival)) [ true ↦ (c.from, record { stamp = k; bytes = c.bytes }) ∷ arrivals sizes k cs | false ↦ arrivals sizes k cs ]) j
+        ≡ of_source (arrivals sizes k cs) j
+    go true = of-other (c.from, record { stamp = k; bytes = c.bytes }) (arrivals sizes k cs) j e
+    go false = refl
+
+arrivals-mine : (sizes : Sizes) (k : ℕ) (c : Coming) (cs : List Coming) (j : ℕ) → j < sizes.rmus → c.from ≡ j
+    → of_source (arrivals sizes k (c ∷ cs)) j ≡ record { stamp = k; bytes = c.bytes } ∷ of_source (arrivals sizes k cs) j
+unfolding arrivals
+arrivals-mine sizes k c cs j below from =
+    go (nat_lt c.from sizes.rmus) (subst (λ i. nat_lt i sizes.rmus ≡ true) (sym from) (less_true j sizes.rmus below))
+  where
+    go : (b : Bool) → b ≡ true
+        → of_source (elim b as (λ _. List (ℕ × Arrival)) [ true ↦ (c.from, record { stamp = k; bytes = c.bytes }) ∷ arrivals sizes k cs | false ↦ arrivals sizes k cs ]) j
+        ≡ record { stamp = k; bytes = c.bytes } ∷ of_source (arrivals sizes k cs) j
+    go true h = of-more (c.from, record { stamp = k; bytes = c.bytes }) (arrivals sizes k cs) j (subst (λ i. (i == j) ≡ true) (sym from) (itself j))
+    go false h = cc
+
+pub none_with_stamp : (sizes : Sizes) (k : ℕ) (cs : List Coming) (j : ℕ) → ((nth : ℕ) (c : Coming) → slice_get cs nth ≡ Some c → c.from ≡ j → ⊥) → of_source (arrivals sizes k cs) j ≡ []
+unfolding arrivals
+none_with_stamp sizes k [] j none = refl
+none_with_stamp sizes k (c ∷ cs) j none =
+    arrivals-other sizes k c cs j (so_not (c.from == j) (λ e. none 0 c refl (equal_from c.from j e)))
+    ∙ none_with_stamp sizes k cs j (λ nth d is. none (suc nth) d is)
+
+pub one_with_stamp : (sizes : Sizes) (k : ℕ) (cs : List Coming) (j nth : ℕ) (c : Coming) → j < sizes.rmus → slice_get cs nth ≡ Some c → c.from ≡ j
+    → ((a : ℕ) (d : Coming) → slice_get cs a ≡ Some d → d.from ≡ j → a ≡ nth) → of_source (arrivals sizes k cs) j ≡ record { stamp = k; bytes = c.bytes } ∷ []
+one_with_stamp sizes k [] j nth c below there from sole = cc
+one_with_stamp sizes k (x ∷ xs) j zero c below there from sole =
+    let same : x ≡ c = same_some x c there in
+    arrivals-mine sizes k x xs j below (ap (λ (y : Coming). y.from) same ∙ from)
+    ∙ ap (λ l. record { stamp = k; bytes = x.bytes } ∷ l) (none_with_stamp sizes k xs j (λ a d is mine. let e : suc a ≡ 0 = sole (suc a) d is mine in absurd (omega (arith, e))))
+    ∙ ap (λ (y : Coming). record { stamp = k; bytes = y.bytes } ∷ []) same
+one_with_stamp sizes k (x ∷ xs) j (suc nth) c below there from sole =
+    arrivals-other sizes k x xs j (so_not (x.from == j) (λ e. let zero_is : 0 ≡ suc nth = sole 0 x refl (equal_from x.from j e) in absurd (omega (arith, zero_is))))
+    ∙ one_with_stamp sizes k xs j nth c below there from (λ a d is mine. let e : suc a ≡ suc nth = sole (suc a) d is mine in omega (arith, e))
+
+-- among those of all stamps of a window
+
+pub none_collected : (sizes : Sizes) (heard : ℕ → List Coming) (first n j : ℕ) → ((i : ℕ) → i < n → of_source (arrivals sizes (first + i) (heard (first + i))) j ≡ [])
+    → of_source (collected sizes heard first n) j ≡ []
+unfolding collected
+none_collected sizes heard first zero j none = refl
+none_collected sizes heard first (suc n) j none =
+    of-append (collected sizes heard first n) (arrivals sizes (first + n) (heard (first + n))) j
+    ∙ ap (λ l. l ++ of_source (arrivals sizes (first + n) (heard (first + n))) j) (none_collected sizes heard first n j (λ i lt. none i (omega arith)))
+    ∙ none n (omega arith)
+
+append-none : {X : Type 0} (x : X) → (x ∷ []) ++ [] ≡ x ∷ []
+append-none x = refl
+
+pub one_collected : (sizes : Sizes) (heard : ℕ → List Coming) (first n j at : ℕ) (x : Arrival) → at < n → of_source (arrivals sizes (first + at) (heard (first + at))) j ≡ x ∷ []
+    → ((i : ℕ) → i < n → (i ≡ at → ⊥) → of_source (arrivals sizes (first + i) (heard (first + i))) j ≡ []) → of_source (collected sizes heard first n) j ≡ x ∷ []
+unfolding collected
+one_collected sizes heard first zero j at x within one none = absurd (omega arith)
+one_collected sizes heard first (suc n) j at x within one none =
+    of-append (collected sizes heard first n) (arrivals sizes (first + n) (heard (first + n))) j
+    ∙ elim (cases_lt at n) [
+      | inl before ↦
+          ap (λ l. l ++ of_source (arrivals sizes (first + n) (heard (first + n))) j)
+          (one_collected sizes heard first n j at x before one (λ i lt apart. none i (omega arith) apart))
+          ∙ ap (λ l. (x ∷ []) ++ l) (none n (omega arith) (λ e. absurd (omega (arith, e, before))))
+      | inr late ↦
+          let same : at ≡ n = omega arith in
+          ap (λ l. l ++ of_source (arrivals sizes (first + n) (heard (first + n))) j)
+          (none_collected sizes heard first n j (λ i lt. none i (omega arith) (λ e. absurd (omega (arith, e, same, lt)))))
+          ∙ subst (λ t. of_source (arrivals sizes (first + t) (heard (first + t))) j ≡ x ∷ []) same one
+    ]

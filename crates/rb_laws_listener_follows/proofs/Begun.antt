@@ -1,0 +1,98 @@
+-- Where a frame is complete, each node that is good at the begin of the next one has turned from what it was at the frame's end.
+use Rattle.std.proofs.Common.{◌≡◌, ℕ, suc, ◌+◌, ◌-◌, ◌*◌, true, List, None, Some, sym, ◌∙◌, ap, subst, arith}
+use Rattle.rb_base.specs.Nodes.{Side}
+use Rattle.rb_base.specs.Sizes.{Sizes, sync_slot_of}
+use Rattle.rb_rules.specs.declared.plan.Plan.{Plan}
+use Rattle.rb_rules.specs.Conviction.{turn}
+use Rattle.rb_rules.specs.Goodness.{Scenario, is_good}
+use Rattle.rb_rules.specs.Lawful.{IsLawful}
+use Rattle.rb_rules.specs.Moments.{IsComplete, IsGoodAfter, IsGoodBefore, IsRunning, after_slot}
+use Rattle.rb_rules.specs.NodeState.{NodeState}
+use Rattle.rb_rules.specs.NodeSteps.{turn_if_known}
+use Rattle.rb_rules.specs.Ports.{HandIn}
+use Rattle.rb_rules.specs.Rounds.{moment, next_frame, windows_in}
+use Rattle.rb_rules.specs.SyncStage.{new_epoch_of}
+use Rattle.rb_laws_agreement.proofs.Agreement.{IsAgreed, agreement}
+use Rattle.rb_laws_agreement.proofs.FrameAgrees.{TurnedFrom, turned_from}
+use Rattle.rb_laws_agreement.proofs.FrameBegins.{IsTurn, frame_turns, turn-index}
+use Rattle.rb_laws_agreement.proofs.Goodnesses.{slot_last}
+use Rattle.rb_laws_agreement.proofs.Invariant.{IsGoodNode}
+use Rattle.rb_laws_agreement.proofs.NextMoments.{CameFrom, came_from}
+use Rattle.rb_laws_agreement.proofs.NodeWindows.{tail_windows}
+use Rattle.rb_laws_agreement.proofs.Places.{IsPlaced, good_before_slot, placed, running_earlier}
+use Rattle.rb_laws_agreement.proofs.SyncWindows.{tail_keeps_epoch}
+use Rattle.rb_laws_synchrony.proofs.Synchronous.{KnowsEpoch}
+use Rattle.rb_laws_synchrony.proofs.Synchrony.{IsSynchronous, synchrony, turned_epoch}
+
+-- it knew its epoch after the sync slot, and has turned with it
+pub record HasBegun (sc : Scenario) (hands : List HandIn) (frame : ℕ) (me : Side) (i : ℕ) (now : NodeState) : Type 0 where
+  pub st : NodeState
+  pub after : IsGoodAfter sc hands frame (sync_slot_of sc.sizes) me i st
+  pub epoch : ℕ
+  pub known : new_epoch_of sc.plan me st ≡ Some epoch
+  pub epoch_is : epoch ≡ now.epoch
+  pub old : NodeState
+  pub turned : turn sc.sizes sc.plan.probation me epoch old ≡ now
+
+turns-by : (sizes : Sizes) (plan : Plan) (me : Side) (st : NodeState) (epoch : ℕ) → new_epoch_of plan me st ≡ Some epoch → turn_if_known sizes plan me st ≡ turn sizes plan.probation me epoch st
+turns-by sizes plan me st epoch is = ap (λ o. elim o as (λ _. NodeState) [ None ↦ st | Some epoch ↦ turn sizes plan.probation me epoch st ]) is
+
+pub has_begun : (sc : Scenario) (hands : List HandIn) → IsLawful sc → (frame : ℕ) → IsComplete sc hands frame (sync_slot_of sc.sizes) → (me : Side) (i : ℕ) (now : NodeState)
+    → IsGoodBefore sc hands (suc frame) 0 me i now → HasBegun sc hands frame me i now
+has_begun sc hands law frame complete me i now h = record {
+  st = came.st;
+  after = record { good = ap (λ f. is_good sc me i f (sync_slot_of sc.sizes)) (sym p4.frame_is) ∙ good; state = came.was.there };
+  epoch = knows.takes.epoch;
+  known = knows.takes.known;
+  epoch_is = sym (turned_epoch sc.sizes sc.plan me turned.st knows.takes.epoch known) ∙ ap (λ x. x.epoch) turned.is;
+  old = turned.st;
+  turned = sym (turns-by sc.sizes sc.plan me turned.st knows.takes.epoch known) ∙ turned.is;
+}
+  where
+    k : ℕ
+    k = frame * (windows_in sc.sizes + 1) + 3 * sync_slot_of sc.sizes + 4 - 1
+
+    t : IsTurn sc hands frame
+    t = frame_turns sc hands law frame complete
+
+    p4 : IsPlaced sc hands frame (sync_slot_of sc.sizes) 4
+    p4 = placed sc hands law frame (sync_slot_of sc.sizes) 4 (omega arith) (omega arith) (omega arith) complete
+
+    p0 : IsPlaced sc hands (suc frame) 0 1
+    p0 = placed sc hands law (suc frame) 0 1 (omega arith) (omega arith) (omega arith) t.running
+
+    at : (after_slot sc hands frame (sync_slot_of sc.sizes)).window ≡ 3 * sync_slot_of sc.sizes + 3
+    at = p4.window_is
+
+    running : IsRunning (moment sc hands (suc (frame * (windows_in sc.sizes + 1) + 3 * sync_slot_of sc.sizes + 4 - 1)))
+    running =
+        running_earlier sc hands (suc (frame * (windows_in sc.sizes + 1) + 3 * sync_slot_of sc.sizes + 4 - 1)) (suc frame * (windows_in sc.sizes + 1) + 3 * 0 + 1 - 1)
+        (omega (arith, turn-index frame (sync_slot_of sc.sizes))) t.running
+
+    a : IsAgreed sc hands (suc (frame * (windows_in sc.sizes + 1) + 3 * sync_slot_of sc.sizes + 4 - 1))
+    a = agreement sc hands law (suc (frame * (windows_in sc.sizes + 1) + 3 * sync_slot_of sc.sizes + 4 - 1)) running
+
+    x : IsSynchronous sc hands (frame * (windows_in sc.sizes + 1) + 3 * sync_slot_of sc.sizes + 4 - 1)
+    x = synchrony sc hands law (frame * (windows_in sc.sizes + 1) + 3 * sync_slot_of sc.sizes + 4 - 1) complete
+
+    turned : TurnedFrom sc (moment sc hands (suc (frame * (windows_in sc.sizes + 1) + 3 * sync_slot_of sc.sizes + 4 - 1))) me i now
+    turned =
+        turned_from sc hands (suc k) (moment sc hands (suc (frame * (windows_in sc.sizes + 1) + 3 * sync_slot_of sc.sizes + 4 - 1))) a.shared a.agree me i now
+        (subst (λ m. IsGoodNode sc m me i now) (sym t.turn ∙ ap (next_frame sc hands) t.tail) (good_before_slot sc hands (suc frame) 0 (omega arith) p0 me i now h))
+
+    came : CameFrom sc (after_slot sc hands frame (sync_slot_of sc.sizes)) me i turned.st
+    came =
+        came_from sc hands k (after_slot sc hands frame (sync_slot_of sc.sizes)) x.shared x.agree me i turned.st
+        (subst (λ m. IsGoodNode sc m me i turned.st) (sym t.tail) turned.was)
+
+    knows : KnowsEpoch sc me i came.st ((x.near.third (omega (arith, at))).0)
+    knows = (x.near.third (omega (arith, at))).1 me i came.st came.was
+
+    good : is_good sc me i (after_slot sc hands frame (sync_slot_of sc.sizes)).frame (sync_slot_of sc.sizes) ≡ true
+    good =
+        ap (is_good sc me i (after_slot sc hands frame (sync_slot_of sc.sizes)).frame) (sym (slot_last sc.sizes (after_slot sc hands frame (sync_slot_of sc.sizes)).window 3 at)) ∙ came.was.good
+
+    known : new_epoch_of sc.plan me turned.st ≡ Some knows.takes.epoch
+    known =
+        ap (new_epoch_of sc.plan me) (sym came.is)
+        ∙ tail_keeps_epoch sc (after_slot sc hands frame (sync_slot_of sc.sizes)) (tail_windows sc (after_slot sc hands frame (sync_slot_of sc.sizes)) at) me i came.st good ∙ knows.takes.known

@@ -1,0 +1,57 @@
+-- A listener closes the first window of its first frame as the bus does.
+use Rattle.std.proofs.Common.{◌≡◌, ℕ, suc, ◌+◌, ◌-◌, ◌<◌, List, sym, ◌∙◌, ap, subst, arith}
+use Rattle.rb_base.specs.Nodes.Side.{Biu}
+use Rattle.rb_base.specs.Sizes.{sync_slot_of}
+use Rattle.rb_rules.specs.Core.{state_at}
+use Rattle.rb_rules.specs.Goodness.{Scenario}
+use Rattle.rb_rules.specs.Lawful.{IsLawful}
+use Rattle.rb_rules.specs.Moments.{IsComplete, before_stage}
+use Rattle.rb_rules.specs.NodeState.{NodeState}
+use Rattle.rb_rules.specs.Ports.{HandIn}
+use Rattle.rb_rules.specs.Rounds.{moment}
+use Rattle.rb_rules.specs.StandsFor.{StandsFor, steps_to}
+use Rattle.rb_laws_events.proofs.TurnTicks.{no-next}
+use Rattle.rb_listen.specs.declared.lesson.First.{First}
+use Rattle.rb_laws_listener_near.proofs.WindowSteps.{IsWatched}
+use Rattle.rb_laws_listener_learns.specs.Ears.{Ear}
+use Rattle.rb_laws_listener_follows.specs.Following.{ClosesAsTheBus, ClosesAt}
+use Rattle.rb_laws_listener_follows.specs.InTime.{moment_before}
+use Rattle.rb_laws_listener_follows.proofs.ClosesExact.{closes_exact}
+use Rattle.rb_laws_listener_follows.proofs.FirstBegins.{FirstBegins, first_state}
+use Rattle.rb_laws_listener_follows.proofs.FirstStands.{FirstStands}
+use Rattle.rb_laws_listener_follows.proofs.FirstWindow.{outcome_first, sense_first}
+use Rattle.rb_laws_listener_follows.proofs.SeenPremise.{place_closed, seen_following}
+use Rattle.rb_laws_listener_follows.proofs.Tellings.{tells_close}
+
+pub closes_begun : (sc : Scenario) (hands : List HandIn) → IsLawful sc → (stands : StandsFor sc hands) (ear : Ear) (learned : ℕ) (first : First) (b : FirstBegins sc hands ear learned first)
+    → FirstStands sc hands ear learned first b → (first_state sc first).frame ≡ suc learned → IsComplete sc hands (suc learned) 0
+    → ClosesAt sc stands.bus ear (suc learned) 0 1 (first.epoch + (sc.plan.l - 1))
+closes_begun sc hands law stands ear learned first b x frame complete = record {
+  core = x.window.core;
+  here = x.window.here;
+  x = (outcome_first sc ear first.epoch (first_state sc first)).closed;
+  closed = x.window.closed;
+  place = place_closed sc.sizes st 0 1 0 (sense_first sc ear first.epoch st) some_slot ∙ ap (λ f. record { frame = f; slot = 0; stage = 1 }) frame;
+  as_bus = subst (λ y. ClosesAsTheBus sc (stands.bus (steps_to sc.sizes (suc learned) 0)) (stands.bus (steps_to sc.sizes (suc learned) 0 + 1)) y (outcome_first sc ear first.epoch (first_state sc first)).closed)
+      (sym state)
+      (closes_exact sc hands law stands (suc learned) 0 0 some_slot (omega arith) complete 0 st (sense_first sc ear first.epoch st) (seen_following sc ear (suc learned)) watched);
+  told = tells_close sc ear (first.epoch + (sc.plan.l - 1)) x.window.core (outcome_first sc ear first.epoch st).closed x.window.here x.window.closed;
+}
+  where
+    st : NodeState
+    st = first_state sc first
+
+    some_slot : 0 < sync_slot_of sc.sizes
+    some_slot = omega (arith, law.sizes.some_biu)
+
+    state : state_at sc.sizes sc.plan Biu x.window.core.state (first.epoch + (sc.plan.l - 1)) ≡ first_state sc first
+    state =
+        ap (λ y. state_at sc.sizes sc.plan Biu y (first.epoch + (sc.plan.l - 1))) x.window.state
+        ∙ no-next sc.sizes sc.plan Biu (first_state sc first) (first.epoch + (sc.plan.l - 1)) b.begins.unknown
+
+    next : learned + 1 ≡ suc learned
+    next = omega arith
+
+    watched : IsWatched sc (before_stage sc hands (suc learned) 0 (0 + 1)) 0 0 (first_state sc first) (sense_first sc ear first.epoch (first_state sc first)) (seen_following sc ear (suc learned))
+    watched =
+        subst (λ f. IsWatched sc (moment sc hands (moment_before sc f 0 1)) 0 0 (first_state sc first) (sense_first sc ear first.epoch (first_state sc first)) (seen_following sc ear (suc learned))) next x.window.watched

@@ -1,0 +1,57 @@
+-- The ticks of a follower's windows are those of a BIU in its state.
+use Rattle.std.proofs.Common.{◌≡◌, ℕ, ◌+◌, ◌-◌, ◌^◌, ◌<◌, ◌≤◌, ◌==◌, true, false, Option, Some, None, refl, ◌∙◌, arith}
+use Rattle.std.proofs.lemmas.Bool.Decides.{nat_tests}
+use Rattle.rb_base.specs.Nodes.Side.{Biu}
+use Rattle.rb_base.specs.Sizes.{Sizes}
+use Rattle.rb_rules.specs.declared.plan.Plan.{Plan}
+use Rattle.rb_rules.specs.Core.{state_at, window_here}
+use Rattle.rb_rules.specs.Hearing.{window_numbered}
+use Rattle.rb_rules.specs.NodeState.{NodeState}
+use Rattle.rb_rules.specs.SyncStage.{new_epoch_of}
+use Rattle.rb_rules.proofs.RoundStates.{HasTicks}
+use Rattle.rb_laws_events.specs.Closing.{stages_in}
+use Rattle.rb_laws_events.proofs.StageOrder.{last_of}
+use Rattle.rb_laws_events.proofs.TickWindows.{first_of, here-is, last-is}
+use Rattle.rb_laws_events.proofs.TurnTicks.{no-next, not-yet}
+use Rattle.rb_laws_listener_follows.proofs.FollowerRuns.{IsWindow}
+
+other-tick : (a b : ℕ) → a < b → (a == b) ≡ false
+other-tick a b h = grind (arith, nat_tests)
+
+same-tick : (a b : ℕ) → a ≡ b → (a == b) ≡ true
+same-tick a b h = grind (arith, nat_tests)
+
+-- before the next epoch the state stays
+stays-in : (sizes : Sizes) (plan : Plan) (st : NodeState) (k : ℕ) → ((x : ℕ) → new_epoch_of plan Biu st ≡ Some x → k < x) → state_at sizes plan Biu st k ≡ st
+stays-in sizes plan st k before = go (new_epoch_of plan Biu st) refl
+  where
+    go : (o : Option ℕ) → new_epoch_of plan Biu st ≡ o → state_at sizes plan Biu st k ≡ st
+    go None e = no-next sizes plan Biu st k e
+    go (Some x) e = not-yet sizes plan Biu st x k e (before x e)
+
+-- window n of the frame of a follower in this state. Before its first tick it may have been in another, which turns into this one
+pub is_window : (sizes : Sizes) (plan : Plan) (before st : NodeState) (n : ℕ) → HasTicks plan → n ≤ stages_in sizes → first_of sizes plan Biu st n ≤ last_of sizes plan Biu st n
+    → state_at sizes plan Biu before (st.epoch + first_of sizes plan Biu st n) ≡ st
+    → ((x : ℕ) → new_epoch_of plan Biu st ≡ Some x → st.epoch + last_of sizes plan Biu st n < x) → st.epoch + last_of sizes plan Biu st n < 2 ^ 31
+    → IsWindow sizes plan before st (st.epoch + first_of sizes plan Biu st n) (last_of sizes plan Biu st n - first_of sizes plan Biu st n)
+is_window sizes plan before st n ticks in_frame some turns later in_time =
+    let first : ℕ = first_of sizes plan Biu st n in
+    let last : ℕ = last_of sizes plan Biu st n in
+    let end : st.epoch + first + (last - first) ≡ st.epoch + last = omega arith in
+    record {
+      turns = turns;
+      stays = λ k from to. stays-in sizes plan st k (λ x known. omega (arith, later x known, to, end));
+      quiet = λ k from to.
+          last-is sizes plan Biu st n k ticks in_frame (record { from = from; to = omega (arith, to, end) }) ∙ other-tick k (st.epoch + last) (omega (arith, to, end));
+      last =
+          last-is sizes plan Biu st n (st.epoch + first + (last - first)) ticks in_frame (record { from = omega arith; to = omega arith })
+          ∙ same-tick (st.epoch + first + (last - first)) (st.epoch + last) end;
+      in_time = omega (arith, in_time, end);
+    }
+
+-- and with its last tick it is in this window
+pub closes_there : (sizes : Sizes) (plan : Plan) (st : NodeState) (n : ℕ) → HasTicks plan → n ≤ stages_in sizes → first_of sizes plan Biu st n ≤ last_of sizes plan Biu st n
+    → window_here sizes plan Biu st (st.epoch + first_of sizes plan Biu st n + (last_of sizes plan Biu st n - first_of sizes plan Biu st n)) ≡ window_numbered sizes plan Biu st n
+closes_there sizes plan st n ticks in_frame some =
+    here-is sizes plan Biu st n (st.epoch + first_of sizes plan Biu st n + (last_of sizes plan Biu st n - first_of sizes plan Biu st n)) ticks in_frame
+    (record { from = omega arith; to = omega arith })

@@ -1,0 +1,134 @@
+-- A listener goes through stage 3 of the sync slot and the tail, in which no RMU speaks.
+use Rattle.std.proofs.Common.{◌≡◌, ℕ, suc, ◌+◌, ◌-◌, ◌*◌, ◌≤◌, true, false, List, [], Some, slice_get, refl, sym, ◌∙◌, ap, subst, arith}
+use Rattle.rb_base.specs.Nodes.{has}
+use Rattle.rb_base.specs.Nodes.Side.{Biu, Rmu}
+use Rattle.rb_base.specs.Sizes.{Sizes, sync_slot_of}
+use Rattle.rb_rules.specs.declared.sense.Sense.{Sense}
+use Rattle.rb_rules.specs.declared.sense.Sense.TheVariants.{Silent}
+use Rattle.rb_rules.specs.Book.{of_kind}
+use Rattle.rb_rules.specs.Clock.{IsStamp}
+use Rattle.rb_rules.specs.Core.{of_source}
+use Rattle.rb_rules.specs.Goodness.{Scenario, is_good}
+use Rattle.rb_rules.specs.Hearing.{Sending}
+use Rattle.rb_rules.specs.NodeState.{NodeState}
+use Rattle.rb_rules.specs.NodeSteps.{expect_of}
+use Rattle.rb_rules.specs.Plan.{f0_of}
+use Rattle.rb_rules.specs.Ports.{HandIn}
+use Rattle.rb_rules.specs.Rounds.{moment}
+use Rattle.rb_rules.specs.Sense.{sense_of}
+use Rattle.rb_rules.specs.Standing.{does_wrong}
+use Rattle.rb_rules.specs.SyncStage.{close_sync, expects_call, new_epoch_of, sync_outcome_of}
+use Rattle.rb_laws_agreement.proofs.Tests.{Present, same_some}
+use Rattle.rb_laws_agreement.proofs.ExactAgrees.{has_ticks}
+use Rattle.rb_laws_agreement.proofs.Goodnesses.{good_before, good_below_16}
+use Rattle.rb_laws_agreement.proofs.Invariant.{IsGoodNode, Shared, is_good_now, slot_numbered}
+use Rattle.rb_laws_agreement.proofs.NextMoments.{next}
+use Rattle.rb_laws_agreement.proofs.NodeWindows.{Windows}
+use Rattle.rb_laws_agreement.proofs.Settings.{good_state}
+use Rattle.rb_laws_agreement.proofs.SyncAgrees.{SyncSetting}
+use Rattle.rb_laws_events.proofs.TurnTicks.{not-yet}
+use Rattle.rb_laws_listener_learns.specs.Ears.{Ear, SendsIn, coming_to}
+use Rattle.rb_laws_listener_near.proofs.SyncTracks.{IsLike, like_sync, spares_sync}
+use Rattle.rb_laws_listener_follows.proofs.Arrivals.{none_collected, none_with_stamp}
+use Rattle.rb_laws_listener_follows.proofs.FirstCalls.{IsSpan, sense_span, span_closing, span_window}
+use Rattle.rb_laws_listener_follows.proofs.FollowerRuns.{ClosesWindow, IsWindow, Stands, closes_window, closing, collected}
+use Rattle.rb_laws_listener_follows.proofs.HeardExact.{Beside}
+use Rattle.rb_laws_listener_follows.proofs.HeardLast.{NextBegins, nothing_late}
+
+-- it accuses no RMU directly that is good in the next frame
+abbrev pub SparesNext : Scenario → ℕ → NodeState → Type 0
+SparesNext sc frame st = (j : ℕ) → is_good sc Rmu j (frame + 1) 0 ≡ true → has st.far.direct j ≡ false
+
+-- the calls of stage 2 of this frame have come before the tick after its window
+abbrev pub CallsAreOver : Scenario → List HandIn → Ear → ℕ → ℕ → Type 0
+CallsAreOver sc hands ear n epoch =
+    (j q : ℕ) (x : Sending) → SendsIn sc hands q j x → (moment sc hands q).frame ≡ (moment sc hands n).frame → (moment sc hands q).window ≡ 3 * sync_slot_of sc.sizes + 1
+    → (k : ℕ) → IsStamp ear.clock (coming_to sc ear j (moment sc hands q).frame x).time k → k + 1 ≤ epoch + f0_of sc.sizes sc.plan + sc.plan.l + sc.plan.v
+
+-- the listener stands with offset a before a window after stage 2, and knows when its next frame begins
+pub record StandsLate (sc : Scenario) (hands : List HandIn) (ear : Ear) (n epoch low : ℕ) (s : Shared) (st : NodeState) (a next_epoch later : ℕ) : Type 0 where
+  pub beside : Beside sc hands ear n epoch low s
+  pub next : NextBegins sc hands ear (moment sc hands n).frame next_epoch later
+  pub over : CallsAreOver sc hands ear n epoch
+  pub stands : Stands sc ear st (epoch + a)
+  pub like : IsLike sc (moment sc hands n) st
+  pub spares : SparesNext sc (moment sc hands n).frame st
+  pub epoch_is : st.epoch ≡ epoch
+  pub known : new_epoch_of sc.plan Biu st ≡ Some next_epoch
+
+-- a window in which it expects nobody, and which leaves its middle
+pub record IsDeaf (sc : Scenario) (hands : List HandIn) (ear : Ear) (n epoch : ℕ) (st : NodeState) (stage a ticks next_epoch : ℕ) : Type 0 where
+  pub window : 3 * sync_slot_of sc.sizes + 2 ≤ (moment sc hands n).window
+  pub span : IsSpan sc st (moment sc hands n).window (sync_slot_of sc.sizes) stage a ticks
+  pub expects : (j : ℕ) → expects_call Biu st stage j ≡ false
+  pub keeps : (first : ℕ) (sense : ℕ → Sense) → new_epoch_of sc.plan Biu (close_sync sc.sizes Biu st stage first sense).state ≡ new_epoch_of sc.plan Biu st
+  pub after : f0_of sc.sizes sc.plan + sc.plan.l + sc.plan.v ≤ a
+  pub before : epoch + a + ticks ≤ next_epoch
+  pub in_time : epoch + a + ticks ≤ ear.ticks
+
+-- with its last tick the listener stands before the tick after it
+pub record PassesLate (sc : Scenario) (hands : List HandIn) (ear : Ear) (n epoch : ℕ) (st : NodeState) (a ticks next_epoch : ℕ) : Type 0 where
+  pub closes : ClosesWindow sc ear st st (epoch + a) (ticks - 1)
+  pub now : NodeState
+  pub is : (closing sc ear st (epoch + a) (ticks - 1)).state ≡ now
+  pub stands : Stands sc ear now (epoch + a + ticks)
+  pub like : IsLike sc (next sc (moment sc hands n)) now
+  pub spares : SparesNext sc (moment sc hands n).frame now
+  pub epoch_is : now.epoch ≡ epoch
+  pub known : new_epoch_of sc.plan Biu now ≡ Some next_epoch
+
+keeps_epoch : (sizes : Sizes) (st : NodeState) (stage first : ℕ) (sense : ℕ → Sense) → (close_sync sizes Biu st stage first sense).state.epoch ≡ st.epoch
+unfolding close_sync sync_outcome_of
+keeps_epoch sizes st stage first sense = refl
+
+pub passes_late : (sc : Scenario) (hands : List HandIn) (ear : Ear) (n epoch low : ℕ) (s : Shared) (q : ℕ) (ws : Windows sc (moment sc hands n) (sync_slot_of sc.sizes) (q + 1)) (st : NodeState) (a ticks next_epoch later : ℕ)
+    → StandsLate sc hands ear n epoch low s st a next_epoch later → SyncSetting sc hands n (moment sc hands n) s q ws → IsDeaf sc hands ear n epoch st (q + 1) a ticks next_epoch
+    → PassesLate sc hands ear n epoch st a ticks next_epoch
+passes_late sc hands ear n epoch low s q ws st a ticks next_epoch later x set d = record {
+  closes = c;
+  now = now;
+  is = ap (λ o. o.state) is;
+  stands = subst (λ k. Stands sc ear now k) tick (subst (λ o. Stands sc ear o.state (suc (epoch + a + (ticks - 1)))) is c.stands);
+  like = like_sync sc hands n (moment sc hands n) s q ws set st x.like (st.epoch + a) sense;
+  spares = λ j good.
+      spares_sync sc.sizes st (q + 1) (st.epoch + a) sense j (good_below_16 sc x.beside.law.sizes Rmu j ((moment sc hands n).frame + 1) 0 good)
+      (ap (λ b. does_wrong b (sense j)) (d.expects j) ∙ ap (does_wrong false) (silent j good)) (x.spares j good);
+  epoch_is = keeps_epoch sc.sizes st (q + 1) (st.epoch + a) sense ∙ x.epoch_is;
+  known = d.keeps (st.epoch + a) sense ∙ x.known;
+}
+  where
+    sense : ℕ → Sense
+    sense = sense_span sc ear (epoch + a) ticks st (sync_slot_of sc.sizes) (q + 1)
+
+    now : NodeState
+    now = (close_sync sc.sizes Biu st (q + 1) (st.epoch + a) (sense_span sc ear (epoch + a) ticks st (sync_slot_of sc.sizes) (q + 1))).state
+
+    is : closing sc ear st (epoch + a) (ticks - 1) ≡ close_sync sc.sizes Biu st (q + 1) (st.epoch + a) (sense_span sc ear (epoch + a) ticks st (sync_slot_of sc.sizes) (q + 1))
+    is = span_closing sc ear st (moment sc hands n).window (q + 1) a ticks epoch d.span (has_ticks sc x.beside.law) x.epoch_is
+
+    here : IsWindow sc.sizes sc.plan st st (epoch + a) (ticks - 1)
+    here =
+        span_window sc st st (moment sc hands n).window (sync_slot_of sc.sizes) (q + 1) a ticks epoch d.span (has_ticks sc x.beside.law) x.epoch_is
+        (not-yet sc.sizes sc.plan Biu st next_epoch (epoch + a) x.known (omega (arith, d.before, d.span.some)))
+        (λ y known. let same : next_epoch ≡ y = same_some next_epoch y (sym x.known ∙ known) in omega (arith, same, d.before)) (omega (arith, d.in_time, x.beside.is.ticks))
+
+    c : ClosesWindow sc ear st st (epoch + a) (ticks - 1)
+    c = closes_window sc ear st st (epoch + a) (ticks - 1) here x.stands
+
+    tick : suc (epoch + a + (ticks - 1)) ≡ epoch + a + ticks
+    tick = omega (arith, d.span.some)
+
+    silent : (j : ℕ) → is_good sc Rmu j ((moment sc hands n).frame + 1) 0 ≡ true → sense_span sc ear (epoch + a) ticks st (sync_slot_of sc.sizes) (q + 1) j ≡ Silent
+    silent j good =
+        let was : is_good_now sc (moment sc hands n) Rmu j ≡ true =
+        good_before sc Rmu j (moment sc hands n).frame ((moment sc hands n).frame + 1) (slot_numbered sc.sizes (moment sc hands n).window) 0 (omega arith) good in
+        let there : Present (slice_get (of_kind Rmu (moment sc hands n).nodes) j) = good_state sc hands n (moment sc hands n) s x.beside.agree Rmu j was in
+        let none : of_source (collected sc.sizes ear.heard (epoch + a) ticks) j ≡ [] =
+        none_collected sc.sizes ear.heard (epoch + a) ticks j (λ i lt.
+        none_with_stamp sc.sizes (epoch + a + i) (ear.heard (epoch + a + i)) j (λ nth m is from.
+        nothing_late sc hands ear n epoch low s next_epoch later x.beside d.window x.next x.over m there.value
+        (subst (λ k. IsGoodNode sc (moment sc hands n) Rmu k there.value) (sym from) (record { there = there.is; good = was }))
+        (subst (λ k. is_good sc Rmu k ((moment sc hands n).frame + 1) 0 ≡ true) (sym from) good)
+        (epoch + a + i) (omega (arith, lt, d.in_time)) (record { nth = nth; there = is })
+        (record { from = omega (arith, d.after); before = omega (arith, lt, d.before) }))) in
+        ap (sense_of (expect_of sc.sizes sc.plan.version st (sync_slot_of sc.sizes) (q + 1))) none

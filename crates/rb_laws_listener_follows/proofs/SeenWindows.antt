@@ -1,0 +1,152 @@
+-- What a listener that follows has closed: with the last tick of a window this window, and before it nothing.
+use Rattle.std.proofs.Common.{◌≡◌, ◌⊎◌, ℕ, zero, suc, ◌+◌, ◌/◌, ◌%◌, ◌<◌, ◌≤◌, ◌==◌, ◌&&◌, Bool, true, false, Option, Some, None, [], inl, inr, refl, sym, ◌∙◌, ap, arith}
+use Rattle.std.specs.Option.{option_or}
+use Rattle.std.proofs.lemmas.Bool.Decides.{nat_tests}
+use Rattle.rb_base.specs.Nodes.Side.{Biu}
+use Rattle.rb_base.specs.Sizes.{Sizes}
+use Rattle.rb_rules.specs.declared.closing.Closed.{Closed}
+use Rattle.rb_rules.specs.declared.plan.Plan.{Plan}
+use Rattle.rb_rules.specs.Core.{Act, Core, act_on, epoch_at, is_last, of_source, window_here}
+use Rattle.rb_rules.specs.ExactStage.{Outcome}
+use Rattle.rb_rules.specs.Goodness.{Scenario}
+use Rattle.rb_rules.specs.Hearing.{close_window}
+use Rattle.rb_rules.specs.NodeState.{NodeState}
+use Rattle.rb_laws_listener_learns.specs.Ears.{Ear}
+use Rattle.rb_laws_listener_learns.specs.Receivers.{closing_at, closing_in, if_window, is_window, seen_by}
+use Rattle.rb_laws_agreement.proofs.Tests.{and_first, and_second, equal_from, so_not}
+use Rattle.rb_laws_listener_follows.proofs.FollowerRuns.{ClosesWindow, IsWindow, Stands, acts_by, closing, core_in, follows_window, state-in}
+
+-- ---- one tick
+
+-- a tick that is no window's last closes nothing
+pub quiet_act : (sizes : Sizes) (plan : Plan) (c : Core) (st : NodeState) → is_last sizes plan Biu st c.had ≡ false → (act_on sizes plan Biu 16 c st None st).closed ≡ None
+unfolding act_on
+quiet_act sizes plan c st quiet = by (is_last sizes plan Biu st c.had) quiet
+  where
+    x : Outcome
+    x = close_window sizes plan Biu 16 st (window_here sizes plan Biu st c.had) (of_source c.inbox)
+
+    by : (b : Bool) → b ≡ false
+        → (elim b as (λ _. Act) [
+          | true ↦ record { core = record { state = x.state; had = c.had + 1; inbox = [] }; epoch = epoch_at sizes Biu st c.had; message = None; closed = Some x.closed }
+          | false ↦ record { core = record { state = st; had = c.had + 1; inbox = c.inbox }; epoch = epoch_at sizes Biu st c.had; message = None; closed = None }
+        ]).closed ≡ None
+    by true h = cc
+    by false h = refl
+
+-- before the last tick of a window nothing is closed
+pub closes_nothing : (sc : Scenario) (ear : Ear) (before st : NodeState) (first n : ℕ) → IsWindow sc.sizes sc.plan before st first n → Stands sc ear before first
+    → (i : ℕ) → i < n → closing_at sc ear (first + i) ≡ None
+closes_nothing sc ear before st first n w s i lt =
+    let c : Core = core_in sc.sizes ear before st first i (first + i) in
+    ap (closing_in sc) (follows_window sc ear before st first n w s i (first + i) refl (omega arith))
+    ∙ ap (λ a. a.closed) (acts_by sc.sizes sc.plan c st (omega (arith, w.in_time)) (state-in sc.sizes sc.plan before st first n i (first + i) w refl (omega arith)))
+    ∙ quiet_act sc.sizes sc.plan c st (w.quiet (first + i) (omega arith) (omega arith))
+
+-- with its last tick the window is
+pub closes_last : (sc : Scenario) (ear : Ear) (before st : NodeState) (first n : ℕ) → ClosesWindow sc ear before st first n
+    → closing_at sc ear (first + n) ≡ Some (closing sc ear st first n).closed
+closes_last sc ear before st first n c = ap (closing_in sc) c.here ∙ c.closed
+
+-- ---- all ticks so far
+
+-- a window is seen where it is closed first
+pub seen_none : (sc : Scenario) (ear : Ear) (frame window k : ℕ) (o : Option Closed) → seen_by sc ear frame window k ≡ None → closing_at sc ear k ≡ o → if_window frame window o ≡ None
+    → seen_by sc ear frame window (suc k) ≡ None
+seen_none sc ear frame window k o none is other =
+    ap (λ x. option_or x (if_window frame window (closing_at sc ear k))) none ∙ ap (if_window frame window) is ∙ other
+
+seen_some : (sc : Scenario) (ear : Ear) (frame window k : ℕ) (c : Closed) → seen_by sc ear frame window k ≡ None → closing_at sc ear k ≡ Some c → is_window frame window (Some c) ≡ true
+    → seen_by sc ear frame window (suc k) ≡ Some c
+seen_some sc ear frame window k c none is this =
+    ap (λ x. option_or x (if_window frame window (closing_at sc ear k))) none ∙ ap (if_window frame window) is
+    ∙ ap (λ b. elim b as (λ _. Option Closed) [ true ↦ Some c | false ↦ None ]) this
+
+pub seen_stays : (sc : Scenario) (ear : Ear) (frame window k : ℕ) (c : Closed) → seen_by sc ear frame window k ≡ Some c → (d : ℕ) → seen_by sc ear frame window (d + k) ≡ Some c
+seen_stays sc ear frame window k c is zero = let e : k ≡ 0 + k = omega arith in ap (seen_by sc ear frame window) (sym e) ∙ is
+seen_stays sc ear frame window k c is (suc d) =
+    let e : suc (d + k) ≡ suc d + k = omega arith in
+    ap (seen_by sc ear frame window) (sym e)
+    ∙ ap (λ x. option_or x (if_window frame window (closing_at sc ear (d + k)))) (seen_stays sc ear frame window k c is d)
+
+pub seen_quiet : (sc : Scenario) (ear : Ear) (frame window first : ℕ) → seen_by sc ear frame window first ≡ None → (n : ℕ) → ((i : ℕ) → i < n → closing_at sc ear (first + i) ≡ None)
+    → seen_by sc ear frame window (first + n) ≡ None
+seen_quiet sc ear frame window first none zero quiet = let e : first ≡ first + 0 = omega arith in ap (seen_by sc ear frame window) (sym e) ∙ none
+seen_quiet sc ear frame window first none (suc n) quiet =
+    let e : suc (first + n) ≡ first + suc n = omega arith in
+    ap (seen_by sc ear frame window) (sym e)
+    ∙ seen_none sc ear frame window (first + n) None (seen_quiet sc ear frame window first none n (λ i lt. quiet i (omega arith))) (quiet n (omega arith)) refl
+
+-- ---- windows that are still to come
+
+-- the window is this one of the frame or a later one
+abbrev pub IsFrom : ℕ → ℕ → ℕ → ℕ → Type 0
+IsFrom frame w g v = (frame < g) ⊎ ((frame ≡ g) × (w ≤ v))
+
+-- up to this tick none of these was closed
+abbrev pub NoneSeen : Scenario → Ear → ℕ → ℕ → ℕ → Type 0
+NoneSeen sc ear frame w k = (g v : ℕ) → IsFrom frame w g v → seen_by sc ear g v k ≡ None
+
+same_test : (a b : ℕ) → a ≡ b → (a == b) ≡ true
+same_test a b e = grind (arith, nat_tests, e)
+
+three_tests : (a b c : Bool) → a ≡ true → b ≡ true → c ≡ true → (a && b && c) ≡ true
+three_tests a b c p q r = rw (p, q, r) refl
+
+-- window w of the frame, by its place
+abbrev pub IsPlaceOf : Closed → ℕ → ℕ → Type 0
+IsPlaceOf c frame w = c.place ≡ record { frame = frame; slot = w / 3; stage = w % 3 + 1 }
+
+is_this : (c : Closed) (frame w : ℕ) → IsPlaceOf c frame w → is_window frame w (Some c) ≡ true
+is_this c frame w is =
+    three_tests (c.place.frame == frame) (c.place.slot == w / 3) (c.place.stage == w % 3 + 1) (same_test c.place.frame frame (ap (λ p. p.frame) is))
+    (same_test c.place.slot (w / 3) (ap (λ p. p.slot) is)) (same_test c.place.stage (w % 3 + 1) (ap (λ p. p.stage) is))
+
+-- it is no other
+is_other : (c : Closed) (frame w g v : ℕ) → IsPlaceOf c frame w → IsFrom frame (w + 1) g v → is_window g v (Some c) ≡ false
+is_other c frame w g v is later = so_not (is_window g v (Some c)) (λ h. differs h later)
+  where
+    differs : ((c.place.frame == g) && (c.place.slot == v / 3) && (c.place.stage == v % 3 + 1)) ≡ true → IsFrom frame (w + 1) g v → ⊥
+    differs h later =
+        let front : ((c.place.frame == g) && (c.place.slot == v / 3)) ≡ true = and_first ((c.place.frame == g) && (c.place.slot == v / 3)) (c.place.stage == v % 3 + 1) h in
+        let f : c.place.frame ≡ g = equal_from c.place.frame g (and_first (c.place.frame == g) (c.place.slot == v / 3) front) in
+        let s : c.place.slot ≡ v / 3 = equal_from c.place.slot (v / 3) (and_second (c.place.frame == g) (c.place.slot == v / 3) front) in
+        let t : c.place.stage ≡ v % 3 + 1 = equal_from c.place.stage (v % 3 + 1) (and_second ((c.place.frame == g) && (c.place.slot == v / 3)) (c.place.stage == v % 3 + 1) h) in
+        let f2 : c.place.frame ≡ frame = ap (λ p. p.frame) is in
+        let s2 : c.place.slot ≡ w / 3 = ap (λ p. p.slot) is in
+        let t2 : c.place.stage ≡ w % 3 + 1 = ap (λ p. p.stage) is in
+        by later (omega (arith, f, f2)) (omega (arith, s, s2)) (omega (arith, t, t2))
+      where
+        by : IsFrom frame (w + 1) g v → frame ≡ g → w / 3 ≡ v / 3 → w % 3 ≡ v % 3 → ⊥
+        by (inl less) e q r = absurd (omega (arith, less, e))
+        by (inr same) e q r = absurd (omega (arith, same.1, q, r))
+
+-- the window is closed with this tick, and those after it are still to come
+pub record SeesWindow (sc : Scenario) (ear : Ear) (frame w : ℕ) (c : Closed) (k : ℕ) : Type 0 where
+  pub here : seen_by sc ear frame w (suc k) ≡ Some c
+  pub later : NoneSeen sc ear frame (w + 1) (suc k)
+
+pub sees_window : (sc : Scenario) (ear : Ear) (before st : NodeState) (first n frame w : ℕ) → IsWindow sc.sizes sc.plan before st first n → Stands sc ear before first
+    → ClosesWindow sc ear before st first n → NoneSeen sc ear frame w first → IsPlaceOf (closing sc ear st first n).closed frame w
+    → SeesWindow sc ear frame w (closing sc ear st first n).closed (first + n)
+sees_window sc ear before st first n frame w window stands closes none place = record {
+  here = seen_some sc ear frame w (first + n) c (up_to frame w (inr (refl, omega arith))) (closes_last sc ear before st first n closes) (is_this c frame w place);
+  later = λ g v from.
+      seen_none sc ear g v (first + n) (Some c) (up_to g v (before_too g v from)) (closes_last sc ear before st first n closes)
+      (ap (λ b. elim b as (λ _. Option Closed) [ true ↦ Some c | false ↦ None ]) (is_other c frame w g v place from));
+}
+  where
+    c : Closed
+    c = (closing sc ear st first n).closed
+
+    up_to : (g v : ℕ) → IsFrom frame w g v → seen_by sc ear g v (first + n) ≡ None
+    up_to g v from = seen_quiet sc ear g v first (none g v from) n (closes_nothing sc ear before st first n window stands)
+
+    before_too : (g v : ℕ) → IsFrom frame (w + 1) g v → IsFrom frame w g v
+    before_too g v (inl less) = inl less
+    before_too g v (inr same) = inr (same.0, omega (arith, same.1))
+
+-- all of a later frame come after all of this one
+pub none_later : (sc : Scenario) (ear : Ear) (frame w k : ℕ) → NoneSeen sc ear frame w k → NoneSeen sc ear (frame + 1) 0 k
+none_later sc ear frame w k none g v (inl less) = none g v (inl (omega (arith, less)))
+none_later sc ear frame w k none g v (inr same) = none g v (inl (omega (arith, same.0)))

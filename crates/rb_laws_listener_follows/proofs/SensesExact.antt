@@ -1,0 +1,216 @@
+-- A follower in a window below the sync slot senses of each RMU that stays good what that one says.
+use Rattle.std.proofs.Common.{◌≡◌, ℕ, zero, suc, ◌+◌, ◌-◌, ◌*◌, ◌^◌, ◌<◌, ◌≤◌, ◌==◌, true, false, List, [], ◌∷◌, Option, Some, None, option_and_then, option_map, slice_get, refl, sym, ◌∙◌, ap, subst, arith}
+use Rattle.std.specs.Prelude.{IfSome}
+use Rattle.std.proofs.lemmas.Bool.Decides.{nat_tests}
+use Rattle.rb_base.specs.Nodes.{Side}
+use Rattle.rb_base.specs.Nodes.Side.{Rmu}
+use Rattle.rb_base.specs.Sizes.{Sizes, sync_slot_of}
+use Rattle.rb_base.specs.declared.values.Heard.{Heard}
+use Rattle.rb_rules.specs.declared.message.Message.{Message}
+use Rattle.rb_rules.specs.declared.plan.Plan.{Plan}
+use Rattle.rb_rules.specs.declared.sense.Expect.{Expect}
+use Rattle.rb_rules.specs.declared.sense.Sense.{Sense}
+use Rattle.rb_rules.specs.Clock.{IsStamp, stamp_of}
+use Rattle.rb_rules.specs.Core.{of_source}
+use Rattle.rb_rules.specs.ExactStage.{message_of, says}
+use Rattle.rb_rules.specs.Goodness.{Scenario, is_good}
+use Rattle.rb_rules.specs.Hearing.{Coming, Sending, sending}
+use Rattle.rb_rules.specs.NodeState.{NodeState}
+use Rattle.rb_rules.specs.NodeSteps.{expect_of, message_said}
+use Rattle.rb_rules.specs.Plan.{shortest_of}
+use Rattle.rb_rules.specs.Ports.{HandIn}
+use Rattle.rb_rules.specs.Rounds.{Moment, after_window, moment, sending_in, window_in}
+use Rattle.rb_rules.specs.Sense.{Arrival, sense_of}
+use Rattle.rb_rules.specs.Spelling.{spelling_of}
+use Rattle.rb_rules.specs.SyncStage.{send_tick_of}
+use Rattle.rb_rules.specs.Windows.{send_offset_of}
+use Rattle.rb_rules.proofs.Senses.{IsCarried, spelled_is_one, value_is_message, value_suits}
+use Rattle.rb_rules.proofs.Stamps.{one_stamp, stamp_of-is}
+use Rattle.rb_laws_agreement.proofs.Tests.{same_some}
+use Rattle.rb_laws_agreement.proofs.ExactWindows.{IsSenseOf}
+use Rattle.rb_laws_agreement.proofs.FirstStages.{carried_1}
+use Rattle.rb_laws_agreement.proofs.Goodnesses.{few_slots, good_counts, slot_here}
+use Rattle.rb_laws_agreement.proofs.Invariant.{IsGoodNode, Shared, slot_numbered}
+use Rattle.rb_laws_agreement.proofs.NodeWindows.{IsOne, Windows, exact_windows, word_at}
+use Rattle.rb_laws_agreement.proofs.SecondStages.{carried_2}
+use Rattle.rb_laws_agreement.proofs.Settings.{AllCarried, Setting}
+use Rattle.rb_laws_agreement.proofs.ThirdStages.{carried_3}
+use Rattle.rb_laws_synchrony.proofs.PlanNumbers.{drift_of}
+use Rattle.rb_laws_synchrony.proofs.Times.{Steady}
+use Rattle.rb_laws_listener_learns.specs.Ears.{Ear, IsHeard, IsOfGood, SendsIn, coming_to}
+use Rattle.rb_laws_listener_learns.proofs.CallsSent.{sends-at}
+use Rattle.rb_laws_listener_learns.proofs.Together.{steady-ear}
+use Rattle.rb_laws_listener_near.proofs.Tracking.{Senses}
+use Rattle.rb_laws_listener_follows.proofs.Arrivals.{none_collected, none_with_stamp, one_collected, one_with_stamp}
+use Rattle.rb_laws_listener_follows.proofs.FollowerRuns.{arrivals, collected}
+use Rattle.rb_laws_listener_follows.proofs.HeardExact.{Beside, IsOwn, IsTickOf, only_own, own_in_time}
+
+-- what good nodes say has four bytes
+carried : (sc : Scenario) (hands : List HandIn) (n : ℕ) (m : Moment) (s : Shared) (slot q : ℕ) → Setting sc hands n m s slot q → AllCarried sc m slot (q + 1)
+carried sc hands n m s slot zero c = carried_1 sc hands n m s slot c
+carried sc hands n m s slot (suc zero) c = carried_2 sc hands n m s slot c
+carried sc hands n m s slot (suc (suc zero)) c = carried_3 sc hands n m s slot c
+carried sc hands n m s slot (suc (suc (suc q))) c = let small : suc (suc (suc q)) < 3 = c.small in absurd (omega arith)
+
+not-sync : (slot sync : ℕ) → slot < sync → (slot == sync) ≡ false
+not-sync slot sync h = grind (arith, nat_tests)
+
+sending-some : (sizes : Sizes) (plan : Plan) (me : Side) (j : ℕ) (st : NodeState) (slot stage word tick : ℕ) (message : Message)
+    → message_said sizes me j st slot stage word ≡ Some message → send_tick_of sizes plan st slot stage ≡ Some tick
+    → sending sizes plan me j st slot stage word ≡ Some (record { tick = tick; message = message })
+unfolding sending
+sending-some sizes plan me j st slot stage word tick message is at =
+    ap (option_and_then (λ m. option_map (λ tick. record { tick = tick; message = m }) (send_tick_of sizes plan st slot stage))) is
+    ∙ ap (option_map (λ tick. record { tick = tick; message = message })) at
+
+none-said : (sizes : Sizes) (plan : Plan) (me : Side) (j : ℕ) (st : NodeState) (slot stage word : ℕ)
+    → message_said sizes me j st slot stage word ≡ None → sending sizes plan me j st slot stage word ≡ None
+unfolding sending
+none-said sizes plan me j st slot stage word none =
+    ap (option_and_then (λ m. option_map (λ tick. record { tick = tick; message = m }) (send_tick_of sizes plan st slot stage))) none
+
+-- an RMU sends one message in a window
+pub same-sent : (sc : Scenario) (hands : List HandIn) (n j : ℕ) (s t : Sending) → SendsIn sc hands n j s → SendsIn sc hands n j t → s ≡ t
+same-sent sc hands n j s t a b =
+    let states : a.state ≡ b.state = same_some a.state b.state (sym a.good.0 ∙ b.good.0) in
+    same_some s t (sym a.sends ∙ ap (λ st. sending_in sc (moment sc hands n) Rmu j st (window_in sc (moment sc hands n) Rmu st)) states ∙ b.sends)
+
+-- all that comes with the stamps of the window's ticks
+abbrev pub inbox_of : Scenario → Ear → ℕ → ℕ → List (ℕ × Arrival)
+inbox_of sc ear epoch w = collected sc.sizes ear.heard (epoch + w * sc.plan.l) sc.plan.l
+
+-- what a node in this state senses of it
+abbrev pub sense_heard : Scenario → Ear → ℕ → ℕ → NodeState → ℕ → ℕ → ℕ → Sense
+sense_heard sc ear epoch w st slot stage j = sense_of (expect_of sc.sizes sc.plan.version st slot stage) (of_source (inbox_of sc ear epoch w) j)
+
+pub senses_exact : (sc : Scenario) (hands : List HandIn) (ear : Ear) (n epoch low : ℕ) (s : Shared) (slot q : ℕ) → Beside sc hands ear n epoch low s
+    → (c : Setting sc hands n (moment sc hands n) s slot q) → (st : NodeState) → st.frame ≡ (moment sc hands n).frame
+    → epoch + (moment sc hands n).window * sc.plan.l + sc.plan.l ≤ ear.ticks
+    → Senses sc (moment sc hands n) slot q (sense_heard sc ear epoch (moment sc hands n).window st slot (q + 1))
+unfolding after_window
+senses_exact sc hands ear n epoch low s slot q b c st frame in_time j source there stays = by (says sc.sizes Rmu j source slot (q + 1) (word_at sc (moment sc hands n) slot j)) refl
+  where
+    m : Moment
+    m = moment sc hands n
+
+    w : ℕ
+    w = (moment sc hands n).window
+
+    below : (moment sc hands n).window < 3 * sync_slot_of sc.sizes
+    below = let at : (moment sc hands n).window ≡ 3 * slot + q = c.at in let lt : slot < sync_slot_of sc.sizes = c.below in let small : q < 3 = c.small in omega arith
+
+    ws : Windows sc (moment sc hands n) slot (q + 1)
+    ws = exact_windows sc (moment sc hands n) slot q c.below c.small c.at
+
+    away : (slot == sync_slot_of sc.sizes) ≡ false
+    away = not-sync slot (sync_slot_of sc.sizes) c.below
+
+    good : is_good sc Rmu j (moment sc hands n).frame (slot_numbered sc.sizes ((moment sc hands n).window + 1)) ≡ true
+    good = stays
+
+    inside : j < sc.sizes.rmus
+    inside = good_counts sc Rmu j (moment sc hands n).frame (slot_numbered sc.sizes ((moment sc hands n).window + 1)) stays
+
+    e : Expect
+    e = expect_of sc.sizes sc.plan.version st slot (q + 1)
+
+    first : ℕ
+    first = epoch + (moment sc hands n).window * sc.plan.l
+
+    tick_in : (i : ℕ) → i < sc.plan.l → IsTickOf sc epoch (moment sc hands n).window (epoch + (moment sc hands n).window * sc.plan.l + i)
+    tick_in i lt = (omega arith, omega (arith, lt))
+
+    -- whatever comes of it is what it sends here
+    own : (i : ℕ) → i < sc.plan.l → (nth : ℕ) (d : Coming) → slice_get (ear.heard (epoch + (moment sc hands n).window * sc.plan.l + i)) nth ≡ Some d → d.from ≡ j → IsOwn sc hands ear n d
+    own i lt nth d is from =
+        only_own sc hands ear n epoch low s b below d source (subst (λ k. IsGoodNode sc (moment sc hands n) Rmu k source) (sym from) there)
+        (subst (λ k. is_good sc Rmu k (moment sc hands n).frame (slot_numbered sc.sizes ((moment sc hands n).window + 1)) ≡ true) (sym from) good)
+        (epoch + (moment sc hands n).window * sc.plan.l + i) (omega (arith, lt, in_time)) (record { nth = nth; there = is }) (tick_in i lt)
+
+    own_sends : (d : Coming) (o : IsOwn sc hands ear n d) → d.from ≡ j → SendsIn sc hands n j o.good.sending
+    own_sends d o from = subst (λ k. SendsIn sc hands n k o.good.sending) from (subst (λ k. SendsIn sc hands k d.from o.good.sending) o.here o.good.sent)
+
+    by : (said : Option Heard) → says sc.sizes Rmu j source slot (q + 1) (word_at sc (moment sc hands n) slot j) ≡ said
+        → IsSenseOf (sense_heard sc ear epoch (moment sc hands n).window st slot (q + 1) j) source slot (q + 1) said
+    by None saying =
+        let silent : sending sc.sizes sc.plan Rmu j source slot (q + 1) (word_at sc (moment sc hands n) slot j) ≡ None =
+        none-said sc.sizes sc.plan Rmu j source slot (q + 1) (word_at sc (moment sc hands n) slot j) (rw away (ap (option_map (message_of source slot (q + 1))) saying)) in
+        let nothing : of_source (inbox_of sc ear epoch (moment sc hands n).window) j ≡ [] =
+        none_collected sc.sizes ear.heard (epoch + (moment sc hands n).window * sc.plan.l) sc.plan.l j (λ i lt.
+        none_with_stamp sc.sizes (epoch + (moment sc hands n).window * sc.plan.l + i) (ear.heard (epoch + (moment sc hands n).window * sc.plan.l + i)) j (λ nth d is from.
+        let o : IsOwn sc hands ear n d = own i lt nth d is from in
+        let sent : SendsIn sc hands n j o.good.sending = own_sends d o from in
+        let states : sent.state ≡ source = same_some sent.state source (sym sent.good.0 ∙ there.there) in
+        let both : None ≡ Some o.good.sending =
+        sym silent ∙ ap (λ x. sending sc.sizes sc.plan Rmu j x slot (q + 1) (word_at sc (moment sc hands n) slot j)) (sym states)
+        ∙ sends-at sc hands n j o.good.sending sent slot (q + 1) ws in
+        cc)) in
+        ap (sense_of (expect_of sc.sizes sc.plan.version st slot (q + 1))) nothing
+    by (Some value) saying = one (record { tick = tick; message = message_of source slot (q + 1) value }) refl
+      where
+        tick : ℕ
+        tick = source.epoch + send_offset_of sc.plan slot (q + 1)
+
+        message : Message
+        message = message_of source slot (q + 1) value
+
+        sends : sending sc.sizes sc.plan Rmu j source slot (q + 1) (word_at sc (moment sc hands n) slot j) ≡ Some (record { tick = tick; message = message_of source slot (q + 1) value })
+        sends =
+            sending-some sc.sizes sc.plan Rmu j source slot (q + 1) (word_at sc (moment sc hands n) slot j) tick message
+            (rw away (ap (option_map (message_of source slot (q + 1))) saying)) (rw away refl)
+
+        fits : IsCarried value
+        fits = subst (λ o. IfSome o IsCarried) saying (carried sc hands n (moment sc hands n) s slot q c Rmu j source there)
+
+        one : (x : Sending) → x ≡ record { tick = tick; message = message_of source slot (q + 1) value }
+            → IsOne (sense_heard sc ear epoch (moment sc hands n).window st slot (q + 1) j) (message_of source slot (q + 1) value)
+        one x is_x =
+            let sent : SendsIn sc hands n j x = record {
+              running = b.running;
+              in_frame = omega (arith, below);
+              state = source;
+              good = (there.there, ap (is_good sc Rmu j (moment sc hands n).frame) (ap (λ w. w.slot) (ws.are Rmu source) ∙ sym (slot_here sc.sizes (moment sc hands n).window slot q c.below c.small c.at)) ∙ there.good);
+              sends = subst (λ w. sending_in sc (moment sc hands n) Rmu j source w ≡ Some x) (sym (ws.are Rmu source)) (sends ∙ ap (λ y. Some y) (sym is_x));
+            } in
+            let comes : Coming = coming_to sc ear j (moment sc hands n).frame x in
+            let clock : Steady (shortest_of sc.plan) (drift_of sc.plan) ear.clock = steady-ear sc b.law ear b.is in
+            let k : ℕ = stamp_of ear.clock comes.time in
+            let stamp : IsStamp ear.clock comes.time k = stamp_of-is ear.clock clock.moves comes.time in
+            let at = own_in_time sc hands ear n epoch low s b below j x sent k stamp in
+            let heard : IsHeard ear k comes = b.run.each n j x sent k (omega (arith, at.0, b.past)) (omega (arith, at.1, in_time)) stamp in
+            let i : ℕ = k - first in
+            let place : first + i ≡ k = omega (arith, at.0) in
+            let here : slice_get (ear.heard (first + i)) heard.nth ≡ Some comes = subst (λ t. slice_get (ear.heard t) heard.nth ≡ Some comes) (sym place) heard.there in
+            let within : i < sc.plan.l = omega (arith, at.1, place) in
+            let same : (t : ℕ) → t < sc.plan.l → (nth : ℕ) (d : Coming) → slice_get (ear.heard (first + t)) nth ≡ Some d → d.from ≡ j → d ≡ comes =
+            λ t lt nth d is from.
+            let o : IsOwn sc hands ear n d = own t lt nth d is from in
+            let sending_is : o.good.sending ≡ x = same-sent sc hands n j o.good.sending x (own_sends d o from) sent in
+            o.good.is ∙ ap (λ f. coming_to sc ear f (moment sc hands o.good.n).frame o.good.sending) from
+            ∙ ap (λ p. coming_to sc ear j (moment sc hands p).frame o.good.sending) o.here ∙ ap (coming_to sc ear j (moment sc hands n).frame) sending_is in
+            let of_good : IsOfGood sc hands ear comes = record { n = n; sending = x; sent = sent; is = refl } in
+            let single : of_source (arrivals sc.sizes (first + i) (ear.heard (first + i))) j ≡ record { stamp = first + i; bytes = comes.bytes } ∷ [] =
+            one_with_stamp sc.sizes (first + i) (ear.heard (first + i)) j heard.nth comes inside here refl
+            (λ a d is from.
+            b.run.once (first + i) a heard.nth comes (omega (arith, within, in_time)) of_good
+            (is ∙ ap (λ y. Some y) (same i within a d is from)) here) in
+            let others : (t : ℕ) → t < sc.plan.l → (t ≡ i → ⊥) → of_source (arrivals sc.sizes (first + t) (ear.heard (first + t))) j ≡ [] =
+            λ t lt apart.
+            none_with_stamp sc.sizes (first + t) (ear.heard (first + t)) j (λ nth d is from.
+            let stamps : first + t ≡ k =
+            one_stamp ear.clock comes.time (first + t) k
+            (subst (λ (y : Coming). IsStamp ear.clock y.time (first + t)) (same t lt nth d is from)
+            (b.is.stamps (first + t) d (omega (arith, lt, in_time)) (record { nth = nth; there = is }))) stamp in
+            apart (omega (arith, stamps, place))) in
+            let list : of_source (inbox_of sc ear epoch (moment sc hands n).window) j ≡ record { stamp = first + i; bytes = comes.bytes } ∷ [] =
+            one_collected sc.sizes ear.heard first sc.plan.l j i (record { stamp = first + i; bytes = comes.bytes }) within single others in
+            let few : slot < 2 ^ 16 = omega (arith, few_slots sc.sizes c.law.sizes, c.below) in
+            let small : q < 3 = c.small in
+            let spelled : comes.bytes ≡ spelling_of sc.plan.version (message_of source slot (q + 1) value) = ap (λ y. spelling_of sc.plan.version y.message) is_x in
+            record {
+              stamp = first + i;
+              is = ap (sense_of (expect_of sc.sizes sc.plan.version st slot (q + 1))) list
+                  ∙ spelled_is_one (expect_of sc.sizes sc.plan.version st slot (q + 1)) (first + i) comes.bytes (message_of source slot (q + 1) value)
+                  (value_is_message source slot (q + 1) value few (omega arith) (omega (arith, small)) fits, spelled)
+                  (value_suits sc.sizes sc.plan.version source st slot (q + 1) value ((c.agree.nodes Rmu j source there).frame ∙ sym frame) away);
+            }

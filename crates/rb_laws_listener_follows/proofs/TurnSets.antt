@@ -1,0 +1,75 @@
+-- With its turn a listener holds the trusted nodes that all good nodes hold then.
+use Rattle.std.proofs.Common.{◌≡◌, ℕ, ◌+◌, true, List, get_or, sym, ◌∙◌, ap, arith}
+use Rattle.rb_base.specs.Nodes.{has}
+use Rattle.rb_base.specs.Nodes.Side.{Biu, Rmu}
+use Rattle.rb_base.specs.Sizes.{Sizes, sync_slot_of}
+use Rattle.rb_base.specs.declared.values.Heard.{Heard}
+use Rattle.rb_base.specs.declared.values.Heard.TheVariants.{Fault}
+use Rattle.rb_rules.specs.Conviction.{convicted_at, convicted_by, turn, voted_vector}
+use Rattle.rb_rules.specs.Goodness.{Scenario, is_good}
+use Rattle.rb_rules.specs.NodeState.{NodeState}
+use Rattle.rb_rules.specs.Ports.{HandIn}
+use Rattle.rb_rules.specs.Rounds.{Moment}
+use Rattle.rb_rules.specs.Slots.{first_diagnosis_of}
+use Rattle.rb_rules.specs.Standing.{without}
+use Rattle.rb_laws_agreement.proofs.FrameAgrees.{next-trusted, shared_next}
+use Rattle.rb_laws_agreement.proofs.FrameTurns.{AtEnd, convicted_held}
+use Rattle.rb_laws_agreement.proofs.Goodnesses.{slot_last}
+use Rattle.rb_laws_agreement.proofs.Invariant.{Holds, Shared, is_good_now}
+use Rattle.rb_laws_agreement.proofs.Numbers.{one_of_many}
+use Rattle.rb_laws_agreement.proofs.Premises.{Premise, is_sound}
+use Rattle.rb_laws_agreement.proofs.SecondStages.{GoodOne}
+use Rattle.rb_laws_agreement.proofs.Settings.{good_state}
+use Rattle.rb_laws_agreement.proofs.Tests.{Passing, and_second}
+use Rattle.rb_laws_listener_near.specs.Holding.{HoldAlike}
+use Rattle.rb_laws_listener_near.proofs.SyncTracks.{IsLike}
+
+bius_convicted : (sizes : Sizes) (a b : NodeState) → HoldAlike a b → convicted_at sizes Biu a Biu ≡ convicted_at sizes Biu b Biu
+bius_convicted sizes a b h =
+    ap (λ t. convicted_by sizes.bius t a.near (voted_vector sizes Rmu a)) h.far
+    ∙ ap (λ t. convicted_by sizes.bius b.far.trusted t (voted_vector sizes Rmu a)) h.near
+    ∙ ap (λ (v : List Heard). convicted_by sizes.bius b.far.trusted b.near (λ i. get_or v (first_diagnosis_of Rmu sizes + i) Fault)) h.votes
+
+rmus_convicted : (sizes : Sizes) (a b : NodeState) → HoldAlike a b → convicted_at sizes Biu a Rmu ≡ convicted_at sizes Biu b Rmu
+rmus_convicted sizes a b h =
+    ap (λ t. convicted_by sizes.rmus t a.far.trusted (voted_vector sizes Biu a)) h.near
+    ∙ ap (λ t. convicted_by sizes.rmus b.near t (voted_vector sizes Biu a)) h.far
+    ∙ ap (λ (v : List Heard). convicted_by sizes.rmus b.near b.far.trusted (λ i. get_or v (first_diagnosis_of Biu sizes + i) Fault)) h.votes
+
+-- the premise of the sync slot gives a good BIU
+good_biu : (sc : Scenario) (hands : List HandIn) (n : ℕ) (m : Moment) (s : Shared) → AtEnd sc hands n m s → GoodOne sc m Biu
+good_biu sc hands n m s e =
+    let p : Premise sc m.frame (sync_slot_of sc.sizes) s.trusted m.book.stages = e.agree.judged (omega (arith, e.at)) in
+    let one : Passing (is_sound sc Biu m.frame (sync_slot_of sc.sizes) s.trusted) 0 16 = one_of_many (is_sound sc Biu m.frame (sync_slot_of sc.sizes) s.trusted) (omega (arith, p.most Biu)) in
+    let good : is_good sc Biu one.at m.frame (sync_slot_of sc.sizes) ≡ true = and_second (has (s.trusted Biu) one.at) (is_good sc Biu one.at m.frame (sync_slot_of sc.sizes)) one.passes in
+    let now : is_good_now sc m Biu one.at ≡ true = ap (is_good sc Biu one.at m.frame) (slot_last sc.sizes m.window 4 (omega (arith, e.at))) ∙ good in
+    let st = good_state sc hands n m s e.agree Biu one.at now in
+    record { index = one.at; st = st.value; here = record { there = st.is; good = now } }
+
+-- the frame, and the trusted nodes, that all good nodes hold
+pub record HoldsSets (s : Shared) (frame : ℕ) (st : NodeState) : Type 0 where
+  pub frame_is : st.frame ≡ frame
+  pub near : st.near ≡ s.trusted Biu
+  pub far : st.far.trusted ≡ s.trusted Rmu
+
+pub turned_sets : (sc : Scenario) (hands : List HandIn) (n : ℕ) (m : Moment) (s : Shared) → AtEnd sc hands n m s → (st : NodeState) → IsLike sc m st → (epoch : ℕ)
+    → HoldsSets (shared_next sc.sizes s) (m.frame + 1) (turn sc.sizes sc.plan.probation Biu epoch st)
+unfolding turn
+turned_sets sc hands n m s e st like epoch = record {
+  frame_is = ap (λ f. f + 1) (alike.frame ∙ holds.frame);
+  near = ap (λ t. without t (convicted_at sc.sizes Biu st Biu)) (alike.near ∙ holds.trusted Biu)
+      ∙ ap (without (s.trusted Biu)) (bius_convicted sc.sizes st g.st alike ∙ convicted_held sc hands n m s e Biu g.index g.st g.here Biu)
+      ∙ sym (next-trusted sc.sizes s Biu);
+  far = ap (λ t. without t (convicted_at sc.sizes Biu st Rmu)) (alike.far ∙ holds.trusted Rmu)
+      ∙ ap (without (s.trusted Rmu)) (rmus_convicted sc.sizes st g.st alike ∙ convicted_held sc hands n m s e Biu g.index g.st g.here Rmu)
+      ∙ sym (next-trusted sc.sizes s Rmu);
+}
+  where
+    g : GoodOne sc m Biu
+    g = good_biu sc hands n m s e
+
+    alike : HoldAlike st g.st
+    alike = like g.index g.st g.here
+
+    holds : Holds sc m s Biu g.st
+    holds = e.agree.nodes Biu g.index g.st g.here

@@ -1,0 +1,91 @@
+-- With the first tick of its next frame a listener turns as the good BIUs do, and stands before the frame's first window.
+use Rattle.std.proofs.Common.{◌≡◌, ℕ, suc, ◌+◌, ◌*◌, true, List, None, refl, sym, ◌∙◌, ap, subst, arith}
+use Rattle.rb_base.specs.Nodes.Side.{Biu, Rmu}
+use Rattle.rb_base.specs.Sizes.{Sizes}
+use Rattle.rb_rules.specs.declared.plan.Plan.{Plan}
+use Rattle.rb_rules.specs.Conviction.{turn}
+use Rattle.rb_rules.specs.Core.{state_at}
+use Rattle.rb_rules.specs.Goodness.{Scenario, is_good}
+use Rattle.rb_rules.specs.Moments.{IsRunning}
+use Rattle.rb_rules.specs.NodeState.{NodeState}
+use Rattle.rb_rules.specs.Ports.{HandIn}
+use Rattle.rb_rules.specs.Rounds.{Moment, begin_frame, moment, next_frame, windows_in}
+use Rattle.rb_rules.specs.SyncStage.{new_epoch_of}
+use Rattle.rb_laws_agreement.proofs.FrameAgrees.{agree_frame, shared_next}
+use Rattle.rb_laws_agreement.proofs.FrameTurns.{AtEnd}
+use Rattle.rb_laws_agreement.proofs.Invariant.{Agree, Shared, is_good_now, slot_numbered}
+use Rattle.rb_laws_events.proofs.NodeMoves.{turn-at}
+use Rattle.rb_laws_listener_learns.specs.Ears.{Ear}
+use Rattle.rb_laws_listener_near.proofs.SyncTracks.{tracks_turn, turns_with}
+use Rattle.rb_laws_listener_near.proofs.Tracking.{Tracks}
+use Rattle.rb_laws_listener_follows.proofs.ExactSteps.{Abides}
+use Rattle.rb_laws_listener_follows.proofs.FollowerRuns.{Stands}
+use Rattle.rb_laws_listener_follows.proofs.LateSteps.{StandsLate}
+
+-- what a turn makes of a node
+turned-epoch : (sizes : Sizes) (probation epoch : ℕ) (st : NodeState) → (turn sizes probation Biu epoch st).epoch ≡ epoch
+unfolding turn
+turned-epoch sizes probation epoch st = refl
+
+turned-unknown : (sizes : Sizes) (plan : Plan) (epoch : ℕ) (st : NodeState) → new_epoch_of plan Biu (turn sizes plan.probation Biu epoch st) ≡ None
+unfolding turn
+turned-unknown sizes plan epoch st = refl
+
+begins-frame : (sc : Scenario) (hands : List HandIn) (m : Moment) → (next_frame sc hands m).frame ≡ m.frame + 1
+unfolding begin_frame
+begins-frame sc hands m = refl
+
+begins-window : (sc : Scenario) (hands : List HandIn) (m : Moment) → (next_frame sc hands m).window ≡ 0
+unfolding begin_frame
+begins-window sc hands m = refl
+
+-- at the end of the frame it stands before the first tick of the next one
+pub turns_next : (sc : Scenario) (hands : List HandIn) (ear : Ear) (n epoch low : ℕ) (s : Shared) (st : NodeState) (a next_epoch later : ℕ)
+    → (x : StandsLate sc hands ear n epoch low s st a next_epoch later) → epoch + a ≡ next_epoch → (moment sc hands n).window ≡ windows_in sc.sizes
+    → next_frame sc hands (moment sc hands n) ≡ moment sc hands (suc n) → IsRunning (moment sc hands (suc n))
+    → Abides sc hands ear (suc n) next_epoch later (shared_next sc.sizes s) st (turn sc.sizes sc.plan.probation Biu next_epoch st)
+turns_next sc hands ear n epoch low s st a next_epoch later x at_end at next_is running = record {
+  beside = record {
+    law = x.beside.law;
+    is = x.beside.is;
+    run = x.beside.run;
+    running = running;
+    agree = subst (λ m. Agree sc hands (suc n) m (shared_next sc.sizes s)) next_is (agree_frame sc hands n (moment sc hands n) s end next_is);
+    near = record {
+      begun = λ me i st node. x.next.good (suc n) frame window running me i st node;
+      first = λ late. absurd (omega (arith, late, window));
+      first_near = λ late. absurd (omega (arith, late, window));
+      second = λ late. absurd (omega (arith, late, window));
+      second_near = λ late. absurd (omega (arith, late, window));
+      third = λ late. absurd (omega (arith, late, window));
+    };
+    began = x.next.listener;
+    past = omega (arith, x.beside.past, at_end);
+  };
+  stands = subst (λ k. Stands sc ear st k) (at_end ∙ here) x.stands;
+  turns = subst (λ k. state_at sc.sizes sc.plan Biu st k ≡ turn sc.sizes sc.plan.probation Biu next_epoch st) here
+      ((turn-at sc.sizes sc.plan Biu st next_epoch x.known).0 ∙ turns_with sc.sizes sc.plan st next_epoch x.known);
+  epoch_is = turned-epoch sc.sizes sc.plan.probation next_epoch st;
+  unknown = turned-unknown sc.sizes sc.plan next_epoch st;
+  tracks = subst (λ m. Tracks sc m (turn sc.sizes sc.plan.probation Biu next_epoch st)) next_is
+      (tracks_turn sc hands n (moment sc hands n) s end st x.like (λ j good. x.spares j (ap (is_good sc Rmu j ((moment sc hands n).frame + 1)) (sym slot_is) ∙ good_next j good)) next_epoch);
+}
+  where
+    end : AtEnd sc hands n (moment sc hands n) s
+    end = record { law = x.beside.law; agree = x.beside.agree; at = at }
+
+    frame : (moment sc hands (suc n)).frame ≡ (moment sc hands n).frame + 1
+    frame = ap (λ m. m.frame) (sym next_is) ∙ begins-frame sc hands (moment sc hands n)
+
+    window : (moment sc hands (suc n)).window ≡ 0
+    window = ap (λ m. m.window) (sym next_is) ∙ begins-window sc hands (moment sc hands n)
+
+    here : next_epoch ≡ next_epoch + (moment sc hands (suc n)).window * sc.plan.l
+    here = let e : (moment sc hands (suc n)).window * sc.plan.l ≡ 0 * sc.plan.l = ap (λ w. w * sc.plan.l) window in omega (arith, e)
+
+    slot_is : slot_numbered sc.sizes (next_frame sc hands (moment sc hands n)).window ≡ 0
+    slot_is = omega (arith, begins-window sc hands (moment sc hands n))
+
+    good_next : (j : ℕ) → is_good_now sc (next_frame sc hands (moment sc hands n)) Rmu j ≡ true
+        → is_good sc Rmu j ((moment sc hands n).frame + 1) (slot_numbered sc.sizes (next_frame sc hands (moment sc hands n)).window) ≡ true
+    good_next j good = ap (λ f. is_good sc Rmu j f (slot_numbered sc.sizes (next_frame sc hands (moment sc hands n)).window)) (sym (begins-frame sc hands (moment sc hands n))) ∙ good

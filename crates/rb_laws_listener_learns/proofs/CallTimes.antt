@@ -1,0 +1,188 @@
+-- When the calls came that are recorded.
+use Rattle.std.proofs.Common.{◌≡◌, ◌⊎◌, ℕ, zero, suc, ◌%◌, ◌<◌, ◌≤◌, ◌==◌, ◌&&◌, Bool, true, false, Option, Some, None, cond, List, [], ◌∷◌, filter, slice_get, inl, inr, refl, sym, ◌∙◌, ap, subst, arith}
+use Rattle.std.proofs.lemmas.Bool.Decides.{nat_tests}
+use Rattle.rb_base.specs.Nodes.Side.{Rmu}
+use Rattle.rb_base.specs.Sizes.{sync_slot_of}
+use Rattle.rb_rules.specs.declared.message.Message.{Message}
+use Rattle.rb_rules.specs.declared.message.Tag.{Tag}
+use Rattle.rb_rules.specs.declared.message.Tag.TheVariants.{Word, Fault, Sync as Call}
+use Rattle.rb_rules.specs.declared.sense.Sense.{Sense}
+use Rattle.rb_rules.specs.declared.sense.Sense.TheVariants.{Silent, One, Bad}
+use Rattle.rb_rules.specs.Clock.{IsStamp}
+use Rattle.rb_rules.specs.Goodness.{Scenario, is_good}
+use Rattle.rb_rules.specs.Hearing.{Coming}
+use Rattle.rb_rules.specs.Lawful.{IsLawful}
+use Rattle.rb_rules.specs.Ports.{HandIn}
+use Rattle.rb_rules.specs.Sense.{stamp_in, tag_suits}
+use Rattle.rb_rules.specs.Slots.{role_of}
+use Rattle.rb_rules.specs.Spelling.{message_in}
+use Rattle.rb_laws_agreement.proofs.Tests.{and_both, and_first, and_second, equal_from, same_some}
+use Rattle.rb_listen.specs.Lessons.{stage_recorded}
+use Rattle.rb_listen.specs.Passes.{is_call, is_sync}
+use Rattle.rb_listen.specs.declared.search.Search.{Search}
+use Rattle.rb_laws_listener_learns.specs.Ears.{Ear, HearsTheRun, IsEar, IsHeard, IsOfGood}
+use Rattle.rb_laws_listener_learns.specs.Receivers.{call_time, is_call_of, last_time}
+use Rattle.rb_laws_listener_learns.specs.Records.{IsOfPlace}
+use Rattle.rb_laws_listener_learns.proofs.Ahead.{call-place}
+use Rattle.rb_laws_listener_learns.proofs.Deciding.{some-stamp}
+use Rattle.rb_laws_listener_learns.proofs.Latest.{earlier-le}
+use Rattle.rb_laws_listener_learns.proofs.Noting.{IsNotedBy, IsPlacedAt}
+use Rattle.rb_laws_listener_learns.proofs.Recorded.{placed}
+use Rattle.rb_laws_listener_learns.proofs.Whole.{HasLesson, all-good, has-place, same-place-of, sync-role}
+
+-- The last that passes.
+
+pub record LastIs (p : Coming → Bool) (xs : List Coming) : Type 0 where
+  pub at : ℕ
+  pub coming : Coming
+  pub there : slice_get xs at ≡ Some coming
+  pub passes : p coming ≡ true
+  pub first : Coming
+  pub others : List Coming
+  pub is : filter p xs ≡ first ∷ others
+  pub time : last_time (filter p xs) ≡ coming.time
+
+last-cases : (p : Coming → Bool) (xs : List Coming) → (filter p xs ≡ []) ⊎ LastIs p xs
+last-cases p [] = inl refl
+last-cases p (y ∷ ys) = by (p y) refl (last-cases p ys)
+  where
+    by : (b : Bool) → p y ≡ b → (filter p ys ≡ []) ⊎ LastIs p ys → (filter p (y ∷ ys) ≡ []) ⊎ LastIs p (y ∷ ys)
+    by false e (inl none) = inl (ap (λ b. cond b (y ∷ filter p ys) (filter p ys)) e ∙ none)
+    by false e (inr l) =
+        let same : filter p (y ∷ ys) ≡ filter p ys = ap (λ b. cond b (y ∷ filter p ys) (filter p ys)) e in
+        inr (record { at = suc l.at; coming = l.coming; there = l.there; passes = l.passes; first = l.first; others = l.others; is = same ∙ l.is; time = ap last_time same ∙ l.time })
+    by true e (inl none) =
+        let same : filter p (y ∷ ys) ≡ y ∷ [] = ap (λ b. cond b (y ∷ filter p ys) (filter p ys)) e ∙ ap (λ l. y ∷ l) none in
+        inr (record { at = zero; coming = y; there = refl; passes = e; first = y; others = []; is = same; time = ap last_time same })
+    by true e (inr l) =
+        let same : filter p (y ∷ ys) ≡ y ∷ (l.first ∷ l.others) = ap (λ b. cond b (y ∷ filter p ys) (filter p ys)) e ∙ ap (λ l. y ∷ l) l.is in
+        inr (record {
+          at = suc l.at;
+          coming = l.coming;
+          there = l.there;
+          passes = l.passes;
+          first = y;
+          others = l.first ∷ l.others;
+          is = same;
+          time = ap last_time same ∙ ap last_time (sym l.is) ∙ l.time;
+        })
+
+none-passes : (p : Coming → Bool) (xs : List Coming) (i : ℕ) (x : Coming) → filter p xs ≡ [] → slice_get xs i ≡ Some x → p x ≡ true → ⊥
+none-passes p [] i x none there pass = cc
+none-passes p (y ∷ ys) i x none there pass = by (p y) refl (λ rest o is. none-passes p ys o x rest is pass) i there
+  where
+    by : (b : Bool) → p y ≡ b → (filter p ys ≡ [] → (o : ℕ) → slice_get ys o ≡ Some x → ⊥) → (i : ℕ) → slice_get (y ∷ ys) i ≡ Some x → ⊥
+    by true e again i is = let some : y ∷ filter p ys ≡ [] = sym (ap (λ b. cond b (y ∷ filter p ys) (filter p ys)) e) ∙ none in cc
+    by false e again zero is = let same : y ≡ x = same_some y x is in let both : true ≡ false = sym pass ∙ ap p (sym same) ∙ e in cc
+    by false e again (suc i) is = again (sym (ap (λ b. cond b (y ∷ filter p ys) (filter p ys)) e) ∙ none) i is
+
+pub last-is : (p : Coming → Bool) (xs : List Coming) (i : ℕ) (x : Coming) → slice_get xs i ≡ Some x → p x ≡ true → LastIs p xs
+last-is p xs i x there pass = elim (last-cases p xs) [ inl none ↦ absurd (none-passes p xs i x none there pass) | inr l ↦ l ]
+
+-- Calls.
+
+pub eq-true : (a b : ℕ) → a ≡ b → (a == b) ≡ true
+eq-true a b e = grind (arith, nat_tests, e)
+
+-- the test by which calls are found
+abbrev pub finds-call : Scenario → ℕ → ℕ → Coming → Bool
+finds-call sc frame j c = is_call_of sc frame j (message_in sc.plan.version c.bytes) c
+
+tag-sync : (t : Tag) → tag_suits true t ≡ true → is_sync t ≡ true
+tag-sync Word h = cc
+tag-sync Fault h = cc
+tag-sync Call h = refl
+
+-- what has a place in the sync slot, with a tag that suits, is a call
+place-call : (sc : Scenario) (ear : Ear) (frame j at i : ℕ) (m : Message) → (p : IsPlacedAt sc ear (frame % 65536) (sync_slot_of sc.sizes) j at i m) → tag_suits (m.slot == sync_slot_of sc.sizes) m.tag ≡ true
+    → finds-call sc frame j p.coming ≡ true
+place-call sc ear frame j at i m p suits =
+    ap (λ o. is_call_of sc frame j o p.coming) p.reads
+    ∙ and_both ((p.coming.from == j) && is_call sc.sizes m) (m.frame == frame % 65536) (and_both (p.coming.from == j) (is_call sc.sizes m) (eq-true p.coming.from j p.from) call) (eq-true m.frame (frame % 65536) here.frame_is)
+  where
+    here : IsOfPlace sc (frame % 65536) m.slot m
+    here = placed sc (frame % 65536) m p.place
+
+    in_sync : (m.slot == sync_slot_of sc.sizes) ≡ true
+    in_sync = eq-true m.slot (sync_slot_of sc.sizes) p.slot_is
+
+    stage : m.stage ≡ 2
+    stage = here.stage_is ∙ ap (λ t. stage_recorded (role_of sc.sizes t)) p.slot_is ∙ ap stage_recorded (sync-role sc.sizes)
+
+    call : is_call sc.sizes m ≡ true
+    call =
+        and_both (is_sync m.tag && (m.slot == sync_slot_of sc.sizes)) (m.stage == 2)
+        (and_both (is_sync m.tag) (m.slot == sync_slot_of sc.sizes) (tag-sync m.tag (ap (λ b. tag_suits b m.tag) (sym in_sync) ∙ suits)) in_sync) (eq-true m.stage 2 stage)
+
+-- and a call has its place there
+pub record CallFound (sc : Scenario) (ear : Ear) (frame j at i : ℕ) (c : Coming) : Type 0 where
+  pub message : Message
+  pub placed_at : IsPlacedAt sc ear (frame % 65536) (sync_slot_of sc.sizes) j at i message
+  pub is : placed_at.coming ≡ c
+
+call-found : (sc : Scenario) (ear : Ear) (frame j at i : ℕ) (c : Coming) → slice_get (ear.heard at) i ≡ Some c → (o : Option Message) → message_in sc.plan.version c.bytes ≡ o → is_call_of sc frame j o c ≡ true
+    → CallFound sc ear frame j at i c
+call-found sc ear frame j at i c there None reads h = cc
+call-found sc ear frame j at i c there (Some m) reads h =
+    let front : ((c.from == j) && is_call sc.sizes m) ≡ true = and_first ((c.from == j) && is_call sc.sizes m) (m.frame == frame % 65536) h in
+    let parts : (m.slot ≡ sync_slot_of sc.sizes) × (m.stage ≡ 2) = call-place sc.sizes m (and_second (c.from == j) (is_call sc.sizes m) front) in
+    record {
+      message = m;
+      placed_at = record {
+        coming = c;
+        there = there;
+        from = equal_from c.from j (and_first (c.from == j) (is_call sc.sizes m) front);
+        reads = reads;
+        place = has-place sc (frame % 65536) m (equal_from m.frame (frame % 65536) (and_second ((c.from == j) && is_call sc.sizes m) (m.frame == frame % 65536) h)) (omega (arith, parts.0))
+            (parts.1 ∙ sym (ap (λ t. stage_recorded (role_of sc.sizes t)) parts.0 ∙ ap stage_recorded (sync-role sc.sizes)));
+        slot_is = parts.0;
+      };
+      is = refl;
+    }
+
+-- the time of a recorded call has its stamp
+pub stamped-call : (sc : Scenario) (hands : List HandIn) (ear : Ear) → IsEar sc ear → (learned k n since j stamp : ℕ) → k < ear.ticks → (r : Sense) → IsNotedBy sc ear since k n (learned % 65536) (sync_slot_of sc.sizes) j r
+    → stamp_in r ≡ Some stamp → (1 ≤ stamp) × IsStamp ear.clock (call_time sc ear learned j stamp) stamp
+stamped-call sc hands ear is learned k n since j stamp in_time Silent h e = let none : None ≡ Some stamp = e in absurd (no-stamp stamp none)
+  where
+    no-stamp : (t : ℕ) → (let o : Option ℕ = None in o) ≡ Some t → ⊥
+    no-stamp t x = cc
+stamped-call sc hands ear is learned k n since j stamp in_time (One at m) h e =
+    let same : at ≡ stamp = same_some at stamp e in
+    let before : at < ear.ticks = omega (arith, in_time, earlier-le at h.i k n h.earlier) in
+    let l : LastIs (finds-call sc learned j) (ear.heard at) =
+    last-is (finds-call sc learned j) (ear.heard at) h.i h.placed.coming h.placed.there (place-call sc ear learned j at h.i m h.placed h.suits) in
+    let heard : IsHeard ear at l.coming = record { nth = l.at; there = l.there } in
+    subst (λ t. (1 ≤ t) × IsStamp ear.clock (call_time sc ear learned j t) t) same
+    (some-stamp sc ear is at l.coming heard, subst (λ t. IsStamp ear.clock t at) (sym l.time) (is.stamps at l.coming before heard))
+stamped-call sc hands ear is learned k n since j stamp in_time Bad h e = absurd (no-stamp stamp e)
+  where
+    no-stamp : (t : ℕ) → (let o : Option ℕ = None in o) ≡ Some t → ⊥
+    no-stamp t x = cc
+
+-- the time of a good RMU's call is found
+pub found-call : (sc : Scenario) (hands : List HandIn) → IsLawful sc → (ear : Ear) → IsEar sc ear → HearsTheRun sc hands ear → (learned k n : ℕ) (s : Search) → k < ear.ticks
+    → HasLesson sc hands ear learned k n s → (j : ℕ) → is_good sc Rmu j learned (sync_slot_of sc.sizes) ≡ true → (at i : ℕ) (c : Coming) → at ≤ k → slice_get (ear.heard at) i ≡ Some c
+    → finds-call sc learned j c ≡ true → call_time sc ear learned j at ≡ c.time
+found-call sc hands law ear is run learned k n s in_time lesson j good at i c le there pass =
+    l.time ∙ ap (λ (x : Coming). x.time) same
+  where
+    l : LastIs (finds-call sc learned j) (ear.heard at)
+    l = last-is (finds-call sc learned j) (ear.heard at) i c there pass
+
+    mine : CallFound sc ear learned j at i c
+    mine = call-found sc ear learned j at i c there (message_in sc.plan.version c.bytes) refl pass
+
+    last : CallFound sc ear learned j at l.at l.coming
+    last = call-found sc ear learned j at l.at l.coming l.there (message_in sc.plan.version l.coming.bytes) refl l.passes
+
+    of_good : (o : ℕ) (x : Coming) (f : CallFound sc ear learned j at o x) → IsOfGood sc hands ear f.placed_at.coming
+    of_good o x f = all-good sc hands law ear is run learned k n s in_time lesson j good at f.placed_at.coming le f.placed_at.from (record { nth = o; there = f.placed_at.there })
+
+    places : (at ≡ at) × (i ≡ l.at)
+    places =
+        same-place-of sc hands law ear is run (learned % 65536) (sync_slot_of sc.sizes) j at i at l.at mine.message last.message mine.placed_at last.placed_at (omega (arith, le, in_time)) (omega (arith, le, in_time))
+        (of_good i c mine) (of_good l.at l.coming last)
+
+    same : l.coming ≡ c
+    same = same_some l.coming c (sym l.there ∙ ap (slice_get (ear.heard at)) (sym places.1) ∙ there)

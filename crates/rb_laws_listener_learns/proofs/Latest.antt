@@ -1,0 +1,193 @@
+-- Of each RMU a search has the newest call that came.
+use Rattle.std.proofs.Common.{◌≡◌, ◌⊎◌, ℕ, zero, suc, ◌+◌, ◌^◌, ◌<◌, ◌≤◌, nat_lt, true, false, Option, Some, None, List, [], ◌∷◌, length, get_or, slice_get, slice_set, inl, inr, refl, sym, ◌∙◌, ap, subst, arith}
+use Rattle.std.proofs.lemmas.Bool.{cases_lt}
+use Rattle.std.proofs.lemmas.Bool.Decides.{nat_tests}
+use Rattle.std.proofs.lemmas.List.{get_or-set_same, length-set}
+use Rattle.rb_rules.specs.declared.message.Message.{Message}
+use Rattle.rb_rules.specs.Goodness.{Scenario}
+use Rattle.rb_rules.specs.Hearing.{Coming}
+use Rattle.rb_rules.specs.Spelling.{message_in}
+use Rattle.rb_laws_agreement.proofs.Tests.{less_true, same_some}
+use Rattle.rb_base.specs.Sizes.{IsShape}
+use Rattle.rb_listen.specs.Lessons.{frame_after}
+use Rattle.rb_listen.specs.Listening.{first_search, if_pass, is_over, later, learning, recorded, searching}
+use Rattle.rb_listen.specs.Passes.{is_call}
+use Rattle.rb_listen.specs.declared.passes.Call.{Call}
+use Rattle.rb_listen.specs.declared.search.Search.{Search}
+use Rattle.rb_laws_listener_learns.specs.Ears.{Ear, IsEar}
+use Rattle.rb_laws_listener_learns.proofs.Recorded.{IsEarlier}
+use Rattle.rb_laws_listener_learns.proofs.Searchings.{RecordsOnly, SameCalls, pass-calls, recorded-only, search-by, with_call}
+use Rattle.rb_laws_listener_learns.proofs.Seeks.{set-other}
+use Rattle.rb_laws_listener_learns.proofs.Walks.{IsKept}
+
+-- Places among what comes.
+
+-- the last place before the next is this one, or it is earlier
+pub earlier-split : (at nth k n : ℕ) → IsEarlier at nth k (suc n) → IsEarlier at nth k n ⊎ ((at ≡ k) × (nth ≡ n))
+earlier-split at nth k n (inl less) = inl (inl less)
+earlier-split at nth k n (inr same) = elim (cases_lt nth n) [ inl less ↦ inl (inr (same.0, less)) | inr more ↦ inr (same.0, omega (arith, same.1, more)) ]
+
+below-end : {X : Type 0} (xs : List X) (i n : ℕ) (x : X) → slice_get xs i ≡ Some x → slice_get xs n ≡ None → i < n
+below-end [] i n x is none = cc
+below-end (y ∷ ys) zero zero x is none = cc
+below-end (y ∷ ys) zero (suc n) x is none = omega arith
+below-end (y ∷ ys) (suc i) zero x is none = cc
+below-end (y ∷ ys) (suc i) (suc n) x is none = omega (arith, below-end ys i n x is none)
+
+-- where all of a stamp has come, what came with it or before is earlier
+pub whole-earlier : (ear : Ear) (at nth k n : ℕ) (c : Coming) → slice_get (ear.heard at) nth ≡ Some c → slice_get (ear.heard k) n ≡ None → at ≤ k → IsEarlier at nth k n
+whole-earlier ear at nth k n c there whole le =
+    elim (cases_lt at k) [
+      | inl less ↦ inl less
+      | inr ge ↦
+          let same : at ≡ k = omega (arith, le, ge) in
+          inr (same, below-end (ear.heard k) nth n c (ap (λ t. slice_get (ear.heard t) nth) (sym same) ∙ there) whole)
+    ]
+
+pub earlier-by : (at nth k : ℕ) → IsEarlier at nth (suc k) 0 → at ≤ k
+earlier-by at nth k (inl less) = omega (arith, less)
+earlier-by at nth k (inr same) = absurd (omega (arith, same.1))
+
+pub earlier-le : (at nth k n : ℕ) → IsEarlier at nth k n → at ≤ k
+earlier-le at nth k n (inl less) = omega (arith, less)
+earlier-le at nth k n (inr same) = omega (arith, same.0)
+
+-- Calls.
+
+-- message i of a stamp is a call of RMU j
+pub record IsCallAt (sc : Scenario) (ear : Ear) (at i j : ℕ) : Type 0 where
+  pub coming : Coming
+  pub there : slice_get (ear.heard at) i ≡ Some coming
+  pub from : coming.from ≡ j
+  pub message : Message
+  pub reads : message_in sc.plan.version coming.bytes ≡ Some message
+  pub call : is_call sc.sizes message ≡ true
+
+abbrev pub IsLate : ℕ → Option Call → Type 0
+IsLate at None = ⊥
+IsLate at (Some call) = at ≤ call.at
+
+pub record IsLatest (sc : Scenario) (ear : Ear) (k n : ℕ) (s : Search) : Type 0 where
+  pub had : s.had ≡ k
+  pub long : length s.newest ≡ 16
+  pub latest : (j at i : ℕ) → j < sc.sizes.rmus → IsCallAt sc ear at i j → IsEarlier at i k n → IsLate at (get_or s.newest j None)
+
+pub first-latest : (sc : Scenario) (ear : Ear) → IsLatest sc ear 0 0 first_search
+unfolding first_search
+first-latest sc ear = record {
+  had = refl;
+  long = refl;
+  latest = λ j at i within call before. absurd (never at i before);
+}
+  where
+    never : (at i : ℕ) → IsEarlier at i 0 0 → ⊥
+    never at i (inl less) = omega (arith, less)
+    never at i (inr same) = omega (arith, same.1)
+
+same-latest : (sc : Scenario) (ear : Ear) (k n : ℕ) (a b : Search) → SameCalls a b → IsLatest sc ear k n a → IsLatest sc ear k n b
+same-latest sc ear k n a b same h = record {
+  had = same.had ∙ h.had;
+  long = ap length same.newest ∙ h.long;
+  latest = λ j at i within call before. subst (λ x. IsLate at (get_or x j None)) (sym same.newest) (h.latest j at i within call before);
+}
+
+pub recorded-latest : (sc : Scenario) (ear : Ear) (k n j : ℕ) (m : Message) (s : Search) → IsLatest sc ear k n s → IsLatest sc ear k n (recorded sc.sizes j m s)
+recorded-latest sc ear k n j m s h =
+    let same : RecordsOnly s (recorded sc.sizes j m s) = recorded-only sc.sizes j m s in
+    same-latest sc ear k n s (recorded sc.sizes j m s) (record { had = same.had; newest = same.newest }) h
+
+-- message n is no call
+no-call : (sc : Scenario) (ear : Ear) (k n : ℕ) (s : Search) → ((j : ℕ) → j < sc.sizes.rmus → IsCallAt sc ear k n j → ⊥) → IsLatest sc ear k n s → IsLatest sc ear k (suc n) s
+no-call sc ear k n s none h = record {
+  had = h.had;
+  long = h.long;
+  latest = λ j at i within call before.
+      elim (earlier-split at i k n before) [
+        | inl earlier ↦ h.latest j at i within call earlier
+        | inr here ↦ absurd (none j within (subst (λ x. IsCallAt sc ear k x j) here.1 (subst (λ x. IsCallAt sc ear x i j) here.0 call)))
+      ];
+}
+
+-- it is one
+call-latest : (sc : Scenario) (ear : Ear) (k n from : ℕ) (m : Message) (s : Search) → IsShape sc.sizes → from < sc.sizes.rmus → ((j : ℕ) → IsCallAt sc ear k n j → j ≡ from) → IsLatest sc ear k n s
+    → IsLatest sc ear k (suc n) (with_call sc.sizes from m s)
+call-latest sc ear k n from m s shape within only h = record {
+  had = r.had;
+  long = length-set (recorded sc.sizes from m s).newest from (Some call) ∙ r.long;
+  latest = λ j at i within_j is before. by j at i within_j is before (cases_lt j from) (cases_lt from j);
+}
+  where
+    r : IsLatest sc ear k n (recorded sc.sizes from m s)
+    r = recorded-latest sc ear k n from m s h
+
+    call : Call
+    call = record { frame = m.frame; at = (recorded sc.sizes from m s).had }
+
+    new : (at : ℕ) → at ≤ k → IsLate at (get_or (slice_set (recorded sc.sizes from m s).newest from (Some call)) from None)
+    new at le =
+        subst (IsLate at) (sym (get_or-set_same (recorded sc.sizes from m s).newest from (Some call) None (omega (arith, within, shape.most_rmus, r.long))))
+        (let late : at ≤ (recorded sc.sizes from m s).had = omega (arith, le, r.had) in late)
+
+    other : (j at i : ℕ) → j < sc.sizes.rmus → IsCallAt sc ear at i j → IsEarlier at i k (suc n) → (j ≡ from → ⊥)
+        → IsLate at (get_or (slice_set (recorded sc.sizes from m s).newest from (Some call)) j None)
+    other j at i within_j is before apart =
+        subst (IsLate at) (sym (set-other (recorded sc.sizes from m s).newest from j (Some call) apart))
+        (elim (earlier-split at i k n before) [
+          | inl earlier ↦ r.latest j at i within_j is earlier
+          | inr here ↦ absurd (apart (only j (subst (λ x. IsCallAt sc ear k x j) here.1 (subst (λ x. IsCallAt sc ear x i j) here.0 is))))
+        ])
+
+    by : (j at i : ℕ) → j < sc.sizes.rmus → IsCallAt sc ear at i j → IsEarlier at i k (suc n) → (j < from) ⊎ (from ≤ j) → (from < j) ⊎ (j ≤ from)
+        → IsLate at (get_or (slice_set (recorded sc.sizes from m s).newest from (Some call)) j None)
+    by j at i within_j is before (inl less) c = other j at i within_j is before (λ e. omega (arith, less, e))
+    by j at i within_j is before (inr ge) (inl more) = other j at i within_j is before (λ e. omega (arith, more, e))
+    by j at i within_j is before (inr ge) (inr le) =
+        let same : j ≡ from = omega (arith, ge, le) in
+        subst (λ x. IsLate at (get_or (slice_set (recorded sc.sizes from m s).newest from (Some call)) x None)) (sym same) (new at (earlier-le at i k (suc n) before))
+
+pub going : (sc : Scenario) (ear : Ear) → IsEar sc ear → (k had : ℕ) → k < ear.ticks → had ≡ k → nat_lt had (2 ^ 31) ≡ true
+going sc ear is k had in_time same = less_true had (2 ^ 31) (omega (arith, in_time, is.ticks, same))
+
+same-coming-at : (ear : Ear) (k n : ℕ) (c d : Coming) → slice_get (ear.heard k) n ≡ Some c → slice_get (ear.heard k) n ≡ Some d → d ≡ c
+same-coming-at ear k n c d a b = same_some d c (sym b ∙ a)
+
+heard-latest : (sc : Scenario) (ear : Ear) → IsShape sc.sizes → IsEar sc ear → (k n : ℕ) (c : Coming) → k < ear.ticks → slice_get (ear.heard k) n ≡ Some c → (s : Search) → IsLatest sc ear k n s
+    → IsLatest sc ear k (suc n) (searching sc.sizes sc.plan c.from c.bytes s)
+heard-latest sc ear shape is k n c in_time there s h =
+    search-by sc.sizes sc.plan c.from c.bytes s (IsLatest sc ear k (suc n)) (going sc ear is k s.had in_time h.had) (record {
+      nothing = λ none. no-call sc ear k n s (λ j within call. none (subst (λ x. x < sc.sizes.rmus) (sym (mine j call)) within) call.message (read j call)) h;
+      message = λ within m reads other.
+          no-call sc ear k n (recorded sc.sizes c.from m s)
+          (λ j within call. let both : false ≡ true = sym other ∙ ap (is_call sc.sizes) (same_some m call.message (sym reads ∙ read j call)) ∙ call.call in cc)
+          (recorded-latest sc ear k n c.from m s h);
+      call = λ within m reads calls o pass.
+          same-latest sc ear k (suc n) (with_call sc.sizes c.from m s) (if_pass sc.plan o (with_call sc.sizes c.from m s)) (pass-calls sc.plan o (with_call sc.sizes c.from m s))
+          (call-latest sc ear k n c.from m s shape within (λ j call. sym (mine j call)) h);
+    })
+  where
+    mine : (j : ℕ) → IsCallAt sc ear k n j → c.from ≡ j
+    mine j call = ap (λ (x : Coming). x.from) (sym (same-coming-at ear k n c call.coming there call.there)) ∙ call.from
+
+    read : (j : ℕ) (call : IsCallAt sc ear k n j) → message_in sc.plan.version c.bytes ≡ Some call.message
+    read j call = ap (λ (x : Coming). message_in sc.plan.version x.bytes) (sym (same-coming-at ear k n c call.coming there call.there)) ∙ call.reads
+
+pub next-tick : (sc : Scenario) (ear : Ear) (k n : ℕ) (a b : Search) → slice_get (ear.heard k) n ≡ None → b.had ≡ a.had + 1 → b.newest ≡ a.newest → IsLatest sc ear k n a
+    → IsLatest sc ear (suc k) 0 b
+next-tick sc ear k n a b whole had newest h = record {
+  had = omega (arith, had, h.had);
+  long = ap length newest ∙ h.long;
+  latest = λ j at i within call before.
+      subst (λ x. IsLate at (get_or x j None)) (sym newest) (h.latest j at i within call (whole-earlier ear at i k n call.coming call.there whole (earlier-by at i k before)));
+}
+
+pub not-yet : (sc : Scenario) (ear : Ear) → IsEar sc ear → (k had : ℕ) → k < ear.ticks → had ≡ k → is_over had ≡ false
+not-yet sc ear is k had in_time same = let below : had < 2 ^ 31 = omega (arith, in_time, is.ticks, same) in grind (arith, nat_tests, below)
+
+pub kept-latest : (sc : Scenario) (ear : Ear) → IsShape sc.sizes → IsEar sc ear → IsKept sc ear (IsLatest sc ear)
+kept-latest sc ear shape is = record {
+  first = first-latest sc ear;
+  heard = heard-latest sc ear shape is;
+  decided = λ k n s in_time whole h deciding. next-tick sc ear k n s (learning (frame_after s.lesson.frame) (later s)) whole refl refl h;
+  later = λ k n s in_time whole h going. next-tick sc ear k n s (later s) whole refl refl h;
+  lasts = λ k n s in_time h. not-yet sc ear is k s.had in_time h.had;
+}

@@ -1,0 +1,77 @@
+-- What a good RMU says in a stage that is recorded, and what is recorded of it.
+use Rattle.std.proofs.Common.{◌≡◌, ℕ, ◌+◌, ◌<◌, ◌==◌, true, false, Some, List, refl, sym, ◌∙◌, ap, subst, arith}
+use Rattle.std.proofs.lemmas.Bool.Decides.{nat_tests}
+use Rattle.rb_base.specs.Nodes.Side.{Rmu}
+use Rattle.rb_base.specs.Sizes.{Sizes, sync_slot_of}
+use Rattle.rb_base.specs.declared.values.Heard.{Heard}
+use Rattle.rb_base.specs.declared.values.Heard.TheVariants.{Word, Fault}
+use Rattle.rb_rules.specs.declared.plan.Plan.{Plan}
+use Rattle.rb_rules.specs.declared.sense.Sense.{Sense}
+use Rattle.rb_rules.specs.declared.sense.Sense.TheVariants.{One}
+use Rattle.rb_rules.specs.ExactStage.{message_of, says}
+use Rattle.rb_rules.specs.Goodness.{Scenario, is_good}
+use Rattle.rb_rules.specs.Hearing.{sending}
+use Rattle.rb_rules.specs.Moments.{IsRunning}
+use Rattle.rb_rules.specs.NodeState.{NodeState}
+use Rattle.rb_rules.specs.Ports.{HandIn}
+use Rattle.rb_rules.specs.Rounds.{moment, sending_in}
+use Rattle.rb_rules.specs.Sense.{is_one, value_in}
+use Rattle.rb_rules.specs.Slots.{role_of}
+use Rattle.rb_rules.specs.Windows.{send_offset_of}
+use Rattle.rb_laws_agreement.proofs.Goodnesses.{slot_here}
+use Rattle.rb_laws_agreement.proofs.Invariant.{IsGoodNode}
+use Rattle.rb_laws_agreement.proofs.NodeWindows.{Windows, exact_windows, word_at}
+use Rattle.rb_listen.specs.Lessons.{record_of, stage_recorded}
+use Rattle.rb_laws_listener_learns.specs.Ears.{Ear, SendsIn}
+use Rattle.rb_laws_listener_learns.specs.Records.{IsRecorded, RecordsAreWhole}
+use Rattle.rb_laws_listener_learns.proofs.Within.{IsExactAt}
+
+not-sync : (slot sync : ℕ) → slot < sync → (slot == sync) ≡ false
+not-sync slot sync below = grind (arith, nat_tests, below)
+
+said-sending : (sizes : Sizes) (plan : Plan) (j : ℕ) (st : NodeState) (slot stage word : ℕ) (v : Heard) → slot < sync_slot_of sizes → says sizes Rmu j st slot stage word ≡ Some v
+    → sending sizes plan Rmu j st slot stage word ≡ Some (record { tick = st.epoch + send_offset_of plan slot stage; message = message_of st slot stage v })
+unfolding sending
+said-sending sizes plan j st slot stage word v below said =
+    let away : (slot == sync_slot_of sizes) ≡ false = not-sync slot (sync_slot_of sizes) below in rw (away, said) refl
+
+-- the value comes back
+pub value-back : (st : NodeState) (slot stage at : ℕ) (v : Heard) → value_in (One at (message_of st slot stage v)) ≡ Some v
+value-back st slot stage at (Word w) = refl
+value-back st slot stage at Fault = refl
+
+place-back : (st : NodeState) (slot stage : ℕ) (v : Heard) → ((message_of st slot stage v).slot ≡ slot) × ((message_of st slot stage v).stage ≡ stage)
+place-back st slot stage (Word w) = (refl, refl)
+place-back st slot stage Fault = (refl, refl)
+
+pub sends-said : (sc : Scenario) (hands : List HandIn) (m j slot q : ℕ) (st : NodeState) (v : Heard) → IsExactAt sc hands m slot q → IsRunning (moment sc hands m) → IsGoodNode sc (moment sc hands m) Rmu j st
+    → says sc.sizes Rmu j st slot (q + 1) (word_at sc (moment sc hands m) slot j) ≡ Some v
+    → SendsIn sc hands m j (record { tick = st.epoch + send_offset_of sc.plan slot (q + 1); message = message_of st slot (q + 1) v })
+sends-said sc hands m j slot q st v e running node said =
+    let ws : Windows sc (moment sc hands m) slot (q + 1) = exact_windows sc (moment sc hands m) slot q e.below e.small e.at in
+    record {
+      running = running;
+      in_frame = omega (arith, e.at, e.below, e.small);
+      state = st;
+      good = (node.there, ap (is_good sc Rmu j (moment sc hands m).frame) (ap (λ w. w.slot) (ws.are Rmu st) ∙ sym (slot_here sc.sizes (moment sc hands m).window slot q e.below e.small e.at)) ∙ node.good);
+      sends =
+          subst (λ w. sending_in sc (moment sc hands m) Rmu j st w ≡ Some (record { tick = st.epoch + send_offset_of sc.plan slot (q + 1); message = message_of st slot (q + 1) v })) (sym (ws.are Rmu st))
+          (said-sending sc.sizes sc.plan j st slot (q + 1) (word_at sc (moment sc hands m) slot j) v e.below said);
+    }
+
+-- what is recorded of it
+pub record IsValued (records : List Sense) (slot j : ℕ) (v : Heard) : Type 0 where
+  pub value : value_in (record_of records slot j) ≡ Some v
+  pub one : is_one (record_of records slot j) ≡ true
+
+pub recorded-value : (sc : Scenario) (hands : List HandIn) (ear : Ear) (learned : ℕ) (records : List Sense) → RecordsAreWhole sc hands ear learned records
+    → (m j slot q : ℕ) (st : NodeState) (v : Heard) → IsExactAt sc hands m slot q → IsRunning (moment sc hands m) → (moment sc hands m).frame ≡ learned → IsGoodNode sc (moment sc hands m) Rmu j st
+    → is_good sc Rmu j learned (sync_slot_of sc.sizes) ≡ true → stage_recorded (role_of sc.sizes slot) ≡ q + 1
+    → says sc.sizes Rmu j st slot (q + 1) (word_at sc (moment sc hands m) slot j) ≡ Some v → IsValued records slot j v
+recorded-value sc hands ear learned records whole m j slot q st v e running frame node good staged said =
+    let place : ((message_of st slot (q + 1) v).slot ≡ slot) × ((message_of st slot (q + 1) v).stage ≡ q + 1) = place-back st slot (q + 1) v in
+    let r : IsRecorded sc hands ear records m j (record { tick = st.epoch + send_offset_of sc.plan slot (q + 1); message = message_of st slot (q + 1) v }) =
+    whole j good m (record { tick = st.epoch + send_offset_of sc.plan slot (q + 1); message = message_of st slot (q + 1) v }) (sends-said sc hands m j slot q st v e running node said) frame
+    (place.1 ∙ sym staged ∙ ap (λ t. stage_recorded (role_of sc.sizes t)) (sym place.0)) in
+    let is : record_of records slot j ≡ One r.stamp (message_of st slot (q + 1) v) = ap (λ t. record_of records t j) (sym place.0) ∙ r.is in
+    record { value = ap value_in is ∙ value-back st slot (q + 1) r.stamp v; one = ap is_one is }

@@ -1,0 +1,122 @@
+-- What is proved of a listener beside a run of the bus.
+use Rattle.std.specs.Prelude.{ℕ, ◌≡◌, ◌+◌, ◌*◌, ◌<◌, ◌≤◌, ◌↔◌, true, None, Some, List, get_or}
+use Rattle.rb_base.specs.Nodes.{set_of}
+use Rattle.rb_base.specs.Sizes.{sync_slot_of}
+use Rattle.rb_listen.specs.Lessons.{first_of, trusted_bius, trusted_rmus}
+use Rattle.rb_listen.specs.Listening.{first_search, told_of}
+use Rattle.rb_listen.specs.Listening as now
+use Rattle.rb_listen.specs.Passes.{are_most}
+use Rattle.rb_listen.specs.declared.lesson.First.{First}
+use Rattle.rb_listen.specs.declared.search.Search.{Search}
+use Rattle.rb_rules.specs.Clock.{Timeline, time_of}
+use Rattle.rb_rules.specs.Goodness.{Scenario}
+use Rattle.rb_rules.specs.Hearing.{Coming}
+use Rattle.rb_rules.specs.Lawful.{IsLawful}
+use Rattle.rb_rules.specs.Moments.{IsRunning, before_slot}
+use Rattle.rb_rules.specs.Plan.{shortest_of}
+use Rattle.rb_rules.specs.Ports.{HandIn}
+use Rattle.rb_laws_listener_learns.specs.Calling.{EachIsHeardToCall}
+use Rattle.rb_laws_listener_learns.specs.Deciding.{DecidesAfterTheCalls, DecidesBy}
+use Rattle.rb_laws_listener_learns.specs.Ears.{Ear, HearsTheRun, IsEar, IsOfFaulty, is_always_good}
+use Rattle.rb_laws_listener_learns.specs.Feeding.{events_from, told_from}
+use Rattle.rb_laws_listener_learns.specs.Learned.{AreTrusted, HasLearned, TrustsTheTrusted}
+use Rattle.rb_laws_listener_learns.specs.Onsets.{BeginsBeside, IsGoodThroughout}
+use Rattle.rb_laws_listener_learns.specs.Receivers.{IsCalm}
+use Rattle.rb_laws_listener_learns.specs.Records.{RecordsAreTrue, RecordsAreWhole}
+use Rattle.rb_laws_listener_learns.specs.Seeking.{SeeksAFrame}
+use Rattle.rb_laws_listener_learns.specs.Waiting.{WaitsFor}
+use Rattle.rb_laws_listener_learns.specs.Together.{CallsComeTogether, LaterCallsComeLater}
+
+-- an RMU is good in the whole run just where it is good in each slot to which the run comes
+abbrev pub AlwaysGoodIsGoodInEachSlot : Type 0
+AlwaysGoodIsGoodInEachSlot =
+    (sc : Scenario) (hands : List HandIn) → IsLawful sc → (j : ℕ) → j < sc.sizes.rmus
+    → (is_always_good sc hands j ≡ true) ↔ IsGoodThroughout sc hands j
+
+-- an RMU may say anything from less than a tick before the slot of its onset begins by a clock that begins the frame at most p from each good
+-- node, as the listener's or its own
+abbrev pub FaultyRmusMaySpeakByAnyClock : Type 0
+FaultyRmusMaySpeakByAnyClock =
+    (sc : Scenario) (hands : List HandIn) → IsLawful sc → are_most sc.sizes (set_of (is_always_good sc hands)) ≡ true
+    → (clock : Timeline) (frame epoch : ℕ) → BeginsBeside sc hands clock frame epoch
+    → (slot : ℕ) → slot ≤ sync_slot_of sc.sizes → IsRunning (before_slot sc hands frame slot)
+    → (c : Coming) → get_or sc.rmu_onsets c.from None ≡ Some (frame, slot)
+    → time_of clock (epoch + 3 * slot * sc.plan.l) < c.time + shortest_of sc.plan → IsOfFaulty sc hands c
+
+-- what a listener tells beside a run is what it tells where it is given these events one after another
+abbrev pub EarsAreFedEvents : Type 0
+EarsAreFedEvents =
+    (sc : Scenario) (ear : Ear) (word : ℕ → ℕ) (n : ℕ)
+    → told_of sc.sizes sc.plan (now.Searching first_search) (events_from ear word 0 n) ≡ told_from sc ear 0 n
+
+-- the frame sought is a frame of the bus. For this no premise on faults is needed but that most RMUs are good
+abbrev pub TheFrameSoughtIsReal : Type 0
+TheFrameSoughtIsReal =
+    (sc : Scenario) (hands : List HandIn) → IsLawful sc → (ear : Ear) → HearsTheRun sc hands ear
+    → (k : ℕ) → k < ear.ticks → SeeksAFrame sc hands ear k
+
+-- whatever others send, the records of RMUs that are good in the whole run are what these sent
+abbrev pub RecordsOfTheGoodAreTrue : Type 0
+RecordsOfTheGoodAreTrue =
+    (sc : Scenario) (hands : List HandIn) → IsLawful sc → (ear : Ear) → IsEar sc ear → HearsTheRun sc hands ear
+    → (k : ℕ) → k < ear.ticks → RecordsAreTrue sc hands ear k
+
+-- so it trusts nobody whom the bus does not trust
+abbrev pub ListenersTrustTheTrusted : Type 0
+ListenersTrustTheTrusted =
+    (sc : Scenario) (hands : List HandIn) → IsLawful sc → (ear : Ear) → IsEar sc ear → HearsTheRun sc hands ear
+    → (k : ℕ) → k < ear.ticks → TrustsTheTrusted sc hands ear k
+
+-- each good RMU calls in each frame, and is heard
+abbrev pub GoodRmusAreHeardToCall : Type 0
+GoodRmusAreHeardToCall =
+    (sc : Scenario) (hands : List HandIn) → IsLawful sc → (ear : Ear) → HearsTheRun sc hands ear → EachIsHeardToCall sc hands ear
+
+-- Good RMUs call together, so a pass needs no more than that most RMUs are good
+abbrev pub GoodCallsComeTogether : Type 0
+GoodCallsComeTogether = (sc : Scenario) (hands : List HandIn) → IsLawful sc → (ear : Ear) → IsEar sc ear → CallsComeTogether sc hands ear
+
+-- and no two of unlike frames fall into one pass
+abbrev pub FramesComeApart : Type 0
+FramesComeApart = (sc : Scenario) (hands : List HandIn) → IsLawful sc → (ear : Ear) → IsEar sc ear → LaterCallsComeLater sc hands ear
+
+-- so a listener decides after all calls of good RMUs in the frame that it learned have come
+abbrev pub DecisionsComeAfterTheCalls : Type 0
+DecisionsComeAfterTheCalls =
+    (sc : Scenario) (hands : List HandIn) → IsLawful sc → (ear : Ear) → IsEar sc ear → HearsTheRun sc hands ear
+    → (k : ℕ) → k < ear.ticks → DecidesAfterTheCalls sc hands ear k
+
+-- and it has whole what it learned
+abbrev pub RecordsOfTheGoodAreWhole : Type 0
+RecordsOfTheGoodAreWhole =
+    (sc : Scenario) (hands : List HandIn) → IsLawful sc → (ear : Ear) → IsEar sc ear → HearsTheRun sc hands ear
+    → (learned tick : ℕ) (s : Search) → DecidesBy sc hands ear learned tick s → RecordsAreWhole sc hands ear learned s.lesson.records
+
+-- So it trusts in the learned frame just whom the bus trusts
+abbrev pub ListenersTrustAsTheBus : Type 0
+ListenersTrustAsTheBus =
+    (sc : Scenario) (hands : List HandIn) → IsLawful sc → (ear : Ear) → IsEar sc ear → HearsTheRun sc hands ear
+    → (learned tick : ℕ) (s : Search) → DecidesBy sc hands ear learned tick s
+    → AreTrusted sc hands learned (sync_slot_of sc.sizes) (trusted_bius sc.sizes s.lesson.records) (trusted_rmus sc.sizes s.lesson.records)
+
+-- and its first frame begins after the decision
+abbrev pub DecisionsComeInTime : Type 0
+DecisionsComeInTime =
+    (sc : Scenario) (hands : List HandIn) → IsLawful sc → (ear : Ear) → IsEar sc ear → HearsTheRun sc hands ear
+    → (learned tick : ℕ) (s : Search) → DecidesBy sc hands ear learned tick s
+    → (first : First) × ((first_of sc.sizes sc.plan s.lesson ≡ Some first) × (tick < first.epoch))
+
+-- Where the learned frame comes to its end before the first breach of the premise with the listener, it convicts as the bus does, too: it has
+-- learned all that it needs to follow
+abbrev pub ListenersLearn : Type 0
+ListenersLearn =
+    (sc : Scenario) (hands : List HandIn) → IsLawful sc → (ear : Ear) → IsEar sc ear → HearsTheRun sc hands ear
+    → (learned tick : ℕ) (s : Search) → DecidesBy sc hands ear learned tick s → IsCalm sc hands ear learned s.lesson.records learned (sync_slot_of sc.sizes)
+    → (first : First) × ((first_of sc.sizes sc.plan s.lesson ≡ Some first) × HasLearned sc hands ear learned tick s.lesson.records first)
+
+-- From the decision it waits up to the first tick of its first frame, and with that it begins to follow
+abbrev pub ListenersWait : Type 0
+ListenersWait =
+    (sc : Scenario) (hands : List HandIn) → IsLawful sc → (ear : Ear) → IsEar sc ear → HearsTheRun sc hands ear
+    → (learned tick : ℕ) (s : Search) → DecidesBy sc hands ear learned tick s
+    → (first : First) → first_of sc.sizes sc.plan s.lesson ≡ Some first → tick < first.epoch → WaitsFor sc ear tick first

@@ -1,0 +1,194 @@
+-- Under the premise with the listener its middle of the calls of stage 2 is near that of each good BIU.
+use Rattle.std.proofs.Common.{◌≡◌, ℕ, ◌+◌, ◌-◌, ◌*◌, ◌≤◌, ◌<◌, ◌&&◌, not, nat_le, Bool, true, false, List, [], ◌∷◌, length, Option, Some, None, refl, sym, ◌∙◌, ap, subst, arith}
+use Rattle.rb_base.specs.Nodes.{Side, has}
+use Rattle.rb_base.specs.Nodes.Side.{Biu, Rmu}
+use Rattle.rb_base.specs.Sizes.{sync_slot_of}
+use Rattle.rb_base.proofs.Sets.{has-set_of, has_none}
+use Rattle.rb_base.specs.declared.values.See.{See}
+use Rattle.rb_rules.specs.Book.{Row, in_order, judged_of, trusted_by}
+use Rattle.rb_rules.specs.Clock.{Timeline, time_of}
+use Rattle.rb_rules.specs.ExactStage.{each_node, present}
+use Rattle.rb_rules.specs.Goodness.{Scenario, clock_of, is_good}
+use Rattle.rb_rules.specs.Hearing.{judged_see, sole_time}
+use Rattle.rb_rules.specs.Judging.{JudgedStage, are_alike, good_now, is_suspect, trusted_now, verdict_of}
+use Rattle.rb_rules.specs.Lawful.{IsLawful}
+use Rattle.rb_rules.specs.Middle.{IsMiddle, middle_of}
+use Rattle.rb_rules.specs.NodeState.{NodeState}
+use Rattle.rb_rules.specs.Plan.{f0_of, shortest_of}
+use Rattle.rb_rules.specs.Ports.{HandIn}
+use Rattle.rb_rules.specs.Rounds.{Moment}
+use Rattle.rb_rules.specs.SyncStage.{see_time}
+use Rattle.rb_rules.proofs.Middles.{AreNear}
+use Rattle.rb_laws_agreement.proofs.Tests.{Passing, and_both, and_first, and_second, le_from, not_so, same_some}
+use Rattle.rb_laws_agreement.proofs.Numbers.{how_many, one_of_many}
+use Rattle.rb_laws_agreement.proofs.Premises.{Premise, premise_holds}
+use Rattle.rb_laws_agreement.proofs.Goodnesses.{good_below_16, slot_last}
+use Rattle.rb_laws_agreement.proofs.Invariant.{IsGoodNode, Shared}
+use Rattle.rb_laws_agreement.proofs.JudgedWindows.{first_row_trusts, rows_of}
+use Rattle.rb_laws_agreement.proofs.NextMoments.{CameFrom, came_from, next}
+use Rattle.rb_laws_agreement.proofs.NodeWindows.{Windows, heard_in}
+use Rattle.rb_laws_synchrony.proofs.CallSights.{TookAlike, place_of, shows_took, stages_with}
+use Rattle.rb_laws_synchrony.proofs.PlanNumbers.{drift_of, eps_of, last_plus, third_own}
+use Rattle.rb_laws_synchrony.proofs.StageCalls.{second_about, second_at, second_calls}
+use Rattle.rb_laws_synchrony.proofs.StageMiddles.{IsHeardStage, tick_of, ws_of}
+use Rattle.rb_laws_synchrony.proofs.StageSteps.{StageMiddle, stage_middle}
+use Rattle.rb_laws_synchrony.proofs.SyncSteps.{IsPassedStage, f0_some, kept_found, some_more, up_to_delay}
+use Rattle.rb_laws_synchrony.proofs.Synchronous.{Synchronous, from_2, near_1, near_2, to_2}
+use Rattle.rb_laws_synchrony.proofs.TakenCalls.{is_set, took}
+use Rattle.rb_laws_synchrony.proofs.Times.{Steady, lawful_fits, plan_fits}
+use Rattle.rb_laws_listener_near.specs.Judged.{heard_stages, is_asymmetric_with, verdict_with}
+use Rattle.rb_laws_listener_near.proofs.ListenerMiddles.{FindsMiddle, MostGood, TakesAlike, TakesCalls, finds_middle, middle_past, near_by_bius, near_by_rmus}
+use Rattle.rb_laws_listener_near.proofs.NextEpochs.{MiddleIsNear}
+use Rattle.rb_laws_listener_near.proofs.Sides.{SideAlike, bius_alike, rmus_alike, side_alike}
+
+-- ---- whom the judge takes for suspects
+
+nobody_trusted : (p : ℕ → Bool) → 0 < how_many (λ j. has 0 j && p j) → ⊥
+nobody_trusted p some =
+    let one : Passing (λ j. has 0 j && p j) 0 16 = one_of_many (λ j. has 0 j && p j) some in
+    let yes_it : has 0 one.at ≡ true = and_first (has 0 one.at) (p one.at) one.passes in
+    let no_it : has 0 one.at ≡ false = has_none one.at in
+    cc
+
+-- the judge is told whom all trust
+trusted_told : (sc : Scenario) (hands : List HandIn) (n : ℕ) (m : Moment) (s : Shared) (c : IsPassedStage sc hands n m s 1) → verdict_of (stages_with sc m 1) ≡ None → (kind : Side)
+    → trusted_now kind (stages_with sc m 1) ≡ s.trusted kind
+trusted_told sc hands n m s c none kind = go (present (in_order (rows_of sc m))) refl
+  where
+    go : (rows : List Row) → present (in_order (rows_of sc m)) ≡ rows → trusted_now kind (stages_with sc m 1) ≡ s.trusted kind
+    go [] is =
+        let nobody : Premise sc m.frame (sync_slot_of sc.sizes) (λ kind. 0) (stages_with sc m 1) =
+        premise_holds sc m.frame (sync_slot_of sc.sizes) (λ kind. 0) (stages_with sc m 1) (λ kind. ap (trusted_by kind) is) (λ kind. refl) none in
+        absurd (nobody_trusted (λ j. is_good sc Biu j m.frame (sync_slot_of sc.sizes)) (omega (arith, nobody.most Biu)))
+    go (r ∷ rs) is =
+        ap (trusted_by kind) is
+        ∙ first_row_trusts sc m (sync_slot_of sc.sizes) 2 (is_set sc hands n m s 1 c.stage).ws s.trusted
+        (λ me i st there good kind.
+        (c.stage.agree.nodes me i st (record { there = there; good = ap (is_good sc me i m.frame) (slot_last sc.sizes m.window 1 c.stage.at) ∙ good })).trusted kind) r rs is kind
+
+suspect : (sc : Scenario) (hands : List HandIn) (n : ℕ) (m : Moment) (s : Shared) (c : IsPassedStage sc hands n m s 1) → verdict_of (stages_with sc m 1) ≡ None → (kind : Side) (j : ℕ) → j < 16
+    → has (s.trusted kind) j ≡ true → is_good sc kind j m.frame (sync_slot_of sc.sizes) ≡ false → is_suspect kind (stages_with sc m 1) j ≡ true
+suspect sc hands n m s c none kind j small t faulty =
+    let stages : List JudgedStage = stages_with sc m 1 in
+    and_both (has (trusted_now kind stages) j) (not (has (good_now kind stages) j)) (ap (λ x. has x j) (trusted_told sc hands n m s c none kind) ∙ t)
+    (not_so (has (good_now kind stages) j) (has-set_of j (λ i. is_good sc kind i m.frame (sync_slot_of sc.sizes)) small ∙ faulty))
+
+abbrev pub heard-second : (sc : Scenario) (hands : List HandIn) (n : ℕ) (m : Moment) (s : Shared) → IsPassedStage sc hands n m s 1 → IsHeardStage sc hands n m s 1 Biu
+heard-second sc hands n m s c = record { stage = c.stage; listening = refl; premise = c.premise }
+
+-- ---- what was seen
+
+-- what the listener saw in stage 2 are the times of what it took
+pub record SawTimes (sc : Scenario) (m : Moment) (taken : ℕ → Option ℕ) (time : ℕ → ℕ) (seen : ℕ → JudgedStage → Option (ℕ → See)) : Type 0 where
+  pub sight : ℕ → See
+  pub here : seen (length m.book.stages) (judged_of sc (place_of sc m 1) (rows_of sc m)) ≡ Some sight
+  pub is : (j : ℕ) → j < 16 → sight j ≡ judged_see (time j) (see_time (taken j))
+
+alike_took : (eps a b : ℕ) (x y : Option ℕ) → are_alike eps (judged_see b (see_time y)) (judged_see a (see_time x)) ≡ true → TookAlike eps a b x y
+alike_took eps a b None None h = tt
+alike_took eps a b None (Some k) h = absurd (cc)
+alike_took eps a b (Some k) None h = absurd (cc)
+alike_took eps a b (Some k) (Some l) h =
+    record { above = le_from a (b + eps) (and_second (nat_le b (a + eps)) (nat_le a (b + eps)) h); under = le_from b (a + eps) (and_first (nat_le b (a + eps)) (nat_le a (b + eps)) h) }
+
+takes_alike : (sc : Scenario) (hands : List HandIn) (n : ℕ) (m : Moment) (s : Shared) (c : IsPassedStage sc hands n m s 1) → verdict_of (stages_with sc m 1) ≡ None
+    → (taken : ℕ → Option ℕ) (time : ℕ → ℕ) (seen : ℕ → JudgedStage → Option (ℕ → See)) → SawTimes sc m taken time seen
+    → ((j : ℕ) → j < 16 → is_suspect Rmu (stages_with sc m 1) j ≡ true → is_asymmetric_with Rmu (heard_stages seen (stages_with sc m 1)) j ≡ false)
+    → TakesAlike sc m s (ws_of sc hands n m s 1 Biu (heard-second sc hands n m s c)) taken time
+takes_alike sc hands n m s c none taken time seen saw alike j below t faulty i b here =
+    let judged : JudgedStage = judged_of sc (place_of sc m 1) (rows_of sc m) in
+    let ws : Windows sc m (sync_slot_of sc.sizes) 2 = ws_of sc hands n m s 1 Biu (heard-second sc hands n m s c) in
+    let good : is_good sc Biu i m.frame (sync_slot_of sc.sizes) ≡ true = ap (is_good sc Biu i m.frame) (sym (slot_last sc.sizes m.window 1 c.stage.at)) ∙ here.good in
+    let small : i < 16 = good_below_16 sc c.stage.law.sizes Biu i m.frame (sync_slot_of sc.sizes) good in
+    let same : are_alike judged.eps (judged.sight Biu i j) (saw.sight j) ≡ true =
+    rmus_alike seen judged m.book.stages j saw.sight saw.here (alike j below (suspect sc hands n m s c none Rmu j below t faulty)) i small
+    (has-set_of i (λ k. is_good sc Biu k m.frame (sync_slot_of sc.sizes)) small ∙ good) in
+    let heard : ℕ = sole_time (heard_in sc m (sync_slot_of sc.sizes) 2 ws Biu i b j) in
+    let shown : judged.sight Biu i j ≡ judged_see heard (see_time (took sc m 1 ws Biu i b j)) = shows_took sc hands n m s 1 c.stage Biu i j b here below in
+    alike_took (eps_of sc.plan) (time j) heard (taken j) (took sc m 1 ws Biu i b j)
+    (ap (λ x. are_alike judged.eps x (judged_see (time j) (see_time (taken j)))) (sym shown)
+    ∙ ap (are_alike judged.eps (judged.sight Biu i j)) (sym (saw.is j below)) ∙ same)
+
+-- ---- the middle of a good BIU
+
+second-middle : (sc : Scenario) (hands : List HandIn) (n : ℕ) (m : Moment) (s : Shared) (low : ℕ) (c : IsHeardStage sc hands n m s 1 Biu) → Synchronous sc m s low
+    → (i : ℕ) (st : NodeState) → IsGoodNode sc m Biu i st
+    → StageMiddle sc m 1 (ws_of sc hands n m s 1 Biu c) Biu i st (f0_of sc.sizes sc.plan + sc.plan.l) (f0_of sc.sizes sc.plan + sc.plan.l + sc.plan.v)
+    (f0_of sc.sizes sc.plan + sc.plan.l + sc.plan.z) (from_2 sc low) (to_2 sc low)
+second-middle sc hands n m s low c sync i st here =
+    let law : IsLawful sc = c.stage.law in
+    let fit : plan_fits sc = lawful_fits sc law in
+    let f : ℕ = f0_of sc.sizes sc.plan in
+    let at : m.window ≡ 3 * sync_slot_of sc.sizes + 1 = c.stage.at in
+    let some : 1 ≤ f + sc.plan.l = some_more f sc.plan.l (f0_some sc law) in
+    stage_middle sc hands n m s 1 Biu c low (from_2 sc low) (to_2 sc low) (f + sc.plan.l) sc.plan.v (f + sc.plan.l + sc.plan.z) sync.begun
+    (second_calls sc law m s low sync at).between (second_about sc m (is_set sc hands n m s 1 c.stage) at low sync.begun)
+    (second_at sc m (ws_of sc hands n m s 1 Biu c) at) some law.plan.v.0 (some_more (f + sc.plan.l) sc.plan.z some)
+    (up_to_delay (to_2 sc low) sc.plan.dmax (tick_of sc.plan) (low + (f + sc.plan.l + sc.plan.z - 1) * shortest_of sc.plan)
+    (third_own low sc.plan.p f sc.plan.h sc.plan.l sc.plan.v sc.plan.z (f + sc.plan.l + sc.plan.z - 1) (shortest_of sc.plan) (drift_of sc.plan) sc.plan.dmax
+    (last_plus (f + sc.plan.l) sc.plan.z law.plan.z.0) fit.after_3)) i st here
+
+-- ---- both
+
+-- what is so of a listener in stage 2 of the sync slot
+pub record IsCalled (sc : Scenario) (m : Moment) (s : Shared) (clock : Timeline) (taken : ℕ → Option ℕ) (time : ℕ → ℕ) (seen : ℕ → JudgedStage → Option (ℕ → See)) : Type 0 where
+  pub most : MostGood sc m
+  pub steady : Steady (shortest_of sc.plan) (drift_of sc.plan) clock
+  pub takes : TakesCalls sc m s clock taken time
+  pub judged : verdict_of (stages_with sc m 1) ≡ None
+  pub none : verdict_with seen (stages_with sc m 1) ≡ None
+  pub saw : SawTimes sc m taken time seen
+
+weaker : (a b x y : ℕ) → a ≤ b → AreNear a x y → AreNear b x y
+weaker a b x y le near = record { above = omega (arith, near.above); under = omega (arith, near.under) }
+
+-- it finds a middle
+pub calls_found : (sc : Scenario) (hands : List HandIn) (n : ℕ) (m : Moment) (s : Shared) (low : ℕ) → IsPassedStage sc hands n m s 1 → Synchronous sc m s low
+    → (clock : Timeline) (taken : ℕ → Option ℕ) (time : ℕ → ℕ) (seen : ℕ → JudgedStage → Option (ℕ → See)) → IsCalled sc m s clock taken time seen
+    → FindsMiddle sc clock taken (from_2 sc low) (to_2 sc low)
+calls_found sc hands n m s low c sync clock taken time seen h =
+    finds_middle sc hands n m s (heard-second sc hands n m s c) h.most clock h.steady taken time h.takes (from_2 sc low) (to_2 sc low)
+    (second_calls sc c.stage.law m s low sync c.stage.at).between
+
+-- that is near those which the good BIUs keep
+pub calls_near_bius : (sc : Scenario) (hands : List HandIn) (n : ℕ) (m : Moment) (s : Shared) (low : ℕ) → IsPassedStage sc hands n m s 1 → Synchronous sc m s low
+    → (clock : Timeline) (taken : ℕ → Option ℕ) (time : ℕ → ℕ) (seen : ℕ → JudgedStage → Option (ℕ → See)) → IsCalled sc m s clock taken time seen
+    → (l : ℕ) → middle_of (present (each_node taken)) ≡ Some l → MiddleIsNear sc (next sc m) clock l
+calls_near_bius sc hands n m s low c sync clock taken time seen h l is i now here k knows =
+    let from : CameFrom sc m Biu i now = came_from sc hands n m s c.stage.agree Biu i now here in
+    let own = second-middle sc hands n m s low heard sync i from.st from.was in
+    let kept = kept_found sc hands n m s 1 Biu heard _ _ _ _ _ i from.st from.was own in
+    let e : own.tick ≡ k = same_some own.tick k (sym (ap (λ x. x.k2) (sym from.is) ∙ kept.k2) ∙ knows) in
+    subst (λ x. AreNear (near_2 sc.plan) (time_of clock l) (time_of (clock_of sc Biu i) x)) e (near i from.st from.was own (side_alike seen (stages_with sc m 1) h.none))
+  where
+    heard : IsHeardStage sc hands n m s 1 Biu
+    heard = heard-second sc hands n m s c
+
+    mine : FindsMiddle sc clock taken (from_2 sc low) (to_2 sc low)
+    mine = calls_found sc hands n m s low c sync clock taken time seen h
+
+    middle : IsMiddle l (present (each_node taken))
+    middle = subst (λ x. IsMiddle x (present (each_node taken))) (same_some mine.tick l (sym mine.found ∙ is)) mine.middle
+
+    past : 1 ≤ l
+    past = middle_past taken l (λ j k is. (h.takes.stamped j k is).0) middle
+
+    by_side : (i : ℕ) (b : NodeState) → IsGoodNode sc m Biu i b
+        → (own : StageMiddle sc m 1 (ws_of sc hands n m s 1 Biu heard) Biu i b (f0_of sc.sizes sc.plan + sc.plan.l) (f0_of sc.sizes sc.plan + sc.plan.l + sc.plan.v)
+        (f0_of sc.sizes sc.plan + sc.plan.l + sc.plan.z) (from_2 sc low) (to_2 sc low)) → (x : Side)
+        → ((j : ℕ) → j < 16 → is_suspect x (stages_with sc m 1) j ≡ true → is_asymmetric_with x (heard_stages seen (stages_with sc m 1)) j ≡ false)
+        → AreNear (near_2 sc.plan) (time_of clock l) (time_of (clock_of sc Biu i) own.tick)
+    by_side i b here own Biu alike =
+        let some : 1 ≤ f0_of sc.sizes sc.plan + sc.plan.l = some_more (f0_of sc.sizes sc.plan) sc.plan.l (f0_some sc c.stage.law) in
+        near_by_bius sc hands n m s low heard sync h.most
+        (λ j below t faulty. bius_alike seen (stages_with sc m 1) j (alike j below (suspect sc hands n m s c h.judged Biu j below t faulty)))
+        clock h.steady taken time h.takes l is past i b here own.tick own.found (omega (arith, own.from, some))
+    by_side i b here own Rmu alike =
+        weaker (near_1 sc.plan) (near_2 sc.plan) (time_of clock l) (time_of (clock_of sc Biu i) own.tick) (omega arith)
+        (near_by_rmus sc hands n m s heard clock h.steady taken time h.takes (takes_alike sc hands n m s c h.judged taken time seen h.saw alike) l middle i b here own.late own.tick own.middle)
+
+    near : (i : ℕ) (b : NodeState) → IsGoodNode sc m Biu i b
+        → (own : StageMiddle sc m 1 (ws_of sc hands n m s 1 Biu heard) Biu i b (f0_of sc.sizes sc.plan + sc.plan.l) (f0_of sc.sizes sc.plan + sc.plan.l + sc.plan.v)
+        (f0_of sc.sizes sc.plan + sc.plan.l + sc.plan.z) (from_2 sc low) (to_2 sc low)) → SideAlike seen (stages_with sc m 1)
+        → AreNear (near_2 sc.plan) (time_of clock l) (time_of (clock_of sc Biu i) own.tick)
+    near i b here own side = by_side i b here own side.side side.alike

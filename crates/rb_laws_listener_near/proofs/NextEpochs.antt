@@ -1,0 +1,265 @@
+-- Where the third stage of the sync slot passes, a listener whose middle is near those of the good BIUs begins the next frame near all good
+-- nodes.
+use Rattle.std.proofs.Common.{◌≡◌, ℕ, ◌+◌, ◌-◌, ◌*◌, ◌≤◌, ◌<◌, min, max, true, false, List, Some, option_and_then, option_map, unwrap_or, slice_get, ◌⊎◌, inl, inr, refl, sym, ◌∙◌, ap, subst, arith}
+use Rattle.std.proofs.lemmas.Bool.{cases_lt}
+use Rattle.rb_base.specs.Nodes.{Side, has}
+use Rattle.rb_base.specs.Nodes.Side.{Biu, Rmu}
+use Rattle.rb_base.specs.Sizes.{sync_slot_of}
+use Rattle.rb_rules.specs.Book.{judged_of, of_kind}
+use Rattle.rb_rules.specs.Clock.{Timeline, time_of}
+use Rattle.rb_rules.specs.Goodness.{Scenario, clock_of, is_good}
+use Rattle.rb_rules.specs.Lawful.{IsLawful}
+use Rattle.rb_rules.specs.NodeState.{NodeState}
+use Rattle.rb_rules.specs.Plan.{f0_of, shortest_of}
+use Rattle.rb_rules.specs.Ports.{HandIn}
+use Rattle.rb_rules.specs.Rounds.{Moment}
+use Rattle.rb_rules.specs.SyncStage.{call_tick_of}
+use Rattle.rb_rules.proofs.Middles.{AreNear, IsBetween}
+use Rattle.rb_laws_agreement.proofs.Tests.{Passing, and_second}
+use Rattle.rb_laws_agreement.proofs.Numbers.{one_of_many}
+use Rattle.rb_laws_agreement.proofs.Premises.{is_sound}
+use Rattle.rb_laws_agreement.proofs.Goodnesses.{good_below_16, slot_last}
+use Rattle.rb_laws_agreement.proofs.Invariant.{IsGoodNode, Shared, is_good_now, slot_numbered}
+use Rattle.rb_laws_agreement.proofs.JudgedWindows.{rows_of}
+use Rattle.rb_laws_agreement.proofs.NextMoments.{CameFrom, came_from, next}
+use Rattle.rb_laws_agreement.proofs.Settings.{after}
+use Rattle.rb_laws_synchrony.proofs.CallSights.{place_of}
+use Rattle.rb_laws_synchrony.proofs.KeptMiddles.{keeps}
+use Rattle.rb_laws_synchrony.proofs.LastStage.{biu_begins, rmu_begins}
+use Rattle.rb_laws_synchrony.proofs.LaterStages.{calls_near}
+use Rattle.rb_laws_synchrony.proofs.Middles.{HasLeast, least_of}
+use Rattle.rb_laws_synchrony.proofs.PlanNumbers.{drift_of, last_plus, third_late}
+use Rattle.rb_laws_synchrony.proofs.StageCalls.{clock_now, third_about, third_at, third_calls}
+use Rattle.rb_laws_synchrony.proofs.StageMiddles.{CallBetween, IsCaller, IsHeardStage, NoneUnlike, caller, ws_of}
+use Rattle.rb_laws_synchrony.proofs.StageSteps.{CallNear, StageMiddle, closer, stage_middle}
+use Rattle.rb_laws_synchrony.proofs.SyncSteps.{IsPassedStage, epoch_after, f0_some, kept_found, none_before, some_more, tick_some}
+use Rattle.rb_laws_synchrony.proofs.Synchronous.{KnowsEpoch, Synchronous, from_3, heard_from, heard_to, near_2, near_3, near_on, second_kept, ticks_on, to_3}
+use Rattle.rb_laws_synchrony.proofs.TakenCalls.{is_set}
+use Rattle.rb_laws_synchrony.proofs.TimelyWindows.{good_here}
+use Rattle.rb_laws_synchrony.proofs.Times.{Steady, lawful_fits, plan_fits}
+
+-- the time of a BIU's call
+calls_at : Scenario → Moment → ℕ → ℕ
+calls_at sc m j =
+    time_of (clock_of sc Biu j) (unwrap_or (option_and_then (λ (st : NodeState). call_tick_of sc.sizes sc.plan st 3) (slice_get (of_kind Biu m.nodes) j)) 0)
+
+calls_at-is : (sc : Scenario) (m : Moment) (j : ℕ) (st : NodeState) (tick : ℕ) → slice_get (of_kind Biu m.nodes) j ≡ Some st
+    → call_tick_of sc.sizes sc.plan st 3 ≡ Some tick → calls_at sc m j ≡ time_of (clock_of sc Biu j) tick
+unfolding calls_at
+calls_at-is sc m j st tick there at =
+    ap (λ o. time_of (clock_of sc Biu j) (unwrap_or (option_and_then (λ (st : NodeState). call_tick_of sc.sizes sc.plan st 3) o) 0)) there
+    ∙ ap (λ o. time_of (clock_of sc Biu j) (unwrap_or o 0)) at
+
+abbrev heard-third : (sc : Scenario) (hands : List HandIn) (n : ℕ) (m : Moment) (s : Shared) → IsPassedStage sc hands n m s 2 → IsHeardStage sc hands n m s 2 Rmu
+heard-third sc hands n m s c = record { stage = c.stage; listening = refl; premise = c.premise }
+
+-- the calls of stage 3 are near
+third-near : (sc : Scenario) (hands : List HandIn) (n : ℕ) (m : Moment) (s : Shared) (low : ℕ) → IsPassedStage sc hands n m s 2 → Synchronous sc m s low
+    → CallNear sc m Biu 3 (near_3 sc.plan)
+third-near sc hands n m s low c sync =
+    let at : m.window ≡ 3 * sync_slot_of sc.sizes + 2 = c.stage.at in
+    let none : NoneUnlike sc m s c.premise.side m.book.stages =
+    none_before sc m s c.premise.side (judged_of sc (place_of sc m 2) (rows_of sc m)) m.book.stages c.premise.alike in
+    calls_near sc c.stage.law m Biu 3 (near_2 sc.plan) sc.plan.v second_kept (λ i st h. let k = sync.second at i st h in (k.tick, k.is)) (λ st. refl)
+    (sync.second_near at c.premise.side none)
+
+-- the middle that a good RMU finds
+third-middle : (sc : Scenario) (hands : List HandIn) (n : ℕ) (m : Moment) (s : Shared) (low : ℕ) (c : IsHeardStage sc hands n m s 2 Rmu) → Synchronous sc m s low
+    → (i : ℕ) (st : NodeState) → IsGoodNode sc m Rmu i st
+    → StageMiddle sc m 2 (ws_of sc hands n m s 2 Rmu c) Rmu i st (f0_of sc.sizes sc.plan + sc.plan.l + sc.plan.v) (f0_of sc.sizes sc.plan + sc.plan.l + sc.plan.v + sc.plan.z)
+    (f0_of sc.sizes sc.plan + sc.plan.l + sc.plan.v + sc.plan.z) (from_3 sc low) (to_3 sc low)
+third-middle sc hands n m s low c sync i st here =
+    let law : IsLawful sc = c.stage.law in
+    let f : ℕ = f0_of sc.sizes sc.plan in
+    let at : m.window ≡ 3 * sync_slot_of sc.sizes + 2 = c.stage.at in
+    let some : 1 ≤ f + sc.plan.l + sc.plan.v = some_more (f + sc.plan.l) sc.plan.v (some_more f sc.plan.l (f0_some sc law)) in
+    stage_middle sc hands n m s 2 Rmu c low (from_3 sc low) (to_3 sc low) (f + sc.plan.l + sc.plan.v) sc.plan.z (f + sc.plan.l + sc.plan.v + sc.plan.z) sync.begun
+    (third_calls sc law m s low sync at).between (third_about sc m (is_set sc hands n m s 2 c.stage) at low sync.begun)
+    (third_at sc m (ws_of sc hands n m s 2 Rmu c) at) some law.plan.z.0 (some_more (f + sc.plan.l + sc.plan.v) sc.plan.z some)
+    (third-last sc c.stage.law low) i st here
+  where
+    third-last : (sc : Scenario) → IsLawful sc → (low : ℕ) → to_3 sc low + sc.plan.dmax ≤ low + (f0_of sc.sizes sc.plan + sc.plan.l + sc.plan.v + sc.plan.z - 1) * shortest_of sc.plan
+    third-last sc law low =
+        let fit : plan_fits sc = lawful_fits sc law in
+        let f : ℕ = f0_of sc.sizes sc.plan in
+        third_late low sc.plan.p f sc.plan.h sc.plan.l sc.plan.v sc.plan.z (f + sc.plan.l + sc.plan.v + sc.plan.z - 1) (shortest_of sc.plan) (drift_of sc.plan) sc.plan.dmax
+        (last_plus (f + sc.plan.l + sc.plan.v) sc.plan.z law.plan.z.0) fit.after_3
+
+-- The calls, and what would be the listener's own, come from some time on, and within as much.
+
+-- a listener's middle is near those that the good BIUs keep
+abbrev pub MiddleIsNear : Scenario → Moment → Timeline → ℕ → Type 0
+MiddleIsNear sc m clock l =
+    (i : ℕ) (b : NodeState) → IsGoodNode sc m Biu i b → (k : ℕ) → b.k2 ≡ Some k → AreNear (near_2 sc.plan) (time_of clock l) (time_of (clock_of sc Biu i) k)
+
+record CallTogether (sc : Scenario) (m : Moment) (own : ℕ) : Type 0 where
+  pub least : ℕ
+  pub calls : CallBetween sc m Biu 3 least (least + near_3 sc.plan)
+  pub listener : IsBetween least (least + near_3 sc.plan) own
+
+call_together : (sc : Scenario) (hands : List HandIn) (n : ℕ) (m : Moment) (s : Shared) (low : ℕ) → IsPassedStage sc hands n m s 2 → Synchronous sc m s low
+    → (clock : Timeline) → Steady (shortest_of sc.plan) (drift_of sc.plan) clock → (l : ℕ) → MiddleIsNear sc m clock l → CallTogether sc m (time_of clock (l + sc.plan.v))
+call_together sc hands n m s low c sync clock steady_clock l near = go found.held
+  where
+    law : IsLawful sc
+    law = c.stage.law
+
+    at : m.window ≡ 3 * sync_slot_of sc.sizes + 2
+    at = c.stage.at
+
+    own : ℕ
+    own = time_of clock (l + sc.plan.v)
+
+    here : (j : ℕ) → is_good_now sc m Biu j ≡ true → IsCaller sc m Biu 3 j
+    here j g = caller sc hands n m s 2 Rmu (heard-third sc hands n m s c) j (ap (is_good sc Biu j m.frame) (sym (slot_last sc.sizes m.window 2 c.stage.at)) ∙ g)
+
+    -- the listener's call would be near each
+    close : (j : ℕ) → is_good_now sc m Biu j ≡ true → AreNear (near_3 sc.plan) (time_of clock (l + sc.plan.v)) (calls_at sc m j)
+    close j g =
+        let by : IsCaller sc m Biu 3 j = here j g in
+        let k = sync.second at j by.st by.here in
+        let tick : Some (k.tick + sc.plan.v) ≡ Some by.tick = sym (ap (option_map (λ x. x + sc.plan.v)) k.is) ∙ by.at in
+        let e : k.tick + sc.plan.v ≡ by.tick = cc in
+        subst (AreNear (near_3 sc.plan) (time_of clock (l + sc.plan.v))) (sym (calls_at-is sc m j by.st by.tick by.here.there by.at))
+        (near_on (shortest_of sc.plan) (drift_of sc.plan) clock (clock_of sc Biu j) steady_clock (clock_now sc law m Biu j by.st by.here)
+        (near_2 sc.plan) l k.tick sc.plan.v (l + sc.plan.v) by.tick refl (sym e) (near j by.st by.here k.tick k.is))
+
+    found : HasLeast (is_good_now sc m Biu) (calls_at sc m) (near_3 sc.plan) 16
+    found =
+        least_of (is_good_now sc m Biu) (calls_at sc m) (near_3 sc.plan) (λ i j g h.
+        let a : IsCaller sc m Biu 3 i = here i g in
+        let b : IsCaller sc m Biu 3 j = here j h in
+        let pair : AreNear (near_3 sc.plan) (time_of (clock_of sc Biu i) a.tick) (time_of (clock_of sc Biu j) b.tick) =
+        third-near sc hands n m s low c sync i j a.st b.st a.here b.here a.tick b.tick a.at b.at in
+        omega (arith, pair.above, calls_at-is sc m i a.st a.tick a.here.there a.at, calls_at-is sc m j b.st b.tick b.here.there b.at)) 16
+
+    small : (j : ℕ) → is_good_now sc m Biu j ≡ true → j < 16
+    small j g = good_below_16 sc law.sizes Biu j m.frame (slot_numbered sc.sizes m.window) g
+
+    between_from : (least : ℕ) → ((j : ℕ) → is_good_now sc m Biu j ≡ true → IsBetween least (least + near_3 sc.plan) (calls_at sc m j)) → CallBetween sc m Biu 3 least (least + near_3 sc.plan)
+    between_from least all j source tick h is = subst (IsBetween least (least + near_3 sc.plan)) (calls_at-is sc m j source tick h.there is) (all j h.good)
+
+    go : ((i : ℕ) → i < 16 → is_good_now sc m Biu i ≡ false) ⊎ ((k : ℕ) × (is_good_now sc m Biu k ≡ true) × (calls_at sc m k ≡ found.least)) → CallTogether sc m (time_of clock (l + sc.plan.v))
+    go (inl none) =
+        let one : Passing (is_sound sc Biu m.frame (sync_slot_of sc.sizes) s.trusted) 0 16 = one_of_many (is_sound sc Biu m.frame (sync_slot_of sc.sizes) s.trusted) (omega (arith, c.premise.most Biu)) in
+        let good : is_good_now sc m Biu one.at ≡ true =
+        ap (is_good sc Biu one.at m.frame) (slot_last sc.sizes m.window 2 at) ∙ and_second (has (s.trusted Biu) one.at) (is_good sc Biu one.at m.frame (sync_slot_of sc.sizes)) one.passes in
+        let both : true ≡ false = sym good ∙ none one.at (small one.at good) in
+        absurd (cc)
+    go (inr some) =
+        let first : AreNear (near_3 sc.plan) (time_of clock (l + sc.plan.v)) (calls_at sc m some.0) = close some.0 some.1 in
+        let there : calls_at sc m some.0 ≡ found.least = some.2 in
+        elim (cases_lt (time_of clock (l + sc.plan.v)) found.least) [
+          | inl less ↦ record {
+            least = time_of clock (l + sc.plan.v);
+            calls = between_from (time_of clock (l + sc.plan.v)) (λ j g. record {
+              least = omega (arith, less, (found.at j (small j g) g).least);
+              most = (close j g).under;
+            });
+            listener = record { least = omega arith; most = omega arith };
+          }
+          | inr more ↦ record {
+            least = found.least;
+            calls = between_from found.least (λ j g. found.at j (small j g) g);
+            listener = record { least = more; most = omega (arith, first.above, there) };
+          }
+        ]
+
+-- The next frame.
+
+-- all good nodes know when it begins, from this time on and within p, and so would a node with this middle
+pub record BeginTogether (sc : Scenario) (m : Moment) (clock : Timeline) (epoch : ℕ) : Type 0 where
+  pub later : ℕ
+  pub good : (me : Side) (i : ℕ) (st : NodeState) → IsGoodNode sc m me i st → KnowsEpoch sc me i st later
+  pub listener : IsBetween later (later + sc.plan.p) (time_of clock epoch)
+
+pub begin_together : (sc : Scenario) (hands : List HandIn) (n : ℕ) (m : Moment) (s : Shared) (low : ℕ) → IsPassedStage sc hands n m s 2 → Synchronous sc m s low
+    → (clock : Timeline) → Steady (shortest_of sc.plan) (drift_of sc.plan) clock → (l : ℕ) → MiddleIsNear sc m clock l
+    → BeginTogether sc (next sc m) clock (l + sc.plan.v + sc.plan.z + sc.plan.c)
+begin_together sc hands n m s low c sync clock steady_clock l near = record {
+  later = later;
+  good = by_kind;
+  listener = biu_begins sc.plan (shortest_of sc.plan) (drift_of sc.plan) (f0_of sc.sizes sc.plan) calls.least (time_of clock (l + sc.plan.v + sc.plan.z + sc.plan.c)) (lawful_fits sc law)
+      (ticks_on (shortest_of sc.plan) (drift_of sc.plan) clock steady_clock calls.least (calls.least + near_3 sc.plan) (l + sc.plan.v) (sc.plan.z + sc.plan.c)
+      (l + sc.plan.v + sc.plan.z + sc.plan.c) (ticks_as l sc.plan.v sc.plan.z sc.plan.c) calls.listener);
+}
+  where
+    law : IsLawful sc
+    law = c.stage.law
+
+    at : m.window ≡ 3 * sync_slot_of sc.sizes + 2
+    at = c.stage.at
+
+    heard : IsHeardStage sc hands n m s 2 Rmu
+    heard = heard-third sc hands n m s c
+
+    calls : CallTogether sc m (time_of clock (l + sc.plan.v))
+    calls = call_together sc hands n m s low c sync clock steady_clock l near
+
+    later : ℕ
+    later = calls.least + sc.plan.z * shortest_of sc.plan + min (sc.plan.c * shortest_of sc.plan) sc.plan.dmin
+
+    f : ℕ
+    f = f0_of sc.sizes sc.plan
+
+    biu_takes : (e k f l v z c : ℕ) → e + (f + l) ≤ k → k < e + (f + l + v) → (e + (f + l + v + z) ≤ k + v + z + c) × (k + v + z + c < e + (f + l + v + z) + max z (v + c))
+    biu_takes e k f l v z c p q = (omega arith, omega arith)
+
+    rmu_takes : (e k f z v c : ℕ) → e + f ≤ k → k < e + (f + z) → (e + (f + z) ≤ k + z) × (k + z < e + (f + z) + max z (v + c))
+    rmu_takes e k f z v c p q = (omega arith, omega arith)
+
+    ticks_as : (k v z c : ℕ) → k + v + z + c ≡ k + v + (z + c)
+    ticks_as k v z c = omega arith
+
+    of_biu : (i : ℕ) (st : NodeState) → IsGoodNode sc m Biu i st → (now : NodeState) → now.epoch ≡ st.epoch → now.k2 ≡ st.k2 → KnowsEpoch sc Biu i now later
+    of_biu i st here now e same =
+        let k = sync.second at i st here in
+        let bounds = biu_takes now.epoch k.tick f sc.plan.l sc.plan.v sc.plan.z sc.plan.c (omega (arith, e, k.from)) (omega (arith, e, k.inside)) in
+        let steady_here : Steady (shortest_of sc.plan) (drift_of sc.plan) (clock_of sc Biu i) = clock_now sc law m Biu i st here in
+        let called : IsBetween calls.least (calls.least + near_3 sc.plan) (time_of (clock_of sc Biu i) (k.tick + sc.plan.v)) =
+        calls.calls i st (k.tick + sc.plan.v) here (ap (option_map (λ k2. k2 + sc.plan.v)) k.is) in
+        record {
+          takes = record {
+            epoch = k.tick + sc.plan.v + sc.plan.z + sc.plan.c;
+            known = ap (option_map (λ k2. k2 + sc.plan.v + sc.plan.z + sc.plan.c)) (same ∙ k.is);
+            least = bounds.0;
+            most = bounds.1;
+          };
+          between = biu_begins sc.plan (shortest_of sc.plan) (drift_of sc.plan) (f0_of sc.sizes sc.plan) calls.least (time_of (clock_of sc Biu i) (k.tick + sc.plan.v + sc.plan.z + sc.plan.c)) (lawful_fits sc law)
+              (ticks_on (shortest_of sc.plan) (drift_of sc.plan) (clock_of sc Biu i) steady_here calls.least (calls.least + near_3 sc.plan) (k.tick + sc.plan.v) (sc.plan.z + sc.plan.c)
+              (k.tick + sc.plan.v + sc.plan.z + sc.plan.c) (ticks_as k.tick sc.plan.v sc.plan.z sc.plan.c) called);
+        }
+
+    of_rmu : (i : ℕ) (st : NodeState) (here : IsGoodNode sc m Rmu i st) (now : NodeState) → now.epoch ≡ st.epoch → now.k3 ≡ Some (third-middle sc hands n m s low heard sync i st here).tick → KnowsEpoch sc Rmu i now later
+    of_rmu i st here now e same =
+        let k = third-middle sc hands n m s low heard sync i st here in
+        let bounds = rmu_takes now.epoch k.tick (f + sc.plan.l + sc.plan.v) sc.plan.z sc.plan.v sc.plan.c (omega (arith, e, k.from)) (omega (arith, e, k.inside)) in
+        let steady_here : Steady (shortest_of sc.plan) (drift_of sc.plan) (clock_of sc Rmu i) = clock_now sc law m Rmu i st here in
+        let some : 1 ≤ f0_of sc.sizes sc.plan + sc.plan.l + sc.plan.v =
+        some_more (f0_of sc.sizes sc.plan + sc.plan.l) sc.plan.v (some_more (f0_of sc.sizes sc.plan) sc.plan.l (f0_some sc law)) in
+        let between : IsBetween (heard_from sc calls.least) (heard_to sc (calls.least + near_3 sc.plan)) (time_of (clock_of sc Rmu i) k.tick) =
+        closer sc hands n m s 2 Rmu heard _ _ _ _ _ calls.least (calls.least + near_3 sc.plan) calls.calls i st here some k in
+        record {
+          takes = record {
+            epoch = k.tick + sc.plan.z;
+            known = ap (option_map (λ k3. k3 + sc.plan.z)) same;
+            least = bounds.0;
+            most = bounds.1;
+          };
+          between = rmu_begins sc.plan (shortest_of sc.plan) (drift_of sc.plan) (f0_of sc.sizes sc.plan) calls.least (time_of (clock_of sc Rmu i) (k.tick + sc.plan.z)) (lawful_fits sc law)
+              (ticks_on (shortest_of sc.plan) (drift_of sc.plan) (clock_of sc Rmu i) steady_here (heard_from sc calls.least) (heard_to sc (calls.least + near_3 sc.plan)) k.tick sc.plan.z
+              (k.tick + sc.plan.z) refl between);
+        }
+
+    by_kind : (me : Side) (i : ℕ) (now : NodeState) → IsGoodNode sc (next sc m) me i now → KnowsEpoch sc me i now later
+    by_kind Biu i now h =
+        let from : CameFrom sc m Biu i now = came_from sc hands n m s c.stage.agree Biu i now h in
+        let left : (after sc m Biu i from.st).k2 ≡ from.st.k2 =
+        (keeps sc m 3 (ws_of sc hands n m s 2 Rmu heard) Biu i from.st (good_here sc m (sync_slot_of sc.sizes) 3 (is_set sc hands n m s 2 c.stage) Biu i from.st from.was)
+        ((tick_some sc hands n m s 2 c.stage).tick Biu from.st)).k2 in
+        of_biu i from.st from.was now (ap (λ x. x.epoch) (sym from.is) ∙ epoch_after sc m Biu i from.st) (ap (λ x. x.k2) (sym from.is) ∙ left)
+    by_kind Rmu i now h =
+        let from : CameFrom sc m Rmu i now = came_from sc hands n m s c.stage.agree Rmu i now h in
+        let k = third-middle sc hands n m s low heard sync i from.st from.was in
+        let kept = kept_found sc hands n m s 2 Rmu heard _ _ _ _ _ i from.st from.was k in
+        of_rmu i from.st from.was now (ap (λ x. x.epoch) (sym from.is) ∙ epoch_after sc m Rmu i from.st) (ap (λ x. x.k3) (sym from.is) ∙ kept.k3)

@@ -1,0 +1,35 @@
+-- What is proved of a receiver of the RMUs beside the BIUs, whatever it hears of RMUs that are not good.
+use Rattle.std.specs.Prelude.{ℕ, ◌≡◌, ◌+◌, ◌≤◌, Option, Some, None, List}
+use Rattle.rb_base.specs.Nodes.{Side}
+use Rattle.rb_base.specs.Sizes.{sync_slot_of}
+use Rattle.rb_base.specs.declared.values.See.{See}
+use Rattle.rb_rules.specs.Clock.{IsClock, Timeline, time_of}
+use Rattle.rb_rules.specs.ExactStage.{each_node, present}
+use Rattle.rb_rules.specs.Goodness.{Scenario, clock_of}
+use Rattle.rb_rules.specs.Judging.{JudgedStage}
+use Rattle.rb_rules.specs.Lawful.{IsLawful}
+use Rattle.rb_rules.specs.Middle.{middle_of}
+use Rattle.rb_rules.specs.Moments.{IsComplete, IsGoodAfter, before_stage}
+use Rattle.rb_rules.specs.NodeState.{NodeState}
+use Rattle.rb_rules.specs.Plan.{longest_of, shortest_of}
+use Rattle.rb_rules.specs.Ports.{HandIn}
+use Rattle.rb_rules.specs.SyncStage.{new_epoch_of}
+use Rattle.rb_laws_listener_near.specs.Calls.{AreMostGood, SawTheTimes, TakesTheCalls}
+use Rattle.rb_laws_listener_near.specs.Judged.{verdict_with}
+
+-- the two times are at most so far apart
+pub record LieWithin (far a b : ℕ) : Type 0 where
+  pub before : a ≤ b + far
+  pub after : b ≤ a + far
+
+-- Where the sync slot is complete, and the premise holds in its stage 2 with this receiver as one more, its next frame begins, if it counts
+-- from the middle of what it took as a BIU does, at most p from that of each good node
+abbrev pub FramesBeginNear : Type 0
+FramesBeginNear =
+    (sc : Scenario) (hands : List HandIn) → IsLawful sc → (frame : ℕ) → IsComplete sc hands frame (sync_slot_of sc.sizes) → AreMostGood sc frame
+    → (clock : Timeline) → IsClock (shortest_of sc.plan) (longest_of sc.plan) clock → (taken : ℕ → Option ℕ) (time : ℕ → ℕ) → TakesTheCalls sc hands frame clock taken time
+    → (seen : ℕ → JudgedStage → Option (ℕ → See)) → verdict_with seen (before_stage sc hands frame (sync_slot_of sc.sizes) 3).book.stages ≡ None
+    → SawTheTimes (before_stage sc hands frame (sync_slot_of sc.sizes) 3).book.stages taken time seen
+    → (middle : ℕ) → middle_of (present (each_node taken)) ≡ Some middle
+    → (me : Side) (i : ℕ) (st : NodeState) → IsGoodAfter sc hands frame (sync_slot_of sc.sizes) me i st → (epoch : ℕ) → new_epoch_of sc.plan me st ≡ Some epoch
+    → LieWithin sc.plan.p (time_of clock (middle + sc.plan.v + sc.plan.z + sc.plan.c)) (time_of (clock_of sc me i) epoch)

@@ -1,0 +1,179 @@
+-- For the law of record and replay: in each world of the run what comes to a node has 1 to 32 bytes.
+use Rattle.std.proofs.Common.{◌≡◌, ℕ, zero, suc, ◌+◌, ◌<◌, ◌≤◌, ◌==◌, ◌&&◌, Bool, true, false, All, List, [], ◌∷◌, ◌++◌, length, refl, sym, ◌∙◌, subst, arith, cond, Option, Some, None, slice_get, map, filter}
+use Rattle.std.specs.Prelude.{flat_map}
+use Rattle.std.specs.List.{range_with_len}
+use Rattle.std.proofs.lemmas.List.Elements.{All-head, All-tail}
+use Rattle.std.proofs.lemmas.Option.{slice_get_within}
+use Rattle.rb_base.specs.Nodes.{Side, other}
+use Rattle.rb_base.specs.declared.values.Place.{Place}
+use Rattle.rb_rules.specs.declared.closing.Closed.{Closed}
+use Rattle.rb_rules.specs.declared.message.Message.{Message}
+use Rattle.rb_rules.specs.declared.message.Version.{Version}
+use Rattle.rb_rules.specs.declared.message.Version.TheVariants as version
+use Rattle.rb_rules.specs.declared.record.Epoch.{Epoch}
+use Rattle.rb_rules.specs.declared.say.Content.{Content}
+use Rattle.rb_rules.specs.declared.say.Content.TheVariants.{Word, Fault, Sync, Raw}
+use Rattle.rb_rules.specs.declared.say.Say.{Say}
+use Rattle.rb_rules.specs.Book.{Each, each_of, map_each, of_kind}
+use Rattle.rb_rules.specs.Core.{Act}
+use Rattle.rb_rules.specs.Goodness.{Scenario, clock_of, is_good}
+use Rattle.rb_rules.specs.Hearing.{Coming, Sending, Span, bytes_of, coming_of, coming_said, is_said, said_by}
+use Rattle.rb_rules.specs.Lawful.{IsContent, IsLawful, IsSayOf}
+use Rattle.rb_rules.specs.NodeState.{NodeState}
+use Rattle.rb_rules.specs.Ports.{PortState}
+use Rattle.rb_rules.specs.Slots.{count_of, same_side}
+use Rattle.rb_rules.specs.Spelling.{spelling_of}
+use Rattle.rb_rules.specs.WorldStep.{Due, Pending, Site, World, after_act, after_arrival, at_node, await, enter, first_world, fresh_site, happens, pass_and_tick, proceed, says_in, sent_to, span_from, stop, with_act, with_close, with_epoch, with_message, with_pending}
+use Rattle.rb_rules.specs.WorldStep.Pending.{Tick, Arrival}
+use Rattle.rb_rules.proofs.WindowNumbers.{get-each, get-made}
+use Rattle.rb_laws_events.proofs.Receiving.{every-without}
+use Rattle.rb_laws_events.proofs.SameHeard.{Every}
+use Rattle.rb_laws_events.proofs.WorldNodes.{first-counts}
+use Rattle.rb_laws_events.proofs.WorldStands.{back-from, some-same}
+use Rattle.rb_laws_logs.specs.Given.{first_run}
+use Rattle.rb_laws_logs.proofs.NodeRun.{StepSites, step-sites}
+use Rattle.rb_laws_logs.proofs.NodeRun.StepSites.{Still, Taken}
+
+-- Bytes.
+
+abbrev pub IsSized : List ℕ → Type 0
+IsSized bytes = (1 ≤ length bytes) × (length bytes ≤ 32)
+
+abbrev pub AreSized : List Coming → Type 0
+AreSized cs = Every (λ (c : Coming). IsSized c.bytes) cs
+
+spelled : (v : Version) (m : Message) → IsSized (spelling_of v m)
+spelled version.One m = let many : length (spelling_of version.One m) ≡ 11 = refl in (omega (arith, many), omega (arith, many))
+spelled (version.Two bus) m = let many : length (spelling_of (version.Two bus) m) ≡ 12 = refl in (omega (arith, many), omega (arith, many))
+
+content : (v : Version) (place : Place) (c : Content) → IsContent c → IsSized (bytes_of v place c)
+content v place (Word word) is = spelled v _
+content v place Fault is = spelled v _
+content v place Sync is = spelled v _
+content v place (Raw bytes) is = (is.some, is.most)
+
+append : (xs ys : List Coming) → AreSized xs → AreSized ys → AreSized (xs ++ ys)
+append [] ys a b = b
+append (x ∷ xs) ys a b = (a.0, append xs ys a.1 b)
+
+said : (sc : Scenario) (me : Side) (i : ℕ) (span : Span) (j : ℕ) (says : List Say) → All (IsSayOf sc) says
+    → AreSized (map (coming_said sc.plan.version (clock_of sc me i) j span) (filter (is_said me i j span) says))
+said sc me i span j [] all = tt
+said sc me i span j (s ∷ says) all = by (said sc me i span j says (All-tail (IsSayOf sc) s says all)) (is_said me i j span s)
+  where
+    by : AreSized (map (coming_said sc.plan.version (clock_of sc me i) j span) (filter (is_said me i j span) says)) → (b : Bool)
+        → AreSized (map (coming_said sc.plan.version (clock_of sc me i) j span) (cond b (s ∷ filter (is_said me i j span) says) (filter (is_said me i j span) says)))
+    by rest true = (content sc.plan.version span.place s.content (All-head (IsSayOf sc) s says all).content, rest)
+    by rest false = rest
+
+of-all : (f : ℕ → List Coming) (a n : ℕ) → ((k : ℕ) → AreSized (f k)) → AreSized (flat_map f (range_with_len a n))
+of-all f a zero all = tt
+of-all f a (suc n) all = append (f a) (flat_map f (range_with_len (a + 1) n)) (all a) (of-all f (a + 1) n all)
+
+says-sized : (sc : Scenario) (me : Side) (i : ℕ) (span : Span) → IsLawful sc → AreSized (says_in sc me i span)
+unfolding says_in
+says-sized sc me i span lawful =
+    of-all (λ j. elim (is_good sc (other me) j span.place.frame span.place.slot) [ true ↦ [] | false ↦ said_by sc me i span j ]) 0 (count_of (other me) sc.sizes)
+    (λ j. by j (is_good sc (other me) j span.place.frame span.place.slot))
+  where
+    by : (j : ℕ) (b : Bool) → AreSized (elim b as (λ _. List Coming) [ true ↦ [] | false ↦ said_by sc me i span j ])
+    by j true = tt
+    by j false = said sc me i span j sc.says lawful.says
+
+-- One node.
+
+entered : (sc : Scenario) (me : Side) (i : ℕ) (o : Option Span) (s : Site) → IsLawful sc → AreSized s.coming → AreSized (enter sc me i o s).coming
+entered sc me i None s lawful is = append s.coming [] is tt
+entered sc me i (Some span) s lawful is = by (is_good sc me i span.place.frame span.place.slot)
+  where
+    by : (b : Bool) → AreSized (elim b as (λ _. Site) [ true ↦ await sc me i (says_in sc me i span) s | false ↦ stop s ]).coming
+    by true = append s.coming (says_in sc me i span) is (says-sized sc me i span lawful)
+    by false = tt
+
+proceeds : (sc : Scenario) (me : Side) (i : ℕ) (s : Site) → IsLawful sc → AreSized s.coming → AreSized (proceed sc me i s).coming
+unfolding proceed
+proceeds sc me i s = entered sc me i (span_from sc.sizes sc.plan me s.core.state s.core.had) s
+
+close-same : (me : Side) (i : ℕ) (st : NodeState) (c : Option Closed) (s : Site) → (with_close me i st c s).coming ≡ s.coming
+close-same me i st None s = refl
+close-same me i st (Some c) s = refl
+
+epoch-same : (sc : Scenario) (ports : List PortState) (me : Side) (i : ℕ) (e : Option Epoch) (s : Site) → (with_epoch sc ports me i e s).coming ≡ s.coming
+epoch-same sc ports me i None s = refl
+epoch-same sc ports me i (Some e) s = refl
+
+acts : (sc : Scenario) (ports : List PortState) (me : Side) (i : ℕ) (x : Act) (s : Site) → IsLawful sc → AreSized s.coming → AreSized (after_act sc ports me i x s).coming
+unfolding after_act
+acts sc ports me i x s lawful is =
+    let closed : Site = with_close me i x.core.state x.closed (record s { core = x.core }) in
+    proceeds sc me i (with_epoch sc ports me i x.epoch closed) lawful
+    (subst AreSized (sym (epoch-same sc ports me i x.epoch closed ∙ close-same me i x.core.state x.closed (record s { core = x.core }))) is)
+
+arrives : (sc : Scenario) (me : Side) (i place : ℕ) (c : Coming) (s : Site) → AreSized s.coming → AreSized (after_arrival sc me i place c s).coming
+unfolding after_arrival
+arrives sc me i place c s is = every-without (λ (c : Coming). IsSized c.bytes) place s.coming is
+
+sends : (sc : Scenario) (me side : Side) (j frame : ℕ) (x : Sending) (i : ℕ) (s : Site) → AreSized s.coming → AreSized (sent_to sc me j frame x side i s).coming
+sends sc me side j frame x i s is = by (same_side side (other me) && s.runs)
+  where
+    by : (b : Bool) → AreSized (elim b as (λ _. Site) [ true ↦ record s { coming = s.coming ++ coming_of sc side i j frame x ∷ [] } | false ↦ s ]).coming
+    by true = append s.coming (coming_of sc side i j frame x ∷ []) is (spelled sc.plan.version x.message, tt)
+    by false = is
+
+-- All nodes.
+
+abbrev pub AllSized : Each Site → Type 0
+AllSized sites = (me : Side) (i : ℕ) (s : Site) → slice_get (of_kind me sites) i ≡ Some s → AreSized s.coming
+
+each-sized : (f : Side → ℕ → Site → Site) (sites : Each Site) → ((me : Side) (i : ℕ) (s : Site) → AreSized s.coming → AreSized (f me i s).coming) → AllSized sites → AllSized (map_each f sites)
+each-sized f sites go h me i s e =
+    let was = back-from (f me i) (slice_get (of_kind me sites) i) s (sym (get-each f sites me i) ∙ e) in
+    subst (λ (s : Site). AreSized s.coming) was.1.1 (go me i was.0 (h me i was.0 was.1.0))
+
+at-sized : (me : Side) (i : ℕ) (change : Site → Site) (sites : Each Site) → ((s : Site) → AreSized s.coming → AreSized (change s).coming) → AllSized sites → AllSized (at_node me i change sites)
+at-sized me i change sites go =
+    each-sized (λ side n s. elim (same_side side me && (n == i)) as (λ _. Site) [ true ↦ change s | false ↦ s ]) sites (λ side n s is. by s is (same_side side me && (n == i)))
+  where
+    by : (s : Site) → AreSized s.coming → (b : Bool) → AreSized (elim b as (λ _. Site) [ true ↦ change s | false ↦ s ]).coming
+    by s is true = go s is
+    by s is false = is
+
+message-sized : (sc : Scenario) (me : Side) (j frame tick : ℕ) (m : Option Message) (sites : Each Site) → AllSized sites → AllSized (with_message sc me j frame tick m sites)
+message-sized sc me j frame tick None sites is = is
+message-sized sc me j frame tick (Some m) sites is =
+    each-sized (sent_to sc me j frame (record { tick = tick; message = m })) sites (λ side i s k. sends sc me side j frame (record { tick = tick; message = m }) i s k) is
+
+pending-sized : (sc : Scenario) (w : World) (me : Side) (i : ℕ) (s : Site) (p : Pending) → IsLawful sc → AllSized w.sites → AllSized (with_pending sc w me i s p).sites
+unfolding with_act
+pending-sized sc w me i s (Tick k) lawful is =
+    let x : Act = pass_and_tick sc w.ports me i k s.core in
+    message-sized sc me i x.core.state.frame k x.message (at_node me i (after_act sc w.ports me i x) w.sites)
+    (at-sized me i (after_act sc w.ports me i x) w.sites (λ z k. acts sc w.ports me i x z lawful k) is)
+pending-sized sc w me i s (Arrival place c) lawful is = at-sized me i (after_arrival sc me i place c) w.sites (λ z k. arrives sc me i place c z k) is
+
+happens-sized : (sc : Scenario) (w : World) (d : Due) → IsLawful sc → AllSized w.sites → AllSized (happens sc w d).sites
+unfolding happens
+happens-sized sc w d lawful is = by (slice_get (of_kind d.side w.sites) d.node)
+  where
+    by : (o : Option Site) → AllSized (elim o as (λ _. World) [ None ↦ w | Some s ↦ with_pending sc w d.side d.node s d.pending ]).sites
+    by None = is
+    by (Some s) = pending-sized sc w d.side d.node s d.pending lawful is
+
+-- The run.
+
+first-sized : (sc : Scenario) → IsLawful sc → AllSized (first_world sc).sites
+unfolding first_world
+first-sized sc lawful me i s e =
+    let make : Side → ℕ → Site = λ me i. proceed sc me i (fresh_site sc.sizes me) in
+    let within : i < length (of_kind me (each_of sc.sizes make)) = slice_get_within (of_kind me (each_of sc.sizes make)) i s e in
+    let long : length (of_kind me (each_of sc.sizes make)) ≡ count_of me sc.sizes = first-counts sc.sizes make me in
+    let made : slice_get (of_kind me (each_of sc.sizes make)) i ≡ Some (make me i) = get-made sc.sizes make me i (omega (arith, within, long)) in
+    subst (λ (s : Site). AreSized s.coming) (some-same (make me i) s (sym made ∙ e)) (proceeds sc me i (fresh_site sc.sizes me) lawful tt)
+
+pub run-sized : (sc : Scenario) (n : ℕ) → IsLawful sc → AllSized (first_run sc n).sites
+run-sized sc zero lawful = first-sized sc lawful
+run-sized sc (suc n) lawful = by (run-sized sc n lawful) (step-sites sc n)
+  where
+    by : AllSized (first_run sc n).sites → StepSites sc n → AllSized (first_run sc (suc n)).sites
+    by before (Still nothing same) = subst AllSized (sym same) before
+    by before (Taken d first is) = subst AllSized (sym is) (happens-sized sc (first_run sc n) d lawful before)

@@ -1,0 +1,161 @@
+-- For the law of record and replay: the worlds of a run in which the first due event is taken, where it has no breach: all nodes stand in
+-- the rounds, and so does one that takes a tick.
+use Rattle.std.proofs.Common.{◌≡◌, ℕ, zero, suc, ◌<◌, ◌≤◌, ◌⊎◌, Bool, true, false, List, [], ◌∷◌, refl, ap, sym, ◌∙◌, subst, inl, inr, Option, Some, None, slice_get}
+use Rattle.rb_base.specs.Nodes.{Side}
+use Rattle.rb_base.specs.Nodes.Side.{Biu}
+use Rattle.rb_rules.specs.Book.{of_kind}
+use Rattle.rb_rules.specs.Goodness.{Scenario}
+use Rattle.rb_rules.specs.Hearing.{port_at}
+use Rattle.rb_rules.specs.Lawful.{IsLawful}
+use Rattle.rb_rules.specs.Moments.{IsRunning}
+use Rattle.rb_rules.specs.NodeState.{NodeState}
+use Rattle.rb_rules.specs.Ports.{HandIn}
+use Rattle.rb_rules.specs.Rounds.{moment}
+use Rattle.rb_rules.specs.WorldStep.{Due, Pending, Site, Timed, World, due_of, first_world, go_on, happens, needs_no_event, pass_and_tick, settle, take, take_if_due, with_act, with_pending}
+use Rattle.rb_rules.specs.WorldStep.Pending.{Tick, Arrival}
+use Rattle.rb_rules.specs.WorldStep.Way.{ByAnEvent, ByItself}
+use Rattle.rb_laws_events.proofs.BreakNodes.{BreaksAt}
+use Rattle.rb_laws_events.proofs.Behind.{WaitsAt}
+use Rattle.rb_laws_events.proofs.DueEvents.{IsDue}
+use Rattle.rb_laws_events.proofs.EventsHold.{any, nodes_at}
+use Rattle.rb_laws_events.proofs.EveryWorld.{AnyWorld, InRun, due-going}
+use Rattle.rb_laws_events.proofs.Invariant.{last_tick, next_stage}
+use Rattle.rb_laws_events.proofs.NodeActs.{HasRoom}
+use Rattle.rb_laws_events.proofs.OneEvent.{ClosesEarlier, MayHappen, WorldInRounds}
+use Rattle.rb_laws_events.proofs.OneTake.{StandsInRounds, are-in-time, closes-earlier, settle-hands, world-waits}
+use Rattle.rb_laws_events.proofs.PortMoments.{has-word}
+use Rattle.rb_laws_events.proofs.SameHeard.{Every}
+use Rattle.rb_laws_events.proofs.Settling.{some-same}
+use Rattle.rb_laws_events.proofs.TickRooms.{has-room}
+use Rattle.rb_laws_events.proofs.UpToThere.{Reaches, next-up-to, reach, reaches-first}
+use Rattle.rb_laws_events.proofs.WorldEvents.{AfterTick, tick-event}
+use Rattle.rb_laws_events.proofs.WorldNodes.{events-due}
+use Rattle.rb_laws_events.proofs.WorldStands.{AllPend, IsUp, IsDown, sent_by}
+use Rattle.rb_laws_logs.specs.Given.{first_run, first_step, step_with}
+use Rattle.rb_laws_logs.specs.Laws.{EndsWithoutBreach}
+use Rattle.rb_laws_logs.proofs.NoBreach.{breaks-not, choices_in, run-is}
+
+-- Nothing is handed in.
+
+happens-hands : (sc : Scenario) (w : World) (d : Due) → (happens sc w d).hands ≡ w.hands
+unfolding happens with_act
+happens-hands sc w d = by (slice_get (of_kind d.side w.sites) d.node)
+  where
+    pending : (s : Site) (p : Pending) → (with_pending sc w d.side d.node s p).hands ≡ w.hands
+    pending s (Tick k) = refl
+    pending s (Arrival place c) = refl
+
+    by : (o : Option Site) → (elim o as (λ _. World) [ None ↦ w | Some s ↦ with_pending sc w d.side d.node s d.pending ]).hands ≡ w.hands
+    by None = refl
+    by (Some s) = pending s d.pending
+
+take-hands : (sc : Scenario) (w : World) (i : ℕ) → (take sc w i).hands ≡ w.hands
+unfolding take
+take-hands sc w i = by (slice_get (due_of sc w) i)
+  where
+    by : (o : Option Due) → (take_if_due sc w o).hands ≡ w.hands
+    by None = refl
+    by (Some d) = settle-hands sc ByAnEvent 2 (happens sc w d) ∙ happens-hands sc w d
+
+go-on-hands : (sc : Scenario) (w : World) → (go_on sc w).hands ≡ w.hands
+unfolding go_on
+go-on-hands sc w = by w.book.ended
+  where
+    by : (b : Bool) → (elim b as (λ _. World) [ true ↦ w | false ↦ settle sc ByItself 2 w ]).hands ≡ w.hands
+    by true = refl
+    by false = settle-hands sc ByItself 2 w
+
+pub no-hands : (sc : Scenario) (n : ℕ) → (first_run sc n).hands ≡ []
+unfolding first_world first_step
+no-hands sc zero = refl
+no-hands sc (suc n) = by (due_of sc (first_run sc n)) ∙ no-hands sc n
+  where
+    by : (ds : List Due) → (step_with sc (first_run sc n) ds).hands ≡ (first_run sc n).hands
+    by [] = go-on-hands sc (first_run sc n)
+    by (d ∷ ds) = take-hands sc (first_run sc n) 0
+
+-- In the run.
+
+in-run : (sc : Scenario) (w : World) → IsLawful sc → EndsWithoutBreach sc → w.hands ≡ [] → AnyWorld sc (nodes_at sc) w → InRun sc w
+in-run sc w lawful none empty (inl run) = run
+in-run sc w lawful none empty (inr (inl off)) = absurd (breaks-not sc lawful none off.stands.b off.stands.q (subst (λ hs. BreaksAt sc hs off.stands.b off.stands.q) empty off.stands.off))
+in-run sc w lawful none empty (inr (inr over)) = absurd (breaks-not sc lawful none over.b over.q (subst (λ hs. BreaksAt sc hs over.b over.q) empty over.off))
+
+pub worlds-in-run : (sc : Scenario) → IsLawful sc → EndsWithoutBreach sc → (n : ℕ) → InRun sc (first_run sc n)
+worlds-in-run sc lawful none n =
+    in-run sc (first_run sc n) lawful none (no-hands sc n) (subst (AnyWorld sc (nodes_at sc)) (sym (run-is sc n)) (any sc lawful (choices_in sc n)))
+
+-- A due event.
+
+pub first-due : (sc : Scenario) (n : ℕ) (d : Due) → slice_get (due_of sc (first_run sc n)) 0 ≡ Some d → IsDue (first_run sc n) d
+first-due sc n d e =
+    subst (λ w. IsDue w d) (sym (run-is sc n)) (events-due sc (choices_in sc n) 0 d (ap (λ w. slice_get (due_of sc w) 0) (sym (run-is sc n)) ∙ e))
+
+-- it may happen, and closes no window in which other nodes are not in time
+pub record MayTake (sc : Scenario) (w : World) (h : StandsInRounds sc w) (d : Due) : Type 0 where
+  pub n : ℕ
+  pub may : MayHappen sc h.at w n
+  pub early : ClosesEarlier sc w.hands h.at n d.side d.node d.pending
+
+pub may-take : (sc : Scenario) (w : World) (h : StandsInRounds sc w) (d : Due) → IsLawful sc → EndsWithoutBreach sc → w.hands ≡ [] → slice_get (due_of sc w) 0 ≡ Some d → IsDue w d
+    → MayTake sc w h d
+may-take sc w h d lawful none empty first due = from-where waits.1.from
+  where
+    open_still : (w.book.ended ≡ false) × (needs_no_event sc w.book.upcoming ≡ false)
+    open_still = due-going sc w 0 d first
+
+    waits : (n : ℕ) × WaitsAt sc w.hands h.at w.sites w.book n
+    waits = world-waits sc h.now h.at w h.stands open_still.0 open_still.1
+
+    n : ℕ
+    n = waits.0
+
+    reached : Reaches sc w.hands n → MayTake sc w h d
+    reached r = record {
+      n = n;
+      may = record { stage = waits.1.stage; bound = waits.1.bound; within = waits.1.within; up_to = r.up_to };
+      early = closes-earlier sc h.now h.at w n d lawful h.stands waits.1 r.up_to due;
+    }
+
+    from-where : (n ≡ 0) ⊎ ((g : ℕ) × (IsRunning (moment sc w.hands g) × ((n ≡ next_stage sc.sizes (moment sc w.hands g) g) × (w.book ≡ (moment sc w.hands g).book)))) → MayTake sc w h d
+    from-where (inl at_first) = reached (reaches-first sc w.hands lawful n waits.1.stage at_first)
+    from-where (inr from) = elim (reach sc w.hands lawful n waits.1.stage from.0 from.1.0 from.1.1.0) [
+      | inl r ↦ reached r
+      | inr b ↦ absurd (breaks-not sc lawful none from.0 b.0 (subst (λ hs. BreaksAt sc hs from.0 b.0) empty b.1))
+    ]
+
+-- where it is a tick, the node stands in the rounds afterwards
+pub tick-done : (sc : Scenario) (w : World) (h : StandsInRounds sc w) (n : ℕ) (me : Side) (i k t : ℕ) (s : Site) (a : Timed) → IsLawful sc → MayHappen sc h.at w n
+    → ClosesEarlier sc w.hands h.at n me i (Tick k) → slice_get (of_kind me w.sites) i ≡ Some s → s.ahead ≡ Some a → a.tick ≡ k → a.time ≡ t
+    → Every (λ c. t < c.time) s.coming → AllPend t w.sites → AfterTick sc w.hands h.at w.sites w.ports me i s a (pass_and_tick sc w.ports me i a.tick s.core)
+tick-done sc w h n me i k t s a lawful may early there pend tick time alone first =
+    let hands : List HandIn = w.hands in
+    let at : Side → ℕ → ℕ = h.at in
+    let now : ℕ = h.now in
+    let room : HasRoom sc.plan = has-room sc lawful in
+    let world : WorldInRounds sc now at w = h.stands in
+    let runs : s.runs ≡ true = is-up s.runs refl in
+    let up : IsUp sc hands (sent_by sc hands at w.sites) now me i (at me i) s = world.sites.up me i s there runs in
+    let same : up.a ≡ a = some-same up.a a (sym up.stands.receives.pends ∙ pend) in
+    let later : now ≤ a.time = subst (λ (b : Timed). now ≤ b.time) same up.stands.receives.tick_after in
+    let closes_early : (st : NodeState) → slice_get (of_kind me (moment sc hands (at me i)).nodes) i ≡ Some st → a.tick ≡ last_tick sc (moment sc hands (at me i)) me st → at me i < n =
+    λ st e last. early st e (sym tick ∙ last) in
+    let port : me ≡ Biu → port_at sc w.ports i ≡ port_at sc (moment sc hands (at me i)).ports i =
+    λ e. world.ports i s (ap (λ y. slice_get (of_kind y w.sites) i) (sym e) ∙ there) runs ∙ ap (λ y. port_at sc (moment sc hands (at y i)).ports i) (sym e) in
+    tick-event sc hands now at w.sites w.ports me i s a lawful room (are-in-time sc now at w n world may) world.passed world.sites (record {
+      there = there;
+      runs = runs;
+      pend = pend;
+      alone = subst (λ t. Every (λ c. t < c.time) s.coming) (sym time) alone;
+      first = subst (λ t. AllPend t w.sites) (sym time) first;
+      later = later;
+      word = λ st e. has-word sc w.ports (moment sc hands (at me i)) me i st port;
+      next = λ st e last. next-up-to sc hands n (at me i) may.up_to may.stage (closes_early st e last) up.stands.stands.window;
+    })
+  where
+    some-none : None ≡ Some a → ⊥
+    some-none e = cc
+
+    is-up : (b : Bool) → s.runs ≡ b → s.runs ≡ true
+    is-up true e = e
+    is-up false e = let down : IsDown sc w.hands me i (h.at me i) s = h.stands.sites.down me i s there e in absurd (some-none (sym down.ahead ∙ pend))

@@ -1,0 +1,115 @@
+-- What came to a node for its open window and what is pending there are few together, where the nodes stand in the rounds.
+use Rattle.std.proofs.Common.{◌≡◌, ℕ, zero, suc, ◌+◌, ◌*◌, ◌≤◌, ◌==◌, nat_lt, Bool, true, false, List, [], ◌∷◌, cond, filter, length, refl, ap, sym, subst, arith, Option, Some, None, option_map, option_to_list}
+use Rattle.std.proofs.lemmas.Bool.{ltb-true}
+use Rattle.std.proofs.lemmas.Bool.Decides.{nat_tests}
+use Rattle.rb_base.specs.Nodes.{Side, other}
+use Rattle.rb_base.specs.Sizes.{Sizes}
+use Rattle.rb_rules.specs.Clock.{time_of}
+use Rattle.rb_rules.specs.Goodness.{Scenario, clock_of}
+use Rattle.rb_rules.specs.Hearing.{Coming, Sending, Span, coming_of, coming_said, is_said, said_by, span_of}
+use Rattle.rb_rules.specs.NodeState.{NodeState}
+use Rattle.rb_rules.specs.Ports.{HandIn}
+use Rattle.rb_rules.specs.Rounds.{Moment, moment, window_in}
+use Rattle.rb_rules.specs.Slots.{count_of}
+use Rattle.rb_rules.specs.WorldStep.{Site, Timed, coming_from}
+use Rattle.rb_laws_events.proofs.FewThere.{length-mapped, said-once}
+use Rattle.rb_laws_events.proofs.Invariant.{NodeStands, ahead_so_far, entry_of, heard_so_far, is_good_at, last_tick, next_stage, sending_of}
+use Rattle.rb_laws_events.proofs.PendingLists.{Hears}
+use Rattle.rb_laws_events.proofs.SourceSums.{all-of-sources, coming_of_source, items-once, sum-larger, sum-le, sum-plus, sum-twos, sum_to}
+
+-- whether it is from a node that there is
+abbrev pub is_known : Sizes → Side → Coming → Bool
+is_known sizes me c = nat_lt c.from (count_of (other me) sizes)
+
+-- what came to a node that runs
+abbrev pub had_of : Sizes → Side → Site → List Coming
+had_of sizes me s = elim s.runs as (λ _. List Coming) [ true ↦ filter (is_known sizes me) s.got | false ↦ [] ]
+
+-- what came of all sources
+got-of-sources : (n : ℕ) (got : List Coming) → length (filter (λ (c : Coming). nat_lt c.from n) got) ≤ sum_to (λ j. length (coming_from got j)) n
+got-of-sources n [] = omega arith
+got-of-sources n (c ∷ cs) = by (nat_lt c.from n) refl (got-of-sources n cs)
+  where
+    longer : (j : ℕ) (b : Bool) → length (filter (λ (c : Coming). c.from == j) cs) ≤ length (cond b (c ∷ filter (λ (c : Coming). c.from == j) cs) (filter (λ (c : Coming). c.from == j) cs))
+    longer j true = omega arith
+    longer j false = omega arith
+
+    each : (j : ℕ) → length (coming_from cs j) ≤ length (coming_from (c ∷ cs) j)
+    each j = longer j (c.from == j)
+
+    itself : (a : ℕ) → (a == a) ≡ true
+    itself a = grind (arith, nat_tests)
+
+    here : length (coming_from cs c.from) + 1 ≤ length (coming_from (c ∷ cs) c.from)
+    here = subst (λ b. length (coming_from cs c.from) + 1 ≤ length (cond b (c ∷ coming_from cs c.from) (coming_from cs c.from))) (sym (itself c.from)) (omega arith)
+
+    by : (b : Bool) → nat_lt c.from n ≡ b → length (filter (λ (c : Coming). nat_lt c.from n) cs) ≤ sum_to (λ j. length (coming_from cs j)) n
+        → length (cond b (c ∷ filter (λ (c : Coming). nat_lt c.from n) cs) (filter (λ (c : Coming). nat_lt c.from n) cs)) ≤ sum_to (λ j. length (coming_from (c ∷ cs) j)) n
+    by true e rest =
+        let more = sum-larger (λ j. length (coming_from cs j)) (λ j. length (coming_from (c ∷ cs) j)) c.from 1 n (ltb-true c.from n e) each here in
+        omega (arith, rest, more)
+    by false e rest = let more = sum-le (λ j. length (coming_from cs j)) (λ j. length (coming_from (c ∷ cs) j)) n each in omega (arith, rest, more)
+
+sum-both : (f g : ℕ → ℕ) (n : ℕ) → sum_to (λ j. f j + g j) n ≡ sum_to f n + sum_to g n
+sum-both f g zero = omega arith
+sum-both f g (suc n) = let rest = sum-both f g n in omega (arith, rest)
+
+-- how many entries source j says to the node in a window
+abbrev entries_of : Scenario → Side → ℕ → Span → ℕ → ℕ
+entries_of sc me i span j = length (filter (is_said me i j span) sc.says)
+
+if-sent : (b : Bool) (xs : List Coming) → length xs ≤ 1 → length (elim b as (λ _. List Coming) [ true ↦ xs | false ↦ [] ]) ≤ 1
+if-sent true xs le = le
+if-sent false xs le = omega arith
+
+entry-once : (sc : Scenario) (m : Moment) (me : Side) (i j : ℕ) → length (entry_of sc m me i j) ≤ 1
+entry-once sc m me i j = by (sending_of sc m (other me) j)
+  where
+    by : (o : Option Sending) → length (option_to_list (option_map (coming_of sc me i j m.frame) o)) ≤ 1
+    by None = omega arith
+    by (Some x) = omega arith
+
+heard-few : (sc : Scenario) (m : Moment) (me : Side) (i : ℕ) (span : Span) (sent : ℕ → Bool) (j : ℕ) → length (heard_so_far sc m me i span sent j) ≤ 1 + entries_of sc me i span j
+heard-few sc m me i span sent j = by (is_good_at sc m (other me) j)
+  where
+    by : (b : Bool) → length (elim b as (λ _. List Coming) [
+      | true ↦ elim (sent j) as (λ _. List Coming) [ true ↦ entry_of sc m me i j | false ↦ [] ]
+      | false ↦ said_by sc me i span j
+    ]) ≤ 1 + entries_of sc me i span j
+    by true = let one = if-sent (sent j) (entry_of sc m me i j) (entry-once sc m me i j) in omega (arith, one)
+    by false = let many = length-mapped (coming_said sc.plan.version (clock_of sc me i) j span) (filter (is_said me i j span) sc.says) in omega (arith, many)
+
+ahead-few : (sc : Scenario) (m : Moment) (me : Side) (i : ℕ) (sent : ℕ → Bool) (j : ℕ) → length (ahead_so_far sc m me i sent j) ≤ 1
+ahead-few sc m me i sent j = by (is_good_at sc m (other me) j)
+  where
+    by : (b : Bool) → length (elim b as (λ _. List Coming) [
+      | true ↦ elim (sent j) as (λ _. List Coming) [ true ↦ entry_of sc m me i j | false ↦ [] ]
+      | false ↦ []
+    ]) ≤ 1
+    by true = if-sent (sent j) (entry_of sc m me i j) (entry-once sc m me i j)
+    by false = omega arith
+
+pub had-where-it-stands : (sc : Scenario) (hands : List HandIn) (sent : Side → ℕ → ℕ → Bool) (now : ℕ) (me : Side) (i p : ℕ) (s : Site) (st : NodeState) (a : Timed)
+    → NodeStands sc hands sent now me i p s st a → length (filter (is_known sc.sizes me) s.got) + length s.coming ≤ 2 * count_of (other me) sc.sizes + length sc.says
+had-where-it-stands sc hands sent now me i p s st a h =
+    let m : Moment = moment sc hands p in
+    let next : Moment = moment sc hands (next_stage sc.sizes m p) in
+    let span : Span = span_of st (window_in sc m me st) in
+    let t : ℕ = time_of (clock_of sc me i) (last_tick sc m me st) in
+    let n : ℕ = count_of (other me) sc.sizes in
+    let heard : ℕ → List Coming = heard_so_far sc m me i span (λ j. sent (other me) j p) in
+    let ahead : ℕ → List Coming = ahead_so_far sc next me i (λ j. sent (other me) j (next_stage sc.sizes m p)) in
+    let each : (j : ℕ) → length (coming_from s.got j) + coming_of_source t s.coming j ≤ 2 + entries_of sc me i span j = λ j.
+    let hears : Hears j t s.got s.coming (heard j) (ahead j) = h.receives.hears j in
+    let as_many = hears.as_many in
+    let later = ap length hears.later in
+    let few = heard-few sc m me i span (λ j. sent (other me) j p) j in
+    let one = ahead-few sc next me i (λ j. sent (other me) j (next_stage sc.sizes m p)) j in
+    omega (arith, as_many, later, few, one) in
+    let all = all-of-sources t n s.coming h.receives.known in
+    let got = got-of-sources n s.got in
+    let sums = sum-both (λ j. length (coming_from s.got j)) (coming_of_source t s.coming) n in
+    let both = sum-plus (λ j. length (coming_from s.got j) + coming_of_source t s.coming j) (λ _. 2) (entries_of sc me i span) n each in
+    let twos = sum-twos n in
+    let said = items-once (λ j. is_said me i j span) n (said-once me i span) sc.says in
+    omega (arith, all, got, sums, both, twos, said)

@@ -1,0 +1,122 @@
+-- What a tick makes pending behind is few, too.
+use Rattle.std.proofs.Common.{◌≡◌, ℕ, suc, ◌+◌, ◌≤◌, ◌&&◌, true, false, List, [], ◌∷◌, ◌++◌, length, length-append, map, ap, sym, ◌∙◌, subst, arith, Option, Some, None, option_map, option_to_list, slice_get}
+use Rattle.rb_base.specs.Nodes.{Side, other}
+use Rattle.rb_rules.specs.declared.message.Message.{Message}
+use Rattle.rb_rules.specs.Book.{Each, of_kind}
+use Rattle.rb_rules.specs.Core.{Act}
+use Rattle.rb_rules.specs.Goodness.{Scenario}
+use Rattle.rb_rules.specs.Hearing.{Sending, coming_of}
+use Rattle.rb_rules.specs.WorldStep.{Choice, Due, Site, Timed, World, after_act, at_node, happens, pass_and_tick, sent_to, times_of, with_act, with_message, world_after}
+use Rattle.rb_rules.specs.WorldStep.Pending.{Tick}
+use Rattle.rb_rules.specs.WorldStep.Way.{ByAnEvent}
+use Rattle.rb_laws_events.specs.PendingEvents.{most_pending}
+use Rattle.rb_laws_events.proofs.FewThere.{length-mapped}
+use Rattle.rb_laws_events.proofs.OneEvent.{happens-is}
+use Rattle.rb_laws_events.proofs.WorldNodes.{settle-sites}
+use Rattle.rb_laws_events.proofs.WorldStands.{get-at, is_node, kind-itself, node-itself, not-other}
+use Rattle.rb_laws_events.proofs.WorldTicks.{after_tick, get-after, kind-other, reached, reached-not}
+use Rattle.rb_laws_sweeps.specs.AheadOf.{GoesOnAhead, after_takes, ahead_of, tick_alone, until_tick}
+use Rattle.rb_laws_sweeps.specs.Room.{TicksBehindFit}
+use Rattle.rb_laws_sweeps.specs.Sweeping.{swept}
+use Rattle.rb_laws_sweeps.proofs.AfterTick.{takes-are}
+use Rattle.rb_laws_sweeps.proofs.BehindFew.{behind-few}
+use Rattle.rb_laws_sweeps.proofs.GoesOn.{worlds-go-on}
+use Rattle.rb_laws_sweeps.proofs.Stopped.{stopped-stay-empty}
+
+-- at each node no more is pending than its lane holds
+abbrev HaveRoom : Scenario → Each Site → Type 0
+HaveRoom sc sites = (me : Side) (i : ℕ) (s : Site) → slice_get (of_kind me sites) i ≡ Some s → length (times_of s) ≤ most_pending sc me
+
+-- A tick makes pending what is pending after it.
+
+-- a message that comes to a node
+received : (sc : Scenario) (me : Side) (i frame : ℕ) (x : Sending) (j : ℕ) (z : Site) → z.runs ≡ true
+    → length (times_of (sent_to sc me i frame x (other me) j z)) ≡ length (times_of z) + 1
+received sc me i frame x j z runs =
+    ap (λ b. length (times_of (elim b as (λ _. Site) [ true ↦ more | false ↦ z ]))) (ap (λ b. b && z.runs) (kind-itself (other me)) ∙ runs)
+    ∙ by z.ahead
+  where
+    more : Site
+    more = record z { coming = z.coming ++ coming_of sc (other me) j i frame x ∷ [] }
+
+    by : (o : Option Timed) → length (option_to_list (option_map (λ a. a.time) o) ++ map (λ c. c.time) (z.coming ++ coming_of sc (other me) j i frame x ∷ []))
+        ≡ length (option_to_list (option_map (λ a. a.time) o) ++ map (λ c. c.time) z.coming) + 1
+    by None =
+        let new = length-mapped (λ c. c.time) (z.coming ++ coming_of sc (other me) j i frame x ∷ []) in
+        let old = length-mapped (λ c. c.time) z.coming in
+        let one = length-append z.coming (coming_of sc (other me) j i frame x ∷ []) in
+        omega (arith, new, old, one)
+    by (Some a) =
+        let new = length-mapped (λ c. c.time) (z.coming ++ coming_of sc (other me) j i frame x ∷ []) in
+        let old = length-mapped (λ c. c.time) z.coming in
+        let one = length-append z.coming (coming_of sc (other me) j i frame x ∷ []) in
+        omega (arith, new, old, one)
+
+message-few : (sc : Scenario) (me : Side) (i frame k : ℕ) (o : Option Message) (m : Message) (change : Site → Site) (sites : Each Site)
+    → HaveRoom sc (with_message sc me i frame k o (at_node me i change sites)) → o ≡ Some m → (j : ℕ) (z : Site) → slice_get (of_kind (other me) sites) j ≡ Some z
+    → z.runs ≡ true → length (times_of z) + 1 ≤ most_pending sc (other me)
+message-few sc me i frame k o m change sites fits e j z there runs =
+    let x : Sending = record { tick = k; message = m } in
+    let after : slice_get (of_kind (other me) (with_message sc me i frame k o (at_node me i change sites))) j ≡ Some (sent_to sc me i frame x (other me) j z) =
+    get-after sc me i frame k o change sites (other me) j ∙ ap (option_map (after_tick sc me i frame k o change (other me) j)) there
+    ∙ ap (λ b. Some (reached sc me i frame k o (other me) j (elim b as (λ _. Site) [ true ↦ change z | false ↦ z ]))) (not-other me i j)
+    ∙ ap (λ o. Some (reached sc me i frame k o (other me) j z)) e in
+    let more = received sc me i frame x j z runs in
+    let few = fits (other me) j (sent_to sc me i frame x (other me) j z) after in
+    omega (arith, more, few)
+
+own-few : (sc : Scenario) (me : Side) (i frame k : ℕ) (o : Option Message) (change : Site → Site) (sites : Each Site) (s : Site)
+    → HaveRoom sc (with_message sc me i frame k o (at_node me i change sites)) → slice_get (of_kind me sites) i ≡ Some s
+    → length (times_of (change s)) ≤ most_pending sc me
+own-few sc me i frame k o change sites s fits there =
+    fits me i (change s)
+    (get-after sc me i frame k o change sites me i ∙ ap (option_map (after_tick sc me i frame k o change me i)) there
+    ∙ ap (λ b. Some (reached sc me i frame k o me i (elim b as (λ _. Site) [ true ↦ change s | false ↦ s ]))) (node-itself me i)
+    ∙ ap Some (reached-not sc me i frame k o me i (change s) (ap (λ b. b && (change s).runs) (kind-other me))))
+
+-- So it is behind.
+
+pub ticks-behind-fit : TicksBehindFit
+unfolding with_act
+ticks-behind-fit sc lawful choices until w is stopped event me i a first le s there = record {
+  own = own-few sc me i x.core.state.frame a.tick x.message (after_act sc w.ports me i x) alone.sites z fits node-alone;
+  message = λ m e j receiver here runs.
+      message-few sc me i x.core.state.frame a.tick x.message m (after_act sc w.ports me i x) alone.sites fits e j receiver
+      (get-at me (other me) i j sweep w.sites ∙ ap (option_map (λ s. elim (is_node me i (other me) j) as (λ _. Site) [ true ↦ sweep s | false ↦ s ])) here
+      ∙ ap (λ b. Some (elim b as (λ _. Site) [ true ↦ sweep receiver | false ↦ receiver ])) (not-other me i j)) runs;
+}
+  where
+    goes : GoesOnAhead sc until w me i a
+    goes = worlds-go-on sc lawful choices until w is event me i a first le
+
+    sweep : Site → Site
+    sweep = swept sc me i (a.time + 1)
+
+    alone : World
+    alone = record w { sites = at_node me i sweep w.sites }
+
+    d : Due
+    d = record { side = me; node = i; pending = Tick a.tick }
+
+    z : Site
+    z = sweep s
+
+    node-alone : slice_get (of_kind me alone.sites) i ≡ Some z
+    node-alone =
+        get-at me me i i sweep w.sites ∙ ap (option_map (λ s. elim (is_node me i me i) as (λ _. Site) [ true ↦ sweep s | false ↦ s ])) there
+        ∙ ap (λ b. Some (elim b as (λ _. Site) [ true ↦ sweep s | false ↦ s ])) (node-itself me i)
+
+    x : Act
+    x = pass_and_tick sc w.ports me i a.tick z.core
+
+    sites : (tick_alone sc me i a w).sites ≡ (with_act sc alone me i a.tick x).sites
+    sites = settle-sites sc ByAnEvent 2 (happens sc alone d) ∙ ap (λ (y : World). y.sites) (happens-is sc alone d z node-alone)
+
+    cs : List Choice
+    cs = (takes-are sc choices (suc goes.leads.takes)).0
+
+    then_is : world_after sc cs ≡ ahead_of sc (until_tick me i a.time) (tick_alone sc me i a w)
+    then_is = sym (takes-are sc choices (suc goes.leads.takes)).1 ∙ ap (after_takes sc (suc goes.leads.takes)) is ∙ goes.after
+
+    fits : HaveRoom sc (with_act sc alone me i a.tick x).sites
+    fits = subst (HaveRoom sc) sites (behind-few sc lawful cs (until_tick me i a.time) (tick_alone sc me i a w) then_is ((stopped-stay-empty sc).kept w me i a first stopped))

@@ -1,0 +1,183 @@
+-- A stage of the sync slot as it is judged: of whom a good node takes something is seen, and of a source that is not asymmetric
+-- good nodes take what comes to them at near times.
+use Rattle.std.proofs.Common.{◌≡◌, ℕ, zero, suc, ◌+◌, ◌-◌, ◌*◌, ◌≤◌, ◌<◌, not, nat_le, true, false, List, [], ◌∷◌, map, Option, Some, None, is_some, get_or, refl, sym, ◌∙◌, ap, subst, arith, inl, inr, zero-add}
+use Rattle.std.specs.Prelude.{⊤, All, filter}
+use Rattle.std.specs.List.{list_any}
+use Rattle.std.proofs.lemmas.Bool.{and_parts, leb-true}
+use Rattle.std.proofs.lemmas.List.Elements.{All-filter, All-map}
+use Rattle.std.proofs.lemmas.List.FromFn.{get_or-map-range_with_len}
+use Rattle.rb_base.specs.Nodes.{Side, other, has}
+use Rattle.rb_base.specs.Sizes.{sync_slot_of}
+use Rattle.rb_base.specs.declared.values.Place.{Place}
+use Rattle.rb_base.specs.declared.values.See.TheVariants.{Nothing}
+use Rattle.rb_rules.specs.declared.sense.Sense.{Sense}
+use Rattle.rb_rules.specs.Book.{judged_of}
+use Rattle.rb_rules.specs.Clock.{IsStamp, Timeline, stamp_of, time_of}
+use Rattle.rb_rules.specs.ExactStage.{each_node}
+use Rattle.rb_rules.specs.Goodness.{Scenario, clock_of, is_good}
+use Rattle.rb_rules.specs.Hearing.{Span, coming_said, is_said, judged_see, said_by, sole_time}
+use Rattle.rb_rules.specs.Judging.{JudgedStage, are_alike, is_asymmetric, is_something, was_taken, was_unlike}
+use Rattle.rb_rules.specs.Lawful.{IsLawful, IsSayOf}
+use Rattle.rb_rules.specs.NodeState.{NodeState}
+use Rattle.rb_rules.specs.NodeSteps.{close}
+use Rattle.rb_rules.specs.Plan.{shortest_of}
+use Rattle.rb_rules.specs.Ports.{HandIn}
+use Rattle.rb_rules.specs.Rounds.{Moment}
+use Rattle.rb_rules.specs.SyncStage.{close_sync, see_time, sync_outcome_of}
+use Rattle.rb_rules.proofs.Middles.{AreNear}
+use Rattle.rb_rules.proofs.Stamps.{stamp_of-is}
+use Rattle.rb_laws_agreement.proofs.ExactWindows.{keeping-is}
+use Rattle.rb_laws_agreement.proofs.Exchanges.{far-held}
+use Rattle.rb_laws_agreement.proofs.Goodnesses.{good_below_16}
+use Rattle.rb_laws_agreement.proofs.Invariant.{IsGoodNode, Shared}
+use Rattle.rb_laws_agreement.proofs.JudgedWindows.{rows_of, sight-is, taken_in_stage, unlike_in_stage}
+use Rattle.rb_laws_agreement.proofs.NodeWindows.{HasTick, Windows, heard_in, kept_in, sense_in, sync_tick, sync_windows_are, word_at}
+use Rattle.rb_laws_agreement.proofs.StageVotes.{IsSeen}
+use Rattle.rb_laws_agreement.proofs.SyncWindows.{close-sync}
+use Rattle.rb_laws_agreement.proofs.Tests.{or_first, or_neither_first, true_or_false}
+use Rattle.rb_laws_synchrony.proofs.PlanNumbers.{drift_of}
+use Rattle.rb_laws_synchrony.proofs.TakenCalls.{IsStage, is_set, taken_from, took, windows}
+use Rattle.rb_laws_synchrony.proofs.TimelyWindows.{good_here}
+use Rattle.rb_laws_synchrony.proofs.Times.{Steady, steady}
+
+-- What a good node shows.
+
+get-see : (f : ℕ → Option ℕ) (j : ℕ) → j < 16 → get_or (map see_time (each_node f)) j Nothing ≡ see_time (f j)
+get-see f j below = mapped (each_node f) j ∙ ap see_time (get_or-map-range_with_len f 0 16 j j None below (zero-add j))
+  where
+    mapped : (taken : List (Option ℕ)) (j : ℕ) → get_or (map see_time taken) j Nothing ≡ see_time (get_or taken j None)
+    mapped [] j = refl
+    mapped (x ∷ xs) zero = refl
+    mapped (x ∷ xs) (suc j) = mapped xs j
+
+sync-sees : (sc : Scenario) (m : Moment) (q : ℕ) (ws : Windows sc m (sync_slot_of sc.sizes) (q + 1)) (me : Side) (i : ℕ) (st : NodeState)
+    → (close sc.sizes me i (kept_in sc m (sync_slot_of sc.sizes) (q + 1) me i st) (sync_slot_of sc.sizes) (q + 1) (ws.first me st)
+    (sense_in sc m (sync_slot_of sc.sizes) (q + 1) ws me i st)).closed.sees
+    ≡ map see_time (each_node (took sc m q ws me i st))
+unfolding close_sync sync_outcome_of
+sync-sees sc m q ws me i st =
+    let slot : ℕ = sync_slot_of sc.sizes in
+    let kept : NodeState = kept_in sc m slot (q + 1) me i st in
+    let sense : ℕ → Sense = sense_in sc m slot (q + 1) ws me i st in
+    ap (λ x. x.closed.sees) (close-sync sc.sizes me i kept (q + 1) (ws.first me st) sense)
+    ∙ ap (λ k. (close_sync sc.sizes me k (q + 1) (kept.epoch + ws.first me st) sense).closed.sees) (keeping-is sc.sizes me i st slot (q + 1) (word_at sc m slot i))
+
+abbrev pub place_of : (sc : Scenario) (m : Moment) (q : ℕ) → Place
+place_of sc m q = record { frame = m.frame; slot = sync_slot_of sc.sizes; stage = q + 1 }
+
+-- the frame's stages with this one
+abbrev pub stages_with : (sc : Scenario) (m : Moment) (q : ℕ) → List JudgedStage
+stages_with sc m q = judged_of sc (place_of sc m q) (rows_of sc m) ∷ m.book.stages
+
+-- a good node shows the time of what it took
+pub shows_took : (sc : Scenario) (hands : List HandIn) (n : ℕ) (m : Moment) (s : Shared) (q : ℕ) (c : IsStage sc hands n m s q) (me : Side) (i j : ℕ) (st : NodeState)
+    → IsGoodNode sc m me i st → j < 16
+    → (judged_of sc (place_of sc m q) (rows_of sc m)).sight me i j
+    ≡ judged_see (sole_time (heard_in sc m (sync_slot_of sc.sizes) (q + 1) (windows sc hands n m s q c) me i st j))
+    (see_time (took sc m q (windows sc hands n m s q c) me i st j))
+shows_took sc hands n m s q c me i j st here below =
+    let slot : ℕ = sync_slot_of sc.sizes in
+    let ws : Windows sc m slot (q + 1) = sync_windows_are sc m q c.small c.at in
+    let time : ℕ = sole_time (heard_in sc m slot (q + 1) ws me i st j) in
+    let tick : HasTick sc m slot (q + 1) ws = sync_tick sc m q c.small c.at c.law.plan.l.0 c.law.plan.v.0 c.law.plan.z.0 in
+    sight-is sc m slot (q + 1) ws (place_of sc m q) me i j st here.there (good_here sc m slot (q + 1) (is_set sc hands n m s q c) me i st here) (tick.tick me st) below
+    ∙ ap (λ sees. judged_see time (get_or sees j Nothing)) (sync-sees sc m q ws me i st)
+    ∙ ap (judged_see time) (get-see (took sc m q ws me i st) j below)
+
+shown : (time : ℕ) (o : Option ℕ) → is_some o ≡ true → is_something (judged_see time (see_time o)) ≡ true
+shown time None h = cc
+shown time (Some k) h = refl
+
+-- of whom something is taken is trusted, and seen
+pub took_is_seen : (sc : Scenario) (hands : List HandIn) (n : ℕ) (m : Moment) (s : Shared) (q : ℕ) (c : IsStage sc hands n m s q) (me : Side) (i j : ℕ) (st : NodeState)
+    → IsGoodNode sc m me i st → j < 16 → is_some (took sc m q (windows sc hands n m s q c) me i st j) ≡ true
+    → IsSeen s.trusted (other me) (stages_with sc m q) j
+took_is_seen sc hands n m s q c me i j st here below some =
+    let slot : ℕ = sync_slot_of sc.sizes in
+    let ws : Windows sc m slot (q + 1) = windows sc hands n m s q c in
+    let stage : JudgedStage = judged_of sc (place_of sc m q) (rows_of sc m) in
+    let good : is_good sc me i m.frame slot ≡ true = good_here sc m slot (q + 1) (is_set sc hands n m s q c) me i st here in
+    let taken : was_taken (other me) j stage ≡ true =
+    taken_in_stage sc (place_of sc m q) (rows_of sc m) me i j (good_below_16 sc c.law.sizes me i m.frame slot good) good
+    (ap is_something (shows_took sc hands n m s q c me i j st here below)
+    ∙ shown (sole_time (heard_in sc m slot (q + 1) ws me i st j)) (took sc m q ws me i st j) some) in
+    record {
+      trusts = ap (λ t. has t j) (sym (far-held sc m s me st (c.agree.nodes me i st here)))
+          ∙ trusts_taken (took sc m q ws me i st j) refl some;
+      seen = ap not (or_first (was_taken (other me) j stage) (list_any (was_taken (other me) j) m.book.stages) taken);
+    }
+  where
+    trusts_taken : (o : Option ℕ) → took sc m q (windows sc hands n m s q c) me i st j ≡ o → is_some o ≡ true → has st.far.trusted j ≡ true
+    trusts_taken None e h = cc
+    trusts_taken (Some k) e h = (taken_from sc m q (windows sc hands n m s q c) me i st j k e).trusted
+
+-- What two good nodes take of one source.
+
+-- neither takes anything, or both at near times
+abbrev pub TookAlike : ℕ → ℕ → ℕ → Option ℕ → Option ℕ → Type 0
+TookAlike eps a b None None = ⊤
+TookAlike eps a b None (Some k) = ⊥
+TookAlike eps a b (Some k) None = ⊥
+TookAlike eps a b (Some k) (Some l) = AreNear eps a b
+
+alike-took : (eps a b : ℕ) (x y : Option ℕ) → are_alike eps (judged_see a (see_time x)) (judged_see b (see_time y)) ≡ true → TookAlike eps a b x y
+alike-took eps a b None None h = tt
+alike-took eps a b None (Some k) h = absurd (cc)
+alike-took eps a b (Some k) None h = absurd (cc)
+alike-took eps a b (Some k) (Some l) h =
+    let parts = and_parts (nat_le a (b + eps)) (nat_le b (a + eps)) h in
+    record { above = leb-true a (b + eps) parts.0; under = leb-true b (a + eps) parts.1 }
+
+pub took_alike : (sc : Scenario) (hands : List HandIn) (n : ℕ) (m : Moment) (s : Shared) (q : ℕ) (c : IsStage sc hands n m s q) (me : Side) (a b j : ℕ) (sta stb : NodeState)
+    → IsGoodNode sc m me a sta → IsGoodNode sc m me b stb → j < 16 → is_asymmetric (other me) (stages_with sc m q) j ≡ false
+    → TookAlike (sc.plan.dmax - sc.plan.dmin) (sole_time (heard_in sc m (sync_slot_of sc.sizes) (q + 1) (windows sc hands n m s q c) me a sta j))
+    (sole_time (heard_in sc m (sync_slot_of sc.sizes) (q + 1) (windows sc hands n m s q c) me b stb j))
+    (took sc m q (windows sc hands n m s q c) me a sta j) (took sc m q (windows sc hands n m s q c) me b stb j)
+took_alike sc hands n m s q c me a b j sta stb here_a here_b below alike =
+    let slot : ℕ = sync_slot_of sc.sizes in
+    let ws : Windows sc m slot (q + 1) = windows sc hands n m s q c in
+    let stage : JudgedStage = judged_of sc (place_of sc m q) (rows_of sc m) in
+    let x : Option ℕ = took sc m q ws me a sta j in
+    let y : Option ℕ = took sc m q ws me b stb j in
+    let time_a : ℕ = sole_time (heard_in sc m slot (q + 1) ws me a sta j) in
+    let time_b : ℕ = sole_time (heard_in sc m slot (q + 1) ws me b stb j) in
+    let good_a : is_good sc me a m.frame slot ≡ true = good_here sc m slot (q + 1) (is_set sc hands n m s q c) me a sta here_a in
+    let good_b : is_good sc me b m.frame slot ≡ true = good_here sc m slot (q + 1) (is_set sc hands n m s q c) me b stb here_b in
+    let none : was_unlike (other me) j stage ≡ false = or_neither_first (was_unlike (other me) j stage) (list_any (was_unlike (other me) j) m.book.stages) alike in
+    elim (true_or_false (are_alike stage.eps (stage.sight me a j) (stage.sight me b j))) [
+      | inl same ↦
+          alike-took (sc.plan.dmax - sc.plan.dmin) time_a time_b x y
+          (ap (λ v. are_alike stage.eps v (judged_see time_b (see_time y))) (sym (shows_took sc hands n m s q c me a j sta here_a below))
+          ∙ ap (are_alike stage.eps (stage.sight me a j)) (sym (shows_took sc hands n m s q c me b j stb here_b below)) ∙ same)
+      | inr differ ↦
+          let found : was_unlike (other me) j stage ≡ true =
+          unlike_in_stage sc (place_of sc m q) (rows_of sc m) me a b j (good_below_16 sc c.law.sizes me a m.frame slot good_a)
+          (good_below_16 sc c.law.sizes me b m.frame slot good_b) good_a good_b differ in
+          absurd (cc)
+    ]
+
+-- What a faulty source says comes after tick 0.
+
+late-tick : (u d : ℕ) (clock : Timeline) → Steady u d clock → (tick early : ℕ) → 1 ≤ tick → early < u → 1 ≤ stamp_of clock (time_of clock tick - early)
+late-tick u d clock steady tick early some less =
+    go (stamp_of clock (time_of clock tick - early)) (stamp_of-is clock steady.moves (time_of clock tick - early))
+  where
+    later : (t0 t u early tick : ℕ) → t0 + tick * u ≤ t → 1 ≤ tick → early < u → t - early ≤ t0 → ⊥
+    later t0 t u early zero h some less le = absurd (omega arith)
+    later t0 t u early (suc k) h some less le =
+        let e : suc k * u ≡ u + k * u = omega arith in
+        omega (arith, h, less, le, e)
+
+    go : (stamp : ℕ) → IsStamp clock (time_of clock tick - early) stamp → 1 ≤ stamp
+    go zero is = let from : time_of clock 0 + tick * u ≤ time_of clock tick = subst (λ k. time_of clock 0 + tick * u ≤ time_of clock k) (zero-add tick) (steady.not_early 0 tick) in
+        absurd (later (time_of clock 0) (time_of clock tick) u early tick from some less is.reached)
+    go (suc k) is = omega arith
+
+pub said_late : (sc : Scenario) → IsLawful sc → (me : Side) (i j : ℕ) (span : Span) → Steady (shortest_of sc.plan) (drift_of sc.plan) (clock_of sc me i) → 1 ≤ span.first
+    → All (λ x. 1 ≤ stamp_of (clock_of sc me i) x.time) (said_by sc me i span j)
+said_late sc law me i j span clock some =
+    All-map (λ x. 1 ≤ stamp_of (clock_of sc me i) x.time) (coming_said sc.plan.version (clock_of sc me i) j span) (filter (is_said me i j span) sc.says)
+    (All-filter (is_said me i j span) (λ x. 1 ≤ stamp_of (clock_of sc me i) (coming_said sc.plan.version (clock_of sc me i) j span x).time) sc.says
+    (λ k d lt.
+    let is : IsSayOf sc (get_or sc.says k d) = law.says k d lt in
+    late-tick (shortest_of sc.plan) (drift_of sc.plan) (clock_of sc me i) clock (span.first + (get_or sc.says k d).offset) (get_or sc.says k d).early (omega arith) is.early))

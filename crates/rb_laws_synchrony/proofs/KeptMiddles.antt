@@ -1,0 +1,98 @@
+-- What a window of the sync slot, or the tail, leaves of the middles that a node keeps.
+use Rattle.std.proofs.Common.{◌≡◌, ℕ, ◌+◌, ◌≤◌, ◌&&◌, nat_le, true, false, Bool, Option, Some, None, unwrap_or, refl, sym, ◌∙◌, ap, subst, arith, inl, inr}
+use Rattle.std.proofs.lemmas.Bool.Decides.{nat_tests}
+use Rattle.rb_base.specs.Nodes.{Side}
+use Rattle.rb_base.specs.Nodes.Side.{Biu, Rmu}
+use Rattle.rb_base.specs.Sizes.{Sizes, sync_slot_of}
+use Rattle.rb_base.specs.declared.values.Heard.{Heard}
+use Rattle.rb_rules.specs.declared.sense.Sense.{Sense}
+use Rattle.rb_rules.specs.ExactStage.{each_node, present}
+use Rattle.rb_rules.specs.Goodness.{Scenario, is_good}
+use Rattle.rb_rules.specs.Middle.{middle_of}
+use Rattle.rb_rules.specs.NodeState.{NodeState}
+use Rattle.rb_rules.specs.Rounds.{Moment, Result, close_on, go_through, sent_in}
+use Rattle.rb_rules.specs.Sense.{stamp_in}
+use Rattle.rb_rules.specs.Standing.{taken_of}
+use Rattle.rb_rules.specs.SyncStage.{close_sync, expects_call, middle_after, sync_closing_of, sync_outcome_of}
+use Rattle.rb_laws_agreement.proofs.ExactWindows.{keeping-is, sent_by, with_sent}
+use Rattle.rb_laws_agreement.proofs.NodeWindows.{Windows, goes, heard_in, kept_in, own_window, sense_in, state-closed, word_at}
+use Rattle.rb_laws_agreement.proofs.Settings.{after}
+use Rattle.rb_laws_agreement.proofs.SyncWindows.{close-sync}
+use Rattle.rb_laws_agreement.proofs.Tests.{true_or_false}
+
+-- the middles after a close of a stage that found this one
+pub record Keeps (me : Side) (stage : ℕ) (middle : ℕ) (st now : NodeState) : Type 0 where
+  pub k1 : now.k1 ≡ middle_after me 1 st.k1 stage middle
+  pub k2 : now.k2 ≡ middle_after me 2 st.k2 stage middle
+  pub k3 : now.k3 ≡ middle_after me 3 st.k3 stage middle
+
+close-keeps : (sizes : Sizes) (me : Side) (st : NodeState) (sent : Option Heard) (stage first : ℕ) (sense : ℕ → Sense)
+    → Keeps me stage (sync_closing_of st.far (expects_call me st stage) sense first).middle st (close_sync sizes me (with_sent st sent) stage first sense).state
+unfolding close_sync sync_outcome_of
+close-keeps sizes me st sent stage first sense = record { k1 = refl; k2 = refl; k3 = refl }
+
+-- what the window of a node that is good there leaves, where it has a tick
+pub keeps : (sc : Scenario) (m : Moment) (stage : ℕ) (ws : Windows sc m (sync_slot_of sc.sizes) stage) (me : Side) (i : ℕ) (st : NodeState)
+    → is_good sc me i m.frame (sync_slot_of sc.sizes) ≡ true → ws.first me st ≤ ws.last me st
+    → Keeps me stage (sync_closing_of st.far (expects_call me st stage) (sense_in sc m (sync_slot_of sc.sizes) stage ws me i st)
+    ((kept_in sc m (sync_slot_of sc.sizes) stage me i st).epoch + ws.first me st)).middle st (after sc m me i st)
+keeps sc m stage ws me i st good tick =
+    let slot : ℕ = sync_slot_of sc.sizes in
+    let sense : ℕ → Sense = sense_in sc m slot stage ws me i st in
+    let kept : NodeState = kept_in sc m slot stage me i st in
+    let first : ℕ = kept.epoch + ws.first me st in
+    let sent : Option Heard = sent_by sc.sizes me i st slot stage (word_at sc m slot i) in
+    let is : after sc m me i st ≡ (close_sync sc.sizes me (with_sent st sent) stage first sense).state =
+    ap (λ r. r.state) (goes sc m slot stage ws me i st good tick) ∙ state-closed sc m slot stage ws me i st
+    ∙ ap (λ x. x.state) (close-sync sc.sizes me i kept stage (ws.first me st) sense)
+    ∙ ap (λ k. (close_sync sc.sizes me k stage first sense).state) (keeping-is sc.sizes me i st slot stage (word_at sc m slot i)) in
+    subst (Keeps me stage (sync_closing_of st.far (expects_call me st stage) sense first).middle st) (sym is) (close-keeps sc.sizes me st sent stage first sense)
+
+-- where a middle is found it is the one kept
+pub keeps_found : (sc : Scenario) (m : Moment) (stage : ℕ) (ws : Windows sc m (sync_slot_of sc.sizes) stage) (me : Side) (i : ℕ) (st : NodeState) (tick : ℕ)
+    → is_good sc me i m.frame (sync_slot_of sc.sizes) ≡ true → ws.first me st ≤ ws.last me st
+    → middle_of (present (each_node (taken_of stamp_in st.far (expects_call me st stage) (sense_in sc m (sync_slot_of sc.sizes) stage ws me i st)))) ≡ Some tick
+    → Keeps me stage tick st (after sc m me i st)
+keeps_found sc m stage ws me i st tick good some found =
+    subst (λ k. Keeps me stage k st (after sc m me i st))
+    (ap (λ o. unwrap_or o ((kept_in sc m (sync_slot_of sc.sizes) stage me i st).epoch + ws.first me st)) found)
+    (keeps sc m stage ws me i st good some)
+
+-- a window that leaves all middles
+pub record Leaves (st now : NodeState) : Type 0 where
+  pub k1 : now.k1 ≡ st.k1
+  pub k2 : now.k2 ≡ st.k2
+  pub k3 : now.k3 ≡ st.k3
+
+tail-leaves : (me : Side) (middle : ℕ) (st now : NodeState) → Keeps me 4 middle st now → Leaves st now
+tail-leaves Biu middle st now h = record { k1 = h.k1; k2 = h.k2; k3 = h.k3 }
+tail-leaves Rmu middle st now h = record { k1 = h.k1; k2 = h.k2; k3 = h.k3 }
+
+passed-over : (sc : Scenario) (m : Moment) (slot stage : ℕ) (ws : Windows sc m slot stage) (me : Side) (i : ℕ) (st : NodeState)
+    → nat_le (ws.first me st) (ws.last me st) ≡ false → after sc m me i st ≡ st
+unfolding go_through
+passed-over sc m slot stage ws me i st none =
+    ap (λ w. (go_through sc m (sent_in sc m) me i st w).state) (ws.are me st)
+    ∙ go (is_good sc me i m.frame slot) (nat_le (ws.first me st) (ws.last me st)) none
+  where
+    go : (b c : Bool) → c ≡ false
+        → (elim (b && c) as (λ _. Result) [
+          | true ↦ close_on sc me i (kept_in sc m slot stage me i st) (own_window sc m slot stage ws me st) (heard_in sc m slot stage ws me i st)
+          | false ↦ record { state = st; row = None }
+        ]).state ≡ st
+    go b true h = cc
+    go true false h = refl
+    go false false h = refl
+
+le-from : (a b : ℕ) → nat_le a b ≡ true → a ≤ b
+le-from a b h = grind (arith, nat_tests)
+
+-- the tail is one
+pub tail_leaves : (sc : Scenario) (m : Moment) (ws : Windows sc m (sync_slot_of sc.sizes) 4) (me : Side) (i : ℕ) (st : NodeState)
+    → is_good sc me i m.frame (sync_slot_of sc.sizes) ≡ true → Leaves st (after sc m me i st)
+tail_leaves sc m ws me i st good =
+    elim (true_or_false (nat_le (ws.first me st) (ws.last me st))) [
+      | inl tick ↦ tail-leaves me _ st (after sc m me i st) (keeps sc m 4 ws me i st good (le-from (ws.first me st) (ws.last me st) tick))
+      | inr none ↦
+          subst (Leaves st) (sym (passed-over sc m (sync_slot_of sc.sizes) 4 ws me i st none)) (record { k1 = refl; k2 = refl; k3 = refl })
+    ]

@@ -1,0 +1,112 @@
+-- For the law that events are rounds: what good nodes send for the stage after one in which the run breaks off.
+use Rattle.std.proofs.Common.{◌≡◌, ℕ, ◌+◌, ◌-◌, ◌*◌, ◌/◌, ◌%◌, ◌≤◌, ◌<◌, List, Some, option_map, refl, sym, ◌∙◌, ap, subst, arith, inl, inr, lit<}
+use Rattle.std.proofs.lemmas.Bool.{cases_lt}
+use Rattle.rb_base.specs.Nodes.Side.{Biu, Rmu}
+use Rattle.rb_base.specs.Sizes.{sync_slot_of}
+use Rattle.rb_rules.specs.Clock.{time_of}
+use Rattle.rb_rules.specs.Goodness.{Scenario, clock_of}
+use Rattle.rb_rules.specs.Lawful.{IsLawful}
+use Rattle.rb_rules.specs.NodeState.{NodeState}
+use Rattle.rb_rules.specs.Plan.{f0_of, shortest_of}
+use Rattle.rb_rules.specs.Ports.{HandIn}
+use Rattle.rb_rules.specs.Rounds.{IsTimely, Moment, sent_in, window_in}
+use Rattle.rb_rules.specs.SyncStage.{new_epoch_of}
+use Rattle.rb_rules.proofs.Middles.{IsBetween}
+use Rattle.rb_rules.proofs.RoundStates.{through-stays}
+use Rattle.rb_laws_agreement.proofs.Goodnesses.{slot_last}
+use Rattle.rb_laws_agreement.proofs.Invariant.{Agree, IsGoodNode, Shared}
+use Rattle.rb_laws_agreement.proofs.NextMoments.{CameFrom, came_from, next}
+use Rattle.rb_laws_agreement.proofs.NodeWindows.{sync_windows_are}
+use Rattle.rb_laws_agreement.proofs.SlotRuns.{next-frame, next-window}
+use Rattle.rb_laws_synchrony.proofs.PlanNumbers.{drift_of, eps_of}
+use Rattle.rb_laws_synchrony.proofs.StageCalls.{Begun, IsAt, clock_now, first_about, first_at, first_calls, same_tick, third_about, third_at, third_calls}
+use Rattle.rb_laws_synchrony.proofs.Synchronous.{Synchronous, from_1, from_3, ticks_on, to_1, to_3}
+use Rattle.rb_laws_synchrony.proofs.SyncSteps.{begun_next}
+use Rattle.rb_laws_synchrony.proofs.TimelyMoments.{AllInFrame, timely_exact, timely_stage}
+use Rattle.rb_laws_synchrony.proofs.TimelyWindows.{IsSet}
+use Rattle.rb_laws_synchrony.proofs.Times.{Steady, lawful_fits, plan_fits}
+
+-- ---- windows below the sync slot, and its stage 1
+
+-- stage 1 of the sync slot needs no middles
+pub timely_first : (sc : Scenario) (m : Moment) (low : ℕ) → IsLawful sc → AllInFrame sc m → Begun sc m low → m.window ≡ 3 * sync_slot_of sc.sizes + 0 → IsTimely sc m
+timely_first sc m low law frames begun at =
+    let c : IsSet sc m (sync_slot_of sc.sizes) 1 =
+    record { law = law; ws = sync_windows_are sc m 0 (lit< tt) at; slot_is = slot_last sc.sizes m.window 0 at; frames = frames } in
+    timely_stage sc m 0 c Biu (f0_of sc.sizes sc.plan) sc.plan.l (from_1 sc low) (to_1 sc low) refl law.plan.l.0 (first_at sc m c.ws at) (first_calls sc law m low begun)
+    (first_about sc m c at low begun)
+
+-- the next window up to that stage is timely whatever the verdict on this one
+pub timely_next : (sc : Scenario) (hands : List HandIn) (n : ℕ) (m : Moment) (s : Shared) (low : ℕ) → IsLawful sc → Agree sc hands n m s → Begun sc m low
+    → m.window < 3 * sync_slot_of sc.sizes → IsTimely sc (next sc m)
+timely_next sc hands n m s low law agree begun below =
+    let window : (next sc m).window ≡ m.window + 1 = next-window sc m in
+    let begun_then : Begun sc (next sc m) low = begun_next sc hands n m s low agree begun in
+    elim (cases_lt (next sc m).window (3 * sync_slot_of sc.sizes)) [
+      | inl exact ↦
+          timely_exact sc (next sc m) ((next sc m).window / 3) ((next sc m).window % 3) low law frames begun_then (omega arith) (omega arith) (omega arith)
+      | inr last ↦ timely_first sc (next sc m) low law frames begun_then (omega arith)
+    ]
+  where
+    frames : AllInFrame sc (next sc m)
+    frames me i now h =
+        let from : CameFrom sc m me i now = came_from sc hands n m s agree me i now h in
+        ap (λ x. x.frame) (sym from.is) ∙ (through-stays sc m (sent_in sc m) me i from.st (window_in sc m me from.st)).frame
+        ∙ (agree.nodes me i from.st from.was).frame ∙ sym (next-frame sc m)
+
+-- ---- the last stage of the frame
+
+-- Good BIUs send their first messages of the next frame so late that these come after every good RMU has closed stage 3,
+-- whatever the verdict on that.
+
+first-message : (low h u d l v k c e least most p f x r y : ℕ) → p + d * (f + h) ≤ h * u + least
+    → 2 * e + 2 * (u + d) + d * (l + v + (k + 1)) + (most + (u + d)) ≤ p + c * u
+    → 1 ≤ u → most ≡ least + e → r ≤ low + least + k * (u + d) → low ≤ y → y + (k + 1 + c + h) * u ≤ x → r < x + least
+first-message low h u d l v k c e least most p f x r y c1 c7 some delays rmu from biu = omega (arith, c1, c7, rmu, biu)
+
+pub next_message : (sc : Scenario) (m : Moment) (s : Shared) (low : ℕ) (c : IsSet sc m (sync_slot_of sc.sizes) 3) → m.window ≡ 3 * sync_slot_of sc.sizes + 2 → Synchronous sc m s low
+    → (i j : ℕ) (st source : NodeState) → IsGoodNode sc m Rmu i st → IsGoodNode sc m Biu j source → (epoch : ℕ) → new_epoch_of sc.plan Biu source ≡ Some epoch
+    → time_of (clock_of sc Rmu i) (st.epoch + c.ws.last Rmu st) < time_of (clock_of sc Biu j) (epoch + sc.plan.h) + sc.plan.dmin
+next_message sc m s low c at sync i j st source here there epoch known =
+    let law : IsLawful sc = c.law in
+    let fit : plan_fits sc = lawful_fits sc law in
+    let u : ℕ = shortest_of sc.plan in
+    let d : ℕ = drift_of sc.plan in
+    let k = sync.second at j source there in
+    let call : IsBetween (from_3 sc low) (to_3 sc low) (time_of (clock_of sc Biu j) (k.tick + sc.plan.v)) =
+    (third_calls sc law m s low sync at).between j source (k.tick + sc.plan.v) there (ap (option_map (λ k2. k2 + sc.plan.v)) k.is) in
+    let e : k.tick + sc.plan.v + sc.plan.z + sc.plan.c ≡ epoch =
+    same_tick (k.tick + sc.plan.v + sc.plan.z + sc.plan.c) epoch (sym (ap (option_map (λ k2. k2 + sc.plan.v + sc.plan.z + sc.plan.c)) k.is) ∙ known) in
+    let biu : Steady u d (clock_of sc Biu j) = clock_now sc law m Biu j source there in
+    let rmu : Steady u d (clock_of sc Rmu i) = clock_now sc law m Rmu i st here in
+    let sent : IsBetween (time_of (clock_of sc Biu j) (k.tick + sc.plan.v) + (sc.plan.z + sc.plan.c + sc.plan.h) * u)
+    (time_of (clock_of sc Biu j) (k.tick + sc.plan.v) + (sc.plan.z + sc.plan.c + sc.plan.h) * (u + d)) (time_of (clock_of sc Biu j) (epoch + sc.plan.h)) =
+    ticks_on u d (clock_of sc Biu j) biu (time_of (clock_of sc Biu j) (k.tick + sc.plan.v)) (time_of (clock_of sc Biu j) (k.tick + sc.plan.v)) (k.tick + sc.plan.v)
+    (sc.plan.z + sc.plan.c + sc.plan.h) (epoch + sc.plan.h) (group k.tick sc.plan.v sc.plan.z sc.plan.c sc.plan.h epoch e)
+    (record { least = omega arith; most = omega arith }) in
+    let where_at : IsAt sc m (sync_slot_of sc.sizes) 3 c.ws (f0_of sc.sizes sc.plan + sc.plan.l + sc.plan.v) sc.plan.z = third_at sc m c.ws at in
+    let early : time_of (clock_of sc Rmu i) (st.epoch + c.ws.first Rmu st) ≤ from_3 sc low + sc.plan.dmin = (third_about sc m c at low sync.begun).early Rmu i st here in
+    let last : st.epoch + c.ws.last Rmu st ≡ st.epoch + c.ws.first Rmu st + (sc.plan.z - 1) =
+    up-to st.epoch (c.ws.first Rmu st) (c.ws.last Rmu st) (f0_of sc.sizes sc.plan + sc.plan.l + sc.plan.v) sc.plan.z (where_at.first_is Rmu st) (where_at.last_is Rmu st) law.plan.z.0 in
+    let close : time_of (clock_of sc Rmu i) (st.epoch + c.ws.last Rmu st) ≤ from_3 sc low + sc.plan.dmin + (sc.plan.z - 1) * (u + d) =
+    in-all (time_of (clock_of sc Rmu i) (st.epoch + c.ws.last Rmu st)) (time_of (clock_of sc Rmu i) (st.epoch + c.ws.first Rmu st + (sc.plan.z - 1)))
+    (time_of (clock_of sc Rmu i) (st.epoch + c.ws.first Rmu st)) ((sc.plan.z - 1) * (u + d)) (from_3 sc low + sc.plan.dmin) (ap (time_of (clock_of sc Rmu i)) last)
+    (rmu.not_late (st.epoch + c.ws.first Rmu st) (sc.plan.z - 1)) early in
+    let z_is : sc.plan.z ≡ sc.plan.z - 1 + 1 = less-one sc.plan.z law.plan.z.0 in
+    first-message (from_3 sc low) sc.plan.h u d sc.plan.l sc.plan.v (sc.plan.z - 1) sc.plan.c (eps_of sc.plan) sc.plan.dmin sc.plan.dmax sc.plan.p (f0_of sc.sizes sc.plan)
+    (time_of (clock_of sc Biu j) (epoch + sc.plan.h)) (time_of (clock_of sc Rmu i) (st.epoch + c.ws.last Rmu st)) (time_of (clock_of sc Biu j) (k.tick + sc.plan.v))
+    fit.before_1
+    (subst (λ z. 2 * eps_of sc.plan + 2 * (u + d) + d * (sc.plan.l + sc.plan.v + z) + (sc.plan.dmax + (u + d)) ≤ sc.plan.p + sc.plan.c * u) z_is fit.next_bc) fit.some fit.delays close call.least
+    (subst (λ z. time_of (clock_of sc Biu j) (k.tick + sc.plan.v) + (z + sc.plan.c + sc.plan.h) * u ≤ time_of (clock_of sc Biu j) (epoch + sc.plan.h)) z_is sent.least)
+  where
+    group : (k v z c h epoch : ℕ) → k + v + z + c ≡ epoch → epoch + h ≡ k + v + (z + c + h)
+    group k v z c h epoch e = omega arith
+
+    less-one : (z : ℕ) → 1 ≤ z → z ≡ z - 1 + 1
+    less-one z some = omega arith
+
+    up-to : (e first last a z : ℕ) → first ≡ a → last ≡ a + z - 1 → 1 ≤ z → e + last ≡ e + first + (z - 1)
+    up-to e first last a z x y some = omega arith
+
+    in-all : (r x t more bound : ℕ) → r ≡ x → x ≤ t + more → t ≤ bound → r ≤ bound + more
+    in-all r x t more bound e a b = omega arith

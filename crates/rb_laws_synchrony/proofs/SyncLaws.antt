@@ -1,0 +1,97 @@
+-- The laws of synchrony.
+use Rattle.std.proofs.Common.{◌≡◌, ℕ, ◌+◌, ◌-◌, ◌*◌, ◌≤◌, List, refl, ◌∙◌, ap, arith, inr}
+use Rattle.rb_base.specs.Nodes.{Side}
+use Rattle.rb_base.specs.Sizes.{sync_slot_of}
+use Rattle.rb_rules.specs.Goodness.{Scenario, clock_of, is_good}
+use Rattle.rb_rules.specs.Lawful.{IsLawful}
+use Rattle.rb_rules.specs.Moments.{IsComplete, IsGoodAfter, IsGoodBefore, IsRunning, after_slot, before_slot, time_in_frame}
+use Rattle.rb_rules.specs.NodeState.{NodeState}
+use Rattle.rb_rules.specs.Plan.{shortest_of}
+use Rattle.rb_rules.specs.Ports.{HandIn}
+use Rattle.rb_rules.specs.Rounds.{Moment, moment, windows_in}
+use Rattle.rb_rules.proofs.Middles.{IsBetween}
+use Rattle.rb_laws_agreement.proofs.FrameBegins.{settled_before}
+use Rattle.rb_laws_agreement.proofs.Goodnesses.{slot_last}
+use Rattle.rb_laws_agreement.proofs.Invariant.{IsGoodNode}
+use Rattle.rb_laws_agreement.proofs.Places.{IsPlaced, good_before_slot, placed}
+use Rattle.rb_laws_synchrony.specs.Laws.{BeginFramesNear, EpochsStayNear, FramesTakeTheirTime, SlotsBeginNear, WindowsAreTimely}
+use Rattle.rb_laws_synchrony.proofs.PlanNumbers.{drift_of}
+use Rattle.rb_laws_synchrony.proofs.StageCalls.{clock_now}
+use Rattle.rb_laws_synchrony.proofs.StageMiddles.{tick_of}
+use Rattle.rb_laws_synchrony.proofs.Synchronous.{KnowNext, KnowsEpoch, at_offset}
+use Rattle.rb_laws_synchrony.proofs.Synchrony.{IsSynchronous, synchrony}
+use Rattle.rb_laws_synchrony.proofs.TimelyMoments.{timely_moment}
+
+-- every window is timely
+pub all_timely : WindowsAreTimely
+all_timely sc hands law n running inside =
+    let s : IsSynchronous sc hands n = synchrony sc hands law n running in
+    timely_moment sc hands n (moment sc hands n) s.shared s.low law s.agree s.near inside
+
+-- where the run goes on before a slot, good nodes begin an offset of the frame in one band
+pub record IsInOneBand (sc : Scenario) (hands : List HandIn) (frame slot : ℕ) : Type 0 where
+  pub low : ℕ
+  pub at : (me : Side) (i : ℕ) (st : NodeState) → IsGoodBefore sc hands frame slot me i st → (offset : ℕ)
+      → IsBetween (low + offset * shortest_of sc.plan) (low + sc.plan.p + offset * tick_of sc.plan) (time_in_frame sc me i st offset)
+
+pub one_band : (sc : Scenario) (hands : List HandIn) → IsLawful sc → (frame slot : ℕ) → slot ≤ sync_slot_of sc.sizes → IsRunning (before_slot sc hands frame slot)
+    → IsInOneBand sc hands frame slot
+one_band sc hands law frame slot le running =
+    let p : IsPlaced sc hands frame slot 1 = placed sc hands law frame slot 1 le (omega arith) (omega arith) running in
+    let s : IsSynchronous sc hands (frame * (windows_in sc.sizes + 1) + 3 * slot + 1 - 1) =
+    synchrony sc hands law (frame * (windows_in sc.sizes + 1) + 3 * slot + 1 - 1) running in
+    record {
+      low = s.low;
+      at = λ me i st h offset.
+          let here : IsGoodNode sc (before_slot sc hands frame slot) me i st = good_before_slot sc hands frame slot le p me i st h in
+          at_offset (shortest_of sc.plan) (drift_of sc.plan) (clock_of sc me i) (clock_now sc law (before_slot sc hands frame slot) me i st here)
+          s.low sc.plan.p st.epoch offset (st.epoch + offset) refl (s.near.begun me i st here);
+    }
+
+band : (low p offset u d x y : ℕ) → IsBetween (low + offset * u) (low + p + offset * (u + d)) x → IsBetween (low + offset * u) (low + p + offset * (u + d)) y → x ≤ y + (p + d * offset)
+band low p offset u d x y a b = omega (arith, a.most, b.least)
+
+pub slots_near : SlotsBeginNear
+slots_near sc hands law frame slot le settled me you i j mine yours h k =
+    let b : IsInOneBand sc hands frame slot = one_band sc hands law frame slot le (settled_before sc hands law frame slot settled) in
+    let offset : ℕ = 3 * slot * sc.plan.l in
+    band b.low sc.plan.p offset (shortest_of sc.plan) (drift_of sc.plan) (time_in_frame sc me i mine offset) (time_in_frame sc you j yours offset) (b.at me i mine h offset) (b.at you j yours k offset)
+
+frames-near : (sc : Scenario) (hands : List HandIn) → IsLawful sc → BeginFramesNear sc hands
+frames-near sc hands law frame reached me you i j mine yours h k =
+    let b : IsInOneBand sc hands frame 0 = one_band sc hands law frame 0 (omega arith) (settled_before sc hands law frame 0 (inr reached)) in
+    let x : IsBetween (b.low + 0 * shortest_of sc.plan) (b.low + sc.plan.p + 0 * tick_of sc.plan) (time_in_frame sc me i mine 0) = b.at me i mine h 0 in
+    let y : IsBetween (b.low + 0 * shortest_of sc.plan) (b.low + sc.plan.p + 0 * tick_of sc.plan) (time_in_frame sc you j yours 0) = b.at you j yours k 0 in
+    at_once b.low sc.plan.p (shortest_of sc.plan) (tick_of sc.plan) (time_in_frame sc me i mine 0) (time_in_frame sc you j yours 0) x y
+  where
+    at_once : (low p u g x y : ℕ) → IsBetween (low + 0 * u) (low + p + 0 * g) x → IsBetween (low + 0 * u) (low + p + 0 * g) y → x ≤ y + p
+    at_once low p u g x y a b = omega (arith, a.most, b.least)
+
+-- after a complete sync slot good nodes know their next epochs, which are near
+pub record IsTurning (sc : Scenario) (hands : List HandIn) (frame : ℕ) : Type 0 where
+  pub later : ℕ
+  pub knows : (me : Side) (i : ℕ) (st : NodeState) → IsGoodAfter sc hands frame (sync_slot_of sc.sizes) me i st → KnowsEpoch sc me i st later
+
+pub turning : (sc : Scenario) (hands : List HandIn) → IsLawful sc → (frame : ℕ) → IsComplete sc hands frame (sync_slot_of sc.sizes) → IsTurning sc hands frame
+turning sc hands law frame complete =
+    let slot : ℕ = sync_slot_of sc.sizes in
+    let m : Moment = after_slot sc hands frame slot in
+    let p : IsPlaced sc hands frame slot 4 = placed sc hands law frame slot 4 (omega arith) (omega arith) (omega arith) complete in
+    let s : IsSynchronous sc hands (frame * (windows_in sc.sizes + 1) + 3 * slot + 4 - 1) =
+    synchrony sc hands law (frame * (windows_in sc.sizes + 1) + 3 * slot + 4 - 1) complete in
+    let at : m.window ≡ 3 * slot + 3 = p.window_is in
+    let known : KnowNext sc m = s.near.third (omega arith) in
+    record {
+      later = known.0;
+      knows = λ me i st h.
+          known.1 me i st (record {
+            there = h.state;
+            good = ap (is_good sc me i m.frame) (slot_last sc.sizes m.window 3 at) ∙ ap (λ f. is_good sc me i f slot) p.frame_is ∙ h.good;
+          });
+    }
+
+frames-take : (sc : Scenario) (hands : List HandIn) → IsLawful sc → FramesTakeTheirTime sc hands
+frames-take sc hands law frame complete me i st h = ((turning sc hands law frame complete).knows me i st h).takes
+
+pub epochs_near : EpochsStayNear
+epochs_near sc hands law = (frames-near sc hands law, frames-take sc hands law)

@@ -1,0 +1,12 @@
+-- So many turns were given and written, and the run goes on.
+use Rattle.std.proofs.Common.{◌≡◌, ◌≤◌}
+use Rattle.rb_long_run.proofs.Written.{IsWritten}
+use Rattle.rb_long_run.proofs.letters.write_letters.Given as goal
+
+abbrev pub invariant-loop-passed : goal.invariant-loop-passed
+invariant-loop-passed g l = record {
+  written : IsWritten l.fn.world.bus (g.D.Drive.is_plain l.fn.drive) (g.D.Drive.told l.fn.drive) (g.D.Drive.told l.drive) l.world (g.K.Sink.held l.fn.output) (g.K.Sink.held l.output) l.newest l.passed l.receivers;
+  later : g.K.Sink.faults l.fn.output ≤ g.K.Sink.faults l.output;
+  bus : l.world.bus ≡ l.fn.world.bus;
+  stays : g.D.Drive.is_plain l.drive ≡ g.D.Drive.is_plain l.fn.drive;
+}

@@ -1,0 +1,15 @@
+use Rattle.std.proofs.Common.{rules, arith}
+use Rattle.rb_long_text.proofs.Heard.{heard-more, heard-part, open-more}
+use Rattle.rb_long_text.proofs.Lines.{on-err}
+use Rattle.rb_long_text.proofs.hearing.write_given.Goals as goal
+
+pub loop-line-preserved : goal.loop-line-preserved
+loop-line-preserved g c = record {
+  written = heard-more c.args.frame c.args.slot c.args.all.now c.loop-line.all c.args.lines.now c.loop-line.line-index _ _ _ _ _ (omega arith) c.loop-line.invariant.heard c.hear-letter.ensures.given c.loop-line.invariant.written c.in_ok-write_letter.ensures.all;
+  heard = open-more c.args.all.now c.loop-line.all c.hear-letter.new.all c.args.lines.now c.loop-line.line-index _ (omega arith) c.loop-line.invariant.heard c.hear-letter.ensures.after;
+  later = search rules;
+}
+
+pub returns-in_err-write_letter-clause-part : goal.returns-in_err-write_letter-clause-part
+returns-in_err-write_letter-clause-part g c =
+    on-err _ (heard-part c.args.frame c.args.slot c.args.all.now c.loop-line.all c.args.lines.now c.loop-line.line-index _ _ _ _ _ (omega arith) c.loop-line.invariant.heard c.hear-letter.ensures.given c.loop-line.invariant.written c.in_err-write_letter.ensures.part)

@@ -1,0 +1,30 @@
+//! The words of a letter, written.
+ghost use Rattle.std.specs.Prelude.{◌≡◌, true, length, OnErr, OnOk};
+ghost use Rattle.std.specs.Io.KnownBytes.{Appends};
+ghost use Rattle.rb_long_text.specs.Texts.{spelling_text};
+ghost use Rattle.rb_long.specs.Spelling.{is_length};
+ghost use Rattle.rb_outside.specs.Bytes.{AppendsPart};
+ghost use Rattle.rb_outside.specs.Causes.{HasCause};
+
+use crate::writing::write_line;
+use rb_long::LongSender;
+use rb_outside::{Failed, Sink};
+use rb_report::word_line;
+
+/// Writes the words of a letter of 1 to 255 bytes, a line for each, each write asking for the rest of one line. `Failed` comes only
+/// where a write failed; a first part of the lines has then been written.
+pub fn write_spelling<K: Sink>(letter: &[u8], output: &mut K) -> Result<(), Failed>
+    requires { is_length (length letter.now) ≡ true }
+    ensures all { OnOk result (Appends (K.held output.old) (K.held output.new) (spelling_text letter.now)) }
+    ensures part { OnErr result (AppendsPart (K.held output.old) (K.held output.new) (spelling_text letter.now)) }
+    ensures cause { HasCause (K.faults output.old) (K.faults output.new) result }
+{
+    let mut sender = LongSender::new();
+    let Ok(()) = sender.push(letter) else {
+        unreachable!()
+    };
+    for sent in 0..letter.len().div_ceil(3) + 1 {
+        write_line(output, &word_line(u64::from(sender.next_word())))?;
+    }
+    Ok(())
+}

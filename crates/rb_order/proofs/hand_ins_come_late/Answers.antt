@@ -1,5 +1,0 @@
-use Rattle.rb_rules.proofs.HandIns.{moments-more}
-use Rattle.rb_order.proofs.hand_ins_come_late.Goals as goal
-
-pub returns : goal.returns
-returns c = moments-more

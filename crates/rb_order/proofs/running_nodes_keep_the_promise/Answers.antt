@@ -1,5 +1,0 @@
-use Rattle.rb_order.proofs.NodesPromise.{keep-the-promise}
-use Rattle.rb_order.proofs.running_nodes_keep_the_promise.Goals as goal
-
-pub returns : goal.returns
-returns c = keep-the-promise

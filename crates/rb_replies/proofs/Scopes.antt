@@ -1,9 +1,0 @@
--- The scope of a run that has been opened.
-use Rattle.std.proofs.Common.{◌≡◌, sym, subst}
-use Rattle.rb_rules.specs.Goodness.{Scenario}
-use Rattle.rb_replicas.specs.Holding.{IsScopeOf}
-use Rattle.rb_replicas.specs.declared.asked.Scope.{Scope}
-
--- it is that of the scenario with which it was opened
-pub scope_same : (bus sc : Scenario) (scope : Scope) → bus ≡ sc → IsScopeOf sc scope → IsScopeOf bus scope
-scope_same bus sc scope same is = subst (λ (s : Scenario). IsScopeOf s scope) (sym same) is

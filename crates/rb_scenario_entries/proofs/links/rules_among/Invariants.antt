@@ -1,0 +1,12 @@
+use Rattle.std.proofs.Common.{◌≡◌, ◌++◌, true, map, drop}
+use Rattle.std.specs.List.{list_all}
+use Rattle.toml.specs.View.{items_view}
+use Rattle.rb_scenario_document.specs.Walk.{tables_in}
+use Rattle.rb_scenario_entries.specs.Links.{is_link, rule_of}
+use Rattle.rb_scenario_entries.proofs.links.rules_among.Given as goal
+
+abbrev pub invariant-loop-value : goal.invariant-loop-value
+invariant-loop-value l = record {
+  taken : l.rules.items ++ map (rule_of l.bus) (tables_in (items_view (drop l.value-index l.values.items))) ≡ map (rule_of l.bus) (tables_in (items_view l.values.items));
+  left : list_all (is_link l.bus) (tables_in (items_view (drop l.value-index l.values.items))) ≡ true;
+}

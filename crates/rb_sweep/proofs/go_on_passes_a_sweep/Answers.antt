@@ -1,5 +1,0 @@
-use Rattle.rb_sweep.proofs.Calls.{go-on-passes}
-use Rattle.rb_sweep.proofs.go_on_passes_a_sweep.Goals as goal
-
-pub returns : goal.returns
-returns c = go-on-passes

@@ -1,5 +1,0 @@
-use Rattle.rb_sweep.proofs.Sweeps.{nothing-is-swept}
-use Rattle.rb_sweep.proofs.nothing_is_swept.Goals as goal
-
-pub returns : goal.returns
-returns c = nothing-is-swept

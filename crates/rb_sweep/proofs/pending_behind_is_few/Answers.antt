@@ -1,5 +1,0 @@
-use Rattle.rb_sweep.proofs.BehindFew.{behind-few}
-use Rattle.rb_sweep.proofs.pending_behind_is_few.Goals as goal
-
-pub returns : goal.returns
-returns c = behind-few

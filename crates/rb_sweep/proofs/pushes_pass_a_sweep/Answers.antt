@@ -1,5 +1,0 @@
-use Rattle.rb_sweep.proofs.Sweeps.{pushes-pass}
-use Rattle.rb_sweep.proofs.pushes_pass_a_sweep.Goals as goal
-
-pub returns : goal.returns
-returns c = pushes-pass

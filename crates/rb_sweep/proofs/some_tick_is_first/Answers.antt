@@ -1,5 +1,0 @@
-use Rattle.rb_sweep.proofs.SomeFirst.{some-tick-is-first}
-use Rattle.rb_sweep.proofs.some_tick_is_first.Goals as goal
-
-pub returns : goal.returns
-returns c = some-tick-is-first

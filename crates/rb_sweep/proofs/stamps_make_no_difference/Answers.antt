@@ -1,5 +1,0 @@
-use Rattle.rb_sweep.proofs.StampsOff.{stamps-make-no-difference}
-use Rattle.rb_sweep.proofs.stamps_make_no_difference.Goals as goal
-
-pub returns : goal.returns
-returns c = stamps-make-no-difference

@@ -1,5 +1,0 @@
-use Rattle.rb_sweep.proofs.Stopped.{stopped-stay-empty}
-use Rattle.rb_sweep.proofs.stopped_stay_empty.Goals as goal
-
-pub returns : goal.returns
-returns c = stopped-stay-empty

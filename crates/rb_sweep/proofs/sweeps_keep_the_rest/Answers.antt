@@ -1,5 +1,0 @@
-use Rattle.rb_sweep.proofs.Sweeps.{sweeps-keep}
-use Rattle.rb_sweep.proofs.sweeps_keep_the_rest.Goals as goal
-
-pub returns : goal.returns
-returns c = sweeps-keep

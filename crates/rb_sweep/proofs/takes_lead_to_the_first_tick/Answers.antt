@@ -1,5 +1,0 @@
-use Rattle.rb_sweep.proofs.Leads.{takes-lead}
-use Rattle.rb_sweep.proofs.takes_lead_to_the_first_tick.Goals as goal
-
-pub returns : goal.returns
-returns c = takes-lead

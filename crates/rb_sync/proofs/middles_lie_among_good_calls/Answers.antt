@@ -1,5 +1,0 @@
-use Rattle.rb_sync.proofs.OneStages.{middles-lie-among}
-use Rattle.rb_sync.proofs.middles_lie_among_good_calls.Goals as goal
-
-pub returns : goal.returns
-returns c = middles-lie-among

@@ -1,5 +1,0 @@
-use Rattle.rb_sync.proofs.SyncLaws.{all_timely}
-use Rattle.rb_sync.proofs.windows_are_timely.Goals as goal
-
-pub returns : goal.returns
-returns c = all_timely

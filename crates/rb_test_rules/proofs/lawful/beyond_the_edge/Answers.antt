@@ -1,0 +1,34 @@
+use Rattle.std.proofs.Common.{arith, inl, inr, refl}
+use Rattle.std.proofs.lemmas.Bool.{true≢false}
+use Rattle.rb_rules.specs.Lawful.{IsLawful, IsSayOf}
+use Rattle.rb_rules.specs.declared.say.Say.{Say}
+use Rattle.rb_test_rules.specs.Lawful.{saying}
+use Rattle.rb_test_rules.proofs.lawful.beyond_the_edge.Goals as goal
+
+-- the sole entry of a lawful scenario is one of it
+said : (say : Say) → IsLawful (saying say) → IsSayOf (saying say) say
+said say lawful = lawful.says 0 say (omega arith)
+
+pub returns-clause-a_tick_early : goal.returns-clause-a_tick_early
+returns-clause-a_tick_early c = λ l. let e = (said _ l).early in omega arith
+
+pub returns-clause-after_the_window : goal.returns-clause-after_the_window
+returns-clause-after_the_window c = λ l. let e = (said _ l).offset (record { frame = 0; slot = 19; stage = 2 }) refl in omega arith
+
+pub returns-clause-after_the_tail : goal.returns-clause-after_the_tail
+returns-clause-after_the_tail c = λ l. let e = (said _ l).offset (record { frame = 0; slot = 19; stage = 4 }) refl in omega arith
+
+pub returns-clause-early_in_another_slot : goal.returns-clause-early_in_another_slot
+returns-clause-early_in_another_slot c = λ l. elim ((said _ l).early_in_sync) [ inl e ↦ omega arith | inr e ↦ let first = e.0 in omega arith ]
+
+pub returns-clause-tail_of_another_slot : goal.returns-clause-tail_of_another_slot
+returns-clause-tail_of_another_slot c = λ l. elim ((said _ l).tail) [ inl e ↦ omega arith | inr e ↦ let first = e.0 in omega arith ]
+
+pub returns-clause-to_its_own_kind : goal.returns-clause-to_its_own_kind
+returns-clause-to_its_own_kind c = λ l. let e = (said _ l).unlike_kinds in cc
+
+pub returns-clause-no_bytes : goal.returns-clause-no_bytes
+returns-clause-no_bytes c = λ l. let e = (said _ l).content.some in omega arith
+
+pub returns-clause-by_a_good_node : goal.returns-clause-by_a_good_node
+returns-clause-by_a_good_node c = λ l. true≢false (said _ l).faulty

@@ -1,0 +1,35 @@
+use Rattle.std.proofs.Common.{◌≡◌, ℕ, zero, suc, ◌+◌, ◌<◌, ◌||◌, nat_lt, Bool, true, false, Option, Some, None, get_or, slice_get, [], refl, sym, ◌∙◌, ap, arith}
+use Rattle.rb_base.specs.Nodes.{has, set_of, set_below, size}
+use Rattle.rb_base.specs.Nodes.Side.{Biu}
+use Rattle.rb_rules.specs.Book.{of_kind, with_stage, with_frame}
+use Rattle.rb_rules.specs.Conviction.{turn, convicted_by}
+use Rattle.rb_rules.specs.ExactStage.{close_exact, outcome_of}
+use Rattle.rb_rules.specs.Goodness.{is_before}
+use Rattle.rb_rules.specs.Hearing.{sending, heard_from, row_of}
+use Rattle.rb_rules.specs.Judging.{classes_of, verdict_of}
+use Rattle.rb_rules.specs.Links.{delay_of}
+use Rattle.rb_rules.specs.Moments.{before_slot}
+use Rattle.rb_rules.specs.NodeState.{NodeState}
+use Rattle.rb_rules.specs.Rounds.{sent_in, close_on, go_through, results_of, after_window, begin_frame, step}
+use Rattle.rb_rules.specs.Spelling.{message_in}
+use Rattle.rb_rules.specs.SyncStage.{close_sync, sync_outcome_of}
+use Rattle.rb_laws_agreement.proofs.Tests.{and_first, less_from}
+use Rattle.rb_test_rules.specs.Lies.{silent_rmu}
+use Rattle.rb_test_rules.proofs.premises.accused_by_all.Goals as goal
+
+-- the node is there, and accuses RMU 2
+abbrev accuses : Option NodeState → Bool
+accuses None = false
+accuses (Some st) = has st.far.direct 2 || has st.far.mismatch 2
+
+each : (i : ℕ) → i < 4 → accuses (slice_get (of_kind Biu (before_slot silent_rmu [] 0 (12 + i)).nodes) i) ≡ true
+unfolding set_of set_below message_in close_exact outcome_of close_sync sync_outcome_of turn convicted_by classes_of verdict_of size delay_of with_stage with_frame sending heard_from row_of sent_in close_on go_through results_of after_window begin_frame step
+each zero h = refl
+each (suc zero) h = refl
+each (suc (suc zero)) h = refl
+each (suc (suc (suc zero))) h = refl
+each (suc (suc (suc (suc i)))) h = absurd (omega arith)
+
+pub returns : goal.returns
+returns c i st good there =
+    sym (ap accuses there) ∙ each i (less_from i 4 (and_first (nat_lt i 4) (is_before (get_or silent_rmu.biu_onsets i None) 0 19) good))

@@ -1,0 +1,79 @@
+-- What good nodes hold in common where others are silent or lie, and whom they accuse.
+use Rattle.std.specs.Prelude.{ℕ, List, [], ◌∷◌, ◌++◌, map, filter, replicate, get_or, Some, None}
+use Rattle.rb_base.specs.Counting.{numbers}
+use Rattle.rb_base.specs.Nodes.{Side}
+use Rattle.rb_base.specs.declared.values.Heard.{Heard}
+use Rattle.rb_rules.specs.declared.cause.Cause.TheVariants.{FewGoodBiu}
+use Rattle.rb_rules.specs.declared.link.Pattern.TheVariants.{AllBiu, AllRmu}
+use Rattle.rb_rules.specs.declared.say.Content.TheVariants.{Word}
+use Rattle.rb_rules.specs.Book.{Record, of_kind}
+use Rattle.rb_rules.specs.Book.Record.{Ended, Breach}
+use Rattle.rb_rules.specs.Goodness.{Scenario, is_good}
+use Rattle.rb_rules.specs.Moments.{after_slot}
+use Rattle.rb_rules.specs.NodeState.{NodeState, first_state}
+use Rattle.rb_rules.specs.Slots.{count_of}
+use Rattle.rb_rules.specs.Standing.{vector_of}
+use Rattle.rb_test_rules.specs.Buses.{b, r, steady, says}
+use Rattle.rb_test_rules.specs.Told.{none, at, all_begin, everybody, all_but, port, usual_ports, silent, usual_words}
+use Rattle.rb_test_rules.specs.Ordinary.{ordinary_use}
+
+-- RMU 2 is good until it sends a vector that names BIU 0
+abbrev pub false_accuser : Scenario
+false_accuser = record ordinary_use {
+  rmu_onsets = None ∷ None ∷ Some (0, 18) ∷ [];
+  says =
+      says (r 2) AllBiu (0, 0) (18, 18) (1, 1) (Word 1)
+      ∷ [];
+}
+
+abbrev pub false_accuser_records : List Record
+false_accuser_records =
+    all_begin 0 0 0 0 0 everybody usual_ports
+    ∷ silent 0 0 4
+    ++ usual_words 0 (0 ∷ 1 ∷ 2 ∷ 3 ∷ [])
+    ++ silent 0 12 7
+    ++ all_begin 1 917 9170000 0 0 (all_but (r 2 ∷ [])) usual_ports
+    ∷ Ended
+    ∷ []
+
+-- two BIUs and one RMU. BIU 1 says another vote than BIU 0 in stage 3 of BIU 0's schedule slot
+abbrev pub other_vote : Scenario
+other_vote = record ordinary_use {
+  sizes = record { bius = 2; rmus = 1; data_slots = 1 };
+  requests = 1 ∷ 1 ∷ [];
+  words = 10 ∷ 20 ∷ [];
+  apps = 0 ∷ 0 ∷ [];
+  clocks = replicate 3 steady;
+  biu_onsets = None ∷ Some (0, 0) ∷ [];
+  rmu_onsets = None ∷ [];
+  says =
+      says (b 1) AllRmu (0, 0) (0, 0) (3, 3) (Word 9)
+      ∷ [];
+}
+
+-- the run ends with the breach in this stage
+abbrev pub other_vote_records : List Record
+other_vote_records =
+    all_begin 0 0 0 0 0 (b 0 ∷ r 0 ∷ []) (port 0 10 0 ∷ [])
+    ∷ Breach (at 0 0 3) FewGoodBiu
+    ∷ []
+
+-- the nodes of a kind that are good in a slot
+abbrev pub good_in : Scenario → ℕ → ℕ → Side → List ℕ
+good_in sc frame slot me = filter (λ i. is_good sc me i frame slot) (numbers (count_of me sc.sizes))
+
+abbrev of_states : {X : Type 0} → (NodeState → X) → NodeState → List NodeState → List ℕ → List X
+of_states what other states nodes = map (λ i. what (get_or states i other)) nodes
+
+-- something of the state of each good node of a kind after a slot
+abbrev pub of_good : {X : Type 0} → (NodeState → X) → Scenario → ℕ → ℕ → Side → List X
+of_good what sc frame slot me =
+    of_states what (first_state sc.sizes me) (of_kind me (after_slot sc [] frame slot).nodes) (good_in sc frame slot me)
+
+-- the votes of the good nodes of a kind on a slot, after it
+abbrev pub votes_on : Scenario → ℕ → ℕ → Side → List Heard
+votes_on sc frame slot me = of_good (λ st. get_or st.votes slot none) sc frame slot me
+
+-- whom each of them accuses after a slot, as its vector names them
+abbrev pub accused_by : Scenario → ℕ → ℕ → Side → List ℕ
+accused_by sc frame slot me = of_good (λ st. vector_of st.far) sc frame slot me

@@ -1,0 +1,115 @@
+-- Single steps of a core and of a world.
+use Rattle.std.specs.Prelude.{ℕ, [], ◌∷◌, Option, Some}
+use Rattle.rb_base.specs.Nodes.Side.{Biu, Rmu}
+use Rattle.rb_base.specs.declared.values.Heard.TheVariants.{Word}
+use Rattle.rb_rules.specs.declared.link.Pattern.TheVariants.{AllRmu}
+use Rattle.rb_rules.specs.declared.message.Message.{Message}
+use Rattle.rb_rules.specs.declared.plan.Plan.{Plan}
+use Rattle.rb_rules.specs.declared.say.Content.TheVariants.{Sync}
+use Rattle.rb_rules.specs.declared.say.Say.{Say}
+use Rattle.rb_rules.specs.Book.{Each}
+use Rattle.rb_rules.specs.Book.Record.{Frame, Slot}
+use Rattle.rb_rules.specs.Core.{Act, Core, first_core, arrive, tick, pass_to}
+use Rattle.rb_rules.specs.ExactStage.{message_of}
+use Rattle.rb_rules.specs.Goodness.{Scenario}
+use Rattle.rb_rules.specs.Hearing.{Coming, Span}
+use Rattle.rb_rules.specs.WorldStep.{Site, World, fresh_site, first_world, stop}
+use Rattle.rb_test_rules.specs.Buses.{b, plan, says}
+use Rattle.rb_test_rules.specs.Cores.{usual_sizes}
+use Rattle.rb_test_rules.specs.Ordinary.{smallest_bus}
+use Rattle.rb_test_rules.specs.Parts.{biu}
+use Rattle.rb_test_rules.specs.Told.{at}
+
+-- A core.
+
+-- BIU 0 of the usual bus after a tick, at which it asks for two slots if it asks
+abbrev pub ticked_by : Plan → ℕ → Core → Core
+ticked_by p k c = (tick usual_sizes p Biu 0 (pass_to k c) 2).core
+
+-- its own slot by ticks: it begins the frame, asks, and closes stage 1; then two RMUs relay 2 and the third 7; then it closes stage 2
+abbrev pub relays_to : Core → Core
+relays_to c =
+    arrive usual_sizes Biu
+    (arrive usual_sizes Biu
+    (arrive usual_sizes Biu c 0 (1 ∷ 0 ∷ 0 ∷ 0 ∷ 0 ∷ 2 ∷ 0 ∷ 0 ∷ 0 ∷ 2 ∷ 1 ∷ []))
+    1 (1 ∷ 0 ∷ 0 ∷ 0 ∷ 0 ∷ 2 ∷ 0 ∷ 0 ∷ 0 ∷ 2 ∷ 1 ∷ []))
+    2 (1 ∷ 0 ∷ 0 ∷ 0 ∷ 0 ∷ 2 ∷ 0 ∷ 0 ∷ 0 ∷ 7 ∷ 4 ∷ [])
+
+abbrev pub own_slot : Core
+own_slot = ticked_by plan 29 (relays_to (ticked_by plan 14 (ticked_by plan 6 (ticked_by plan 0 (first_core usual_sizes Biu)))))
+
+-- the same where messages are sent in the last tick of a window
+abbrev pub late_plan : Plan
+late_plan = record plan { h = 14 }
+
+abbrev pub own_slot_by_last_ticks : Core
+own_slot_by_last_ticks = ticked_by late_plan 29 (relays_to (ticked_by late_plan 14 (ticked_by late_plan 0 (first_core usual_sizes Biu))))
+
+-- BIU 0 at the last tick of stage 1 of the slot for its vector, at which it sends that, with noise from RMU 0 in its inbox
+abbrev pub vector_at_the_last_tick : Act
+vector_at_the_last_tick =
+    tick usual_sizes late_plan Biu 0 (record { state = biu; had = 554; inbox = (0, record { stamp = 550; bytes = [] }) ∷ [] }) 0
+
+-- RMU 0 of the usual bus that gets the request of BIU 0 with this stamp, after the close of stage 1 and after that of stage 2
+abbrev pub rmu_ticked : ℕ → Core → Core
+rmu_ticked k c = (tick usual_sizes plan Rmu 0 (pass_to k c) 0).core
+
+abbrev pub request_to : Core → Core
+request_to c = arrive usual_sizes Rmu c 0 (1 ∷ 0 ∷ 0 ∷ 0 ∷ 0 ∷ 1 ∷ 0 ∷ 0 ∷ 0 ∷ 2 ∷ 2 ∷ [])
+
+abbrev pub in_time : Core
+in_time = rmu_ticked 14 (request_to (pass_to 14 (rmu_ticked 0 (first_core usual_sizes Rmu))))
+
+abbrev pub too_late : Core
+too_late = rmu_ticked 29 (request_to (rmu_ticked 14 (rmu_ticked 0 (first_core usual_sizes Rmu))))
+
+-- a core that has had so many ticks
+abbrev pub core_after : ℕ → Core
+core_after ticks = record { state = biu; had = ticks; inbox = [] }
+
+abbrev pub word_in_stage : ℕ → ℕ → Option Message
+word_in_stage slot stage = Some (message_of biu slot stage (Word 2))
+
+-- The tail.
+
+-- three ticks of the sync slot's tail, and a call in it at an offset
+abbrev pub short_tail : Span
+short_tail = record { place = at 0 19 4; first = 908; last = 910 }
+
+abbrev pub call_in_tail : ℕ → Say
+call_in_tail offset = record (says (b 1) AllRmu (0, 0) (19, 19) (4, 4) Sync) { offset = offset }
+
+-- A world.
+
+-- the smallest bus at first
+abbrev pub small_world : World
+small_world = first_world smallest_bus
+
+-- the smallest bus with a BIU that is not good
+abbrev pub faulty_bus : Scenario
+faulty_bus = record smallest_bus { biu_onsets = Some (0, 0) ∷ [] }
+
+-- the smallest bus, the frame's record or a slot's record being the last turn
+abbrev pub at_frame : World
+at_frame = record small_world { turn = Some (Frame 0 [] []) }
+
+abbrev pub at_slot : World
+at_slot = record small_world { turn = Some (Slot 0 0 []) }
+
+-- all nodes of the usual bus, of which RMU 1 has stopped
+abbrev pub all_but_one_run : Each Site
+all_but_one_run = record {
+  bius = fresh_site usual_sizes Biu ∷ [];
+  rmus = fresh_site usual_sizes Rmu ∷ stop (fresh_site usual_sizes Rmu) ∷ fresh_site usual_sizes Rmu ∷ [];
+}
+
+-- what comes at a time from a BIU
+abbrev pub empty_at : ℕ → ℕ → Coming
+empty_at time from = record { time = time; from = from; bytes = [] }
+
+-- an RMU whose tick is pending, and two arrivals, the later one from BIU 0
+abbrev pub waiting : Site
+waiting = record (fresh_site usual_sizes Rmu) {
+  ahead = Some (record { tick = 3; time = 30 });
+  coming = empty_at 30 1 ∷ empty_at 30 0 ∷ empty_at 31 0 ∷ [];
+}

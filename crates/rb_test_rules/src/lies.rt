@@ -1,0 +1,63 @@
+//! Nodes that are silent or lie.
+#![tactic(auto, unfolding(rb_base::specs::Nodes::set_of, rb_base::specs::Nodes::set_below, rb_base::specs::Nodes::size, rb_rules::specs::Spelling::message_in, rb_rules::specs::ExactStage::close_exact, rb_rules::specs::ExactStage::outcome_of, rb_rules::specs::SyncStage::close_sync, rb_rules::specs::SyncStage::sync_outcome_of, rb_rules::specs::Conviction::convicted_by, rb_rules::specs::Conviction::turn, rb_rules::specs::Links::delay_of, rb_rules::specs::Judging::classes_of, rb_rules::specs::Judging::verdict_of, rb_rules::specs::Hearing::sending, rb_rules::specs::Hearing::heard_from, rb_rules::specs::Hearing::row_of, rb_rules::specs::Book::with_stage, rb_rules::specs::Book::with_frame, rb_rules::specs::Rounds::sent_in, rb_rules::specs::Rounds::close_on, rb_rules::specs::Rounds::go_through, rb_rules::specs::Rounds::results_of, rb_rules::specs::Rounds::after_window, rb_rules::specs::Rounds::begin_frame, rb_rules::specs::Rounds::step))]
+
+ghost use Rattle.std.specs.Prelude.{◌≡◌, []};
+ghost use Rattle.rb_rules.specs.Rounds.{records_of};
+ghost use Rattle.rb_test_rules.specs.Lies.{silent_rmu, silent_rmu_records, symmetric_rmu, symmetric_rmu_records, asymmetric_sender, asymmetric_sender_records, no_majority, no_majority_records, two_sided, two_sided_records, too_few_good, too_few_good_records, message_in_time, message_in_time_records, message_too_late, message_too_late_records, ill_formed_messages, ill_formed_messages_records, greedy_biu, greedy_biu_records, nobody_good, nobody_good_records};
+
+/// An RMU is silent: the words come all the same, and all convict it.
+pub fn silent_rmu()
+    ensures { records_of silent_rmu [] ≡ silent_rmu_records }
+{}
+
+/// An RMU relays a wrong word alike to all: the words come all the same, each sender accuses it, and all convict it.
+pub fn symmetric_rmu()
+    ensures { records_of symmetric_rmu [] ≡ symmetric_rmu_records }
+{}
+
+/// A BIU says another word to one RMU in its data slot: all good BIUs deliver what the other RMUs relay, and all convict it.
+pub fn asymmetric_sender()
+    ensures { records_of asymmetric_sender [] ≡ asymmetric_sender_records }
+{}
+
+/// It says three different words: all good BIUs deliver none.
+pub fn no_majority()
+    ensures { records_of no_majority [] ≡ no_majority_records }
+{}
+
+/// A BIU and then an RMU lie unlike: the run ends with the breach of the fault premise.
+pub fn two_sided()
+    ensures { records_of two_sided [] ≡ two_sided_records }
+{}
+
+/// Two of three RMUs lie: the run ends with the breach, in the stage in which something is taken of them.
+pub fn too_few_good()
+    ensures { records_of too_few_good [] ≡ too_few_good_records }
+{}
+
+/// An RMU of which all else is right relays a request in the last tick of the window: nobody accuses it.
+pub fn message_in_time()
+    ensures { records_of message_in_time [] ≡ message_in_time_records }
+{}
+
+/// The relay comes in that tick at one BIU, and one tick later at the three others: these accuse the RMU, and all convict it.
+pub fn message_too_late()
+    ensures { records_of message_too_late [] ≡ message_too_late_records }
+{}
+
+/// Of two faulty RMUs one is silent, and the other sends two messages, too few bytes, a wrong check and a Fault with a value: if one
+/// BIU took any of it, the good RMU would not outnumber it, and the run would end there. All convict both.
+pub fn ill_formed_messages()
+    ensures { records_of ill_formed_messages [] ≡ ill_formed_messages_records }
+{}
+
+/// A BIU asks for more slots than there are, and falls silent: the others have their slots, and deliver none in those of the greedy
+/// one.
+pub fn greedy_biu()
+    ensures { records_of greedy_biu [] ≡ greedy_biu_records }
+{}
+
+/// No node is good: the run ends at once.
+pub fn nobody_good()
+    ensures { records_of nobody_good [] ≡ nobody_good_records }
+{}

@@ -1,0 +1,31 @@
+//! Nodes that lie where clocks are resynchronised.
+#![tactic(auto, unfolding(rb_base::specs::Nodes::set_of, rb_base::specs::Nodes::set_below, rb_base::specs::Nodes::size, rb_rules::specs::Spelling::message_in, rb_rules::specs::ExactStage::close_exact, rb_rules::specs::ExactStage::outcome_of, rb_rules::specs::SyncStage::close_sync, rb_rules::specs::SyncStage::sync_outcome_of, rb_rules::specs::Conviction::convicted_by, rb_rules::specs::Conviction::turn, rb_rules::specs::Links::delay_of, rb_rules::specs::Judging::classes_of, rb_rules::specs::Judging::verdict_of, rb_rules::specs::Hearing::sending, rb_rules::specs::Hearing::heard_from, rb_rules::specs::Hearing::row_of, rb_rules::specs::Book::with_stage, rb_rules::specs::Book::with_frame, rb_rules::specs::Rounds::sent_in, rb_rules::specs::Rounds::close_on, rb_rules::specs::Rounds::go_through, rb_rules::specs::Rounds::results_of, rb_rules::specs::Rounds::after_window, rb_rules::specs::Rounds::begin_frame, rb_rules::specs::Rounds::step))]
+
+ghost use Rattle.std.specs.Prelude.{◌≡◌, []};
+ghost use Rattle.rb_rules.specs.Rounds.{records_of};
+ghost use Rattle.rb_test_rules.specs.Resynchronisation.{false_accuser, false_accuser_records, call_at_the_first_tick, call_at_the_first_tick_records, calls_at_both_edges, calls_at_both_edges_records, alike_in_time, alike_in_time_records, apart_in_time, apart_in_time_records};
+
+/// A BIU accuses all RMUs and calls at its own ticks: nobody is convicted, and the middles stand.
+pub fn false_accuser()
+    ensures { records_of false_accuser [] ≡ false_accuser_records }
+{}
+
+/// An RMU calls at the window's first tick at all BIUs: the middles stand.
+pub fn call_at_the_first_tick()
+    ensures { records_of call_at_the_first_tick [] ≡ call_at_the_first_tick_records }
+{}
+
+/// An RMU calls at the first tick at two BIUs and at the last at the others: the middles stand, and the premise holds.
+pub fn calls_at_both_edges()
+    ensures { records_of calls_at_both_edges [] ≡ calls_at_both_edges_records }
+{}
+
+/// Both kinds have a liar, but the calls of the RMU are as close as two good ones may be: they are alike.
+pub fn alike_in_time()
+    ensures { records_of alike_in_time [] ≡ alike_in_time_records }
+{}
+
+/// The calls are one unit further apart: the run ends with the breach.
+pub fn apart_in_time()
+    ensures { records_of apart_in_time [] ≡ apart_in_time_records }
+{}

@@ -1,7 +1,0 @@
-use Rattle.std.proofs.Common.{refl}
-use Rattle.rb_worked.specs.Lies.{silent_rmu}
-use Rattle.rb_worked.proofs.LawfulTests.{lawful_by_tests}
-use Rattle.rb_worked.proofs.agreement.agreement_beside_a_silent_rmu.Goals as goal
-
-pub returns-clause-lawful : goal.returns-clause-lawful
-returns-clause-lawful c = lawful_by_tests silent_rmu refl

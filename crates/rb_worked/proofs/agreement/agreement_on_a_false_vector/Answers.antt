@@ -1,7 +1,0 @@
-use Rattle.std.proofs.Common.{refl}
-use Rattle.rb_worked.specs.Agreement.{false_accuser}
-use Rattle.rb_worked.proofs.LawfulTests.{lawful_by_tests}
-use Rattle.rb_worked.proofs.agreement.agreement_on_a_false_vector.Goals as goal
-
-pub returns-clause-lawful : goal.returns-clause-lawful
-returns-clause-lawful c = lawful_by_tests false_accuser refl

@@ -1,0 +1,23 @@
+-- What changes in a group of nodes when one of them tells something.
+use Rattle.std.specs.Prelude.{ℕ, ◌≡◌, ◌&&◌, ◌==◌, not, if◌then◌else◌, slice_set}
+use Rattle.rb_base.specs.Nodes.{has, set_of}
+use Rattle.rb_world_book.specs.declared.group.Group.{Group}
+use Rattle.rb_world_book.specs.declared.milestone.Milestone.{Milestone}
+use Rattle.rb_world_book.specs.declared.told.Told.{Told}
+use Rattle.rb_world_book.specs.Telling.{has_told}
+
+-- this is what the node told last now, and it is awaited if it is good and has not told of the milestone
+pub record IsNoted {K : Type 0} (before after : Group K) (node : ℕ) (m : Milestone) (t : Told) : Type 0 where
+  pub told : after.told ≡ slice_set before.told node t
+  pub good : after.good ≡ before.good
+  pub lasting : after.lasting ≡ before.lasting
+  pub counted : after.counted ≡ before.counted
+  pub waiting : after.waiting ≡ set_of (λ i. if i == node then has before.good node && not (has_told m t) else has before.waiting i)
+
+-- the same nodes are good, and all of them are awaited
+pub record AwaitsGood {K : Type 0} (before after : Group K) : Type 0 where
+  pub told : after.told ≡ before.told
+  pub good : after.good ≡ before.good
+  pub lasting : after.lasting ≡ before.lasting
+  pub counted : after.counted ≡ before.counted
+  pub waiting : after.waiting ≡ before.good

@@ -1,0 +1,22 @@
+use Rattle.std.proofs.Common.{◌≡◌, sym, ap, subst, ◌∙◌}
+use Rattle.rb_base.specs.Nodes.{has, other}
+use Rattle.rb_rules.specs.Clock.{time_of}
+use Rattle.rb_rules.specs.Lawful.{kind_of}
+use Rattle.rb_world_agenda.specs.Holding.{HoldsSites}
+use Rattle.rb_world_traffic.specs.Arriving.{coming_to, lanes_with}
+use Rattle.rb_world_traffic.specs.Departing.{place_of, with_departure, with_sent}
+use Rattle.rb_world_traffic.proofs.Sent.{sent-holds}
+use Rattle.rb_world_traffic.proofs.sending.send.Goals as goal
+
+pub returns-clause-world : goal.returns-clause-world
+returns-clause-world c =
+    let d = c.args.departure.now in
+    let side = other (kind_of d.from) in
+    let delays = c.args.delays.now in
+    let bytes = c.of_message-bytes.ensures.value in
+    let after : c.spread.new.agenda ≡ with_departure c.args.clock.now delays c.args.version d c.args.running c.args.agenda.now =
+    c.spread.ensures ∙ ap (λ t. lanes_with side (coming_to delays d.from t (place_of d) c.of_message-bytes.result) (has c.args.running) c.args.agenda.now) c.at.ensures.time
+    ∙ ap (λ bs. lanes_with side (coming_to delays d.from (time_of c.args.clock.now d.tick) (place_of d) bs) (has c.args.running) c.args.agenda.now) bytes in
+    λ sc sites is runs holds.
+    subst (λ x. HoldsSites sc.sizes x (with_sent sc d sites)) (sym after)
+    (sent-holds sc c.args.clock.now delays c.args.version d c.args.running c.args.agenda.now sites is runs holds)

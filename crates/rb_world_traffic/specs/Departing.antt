@@ -1,0 +1,36 @@
+-- A good node's message on its way.
+use Rattle.std.specs.Prelude.{◌≡◌, ℕ, ◌<◌, Some}
+use Rattle.rb_base.specs.Nodes.{has, other}
+use Rattle.rb_base.specs.declared.values.Place.{Place}
+use Rattle.rb_rules.specs.declared.message.Version.{Version}
+use Rattle.rb_rules.specs.Book.{Each}
+use Rattle.rb_rules.specs.Clock.{Timeline, time_of}
+use Rattle.rb_rules.specs.Goodness.{Scenario, clock_of}
+use Rattle.rb_rules.specs.Lawful.{kind_of}
+use Rattle.rb_rules.specs.Links.{DelayRules}
+use Rattle.rb_rules.specs.Slots.{count_of}
+use Rattle.rb_rules.specs.Spelling.{spelling_of}
+use Rattle.rb_rules.specs.WorldStep.{Site, with_message}
+use Rattle.rb_queue.specs.Waiting.{Held}
+use Rattle.rb_world_traffic.specs.declared.sending.Departure.{Departure}
+use Rattle.rb_world_traffic.specs.Arriving.{coming_to, lanes_with, number_of}
+
+-- the place that a message's header names, in the frame of its sender
+abbrev pub place_of : Departure → Place
+place_of d = record { frame = d.frame; slot = d.message.slot; stage = d.message.stage }
+
+-- the lanes once a message is on its way to these nodes
+abbrev pub with_departure : Timeline → DelayRules → Version → Departure → ℕ → Each Held → Each Held
+with_departure clock delays version d running lanes =
+    lanes_with (other (kind_of d.from)) (coming_to delays d.from (time_of clock d.tick) (place_of d) (spelling_of version d.message)) (has running) lanes
+
+-- the clock is the sender's, the delays and the version are those of the bus, and the sender is one of its nodes
+pub record IsOfScenario (sc : Scenario) (clock : Timeline) (delays : DelayRules) (version : Version) (d : Departure) : Type 0 where
+  pub clock_is : clock ≡ clock_of sc (kind_of d.from) (number_of d.from)
+  pub delays_are : delays ≡ sc.delays
+  pub version_is : version ≡ sc.plan.version
+  pub sender : number_of d.from < count_of (kind_of d.from) sc.sizes
+
+-- the sites of the world once the message is sent
+abbrev pub with_sent : Scenario → Departure → Each Site → Each Site
+with_sent sc d sites = with_message sc (kind_of d.from) (number_of d.from) d.frame d.tick (Some d.message) sites

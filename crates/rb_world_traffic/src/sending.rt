@@ -1,0 +1,146 @@
+//! Messages on their way.
+ghost use Rattle.std.specs.Prelude.{◌≡◌, ℕ, ◌+◌, ◌<◌, ◌≤◌, ◌^◌, ◌&&◌, true, nat_lt, length, slice_get};
+ghost use Rattle.rb_base.specs.Nodes.{has, other};
+ghost use Rattle.rb_rules.specs.Book.{of_kind};
+ghost use Rattle.rb_rules.specs.Clock.{time_of};
+ghost use Rattle.rb_rules.specs.Lawful.{kind_of};
+ghost use Rattle.rb_rules.specs.Links.{delay_of, name_of};
+ghost use Rattle.rb_link.specs.Rows.{IsRow};
+ghost use Rattle.rb_queue.specs.Waiting.{HasLane, lane_of, spare_of, with_arrival, with_lane};
+ghost use Rattle.rb_rules.specs.Book.{Each};
+ghost use Rattle.rb_rules.specs.Goodness.{Scenario};
+ghost use Rattle.rb_rules.specs.Spelling.{IsZeroUnlessWord};
+ghost use Rattle.rb_rules.specs.WorldStep.{Site};
+ghost use Rattle.rb_world_agenda.specs.Holding.{HoldsSites};
+ghost use Rattle.rb_world_traffic.specs.Arriving.{AreRunning, HaveRoom, coming_to, lanes_with, number_of};
+ghost use Rattle.rb_world_traffic.specs.Departing.{IsOfScenario, with_departure, with_sent};
+
+use crate::arriving::{number_of, receiver};
+use rb_base::{NodeName, NodeSet, Place, Rmu};
+use rb_clock::Clock;
+use rb_frame::Spelling;
+use rb_link::Delays;
+use rb_queue::Arrival;
+use rb_rules::{Message, Version};
+use rb_world_agenda::Agenda;
+
+/// A message that a node sends at a tick of its own, in the frame that it is in.
+#[derive(Clone, Copy, Debug, PartialEq, Eq)]
+pub struct Departure {
+    pub from: NodeName,
+    pub frame: u32,
+    pub tick: u64,
+    pub message: Message,
+}
+
+// The delay that stands in the row for the node with this number, if one does.
+#[inline(always)]
+fn delay_at(row: &[u32], i: u8) -> Option<u32>
+    ensures { result ≡ slice_get row.now i }
+{
+    row.get(usize::from(i)).copied()
+}
+
+// The delay to the node of the other kind with this number. It is looked up where the row has none.
+#[inline(always)]
+fn delay_in(row: &[u32], delays: &Delays, from: NodeName, i: u8, place: Place) -> u32
+    requires { IsRow delays.now from place row.now }
+    ensures { result ≡ delay_of delays.now from (name_of (other (kind_of from)) i) place }
+{
+    match delay_at(row, i) {
+        Some(delay) => delay,
+        None => delays.delay(from, receiver(from, i), place),
+    }
+}
+
+// What a node sends at a time comes to each of these nodes of the other kind, later by its delay.
+#[inline(never)]
+fn spread(
+    agenda: &mut Agenda,
+    delays: &Delays,
+    from: NodeName,
+    time: u64,
+    place: Place,
+    bytes: &Spelling,
+    running: u16,
+)
+    requires room { HaveRoom (other (kind_of from)) running agenda.old }
+    requires time { time < 2 ^ 53 }
+    ensures { agenda.new ≡ lanes_with (other (kind_of from)) (coming_to delays.now from time place bytes.now) (has running) agenda.old }
+{
+    let row = delays.row(from, place);
+    let message = Arrival::of(0, number_of(from), *bytes);
+    match from {
+        NodeName::Biu(i) => {
+            let biu = NodeName::Biu(i);
+            spread_from(agenda, delays, biu, time, place, row, &message, running);
+        }
+        NodeName::Rmu(i) => {
+            let rmu = NodeName::Rmu(i);
+            spread_from(agenda, delays, rmu, time, place, row, &message, running);
+        }
+    }
+}
+
+// The same, by the row of delays and the message as all get it. Where it is called for a BIU or an RMU alone, the kind of the receivers
+// is known when it is compiled.
+#[inline(always)]
+fn spread_from(
+    agenda: &mut Agenda,
+    delays: &Delays,
+    from: NodeName,
+    time: u64,
+    place: Place,
+    row: &[u32],
+    message: &Arrival,
+    running: u16,
+)
+    requires row { IsRow delays.now from place row.now }
+    requires sender { message.now.from ≡ number_of from }
+    requires room { HaveRoom (other (kind_of from)) running agenda.old }
+    requires time { time < 2 ^ 53 }
+    ensures { agenda.new ≡ lanes_with (other (kind_of from)) (coming_to delays.now from time place message.now.bytes) (has running) agenda.old }
+{
+    let mut left = NodeSet::<Rmu>::from_bits(running);
+    while let Some(id) = left.pop_first() {
+        let i = id.index();
+        let node = receiver(from, i);
+        let delay = delay_in(row, delays, from, i, place);
+        agenda.push_like(node, time + u64::from(delay), message);
+    }
+}
+
+/// Puts a message of a good node into the lanes of the nodes of the other kind that still run, one bit of `running` for each. It
+/// comes to each at the time of the sending tick and the delay of the link, and all get the same bytes. `clock` is the sender's.
+pub fn send(
+    agenda: &mut Agenda,
+    clock: &Clock,
+    delays: &Delays,
+    version: Version,
+    departure: &Departure,
+    running: u16,
+)
+    requires tick { departure.now.tick ≤ 2 ^ 31 }
+    requires some_stage { 1 ≤ departure.now.message.stage }
+    requires most_stages { departure.now.message.stage ≤ 3 }
+    requires value { IsZeroUnlessWord departure.now.message.tag departure.now.message.value }
+    requires room { HaveRoom (other (kind_of departure.now.from)) running agenda.old }
+    ensures lanes { agenda.new ≡ with_departure clock.now delays.now version departure.now running agenda.old }
+    ensures world { (sc : Scenario) → (sites : Each Site) → IsOfScenario sc clock.now delays.now version departure.now
+        → AreRunning (other (kind_of departure.now.from)) running sites
+        → HoldsSites sc.sizes agenda.old sites → HoldsSites sc.sizes agenda.new (with_sent sc departure.now sites) }
+{
+    let Departure {
+        from,
+        frame,
+        tick,
+        message,
+    } = *departure;
+    let bytes = Spelling::of_message(version, &message);
+    let place = Place {
+        frame,
+        slot: message.slot,
+        stage: message.stage,
+    };
+    spread(agenda, delays, from, clock.at(tick), place, &bytes, running);
+}
