@@ -87,3 +87,23 @@ impl Voters {
         }
     }
 }
+
+/// The two voters, in boxes that this allocator gives; where it gives none, its error leaves by `?`. They are made in the function
+/// that calls this, since a function may not hand out a boxed closure.
+#[macro_export]
+macro_rules! voters {
+    ($alloc:expr) => {
+        $crate::Voters::new(
+            $crate::Voter {
+                pick: Box::new($alloc, |values: &arrayvec::ArrayVec<rb_base::Heard, 16>| {
+                    $crate::most_of(values)
+                })?,
+            },
+            $crate::Voter {
+                pick: Box::new($alloc, |values: &arrayvec::ArrayVec<rb_base::Heard, 16>| {
+                    $crate::mid_of(values)
+                })?,
+            },
+        )
+    };
+}

@@ -124,3 +124,39 @@ impl Apps {
         }
     }
 }
+
+/// The three applications, in boxes that this allocator gives; where it gives none, its error leaves by `?`. They are made in the
+/// function that calls this, since a function may not hand out a boxed closure.
+#[macro_export]
+macro_rules! applications {
+    ($alloc:expr) => {
+        $crate::Apps::new(
+            $crate::App {
+                offer: Box::new($alloc, |state: u64, _slot: u16| (state % 4294967296) as u32)?,
+                learn: Box::new(
+                    $alloc,
+                    |state: u64, _slot: u16, _sender: u8, _value: Option<u32>| state,
+                )?,
+            },
+            $crate::App {
+                offer: Box::new($alloc, |state: u64, _slot: u16| (state % 4294967296) as u32)?,
+                learn: Box::new(
+                    $alloc,
+                    |state: u64, _slot: u16, _sender: u8, _value: Option<u32>| state.wrapping_add(1),
+                )?,
+            },
+            $crate::App {
+                offer: Box::new($alloc, |state: u64, slot: u16| {
+                    ((u128::from(state) + u128::from(slot)) % 4294967296) as u32
+                })?,
+                learn: Box::new(
+                    $alloc,
+                    |state: u64, _slot: u16, _sender: u8, value: Option<u32>| {
+                        ((31 * u128::from(state) + u128::from(value.unwrap_or(0)))
+                            % 18446744073709551616) as u64
+                    },
+                )?,
+            },
+        )
+    };
+}

@@ -4,7 +4,7 @@
 
 use rb_bridge_top::run_bridge;
 use rb_outside::{PlainSource, StdSink};
-use rb_port::{App, Apps};
+use rb_port::{Apps, applications};
 use rb_world::FirstDrive;
 use std::alloc::{AllocError, Global};
 use std::{fs, io};
@@ -40,37 +40,7 @@ fn try_bridge(rt: &HostRuntime, apps: &Apps, file: &str) -> anyhow::Result<()> {
 
 fn main(rt: HostRuntime) -> anyhow::Result<()> {
     let alloc = rt.alloc();
-    let table = App {
-        offer: Box::new(alloc, |state: u64, _slot: u16| {
-            (state % 4294967296) as u32
-        })?,
-        learn: Box::new(
-            alloc,
-            |state: u64, _slot: u16, _sender: u8, _value: Option<u32>| state,
-        )?,
-    };
-    let counter = App {
-        offer: Box::new(alloc, |state: u64, _slot: u16| {
-            (state % 4294967296) as u32
-        })?,
-        learn: Box::new(
-            alloc,
-            |state: u64, _slot: u16, _sender: u8, _value: Option<u32>| state.wrapping_add(1),
-        )?,
-    };
-    let follow = App {
-        offer: Box::new(alloc, |state: u64, slot: u16| {
-            ((u128::from(state) + u128::from(slot)) % 4294967296) as u32
-        })?,
-        learn: Box::new(
-            alloc,
-            |state: u64, _slot: u16, _sender: u8, value: Option<u32>| {
-                ((31 * u128::from(state) + u128::from(value.unwrap_or(0)))
-                    % 18446744073709551616) as u64
-            },
-        )?,
-    };
-    let apps = Apps::new(table, counter, follow);
+    let apps = applications!(alloc);
     let runs = fs::read_to_string(&rt, "runs.txt")?;
     for file in runs.lines() {
         try_bridge(&rt, &apps, file)?;

@@ -3,46 +3,12 @@ ghost use Rattle.std.specs.Prelude.{IfOk};
 ghost use Rattle.rb_run.specs.Runs.{HasGivenNothing};
 
 use rb_base::Event;
-use rb_port::{App, Apps};
+use rb_port::applications;
 use rb_run::{Ending, Totals, tally};
 use rb_scenario::read;
 use rb_world::{FirstDrive, Ties, Turn, World};
 use std::alloc::{AllocError, Global};
 use std::test::Fail;
-
-/// The three applications. They are made where they are used, since nobody else may hand them on.
-macro_rules! applications {
-    ($alloc:expr) => {
-        Apps::new(
-            App {
-                offer: Box::new($alloc, |state: u64, _slot: u16| (state % 4294967296) as u32)?,
-                learn: Box::new(
-                    $alloc,
-                    |state: u64, _slot: u16, _sender: u8, _value: Option<u32>| state,
-                )?,
-            },
-            App {
-                offer: Box::new($alloc, |state: u64, _slot: u16| (state % 4294967296) as u32)?,
-                learn: Box::new(
-                    $alloc,
-                    |state: u64, _slot: u16, _sender: u8, _value: Option<u32>| state.wrapping_add(1),
-                )?,
-            },
-            App {
-                offer: Box::new($alloc, |state: u64, slot: u16| {
-                    ((u128::from(state) + u128::from(slot)) % 4294967296) as u32
-                })?,
-                learn: Box::new(
-                    $alloc,
-                    |state: u64, _slot: u16, _sender: u8, value: Option<u32>| {
-                        ((31 * u128::from(state) + u128::from(value.unwrap_or(0)))
-                            % 18446744073709551616) as u64
-                    },
-                )?,
-            },
-        )
-    };
-}
 
 /// The run of a document before its first event.
 pub(crate) fn opened(alloc: Global, document: &[u8]) -> Result<World, Fail>

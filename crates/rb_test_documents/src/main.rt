@@ -2,11 +2,9 @@
 //! The documents and the outputs that are wanted come from an independent model.
 #![tactic(auto)]
 
-use arrayvec::ArrayVec;
-use rb_base::Heard;
-use rb_group::{Voter, Voters, mid_of, most_of};
+use rb_group::{Voters, voters};
 use rb_outside::{PlainSource, StdSink};
-use rb_port::{App, Apps};
+use rb_port::{Apps, applications};
 use rb_top::run_robus;
 use rb_world::FirstDrive;
 use std::alloc::{AllocError, Global};
@@ -50,44 +48,8 @@ fn try_document(
 
 fn main(rt: HostRuntime) -> anyhow::Result<()> {
     let alloc = rt.alloc();
-    let table = App {
-        offer: Box::new(alloc, |state: u64, _slot: u16| {
-            (state % 4294967296) as u32
-        })?,
-        learn: Box::new(
-            alloc,
-            |state: u64, _slot: u16, _sender: u8, _value: Option<u32>| state,
-        )?,
-    };
-    let counter = App {
-        offer: Box::new(alloc, |state: u64, _slot: u16| {
-            (state % 4294967296) as u32
-        })?,
-        learn: Box::new(
-            alloc,
-            |state: u64, _slot: u16, _sender: u8, _value: Option<u32>| state.wrapping_add(1),
-        )?,
-    };
-    let follow = App {
-        offer: Box::new(alloc, |state: u64, slot: u16| {
-            ((u128::from(state) + u128::from(slot)) % 4294967296) as u32
-        })?,
-        learn: Box::new(
-            alloc,
-            |state: u64, _slot: u16, _sender: u8, value: Option<u32>| {
-                ((31 * u128::from(state) + u128::from(value.unwrap_or(0)))
-                    % 18446744073709551616) as u64
-            },
-        )?,
-    };
-    let apps = Apps::new(table, counter, follow);
-    let most = Voter {
-        pick: Box::new(alloc, |values: &ArrayVec<Heard, 16>| most_of(values))?,
-    };
-    let mid = Voter {
-        pick: Box::new(alloc, |values: &ArrayVec<Heard, 16>| mid_of(values))?,
-    };
-    let voters = Voters::new(most, mid);
+    let apps = applications!(alloc);
+    let voters = voters!(alloc);
     let runs = fs::read_to_string(&rt, "runs.txt")?;
     for line in runs.lines() {
         if let Some((words, file)) = line.rsplit_once(' ') {

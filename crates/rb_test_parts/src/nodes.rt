@@ -19,13 +19,18 @@ fn first_ticks(rt: HostRuntime) -> Result<(), Fail> {
     Ok(())
 }
 
+// A node that these bytes of this source come to, and then has a tick.
+fn come_before_a_tick<K: Kind>(node: &mut Node<K>, from: u8, bytes: &[u8]) {
+    node.arrive(from, bytes);
+    let _step = node.step(0);
+}
+
 // The ticks that a node has had where after each arrival it has one: of every source, and with so many bytes, up to 40.
 fn ticks_between_arrivals<K: Kind>(node: &mut Node<K>) -> u64 {
     let bytes = [7; 40];
     for from in 0..=255u8 {
         for length in 0..=40usize {
-            node.arrive(from, &bytes[..length]);
-            let _step = node.step(0);
+            come_before_a_tick(node, from, &bytes[..length]);
         }
     }
     node.had()

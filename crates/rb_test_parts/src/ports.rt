@@ -1,6 +1,6 @@
 //! What stands behind a BIU: its application, and the port.
 use rb_base::{Delivery, Heard};
-use rb_port::{App, Apps, Port};
+use rb_port::{Port, applications};
 use std::test::Fail;
 
 fn delivery(slot: u16, value: Heard) -> Delivery {
@@ -15,37 +15,7 @@ fn delivery(slot: u16, value: Heard) -> Delivery {
 #[test]
 fn ports(rt: HostRuntime) -> Result<(), Fail> {
     let alloc = rt.alloc();
-    let table = App {
-        offer: Box::new(alloc, |state: u64, _slot: u16| {
-            (state % 4294967296) as u32
-        })?,
-        learn: Box::new(
-            alloc,
-            |state: u64, _slot: u16, _sender: u8, _value: Option<u32>| state,
-        )?,
-    };
-    let counter = App {
-        offer: Box::new(alloc, |state: u64, _slot: u16| {
-            (state % 4294967296) as u32
-        })?,
-        learn: Box::new(
-            alloc,
-            |state: u64, _slot: u16, _sender: u8, _value: Option<u32>| state.wrapping_add(1),
-        )?,
-    };
-    let follow = App {
-        offer: Box::new(alloc, |state: u64, slot: u16| {
-            ((u128::from(state) + u128::from(slot)) % 4294967296) as u32
-        })?,
-        learn: Box::new(
-            alloc,
-            |state: u64, _slot: u16, _sender: u8, value: Option<u32>| {
-                ((31 * u128::from(state) + u128::from(value.unwrap_or(0)))
-                    % 18446744073709551616) as u64
-            },
-        )?,
-    };
-    let apps = Apps::new(table, counter, follow);
+    let apps = applications!(alloc);
 
     // Two BIUs that follow each other hold one state.
     let mut port = Port::new(alloc, 2, 1)?;

@@ -2,7 +2,7 @@
 use arrayvec::ArrayVec;
 use rb_base::Heard::{Fault, Word};
 use rb_base::{Biu, Delivery, Heard, NodeSet};
-use rb_group::{Group, Voter, Voters, Which, mid_of, most_of};
+use rb_group::{Group, Which, voters};
 use rb_mid::middle;
 use rb_vote::majority;
 use std::test::Fail;
@@ -36,14 +36,7 @@ const VOTES: [(&[Heard], Heard, Heard); 14] = [
 #[test]
 fn votes(rt: HostRuntime) -> Result<(), Fail> {
     let alloc = rt.alloc();
-    let voters = Voters::new(
-        Voter {
-            pick: Box::new(alloc, |values: &ArrayVec<Heard, 16>| most_of(values))?,
-        },
-        Voter {
-            pick: Box::new(alloc, |values: &ArrayVec<Heard, 16>| mid_of(values))?,
-        },
-    );
+    let voters = voters!(alloc);
     for (values, most, mid) in VOTES {
         let list = ArrayVec::try_from(values)?;
         assert_eq!(rt; majority(&list), most, "vote over {values:?}");

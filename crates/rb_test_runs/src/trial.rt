@@ -1,63 +1,13 @@
 //! How a case is tried.
-use arrayvec::ArrayVec;
-use rb_base::Heard;
 use rb_bridge_top::run_bridge;
-use rb_group::{Voter, Voters, mid_of, most_of};
+use rb_group::voters;
 use rb_outside::{MemSink, MemSource, PlainSource, Sink, Source};
-use rb_port::{App, Apps};
+use rb_port::applications;
 use rb_top::{Status, run_robus};
 use rb_world::{Drive, FirstDrive};
 use std::alloc::{AllocError, Global};
 use std::process::Abort;
 use std::test::Fail;
-
-/// The three applications. They are made where they are used, since nobody else may hand them on.
-macro_rules! applications {
-    ($alloc:expr) => {
-        Apps::new(
-            App {
-                offer: Box::new($alloc, |state: u64, _slot: u16| (state % 4294967296) as u32)?,
-                learn: Box::new(
-                    $alloc,
-                    |state: u64, _slot: u16, _sender: u8, _value: Option<u32>| state,
-                )?,
-            },
-            App {
-                offer: Box::new($alloc, |state: u64, _slot: u16| (state % 4294967296) as u32)?,
-                learn: Box::new(
-                    $alloc,
-                    |state: u64, _slot: u16, _sender: u8, _value: Option<u32>| state.wrapping_add(1),
-                )?,
-            },
-            App {
-                offer: Box::new($alloc, |state: u64, slot: u16| {
-                    ((u128::from(state) + u128::from(slot)) % 4294967296) as u32
-                })?,
-                learn: Box::new(
-                    $alloc,
-                    |state: u64, _slot: u16, _sender: u8, value: Option<u32>| {
-                        ((31 * u128::from(state) + u128::from(value.unwrap_or(0)))
-                            % 18446744073709551616) as u64
-                    },
-                )?,
-            },
-        )
-    };
-}
-
-/// The two voters, made as the applications are.
-macro_rules! voters {
-    ($alloc:expr) => {
-        Voters::new(
-            Voter {
-                pick: Box::new($alloc, |values: &ArrayVec<Heard, 16>| most_of(values))?,
-            },
-            Voter {
-                pick: Box::new($alloc, |values: &ArrayVec<Heard, 16>| mid_of(values))?,
-            },
-        )
-    };
-}
 
 /// Lines, each of which is meant once for each of the names, which take the place of its star.
 pub(crate) type Lines = (&'static str, &'static str);

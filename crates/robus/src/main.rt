@@ -2,11 +2,9 @@
 //! ends with the number of the status.
 #![tactic(auto)]
 
-use arrayvec::ArrayVec;
-use rb_base::Heard;
-use rb_group::{Voter, Voters, mid_of, most_of};
+use rb_group::voters;
 use rb_outside::{StdSink, StdSource};
-use rb_port::{App, Apps};
+use rb_port::{Apps, applications};
 use rb_top::run_robus;
 use rb_world::FirstDrive;
 use std::alloc::AllocError;
@@ -34,17 +32,10 @@ fn arguments(rt: &HostRuntime) -> Result<Vec<String>, u8> {
     arguments.skip(1).collect(rt.alloc()).map_err(|_| NO_MEMORY)
 }
 
-/// The top call with the words and these applications, or want of memory for the voters. They are made here, where they are known to
-/// answer as `Voters::new` asks.
+/// The top call with the words and these applications, or want of memory for the voters.
 fn serve_with(rt: &HostRuntime, words: &[String], apps: &Apps) -> Result<u8, AllocError> {
     let alloc = rt.alloc();
-    let most = Voter {
-        pick: Box::new(alloc, |values: &ArrayVec<Heard, 16>| most_of(values))?,
-    };
-    let mid = Voter {
-        pick: Box::new(alloc, |values: &ArrayVec<Heard, 16>| mid_of(values))?,
-    };
-    let voters = Voters::new(most, mid);
+    let voters = voters!(alloc);
     let mut input = StdSource::new(rt.reader());
     let mut output = StdSink::new(io::writer(rt));
     let mut drive = FirstDrive::new();
@@ -60,36 +51,10 @@ fn serve_with(rt: &HostRuntime, words: &[String], apps: &Apps) -> Result<u8, All
     Ok(status as u8)
 }
 
-/// The same, or want of memory for the applications. They are made here, where their entries are known to answer as `Apps::new` asks.
+/// The top call with the words, or want of memory for the applications or the voters.
 fn serve(rt: &HostRuntime, words: &[String]) -> Result<u8, AllocError> {
     let alloc = rt.alloc();
-    let table = App {
-        offer: Box::new(alloc, |state: u64, _slot: u16| (state % 4294967296) as u32)?,
-        learn: Box::new(
-            alloc,
-            |state: u64, _slot: u16, _sender: u8, _value: Option<u32>| state,
-        )?,
-    };
-    let counter = App {
-        offer: Box::new(alloc, |state: u64, _slot: u16| (state % 4294967296) as u32)?,
-        learn: Box::new(
-            alloc,
-            |state: u64, _slot: u16, _sender: u8, _value: Option<u32>| state.wrapping_add(1),
-        )?,
-    };
-    let follow = App {
-        offer: Box::new(alloc, |state: u64, slot: u16| {
-            ((u128::from(state) + u128::from(slot)) % 4294967296) as u32
-        })?,
-        learn: Box::new(
-            alloc,
-            |state: u64, _slot: u16, _sender: u8, value: Option<u32>| {
-                ((31 * u128::from(state) + u128::from(value.unwrap_or(0)))
-                    % 18446744073709551616) as u64
-            },
-        )?,
-    };
-    let apps = Apps::new(table, counter, follow);
+    let apps = applications!(alloc);
     serve_with(rt, words, &apps)
 }
 

@@ -4,7 +4,7 @@
 
 use rb_bridge_top::run_bridge;
 use rb_outside::{StdSink, StdSource};
-use rb_port::{App, Apps};
+use rb_port::{Apps, applications};
 use rb_world::FirstDrive;
 use std::alloc::AllocError;
 use std::io::ErrorKind;
@@ -49,36 +49,10 @@ fn serve_with(rt: &HostRuntime, words: &[String], apps: &Apps) -> u8 {
     status as u8
 }
 
-/// The same, or want of memory for the applications. They are made here, where their entries are known to answer as `Apps::new` asks.
+/// The top call with the words, or want of memory for the applications.
 fn serve(rt: &HostRuntime, words: &[String]) -> Result<u8, AllocError> {
     let alloc = rt.alloc();
-    let table = App {
-        offer: Box::new(alloc, |state: u64, _slot: u16| (state % 4294967296) as u32)?,
-        learn: Box::new(
-            alloc,
-            |state: u64, _slot: u16, _sender: u8, _value: Option<u32>| state,
-        )?,
-    };
-    let counter = App {
-        offer: Box::new(alloc, |state: u64, _slot: u16| (state % 4294967296) as u32)?,
-        learn: Box::new(
-            alloc,
-            |state: u64, _slot: u16, _sender: u8, _value: Option<u32>| state.wrapping_add(1),
-        )?,
-    };
-    let follow = App {
-        offer: Box::new(alloc, |state: u64, slot: u16| {
-            ((u128::from(state) + u128::from(slot)) % 4294967296) as u32
-        })?,
-        learn: Box::new(
-            alloc,
-            |state: u64, _slot: u16, _sender: u8, value: Option<u32>| {
-                ((31 * u128::from(state) + u128::from(value.unwrap_or(0)))
-                    % 18446744073709551616) as u64
-            },
-        )?,
-    };
-    let apps = Apps::new(table, counter, follow);
+    let apps = applications!(alloc);
     Ok(serve_with(rt, words, &apps))
 }
 
