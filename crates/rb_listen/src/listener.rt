@@ -55,7 +55,7 @@ impl Model for Listener {
     ghost invariant = { λ l. IsSound l.plan.sizes l.plan.plan l.stage l.search l.follower };
 }
 
-// It tells nothing.
+// What a listener tells that tells nothing.
 fn no_heed() -> Heed
     ensures { result ≡ no_heed }
 {

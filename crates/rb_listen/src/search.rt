@@ -43,7 +43,7 @@ pub(crate) fn first_search() -> Search
     }
 }
 
-// It begins to learn the frame.
+// The listener begins to learn the frame.
 fn learn(search: &mut Search, frame: u16)
     ensures { search.new ≡ learning frame search.old }
 {
@@ -168,7 +168,7 @@ fn decide(search: &mut Search, plan: &Feasible) -> Stage
     }
 }
 
-// It waits for the first frame, where that begins after the decision.
+// The listener waits for the first frame that it follows, where that begins after the decision.
 fn wait(search: &mut Search, first: First) -> Stage
     requires soon { AreSoon search.old.lesson.records }
     requires had { search.old.had < 2 ^ 31 }

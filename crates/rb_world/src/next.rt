@@ -84,7 +84,8 @@ impl World {
         unreachable!()
     }
 
-    // The same by first choices: from tick to tick. What the node that is observed is given up to there is told.
+    // The run goes on to its next record, from tick to tick, where the first event that is due is taken each time. The observer is
+    // told what the observed node is given on the way.
     #[inline(always)]
     fn run_first<T: Observer>(
         &mut self,
@@ -117,8 +118,8 @@ impl World {
         self.last = last_of(turn);
     }
 
-    // The same, where no node is observed. It is a call of its own, so that the turn which `next` gives is made where it is wanted, and not
-    // copied.
+    // The run goes on to its next record where no node is observed. It is a call of its own, so that the turn which `next` gives is
+    // made where it is wanted, and not copied.
     #[inline(never)]
     fn run_unobserved(&mut self, apps: &Apps, turn: &mut Turn)
         requires stands { (w : RunWorld) × Stands self.old w }
@@ -129,7 +130,7 @@ impl World {
         self.run_first(apps, turn, None, &mut Nobody);
     }
 
-    // The same for any choices.
+    // The run goes on to its next record by any choices among the events that are due.
     #[inline(always)]
     fn run_on(&mut self, apps: &Apps, ties: Ties, draws: &mut Draws, turn: &mut Turn)
         requires stands { (w : RunWorld) × Stands self.old w }

@@ -102,7 +102,7 @@ fn tell_tick<K: Kind, T: Observer>(
     observer.observe(frame_of(site), &event);
 }
 
-// It is told if the node is the one that is observed.
+// The observer is told of a node's tick if that node is the one that is observed.
 #[inline(always)]
 pub(crate) fn tell_tick_for<K: Kind, T: Observer>(
     bus: &Bus,

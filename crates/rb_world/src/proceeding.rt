@@ -57,7 +57,7 @@ fn stop_at(bus: &Bus, node: NodeName, scene: &mut Scene)
     }
 }
 
-// The node goes on, whatever its windows may bring it.
+// The node goes on to its next tick where it may stop, or be told something, in a window that begins.
 #[inline(always)]
 fn proceed_in_full<K: Kind>(bus: &Bus, node: NodeName, site: &mut Site<K>, scene: &mut Scene)
     requires name { node ≡ name_of (side_of K.CODE) (number_of site.old) }
@@ -92,7 +92,7 @@ pub(crate) fn proceed<K: Kind>(bus: &Bus, node: NodeName, site: &mut Site<K>, sc
     }
 }
 
-/// The same within a window, where none begins with its next tick.
+/// The node goes on to its next tick where no window begins with that tick.
 #[inline(always)]
 pub(crate) fn proceed_within<K: Kind>(bus: &Bus, node: NodeName, site: &Site<K>, scene: &mut Scene)
     requires name { node ≡ name_of (side_of K.CODE) (number_of site.now) }

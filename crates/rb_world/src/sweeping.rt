@@ -100,7 +100,7 @@ pub(crate) fn take_in_all<K: Kind>(
     agenda.take_tick(node);
 }
 
-// So with each arrival told to an observer before it is taken.
+// What comes to the node before this time is taken, and each arrival is told to an observer before it is taken.
 fn sweep_told<K: Kind, T: Observer>(
     bus: &Bus,
     node: NodeName,

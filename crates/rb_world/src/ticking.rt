@@ -190,7 +190,7 @@ fn tick_with_word<K: Kind>(
     depart(bus, node, frame, k, step.message, scene);
 }
 
-// The same, where most often all that happens at the tick is that the node says a message within a window.
+// A node takes its next tick. Most often all that happens at it is that the node says a message within a window.
 #[inline(never)]
 fn tick_in_full<K: Kind>(
     bus: &Bus,

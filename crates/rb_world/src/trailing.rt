@@ -126,7 +126,7 @@ fn take_first<T: Observer>(
     (node, time)
 }
 
-// And what that completes is settled.
+// The first tick of all is taken at its node, and what that completes is settled.
 #[inline(always)]
 fn tick_first<T: Observer>(
     bus: &Bus,
