@@ -1,8 +1,10 @@
 -- The sets that a standing holds, as the code makes them and as the rules have them.
-use Rattle.std.proofs.Common.{◌≡◌, ℕ, ◌+◌, Bool, true, false, not, ◌&&◌, ◌||◌, ◌==◌, if◌then◌else◌, refl, ◌∙◌, ap}
+use Rattle.std.proofs.Common.{◌≡◌, ℕ, ◌+◌, Bool, true, false, not, ◌&&◌, ◌||◌, ◌==◌, if◌then◌else◌, refl, ◌∙◌, ap, subst}
 use Rattle.rb_base.specs.Nodes.{has, set_of}
 use Rattle.rb_base.proofs.Sets.{has-is, same_set_of}
 use Rattle.rb_base.proofs.SetLoops.{passing_below, passing_more, passing_same}
+use Rattle.rb_rules.specs.Probation.{HasNewest, StandsForNewest, newest_with}
+use Rattle.rb_rules.specs.Standing.{Standing, with_evidence, with_mismatch}
 
 -- what a set has in common with the nodes that pass
 pub common_of : (s t r : ℕ) (p : ℕ → Bool) → r ≡ set_of (λ i. has s i && has t i) → t ≡ set_of p → r ≡ set_of (λ i. has s i && p i)
@@ -38,3 +40,19 @@ wrong_is t e o c missed unasked wrong evidence missed_are unasked_are either evi
     one_way true true c = elim c as (λ c. (false || (c && false)) ≡ false) [ true ↦ refl | false ↦ refl ]
     one_way true false c = refl
     one_way false o c = elim c as (λ c. (false || (c && true)) ≡ c) [ true ↦ refl | false ↦ refl ]
+
+-- evidence against the nodes of a set, and mismatch accusations of them, by the test that makes the set
+pub evidence_of : (t : ℕ) (p : ℕ → Bool) (s : Standing) → t ≡ set_of p → with_evidence (has t) s ≡ with_evidence p s
+evidence_of t p s is =
+    let joined : (a : ℕ) → set_of (λ j. has a j || has t j) ≡ set_of (λ j. has a j || p j) =
+    λ a. same_set_of _ _ (λ j h. ap (λ b. has a j || b) (has-is t j p is h)) in
+    rw (joined s.direct, joined s.fresh) refl
+
+pub mismatch_of : (t : ℕ) (p : ℕ → Bool) (s : Standing) → t ≡ set_of p → with_mismatch (has t) s ≡ with_mismatch p s
+mismatch_of t p s is =
+    ap (λ (m : ℕ). record s { mismatch = m }) (same_set_of _ _ (λ j h. ap (λ b. has s.mismatch j || b) (has-is t j p is h)))
+
+pub newest_of : (t : ℕ) (p : ℕ → Bool) (s : Standing) (frame : ℕ) (newest : ℕ → ℕ) → t ≡ set_of p
+    → HasNewest s frame (newest_with (has t) frame newest) → HasNewest s frame (newest_with p frame newest)
+newest_of t p s frame newest is kept =
+    λ j below accused. subst (StandsForNewest s frame j) (ap (λ b. if b then frame else newest j) (has-is t j p is below)) (kept j below accused)

@@ -48,7 +48,7 @@ impl<K: Copy> Standing<K> {
     pub fn eligible(&self, id: NodeId<K>) -> bool
         ensures { result ≡ is_eligible (standing_of self.now) id }
     {
-        self.trusted.contains(id) && !self.direct.contains(id)
+        self.eligible_of(NodeSet::only(id)).has(id.index())
     }
 
     /// Those nodes of the set that are eligible.
@@ -64,8 +64,7 @@ impl<K: Copy> Standing<K> {
         ensures newest { (frame : ℕ) (newest : ℕ → ℕ) → HasNewest (standing_of self.old) frame newest
             → HasNewest (standing_of self.new) frame (newest_with (λ j. j == id) frame newest) }
     {
-        self.direct.insert(id);
-        self.fresh.insert(id);
+        self.accuse_each(NodeSet::only(id));
     }
 
     /// The nodes against which there is direct evidence: the trusted ones that were expected and didn't send exactly their
@@ -93,7 +92,14 @@ impl<K: Copy> Standing<K> {
     pub fn accuse_mismatch(&mut self, id: NodeId<K>)
         ensures { standing_of self.new ≡ with_mismatch (λ j. j == id) (standing_of self.old) }
     {
-        self.mismatch.insert(id);
+        self.accuse_differing(NodeSet::only(id));
+    }
+
+    /// Accuses each node of the set for a value that differed. They stay eligible.
+    pub fn accuse_differing(&mut self, set: NodeSet<K>)
+        ensures { standing_of self.new ≡ with_mismatch (has set) (standing_of self.old) }
+    {
+        self.mismatch = self.mismatch.union(set);
     }
 
     /// Trusts the nodes of the set no longer, for good.

@@ -161,7 +161,14 @@ pub fn accuse_unlike<K: Copy>(closing: &Closing, value: Heard, standing: &mut St
     for source in 0..16u8 {
         differing = with_differing(differing, source, value, closing.taken[usize::from(source)]);
     }
-    standing.mismatch = standing.mismatch.union(differing);
+    standing.accuse_differing(differing);
+}
+
+/// What a node says as a relay that took this of the slot's sender in stage 1: Fault where it took nothing.
+pub fn relay_of(taken: Option<Heard>) -> Heard
+    ensures { result ≡ unwrap_or taken Heard.Fault }
+{
+    taken.unwrap_or(Heard::Fault)
 }
 
 /// What a node says as a relay of the slot's sender, a node below 16: what it took of it in stage 1, and Fault where it took
@@ -170,5 +177,5 @@ pub fn relay(closing: &Closing, sender: u8) -> Heard
     requires { sender < 16 }
     ensures { result ≡ unwrap_or (at_source closing.now.taken sender) Heard.Fault }
 {
-    closing.taken[usize::from(sender)].unwrap_or(Heard::Fault)
+    relay_of(closing.taken[usize::from(sender)])
 }
