@@ -13,7 +13,7 @@ pub record AgreeOnSuspects (kind : Side) (xs ys : List JudgedStage) : Type 0 whe
   pub unlike : (j : ℕ) → j < 16 → is_suspect kind xs j ≡ true → list_any (was_unlike kind j) xs ≡ list_any (was_unlike kind j) ys
   pub taken : (j : ℕ) → j < 16 → is_suspect kind xs j ≡ true → list_any (was_taken kind j) xs ≡ list_any (was_taken kind j) ys
 
-under : (s a b : Bool) → (s ≡ true → a ≡ b) → (s && a) ≡ (s && b)
+pub under : (s a b : Bool) → (s ≡ true → a ≡ b) → (s && a) ≡ (s && b)
 under true a b same = same refl
 under false a b same = refl
 

@@ -41,7 +41,7 @@ set_by op a b r p q a_is b_is r_is =
 -- ---- a stage begins
 
 -- nobody saw anything
-source_none : (eps good : ℕ) (seen : SourceSights) → seen.by ≡ 0 → seen.heard ≡ false → seen.unlike ≡ false → ShowsSource eps good (λ i. Nothing) seen
+pub source_none : (eps good : ℕ) (seen : SourceSights) → seen.by ≡ 0 → seen.heard ≡ false → seen.unlike ≡ false → ShowsSource eps good (λ i. Nothing) seen
 source_none eps good seen by_none none_heard alike = record {
   by = λ i h. ap (λ s. has s i) by_none ∙ has_none i;
   within = λ i h now. absurd (let e : has seen.by i ≡ false = ap (λ s. has s i) by_none ∙ has_none i in cc);
@@ -76,7 +76,7 @@ unfolding some_node
 was_taken_is kind j x = refl
 
 -- who saw something is good
-heard_is : (eps good : ℕ) (sight : ℕ → See) (seen : SourceSights) → ShowsSource eps good sight seen
+pub heard_is : (eps good : ℕ) (sight : ℕ → See) (seen : SourceSights) → ShowsSource eps good sight seen
     → seen.heard ≡ some_node (λ i. has good i && is_something (sight i))
 heard_is eps good sight seen is =
     let at : (g b s : Bool) → b ≡ s → (b ≡ true → g ≡ true) → b ≡ (g && s) =

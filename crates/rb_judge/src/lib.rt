@@ -10,6 +10,7 @@ ghost use Rattle.rb_judge.specs.Stages.{Knows, HoldsStages, has_noted, is_good_n
 pub use classes::Classes;
 use rb_base::{Biu, NodeName, NodeSet, Rmu, See, Shape};
 pub use rb_rules::Cause;
+pub use seen::{KeptSight, SourceSights};
 use sources::Sources;
 pub use stage_sets::StageSets;
 use std::marker::Model;

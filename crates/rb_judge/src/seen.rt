@@ -2,6 +2,7 @@
 ghost use Rattle.std.specs.Prelude.{◌≡◌, ℕ, ◌<◌, true, false, ◌==◌, if◌then◌else◌};
 ghost use Rattle.rb_base.specs.Nodes.{has};
 ghost use Rattle.rb_base.specs.declared.values.See.{See};
+ghost use Rattle.rb_base.specs.declared.values.See.TheVariants.{Nothing};
 ghost use Rattle.rb_rules.specs.Majority.{same_heard};
 ghost use Rattle.rb_judge.specs.Sights.{ShowsSource, clashes, is_unlike, kept_of, kept_with, widened};
 
@@ -31,8 +32,21 @@ pub struct SourceSights {
 }
 
 impl SourceSights {
-    /// One sight more. The receiver is good, and saw nothing of the source so far.
-    pub(crate) fn noted<R: Copy>(
+    /// Of a source of which nobody saw anything.
+    pub fn none() -> SourceSights
+        ensures { (eps good : ℕ) → ShowsSource eps good (λ i. Nothing) result }
+    {
+        SourceSights {
+            by: 0,
+            heard: false,
+            unlike: false,
+            kept: KeptSight::Unlike,
+        }
+    }
+
+    /// One sight more. The receiver is one of the good ones, and saw nothing of the source so far. The times of one message may be
+    /// `eps` reference units apart.
+    pub fn noted<R: Copy>(
         self,
         good: NodeSet<R>,
         eps: u32,

@@ -7,11 +7,9 @@ use Rattle.std.proofs.lemmas.List.Elements.{filter_map-append}
 use Rattle.rb_base.specs.Nodes.{has}
 use Rattle.rb_rules.specs.Book.{Row, map_from}
 use Rattle.rb_rules.specs.ExactStage.{present}
-use Rattle.rb_judge.proofs.SomeNode.{some_is, some_none, and_both}
-use Rattle.rb_base.proofs.Sets.{lt_true}
 use Rattle.rb_world_book.specs.declared.told.Told.{Told}
 use Rattle.rb_world_book.specs.Telling.{no_told, told_at}
-use Rattle.rb_world_book.specs.Waiting.{first_trusted, found_of, some_good}
+use Rattle.rb_world_book.specs.Waiting.{first_trusted, found_of}
 
 pub map_from-append : {X Y : Type 0} (k : ℕ) (f : ℕ → X → Y) (xs ys : List X) → map_from k f (xs ++ ys) ≡ map_from k f xs ++ map_from (k + length xs) f ys
 map_from-append k f [] ys = let e : k + 0 ≡ k = omega arith in rw e refl
@@ -64,22 +62,6 @@ pub adds_more : {X : Type 0} (find : ℕ → Told → Option X) (told : List Tol
 adds_more find told i before now after h so_far is =
     is ∙ ap (λ l. l ++ option_to_list (find i (told_at told i))) so_far ∙ append_assoc before (found_of find i told) _
     ∙ ap (λ l. before ++ l) (sym (found_more find told i h))
-
--- Whether some good one passes.
-
-pub some_good_found : (count good : ℕ) (passes : ℕ → Bool) (i : ℕ) → i < count → count ≤ 16 → (has good i && passes i) ≡ true → some_good count good passes ≡ true
-unfolding some_good
-some_good_found count good passes i h most is =
-    some_is (λ i. nat_lt i count && (has good i && passes i)) i (omega arith) (and_both (nat_lt i count) (has good i && passes i) (lt_true i count h) is)
-
-pub some_good_none : (count good : ℕ) (passes : ℕ → Bool) → ((i : ℕ) → i < count → (has good i && passes i) ≡ false) → some_good count good passes ≡ false
-unfolding some_good
-some_good_none count good passes none =
-    some_none (λ i. nat_lt i count && (has good i && passes i)) (λ i h. go i (nat_lt i count) refl)
-  where
-    go : (i : ℕ) (b : Bool) → nat_lt i count ≡ b → (b && (has good i && passes i)) ≡ false
-    go i true e = none i (grind (arith, nat_tests))
-    go i false e = refl
 
 -- a list that has grown by what is found of one node more
 pub record HasAdded {X : Type 0} (find : ℕ → Told → Option X) (told : List Told) (k : ℕ) (before now : List X) : Type 0 where

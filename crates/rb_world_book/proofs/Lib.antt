@@ -1,6 +1,6 @@
 pub mod Found
 pub mod Popped
-pub mod Alike
+pub mod Sights
 pub mod Counted
 pub mod Rows
 pub mod Sources

@@ -1,5 +1,5 @@
 -- Walks over the members of a set, of which the first is taken out until none is left.
-use Rattle.std.proofs.Common.{◌≡◌, ℕ, zero, suc, ◌+◌, ◌-◌, ◌<◌, ◌≤◌, ◌⊎◌, ◌&&◌, ◌||◌, ◌==◌, not, nat_lt, Bool, true, false, List, [], ◌++◌, length, Option, Some, None, inl, inr, refl, sym, ◌∙◌, ap, subst, arith}
+use Rattle.std.proofs.Common.{◌≡◌, ℕ, zero, suc, ◌+◌, ◌-◌, ◌<◌, ◌≤◌, ◌⊎◌, ◌&&◌, ◌==◌, not, nat_lt, Bool, true, false, List, [], ◌++◌, length, Option, Some, None, inl, inr, refl, sym, ◌∙◌, ap, subst, arith, if◌then◌else◌}
 use Rattle.std.specs.Prelude.{is_some, option_to_list}
 use Rattle.std.proofs.lemmas.Bool.{cases_lt, cases_order}
 use Rattle.std.proofs.lemmas.List.{append-nil}
@@ -13,8 +13,12 @@ use Rattle.rb_rules.specs.WorldStep.{row_for}
 use Rattle.rb_world_book.specs.declared.milestone.Milestone.TheVariants.{Stage}
 use Rattle.rb_world_book.specs.declared.told.Told.{Told}
 use Rattle.rb_world_book.specs.Telling.{has_told, row_told, told_at}
-use Rattle.rb_world_book.specs.Waiting.{first_trusted, found_of, row_at, row_if, some_good}
-use Rattle.rb_world_book.proofs.Found.{HasAdded, found_first, found_more, found_none, line_added, some_good_found, some_good_none}
+use Rattle.rb_world_book.specs.Waiting.{first_trusted, found_of, row_at, row_if}
+use Rattle.rb_world_book.proofs.Found.{HasAdded, found_first, found_more, found_none, line_added}
+
+pub joined : (a b c : Bool) → ((a && b) && c) ≡ (a && (b && c))
+joined true b c = refl
+joined false b c = refl
 
 -- node i is one of so many, and in the set
 abbrev pub is_below : ℕ → ℕ → ℕ → Bool
@@ -28,19 +32,19 @@ those_are count set first is = same_set_of _ _ (λ i h. ap (λ b. b && has set i
 below : (i count : ℕ) → nat_lt i count ≡ true → i < count
 below i count e = grind (arith, nat_tests)
 
-same_or_not : (j k : ℕ) → (j ≡ k) ⊎ ((j == k) ≡ false)
+pub same_or_not : (j k : ℕ) → (j ≡ k) ⊎ ((j == k) ≡ false)
 same_or_not j k = elim (cases_order j k) [
   | inl same ↦ inl same
   | inr order ↦ inr (elim order as (λ _. (j == k) ≡ false) [ inl less ↦ eq_other j k (omega arith) | inr more ↦ eq_other j k (omega arith) ])
 ]
 
 -- the node that is taken out is no more left
-gone : (before after k : ℕ) → k < 16 → TakesFirst before after k → has after k ≡ false
+pub gone : (before after k : ℕ) → k < 16 → TakesFirst before after k → has after k ≡ false
 gone before after k h takes =
     has-is after k (λ i. has before i && not (i == k)) takes.rest h ∙ ap (λ b. has before k && not b) (eq_self k) ∙ and_none (has before k)
 
 -- all others stay
-stays : (before after k j : ℕ) → j < 16 → TakesFirst before after k → (j == k) ≡ false → has after j ≡ has before j
+pub stays : (before after k j : ℕ) → j < 16 → TakesFirst before after k → (j == k) ≡ false → has after j ≡ has before j
 stays before after k j h takes apart =
     has-is after j (λ i. has before i && not (i == k)) takes.rest h ∙ ap (λ b. has before j && not b) apart ∙ and_all (has before j)
 
@@ -52,7 +56,7 @@ each-next before after k P takes here so_far j h out = elim (same_or_not j k) [
   | inr apart ↦ so_far j h (sym (stays before after k j h takes apart) ∙ out)
 ]
 
-left-before : (before after k j : ℕ) → j < 16 → TakesFirst before after k → has after j ≡ true → has before j ≡ true
+pub left-before : (before after k j : ℕ) → j < 16 → TakesFirst before after k → has after j ≡ true → has before j ≡ true
 left-before before after k j h takes is = (and_parts _ _ (sym (has-is after j (λ i. has before i && not (i == k)) takes.rest h) ∙ is)).0
 
 -- Until a member passes.
@@ -74,20 +78,6 @@ one_less these before after k passes so_far takes fails = record {
   none = each-next before after k (λ j. these j ≡ true → passes j ≡ false) takes (λ e. fails) so_far.none;
 }
 
-pub one_passes : (count good before after k : ℕ) (passes : ℕ → Bool) → count ≤ 16 → NonePassed (is_below count good) before passes → TakesFirst before after k → k < 16 → passes k ≡ true
-    → some_good count good passes ≡ true
-one_passes count good before after k passes most so_far takes h is =
-    let both : (nat_lt k count ≡ true) × (has good k ≡ true) = and_parts _ _ (so_far.within k h takes.inside) in
-    some_good_found count good passes k (below k count both.0) most (ap (λ b. b && passes k) both.1 ∙ is)
-
-pub none_passes : (count good left : ℕ) (passes : ℕ → Bool) → count ≤ 16 → NonePassed (is_below count good) left passes → left ≡ 0 → some_good count good passes ≡ false
-none_passes count good left passes most so_far none =
-    some_good_none count good passes (λ i h. by i h (has good i) refl)
-  where
-    by : (i : ℕ) → i < count → (b : Bool) → has good i ≡ b → (b && passes i) ≡ false
-    by i h true e = so_far.none i (omega arith) (ap (λ s. has s i) none ∙ has_none i) (ap (λ b. b && has good i) (lt_true i count h) ∙ e)
-    by i h false e = refl
-
 -- A set of those that pass.
 
 -- the set has those that pass of these that are gone, and what is left is of these
@@ -105,61 +95,27 @@ none_gone these left set passes is none = record {
     never true b = refl
     never false b = refl
 
--- one more passes
-pub one_joins : (these : ℕ → Bool) (before after k set more : ℕ) (passes : ℕ → Bool) → ArePassed these before set passes → TakesFirst before after k → k < 16 → passes k ≡ true
-    → more ≡ set_of (λ i. has set i || (i == k)) → ArePassed these after more passes
-one_joins these before after k set more passes so_far takes hk is joined = record {
+-- one more joins, if it passes
+pub one_more : (these : ℕ → Bool) (before after k set more : ℕ) (passes : ℕ → Bool) (member : Bool) → ArePassed these before set passes → TakesFirst before after k → k < 16
+    → member ≡ passes k → more ≡ set_of (λ i. if i == k then member else has set i) → ArePassed these after more passes
+one_more these before after k set more passes member so_far takes hk is joined = record {
   within = λ j h e. so_far.within j h (left-before before after k j h takes e);
-  is = joined ∙ same_set_of _ _ (λ j h. ap (λ b. b || (j == k)) (has-is set j (λ j. these j && (not (has before j) && passes j)) so_far.is h) ∙ at j h);
+  is = joined ∙ same_set_of _ _ at;
 }
   where
-    or_none : (b : Bool) → (b || false) ≡ b
-    or_none true = refl
-    or_none false = refl
-
-    or_all : (b : Bool) → (b || true) ≡ true
-    or_all true = refl
-    or_all false = refl
-
-    at : (j : ℕ) → j < 16 → ((these j && (not (has before j) && passes j)) || (j == k)) ≡ (these j && (not (has after j) && passes j))
+    at : (j : ℕ) → j < 16 → (if j == k then member else has set j) ≡ (these j && (not (has after j) && passes j))
     at j h = elim (same_or_not j k) [
-      | inl same ↦ ap (λ b. (these j && (not (has before j) && passes j)) || b) (ap (λ n. n == k) same ∙ eq_self k) ∙ or_all _
-          ∙ sym (ap these same ∙ so_far.within k hk takes.inside) ∙ sym (and_all (these j))
-          ∙ sym (ap (λ b. these j && (not b && passes j)) (ap (has after) same ∙ gone before after k hk takes) ∙ ap (λ b. these j && b) (ap passes same ∙ is))
-      | inr apart ↦
-          ap (λ b. (these j && (not (has before j) && passes j)) || b) apart ∙ or_none _ ∙ ap (λ b. these j && (not b && passes j)) (sym (stays before after k j h takes apart))
+      | inl same ↦ ap (λ b. if b then member else has set j) (ap (λ n. n == k) same ∙ eq_self k) ∙ is ∙ ap passes (sym same)
+          ∙ sym (ap (λ b. b && (not (has after j) && passes j)) (ap these same ∙ so_far.within k hk takes.inside)
+          ∙ ap (λ b. true && (not b && passes j)) (ap (has after) same ∙ gone before after k hk takes))
+      | inr apart ↦ ap (λ b. if b then member else has set j) apart ∙ has-is set j (λ j. these j && (not (has before j) && passes j)) so_far.is h
+          ∙ ap (λ b. these j && (not b && passes j)) (sym (stays before after k j h takes apart))
     ]
 
--- one more does not
-pub one_fails : (these : ℕ → Bool) (before after k set : ℕ) (passes : ℕ → Bool) → ArePassed these before set passes → TakesFirst before after k → passes k ≡ false
-    → ArePassed these after set passes
-one_fails these before after k set passes so_far takes fails = record {
-  within = λ j h e. so_far.within j h (left-before before after k j h takes e);
-  is = so_far.is ∙ same_set_of _ _ (λ j h. at j h);
-}
-  where
-    never : (a b : Bool) → (a && (b && false)) ≡ false
-    never true true = refl
-    never true false = refl
-    never false b = refl
-
-    at : (j : ℕ) → j < 16 → (these j && (not (has before j) && passes j)) ≡ (these j && (not (has after j) && passes j))
-    at j h = elim (same_or_not j k) [
-      | inl same ↦
-          let out : passes j ≡ false = ap passes same ∙ fails in
-          ap (λ b. these j && (not (has before j) && b)) out ∙ never (these j) (not (has before j)) ∙ sym (ap (λ b. these j && (not (has after j) && b)) out ∙ never (these j) (not (has after j)))
-      | inr apart ↦
-          ap (λ b. these j && (not b && passes j)) (sym (stays before after k j h takes apart))
-    ]
-
-pub all_gone : (sources among left set : ℕ) (passes : ℕ → Bool) → ArePassed (is_below sources among) left set passes → left ≡ 0
-    → set ≡ set_of (λ j. nat_lt j sources && (has among j && passes j))
-all_gone sources among left set passes so_far none =
-    so_far.is ∙ same_set_of _ _ (λ j h. ap (λ b. (nat_lt j sources && has among j) && (not b && passes j)) (ap (λ s. has s j) none ∙ has_none j) ∙ joined (nat_lt j sources) (has among j) (passes j))
-  where
-    joined : (a b c : Bool) → ((a && b) && c) ≡ (a && (b && c))
-    joined true b c = refl
-    joined false b c = refl
+pub all_gone : (count : ℕ) (among : ℕ → Bool) (left set : ℕ) (passes : ℕ → Bool) → ArePassed (λ j. nat_lt j count && among j) left set passes → left ≡ 0
+    → set ≡ set_of (λ j. nat_lt j count && (among j && passes j))
+all_gone count among left set passes so_far none =
+    so_far.is ∙ same_set_of _ _ (λ j h. ap (λ b. (nat_lt j count && among j) && (not b && passes j)) (ap (λ s. has s j) none ∙ has_none j) ∙ joined (nat_lt j count) (among j) (passes j))
 
 -- The first of what is found.
 

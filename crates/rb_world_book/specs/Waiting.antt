@@ -4,7 +4,6 @@ use Rattle.rb_base.specs.Nodes.{Side, has, set_of}
 use Rattle.rb_base.specs.Nodes.Side.{Biu}
 use Rattle.rb_base.specs.declared.values.Place.{Place}
 use Rattle.rb_base.specs.declared.values.See.{See}
-use Rattle.rb_base.specs.declared.values.See.TheVariants as see
 use Rattle.rb_rules.specs.declared.record.NodeLine.{NodeLine}
 use Rattle.rb_rules.specs.declared.record.PortLine.{PortLine}
 use Rattle.rb_rules.specs.declared.record.SlotLine.{SlotLine}
@@ -55,12 +54,6 @@ was_taken count good told j = some_good count good (λ i. is_something (see_of (
 -- some good receiver saw source j unlike this
 abbrev pub differs : ℕ → ℕ → ℕ → List Told → ℕ → ℕ → Bool
 differs eps count good told j a = some_good count good (λ b. not (are_alike eps (see_of (told_at told a) j) (see_of (told_at told b) j)))
-
--- a source was seen with a time
-abbrev pub is_time : See → Bool
-is_time see.Nothing = false
-is_time (see.Value v) = false
-is_time (see.Time t) = true
 
 -- two good receivers saw source j unlike
 abbrev pub was_unlike : ℕ → ℕ → ℕ → List Told → ℕ → Bool

@@ -9,8 +9,8 @@ ghost use Rattle.rb_world_book.specs.Waiting.{all_but, waiting_for, was_taken, w
 
 use crate::milestone::Milestone;
 use crate::told::{Begin, Told};
-use crate::walks::{taken_among, unlike_among, waiting_for};
-use rb_base::{Biu, NodeId, NodeSet, Rmu};
+use crate::walks::{sights_of, waiting_for, with_or_without};
+use rb_base::{Biu, NodeSet, Rmu};
 use rb_judge::StageSets;
 use rb_rules::Closed;
 
@@ -26,20 +26,6 @@ pub struct Group<K> {
     pub lasting: NodeSet<K>,
     /// All others. As sources in the upcoming stage they are those of which it counts what is seen.
     pub counted: NodeSet<K>,
-}
-
-// The set with node i exactly where `member`.
-fn with_or_without<K: Copy>(set: NodeSet<K>, i: u8, member: bool) -> NodeSet<K>
-    requires { i < 16 }
-    ensures { result ≡ set_of (λ k. if k == i then member else has set k) }
-{
-    let mut changed = NodeSet::from_bits(set.bits());
-    if member {
-        changed.insert(NodeId::of(i));
-    } else {
-        changed.remove(NodeId::of(i));
-    }
-    changed
 }
 
 /// Of so many nodes those that are not in the set.
@@ -162,7 +148,7 @@ impl<K: Copy> Group<K> {
     }
 
     /// The sets of these nodes as sources in a stage, by what the receivers told of them. What was seen of those that are good to
-    /// the end of the frame is left out. A source of which no good receiver took anything is not seen unlike.
+    /// the end of the frame is left out.
     pub(crate) fn stage_sets<R: Copy>(
         &self,
         count: u8,
@@ -180,9 +166,15 @@ impl<K: Copy> Group<K> {
         ensures unlike { result.unlike
             ≡ set_of (λ j. nat_lt j count && (not (has self.now.lasting j) && was_unlike eps receivers others.now.good others.now.told j)) }
     {
-        let counted = NodeSet::first(count).difference(self.lasting);
-        let taken = taken_among(count, counted, receivers, others.good, &others.told);
-        let unlike = unlike_among(eps, count, taken, receivers, others.good, &others.told);
+        let mut left = all_but(count, self.lasting);
+        let mut taken = NodeSet::empty();
+        let mut unlike = NodeSet::empty();
+        while let Some(source) = left.pop_first() {
+            let j = source.index();
+            let sights = sights_of(eps, receivers, others.good, &others.told, j);
+            taken = with_or_without(taken, j, sights.heard);
+            unlike = with_or_without(unlike, j, sights.unlike);
+        }
         StageSets {
             good: self.good,
             trusted,

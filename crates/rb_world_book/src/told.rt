@@ -2,14 +2,13 @@
 ghost use Rattle.std.specs.Prelude.{◌≡◌, ◌<◌, slice_set, if◌then◌else◌};
 ghost use Rattle.rb_base.specs.declared.values.See.TheVariants.{Nothing};
 ghost use Rattle.rb_rules.specs.Hearing.{judged_see};
-ghost use Rattle.rb_rules.specs.Judging.{are_alike, is_something};
-ghost use Rattle.rb_rules.specs.Majority.{same_heard};
+ghost use Rattle.rb_rules.specs.Judging.{is_something};
 ghost use Rattle.rb_rules.specs.WorldStep.{same_place};
 ghost use Rattle.rb_world_book.specs.Changing.{line_from};
 ghost use Rattle.rb_world_book.specs.Telling.{fresh_told, has_told, kept_of, see_of, timed_in, told_begun_frame, told_closed};
 
 use crate::milestone::Milestone;
-use rb_base::{Biu, Delivery, Heard, NodeSet, Place, Rmu, See};
+use rb_base::{Biu, Delivery, NodeSet, Place, Rmu, See};
 use rb_rules::{Closed, NodeLine, PortLine, SlotLine};
 
 /// What a node told of a frame that it began.
@@ -170,30 +169,8 @@ impl Told {
     }
 }
 
-pub(crate) fn is_something(see: See) -> bool
+fn is_something(see: See) -> bool
     ensures { result ≡ is_something see }
 {
     !matches!(see, See::Nothing)
-}
-
-fn same_heard(v: Heard, w: Heard) -> bool
-    ensures { result ≡ same_heard v w }
-{
-    match (v, w) {
-        (Heard::Word(a), Heard::Word(b)) => a == b,
-        (Heard::Fault, Heard::Fault) => true,
-        _ => false,
-    }
-}
-
-/// Whether two sights of a source are alike.
-pub(crate) fn are_alike(eps: u32, a: See, b: See) -> bool
-    ensures { result ≡ are_alike eps a b }
-{
-    match (a, b) {
-        (See::Nothing, See::Nothing) => true,
-        (See::Value(v), See::Value(w)) => same_heard(v, w),
-        (See::Time(s), See::Time(t)) => s.abs_diff(t) <= u64::from(eps),
-        _ => false,
-    }
 }

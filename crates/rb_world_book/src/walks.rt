@@ -1,15 +1,15 @@
 //! Walks over what the nodes of a kind have told.
-ghost use Rattle.std.specs.Prelude.{◌≡◌, ℕ, ◌+◌, ◌<◌, ◌≤◌, ◌++◌, [], not, ◌&&◌, true, IfSome, nat_lt, option_to_list, length};
+ghost use Rattle.std.specs.Prelude.{◌≡◌, ℕ, ◌+◌, ◌<◌, ◌≤◌, ◌++◌, [], not, ◌&&◌, true, ◌==◌, if◌then◌else◌, nat_lt, option_to_list, length};
 ghost use Rattle.rb_base.specs.Nodes.{has, set_of};
-ghost use Rattle.rb_rules.specs.Judging.{are_alike, is_something};
 ghost use Rattle.rb_rules.specs.WorldStep.{row_for};
-ghost use Rattle.rb_world_book.specs.Telling.{has_told, row_told, see_of, told_at};
-ghost use Rattle.rb_world_book.specs.Waiting.{differs, first_trusted, found_of, is_time, line_of, node_line_of, port_line_of, row_at, waiting_for, was_taken, was_unlike};
+ghost use Rattle.rb_world_book.specs.Telling.{has_told, row_told};
+ghost use Rattle.rb_world_book.specs.Waiting.{first_trusted, found_of, line_of, node_line_of, port_line_of, row_at, waiting_for, was_taken, was_unlike};
 
 use crate::milestone::Milestone;
-use crate::told::{Told, are_alike, is_something};
+use crate::told::Told;
 use arrayvec::ArrayVec;
-use rb_base::{NodeSet, Place, See};
+use rb_base::{NodeId, NodeSet, Place};
+use rb_judge::SourceSights;
 use rb_rules::{NodeLine, PortLine, SlotLine};
 
 // Those of a set that are among so many nodes.
@@ -18,6 +18,20 @@ fn those_below<K: Copy>(count: u8, set: NodeSet<K>) -> NodeSet<K>
     ensures { result ≡ set_of (λ i. nat_lt i count && has set i) }
 {
     NodeSet::first(count).intersection(set)
+}
+
+/// The set with node i exactly where `member`.
+pub(crate) fn with_or_without<K: Copy>(set: NodeSet<K>, i: u8, member: bool) -> NodeSet<K>
+    requires { i < 16 }
+    ensures { result ≡ set_of (λ k. if k == i then member else has set k) }
+{
+    let mut changed = NodeSet::from_bits(set.bits());
+    if member {
+        changed.insert(NodeId::of(i));
+    } else {
+        changed.remove(NodeId::of(i));
+    }
+    changed
 }
 
 fn is_awaited(told: &Told, milestone: Milestone) -> bool
@@ -39,9 +53,9 @@ pub(crate) fn waiting_for<K: Copy>(
     let mut waiting = NodeSet::empty();
     let mut left = those_below(count, good);
     while let Some(id) = left.pop_first() {
-        if is_awaited(&told[usize::from(id.index())], milestone) {
-            waiting.insert(id);
-        }
+        let i = id.index();
+        let member = is_awaited(&told[usize::from(i)], milestone);
+        waiting = with_or_without(waiting, i, member);
     }
     waiting
 }
@@ -171,161 +185,26 @@ pub(crate) fn first_trusted<K: Copy>(
     None
 }
 
-fn takes(told: &Told, source: u8) -> bool
-    requires { source < 16 }
-    ensures { result ≡ is_something (see_of told.now source) }
-{
-    is_something(told.see(source))
-}
-
-fn is_other(seen: See, told: &Told, eps: u32, source: u8) -> bool
-    requires { source < 16 }
-    ensures { result ≡ not (are_alike eps seen (see_of told.now source)) }
-{
-    !are_alike(eps, seen, told.see(source))
-}
-
-/// Whether a good one, of so many receivers, took something of a source.
-pub(crate) fn was_taken<K: Copy>(count: u8, good: NodeSet<K>, told: &[Told; 16], source: u8) -> bool
+/// What is kept of what the good ones, of so many receivers, saw of a source.
+pub(crate) fn sights_of<K: Copy>(
+    eps: u32,
+    count: u8,
+    good: NodeSet<K>,
+    told: &[Told; 16],
+    source: u8,
+) -> SourceSights
     requires count { count ≤ 16 }
     requires source { source < 16 }
-    ensures { result ≡ was_taken count good told.now source }
+    ensures heard { result.heard ≡ was_taken count good told.now source }
+    ensures unlike { result.unlike ≡ was_unlike eps count good told.now source }
 {
-    let mut left = those_below(count, good);
+    let receivers = those_below(count, good);
+    let mut sights = SourceSights::none();
+    let mut left = receivers;
     while let Some(receiver) = left.pop_first() {
-        if takes(&told[usize::from(receiver.index())], source) {
-            return true;
-        }
+        let i = receiver.index();
+        let see = told[usize::from(i)].see(source);
+        sights = sights.noted(receivers, eps, i, see);
     }
-    false
-}
-
-// Whether a good one, of so many receivers, saw a source unlike this receiver.
-fn differs<K: Copy>(
-    eps: u32,
-    count: u8,
-    good: NodeSet<K>,
-    told: &[Told; 16],
-    source: u8,
-    receiver: u8,
-) -> bool
-    requires count { count ≤ 16 }
-    requires source { source < 16 }
-    requires receiver { receiver < 16 }
-    ensures { result ≡ differs eps count good told.now source receiver }
-{
-    let seen = told[usize::from(receiver)].see(source);
-    let mut left = those_below(count, good);
-    while let Some(other) = left.pop_first() {
-        if is_other(seen, &told[usize::from(other.index())], eps, source) {
-            return true;
-        }
-    }
-    false
-}
-
-// The first good one of so many receivers.
-fn first_good<K: Copy>(count: u8, good: NodeSet<K>) -> Option<u8>
-    ensures { IfSome result (λ i. (i < count) × (has good i ≡ true)) }
-{
-    let mut left = good;
-    match left.pop_first() {
-        Some(first) if first.index() < count => Some(first.index()),
-        _ => None,
-    }
-}
-
-// Whether a source was seen with a time.
-fn is_time(see: See) -> bool
-    ensures { result ≡ is_time see }
-{
-    matches!(see, See::Time(_))
-}
-
-/// Whether two good ones, of so many receivers, saw a source unlike. Where the first of them saw no time, each is compared with that one
-/// alone: of what has no time, two that are like a third are alike.
-pub(crate) fn was_unlike<K: Copy>(
-    eps: u32,
-    count: u8,
-    good: NodeSet<K>,
-    told: &[Told; 16],
-    source: u8,
-) -> bool
-    requires count { count ≤ 16 }
-    requires source { source < 16 }
-    ensures { result ≡ was_unlike eps count good told.now source }
-{
-    if let Some(first) = first_good(count, good) {
-        if !is_time(told[usize::from(first)].see(source)) {
-            return differs(eps, count, good, told, source, first);
-        }
-    }
-    some_differ(eps, count, good, told, source)
-}
-
-// The same, where each is compared with each.
-#[inline(never)]
-fn some_differ<K: Copy>(
-    eps: u32,
-    count: u8,
-    good: NodeSet<K>,
-    told: &[Told; 16],
-    source: u8,
-) -> bool
-    requires count { count ≤ 16 }
-    requires source { source < 16 }
-    ensures { result ≡ was_unlike eps count good told.now source }
-{
-    let mut left = those_below(count, good);
-    while let Some(receiver) = left.pop_first() {
-        if differs(eps, count, good, told, source, receiver.index()) {
-            return true;
-        }
-    }
-    false
-}
-
-/// The sources among these, of so many, of which a good one of so many receivers took something.
-pub(crate) fn taken_among<K: Copy, R: Copy>(
-    sources: u8,
-    among: NodeSet<K>,
-    count: u8,
-    good: NodeSet<R>,
-    told: &[Told; 16],
-) -> NodeSet<K>
-    requires sources { sources ≤ 16 }
-    requires count { count ≤ 16 }
-    ensures { result ≡ set_of (λ j. nat_lt j sources && (has among j && was_taken count good told.now j)) }
-{
-    let mut taken = NodeSet::empty();
-    let mut left = those_below(sources, among);
-    while let Some(source) = left.pop_first() {
-        if was_taken(count, good, told, source.index()) {
-            taken.insert(source);
-        }
-    }
-    taken
-}
-
-/// The sources among these, of so many, that two good ones of so many receivers saw unlike.
-pub(crate) fn unlike_among<K: Copy, R: Copy>(
-    eps: u32,
-    sources: u8,
-    among: NodeSet<K>,
-    count: u8,
-    good: NodeSet<R>,
-    told: &[Told; 16],
-) -> NodeSet<K>
-    requires sources { sources ≤ 16 }
-    requires count { count ≤ 16 }
-    ensures { result ≡ set_of (λ j. nat_lt j sources && (has among j && was_unlike eps count good told.now j)) }
-{
-    let mut unlike = NodeSet::empty();
-    let mut left = those_below(sources, among);
-    while let Some(source) = left.pop_first() {
-        if was_unlike(eps, count, good, told, source.index()) {
-            unlike.insert(source);
-        }
-    }
-    unlike
+    sights
 }
