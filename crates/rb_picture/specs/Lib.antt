@@ -7,4 +7,6 @@ pub mod Places
 pub mod Drawing
 pub mod Picture
 pub mod Laws
+pub mod Pages
+pub mod Forms
 pub mod Answers

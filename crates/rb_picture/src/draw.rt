@@ -3,14 +3,16 @@ ghost use Rattle.std.specs.Prelude.{ℕ, ◌≡◌, ◌≢◌, ◌<◌, ◌≤�
 ghost use Rattle.std.specs.Io.KnownBytes.{Appends};
 ghost use Rattle.rb_outside.specs.Bytes.{AppendsPart, Gave, ReadsToEnd};
 ghost use Rattle.rb_outside.specs.Causes.{Rose};
-ghost use Rattle.rb_picture.specs.declared.frames.Frames.{Frames};
-ghost use Rattle.rb_picture.specs.Answers.{AskFor, Draws, FailsToWrite, IsCutOff, IsDone, IsOfReport, IsRefused, Refuses, WritesNothing, fault_name, fault_text, report_limit};
+ghost use Rattle.rb_picture.specs.declared.form.Form.{Form};
+ghost use Rattle.rb_picture.specs.Answers.{Draws, FailsToWrite, IsCutOff, IsDone, IsDrawn, IsDrawnInPart, IsOfReport, IsRefused, Refuses, WritesNothing, fault_name, fault_text, report_limit};
+ghost use Rattle.rb_picture.specs.Forms.{AskFor, first_of, last_of};
 ghost use Rattle.rb_picture.specs.Picture.{asked_of, picture_text};
 
 use crate::drawn::picture_of;
 use crate::extent::is_asked;
-use crate::frames::{first_of, frames_in, last_of};
+use crate::form::{Form, Frames, first_of, form_in, last_of};
 use crate::line::Line;
+use crate::pages::show_page;
 use crate::reading::{Fault, Unreadable, lines_in};
 use crate::status::Status;
 use crate::style::STYLE;
@@ -61,15 +63,11 @@ fn asked_of(alloc: Global, lines: &[Line], first: u32, last: u32) -> Result<Vec<
     Ok(asked)
 }
 
-fn picture_between(
-    alloc: Global,
-    lines: &[Line],
-    first: u32,
-    last: u32,
-) -> Result<Vec<u8>, OutOfMemory>
-    ensures { IfOk result (λ v. v.items ≡ picture_text STYLE.now (asked_of first last lines.now)) }
+// The picture of these frames.
+fn picture_of_frames(alloc: Global, lines: &[Line], frames: Frames) -> Result<Vec<u8>, OutOfMemory>
+    ensures { IfOk result (λ v. v.items ≡ picture_text STYLE.now (asked_of (first_of frames) (last_of frames) lines.now)) }
 {
-    let asked = asked_of(alloc, lines, first, last)?;
+    let asked = asked_of(alloc, lines, first_of(frames), last_of(frames))?;
     picture_of(alloc, &asked)
 }
 
@@ -87,10 +85,10 @@ fn refuse<K: Sink>(fault: Fault, number: u64, output: &mut K) -> Status
 }
 
 // Draws the frames of the report that the bytes are, or writes the line that says why they are none.
-fn draw_bytes<K: Sink>(alloc: Global, bytes: &[u8], first: u32, last: u32, output: &mut K) -> Status
-    ensures done { result ≡ Status.Done → Draws STYLE.now first last bytes.now (K.held output.old) (K.held output.new) }
+fn draw_bytes<K: Sink>(alloc: Global, bytes: &[u8], frames: Frames, output: &mut K) -> Status
+    ensures done { result ≡ Status.Done → Draws STYLE.now frames bytes.now (K.held output.old) (K.held output.new) }
     ensures refused { result ≡ Status.Refused → Refuses bytes.now (K.held output.old) (K.held output.new) }
-    ensures part { result ≡ Status.WriteFault → FailsToWrite STYLE.now first last bytes.now (K.held output.old) (K.held output.new) }
+    ensures part { result ≡ Status.WriteFault → FailsToWrite STYLE.now frames bytes.now (K.held output.old) (K.held output.new) }
     ensures cause { result ≡ Status.WriteFault → Rose (K.faults output.old) (K.faults output.new) }
     ensures memory { result ≡ Status.OutOfMemory → output.new ≡ output.old }
     ensures one_of { IsOfReport result }
@@ -100,7 +98,7 @@ fn draw_bytes<K: Sink>(alloc: Global, bytes: &[u8], first: u32, last: u32, outpu
         Err(Unreadable::At(number, fault)) => return refuse(fault, number, output),
         Err(Unreadable::OutOfMemory) => return Status::OutOfMemory,
     };
-    let picture = match picture_between(alloc, &lines, first, last) {
+    let picture = match picture_of_frames(alloc, &lines, frames) {
         Ok(picture) => picture,
         Err(OutOfMemory) => return Status::OutOfMemory,
     };
@@ -110,21 +108,46 @@ fn draw_bytes<K: Sink>(alloc: Global, bytes: &[u8], first: u32, last: u32, outpu
     }
 }
 
-/// Reads a report of `robus run` and writes one SVG picture of it.
+// Reads a report and draws these frames of it.
+fn draw_frames<S: Source, K: Sink>(
+    alloc: Global,
+    frames: Frames,
+    input: &mut S,
+    output: &mut K,
+) -> Status
+    ensures known { result ≢ Status.Usage }
+    ensures done { result ≡ Status.Done → IsDrawn STYLE.now frames (S.left input.old) (S.left input.new) (K.held output.old) (K.held output.new) }
+    ensures refused { result ≡ Status.Refused → IsRefused (S.left input.old) (S.left input.new) (K.held output.old) (K.held output.new) }
+    ensures part { result ≡ Status.WriteFault → IsDrawnInPart STYLE.now frames (S.left input.old) (S.left input.new) (K.held output.old) (K.held output.new) }
+    ensures cause { result ≡ Status.WriteFault → Rose (K.faults output.old) (K.faults output.new) }
+    ensures too_long { result ≡ Status.TooLong → Gave (S.left input.old) (S.left input.new) (λ n. report_limit < n) }
+    ensures read_fault { result ≡ Status.ReadFault → Rose (S.faults input.old) (S.faults input.new) }
+    ensures nothing { WritesNothing result → output.new ≡ output.old }
+{
+    match read_all(alloc, input, REPORT_LIMIT) {
+        Ok(bytes) => draw_bytes(alloc, &bytes, frames, output),
+        Err(Unread::TooLong) => Status::TooLong,
+        Err(Unread::Fault) => Status::ReadFault,
+        Err(Unread::OutOfMemory) => Status::OutOfMemory,
+    }
+}
+
+/// Reads a report of `robus run` and writes one SVG picture of it, or writes a page about the program.
 ///
 /// With no words all frames are drawn, with two, decimal numbers FIRST and LAST in order and below 2^32, the frames from one to the other.
+/// With `--help`, `-h` or `--version` nothing is read, and the page is written.
 ///
-/// `Done`: the picture is written. `Usage`: the words are of neither form; nothing was read or written. `Refused`: the input is no report;
-/// one line `refused CODE NAME LINE` says where and why. `TooLong`: the source gave more than 67,108,864 bytes. `ReadFault`, `WriteFault`:
-/// the source or the sink failed; what a failing sink took is a first part of what was due. `OutOfMemory`: an allocation failed before
-/// anything was written.
+/// `Done`: the picture or the page is written. `Usage`: the words are of no form; nothing was read or written. `Refused`: the input is no
+/// report; one line `refused CODE NAME LINE` says where and why. `TooLong`: the source gave more than 67,108,864 bytes. `ReadFault`,
+/// `WriteFault`: the source or the sink failed; what a failing sink took is a first part of what was due. `OutOfMemory`: an allocation
+/// failed before anything was written.
 pub fn draw<S: Source, K: Sink>(
     alloc: Global,
     words: &[String],
     input: &mut S,
     output: &mut K,
 ) -> Status
-    ensures usage { result ≡ Status.Usage → (frames : Frames) → ¬ AskFor words.now frames }
+    ensures usage { result ≡ Status.Usage → (form : Form) → ¬ AskFor words.now form }
     ensures untouched { result ≡ Status.Usage → (input.new ≡ input.old) × (output.new ≡ output.old) }
     ensures done { result ≡ Status.Done → IsDone STYLE.now words.now (S.left input.old) (S.left input.new) (K.held output.old) (K.held output.new) }
     ensures refused { result ≡ Status.Refused → IsRefused (S.left input.old) (S.left input.new) (K.held output.old) (K.held output.new) }
@@ -134,13 +157,9 @@ pub fn draw<S: Source, K: Sink>(
     ensures read_fault { result ≡ Status.ReadFault → Rose (S.faults input.old) (S.faults input.new) }
     ensures nothing { WritesNothing result → output.new ≡ output.old }
 {
-    let Some(frames) = frames_in(words) else {
-        return Status::Usage;
-    };
-    match read_all(alloc, input, REPORT_LIMIT) {
-        Ok(bytes) => draw_bytes(alloc, &bytes, first_of(frames), last_of(frames), output),
-        Err(Unread::TooLong) => Status::TooLong,
-        Err(Unread::Fault) => Status::ReadFault,
-        Err(Unread::OutOfMemory) => Status::OutOfMemory,
+    match form_in(words) {
+        Some(Form::Draw(frames)) => draw_frames(alloc, frames, input, output),
+        Some(Form::Show(page)) => show_page(page, output),
+        None => Status::Usage,
     }
 }

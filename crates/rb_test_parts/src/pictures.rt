@@ -73,3 +73,34 @@ fn words(rt: HostRuntime) -> Result<(), Fail> {
     assert_eq!(rt; answer(alloc, &["0"], SMALL)?.0, Status::Usage);
     Ok(())
 }
+
+const HELP: &str = "Usage: robus_picture [FIRST LAST] < REPORT > PICTURE
+Draws a run of a fault-tolerant broadcast bus from the report of robus run.
+
+words          what is written
+none           panels of all frames
+FIRST LAST     panels of the frames from one number to the other
+--help, -h     this page; nothing is read
+--version      the name and the version; nothing is read
+
+Input: a report, at most 67108864 bytes. Output: one SVG document.
+Status: 0 done, 2 unknown words, 3 input refused, 4 input too long,
+5 reading failed, 6 writing failed, 7 no memory, 8 no arguments.
+
+Example: robus run < examples/late_onset.toml | robus_picture > run.svg
+Manual: docs/robus_picture.md, or man robus_picture
+";
+
+#[test]
+fn pages(rt: HostRuntime) -> Result<(), Fail> {
+    let alloc = rt.alloc();
+    for (word, page) in [("--help", HELP), ("-h", HELP), ("--version", "robus_picture 1.0\n")] {
+        let (status, written) = answer(alloc, &[word], "no report")?;
+        assert_eq!(rt; status, Status::Done);
+        assert_eq!(rt; written.as_slice(), page.as_bytes());
+    }
+    for words in [["--help", "-h"], ["help", "0"]] {
+        assert_eq!(rt; answer(alloc, &words, SMALL)?.0, Status::Usage);
+    }
+    Ok(())
+}

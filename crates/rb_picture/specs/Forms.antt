@@ -1,0 +1,39 @@
+-- What words ask for.
+use Rattle.std.specs.Prelude.{⊤, ℕ, ◌≡◌, ◌^◌, ◌-◌, ◌<◌, ◌≤◌, List, [], ◌∷◌, map, String, string_bytes}
+use Rattle.std.specs.Fmt.{decimal}
+use Rattle.std.specs.declared.alloc.Global.{Global}
+use Rattle.rb_picture.specs.declared.form.Form.{Form}
+use Rattle.rb_picture.specs.declared.form.Form.TheVariants.{Draw, Show}
+use Rattle.rb_picture.specs.declared.form.Frames.{Frames}
+use Rattle.rb_picture.specs.declared.form.Frames.TheVariants.{All, Between}
+use Rattle.rb_picture.specs.Pages.{page_word}
+
+-- the words of a form: of a picture of all frames none, of others the first and the last, and the word of a page
+abbrev pub words_of : Form → List (List ℕ)
+words_of (Draw All) = []
+words_of (Draw (Between first last)) = decimal first ∷ decimal last ∷ []
+words_of (Show page) = page_word page ∷ []
+
+-- numbers of 32 bits, in order
+pub record AreInOrder (first last : ℕ) : Type 0 where
+  pub ordered : first ≤ last
+  pub fits : last < 2 ^ 32
+
+abbrev pub IsInRange : Form → Type 0
+IsInRange (Draw All) = ⊤
+IsInRange (Draw (Between first last)) = AreInOrder first last
+IsInRange (Show page) = ⊤
+
+-- the words ask for this
+pub record AskFor (words : List (String Global)) (form : Form) : Type 0 where
+  pub same : map string_bytes words ≡ words_of form
+  pub in_range : IsInRange form
+
+-- the first frame that is drawn, and the last one
+abbrev pub first_of : Frames → ℕ
+first_of All = 0
+first_of (Between first last) = first
+
+abbrev pub last_of : Frames → ℕ
+last_of All = 2 ^ 32 - 1
+last_of (Between first last) = last
