@@ -18,6 +18,15 @@ fn silent(place: Place) -> Closed
     }
 }
 
+// What is due in this way.
+fn settled(book: &mut Book, way: Way) -> Turn
+    ensures { book.new.shape ≡ book.old.shape }
+{
+    let mut turn = Turn::Quiet;
+    book.settle_into(way, &mut turn);
+    turn
+}
+
 // Both nodes begin a frame.
 fn begin(book: &mut Book, frame: u32) -> Turn
     requires bius { 0 < book.old.shape.bius }
@@ -30,7 +39,7 @@ fn begin(book: &mut Book, frame: u32) -> Turn
         ..NodeLine::default()
     };
     book.begin_rmu(0, frame, line);
-    book.settle(Way::ByAnEvent)
+    settled(book, Way::ByAnEvent)
 }
 
 // Both nodes close a stage.
@@ -43,7 +52,7 @@ fn close(book: &mut Book, place: Place) -> Turn
     let closed = silent(place);
     book.close(NodeName::Biu(0), &closed, &[0; 16], biu, rmu);
     book.close(NodeName::Rmu(0), &closed, &[0; 16], biu, rmu);
-    book.settle(Way::ByAnEvent)
+    settled(book, Way::ByAnEvent)
 }
 
 fn name(turn: &Turn) -> u8 {
@@ -76,6 +85,6 @@ fn whole_run(rt: HostRuntime) {
     }
     assert!(rt; !book.has_ended());
     assert_eq!(rt; name(&begin(&mut book, 1)), 1);
-    assert_eq!(rt; name(&book.settle(Way::ByItself)), 3);
+    assert_eq!(rt; name(&settled(&mut book, Way::ByItself)), 3);
     assert!(rt; book.has_ended());
 }

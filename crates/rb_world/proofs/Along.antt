@@ -9,7 +9,7 @@ use Rattle.rb_rules.specs.WorldStep.{Due, World, due_at, due_of, go_on, least, n
 use Rattle.rb_rules.specs.WorldStep.Way.{ByItself}
 use Rattle.rb_world_book.specs.Records.{record_of}
 use Rattle.rb_world_book.specs.Settling.{Settles}
-use Rattle.rb_world_book.specs.declared.ledger.Ledger.{Ledger}
+use Rattle.rb_world_book.specs.declared.book.Book.{Book as KeptBook}
 use Rattle.rb_world_book.specs.declared.turn.Turn.{Turn}
 use Rattle.rb_site.specs.Sites.{KeptSite}
 use Rattle.rb_laws_sweeps.specs.AheadOf.{ArrivalIsFirst, after_takes, ahead_of, tick_alone, until_tick}
@@ -66,7 +66,7 @@ along-begins sc kept scene until w0 d trails going = record {
   quiet = λ m some le. absurd (omega (arith, some, le));
 }
 
-unfoldable pub comes-by-itself : (sc : Scenario) (kept : Each KeptSite) (scene : Scene) (until : Side → ℕ → ℕ) (n : ℕ) (w0 : World) (d : ℕ) (book : Ledger) (turn : Turn)
+unfoldable pub comes-by-itself : (sc : Scenario) (kept : Each KeptSite) (scene : Scene) (until : Side → ℕ → ℕ) (n : ℕ) (w0 : World) (d : ℕ) (book : KeptBook) (turn : Turn)
     → (on : Along sc kept scene until n w0 d) → needs_no_event sc on.back.book.upcoming ≡ true → Settles sc ByItself on.back book turn
     → Comes sc kept (record scene { book = book }) until n w0 d turn
 unfolding after_steps

@@ -15,7 +15,7 @@ use Rattle.rb_queue.specs.Waiting.{Held}
 use Rattle.rb_world_agenda.specs.Holding.{HoldsSites}
 use Rattle.rb_world_book.proofs.Noting.{same-shown}
 use Rattle.rb_world_book.specs.Holding.{Holds}
-use Rattle.rb_world_book.specs.declared.ledger.Ledger.{Ledger}
+use Rattle.rb_world_book.specs.declared.book.Book.{Book as KeptBook}
 use Rattle.rb_world_traffic.specs.Arriving.{AreRunning}
 use Rattle.rb_world.specs.declared.scene.Scene.{Scene}
 use Rattle.rb_world.specs.Buses.{HaveRooms}
@@ -29,7 +29,7 @@ pub record Tells (change : Site → Site) : Type 0 where
   pub ahead : (s : Site) → (change s).ahead ≡ s.ahead
   pub runs : (s : Site) → (change s).runs ≡ s.runs
 
-pub told-more : (sc : Scenario) (scene : Scene) (book : Ledger) (w : World) (me : Side) (i : ℕ) (change : Site → Site) → Tells change → Surrounds sc scene w
+pub told-more : (sc : Scenario) (scene : Scene) (book : KeptBook) (w : World) (me : Side) (i : ℕ) (change : Site → Site) → Tells change → Surrounds sc scene w
     → Holds sc book (moved me i change w) → Surrounds sc (record scene { book = book }) (moved me i change w)
 told-more sc scene book w me i change tells is holds = record {
   counts = λ side. counts-one me side i change w.sites ∙ is.counts side;
@@ -55,7 +55,7 @@ pub record Pends (change : Site → Site) : Type 0 where
   pub begun : (s : Site) → (change s).begun ≡ s.begun
   pub runs : (s : Site) → (change s).runs ≡ s.runs
 
-pub book-kept : (sc : Scenario) (book : Ledger) (w : World) (me : Side) (i : ℕ) (change : Site → Site) → ((s : Site) → (change s).row ≡ s.row)
+pub book-kept : (sc : Scenario) (book : KeptBook) (w : World) (me : Side) (i : ℕ) (change : Site → Site) → ((s : Site) → (change s).row ≡ s.row)
     → ((s : Site) → (change s).begun ≡ s.begun) → Holds sc book w → Holds sc book (moved me i change w)
 book-kept sc book w me i change rows begins holds =
     same-shown sc book w (moved me i change w) holds refl (shows-one (λ s. s.row) me i change w.sites rows) (shows-one (λ s. s.begun) me i change w.sites begins)

@@ -6,7 +6,7 @@ use Rattle.rb_rules.specs.WorldStep.Choice.{GoOn}
 use Rattle.rb_rules.specs.WorldStep.Way.{ByItself}
 use Rattle.rb_world_book.specs.Records.{record_of}
 use Rattle.rb_world_book.specs.Settling.{Settles}
-use Rattle.rb_world_book.specs.declared.ledger.Ledger.{Ledger}
+use Rattle.rb_world_book.specs.declared.book.Book.{Book as KeptBook}
 use Rattle.rb_world_book.specs.declared.turn.Turn.{Turn}
 use Rattle.rb_world.specs.declared.last.Last.{Last}
 use Rattle.rb_world.specs.Turning.{Gives}
@@ -25,7 +25,7 @@ going-settles sc w e = ap (λ b. elim b as (λ _. World) [ true ↦ w | false �
 pub ended-gives : (k : KeptWorld) (w : World) (turn : Turn) → Stands k w → w.book.ended ≡ true → w.turn ≡ record_of turn → Gives k turn (go_on k.bus w)
 ended-gives k w turn is ended same = subst (Gives k turn) (sym (ended-stays k.bus w ended)) (record { stands = is; turn_is = same })
 
-pub going-gives : (k : KeptWorld) (w : World) (book : Ledger) (turn : Turn) (last : Last) → Stands k w → w.book.ended ≡ false → Settles k.bus ByItself w book turn
+pub going-gives : (k : KeptWorld) (w : World) (book : KeptBook) (turn : Turn) (last : Last) → Stands k w → w.book.ended ≡ false → Settles k.bus ByItself w book turn
     → last ≡ last_of (record_of turn) → Gives (record { bus = k.bus; nodes = k.nodes; scene = record k.scene { book = book }; seeding = k.seeding; last = last }) turn (go_on k.bus w)
 going-gives k w book turn last is going settles kept =
     gives k.bus ByItself w w (go_on k.bus w) GoOn k.nodes k.scene k.seeding book turn last is.lawful is.reached refl (going-settles k.bus w going) is.nodes is.scene settles kept

@@ -14,7 +14,7 @@ use Rattle.rb_rules.specs.WorldStep.Way.{ByAnEvent, ByItself}
 use Rattle.rb_world_agenda.specs.Holding.{HoldsSites}
 use Rattle.rb_world_book.specs.Records.{record_of}
 use Rattle.rb_world_book.specs.Settling.{Settles}
-use Rattle.rb_world_book.specs.declared.ledger.Ledger.{Ledger}
+use Rattle.rb_world_book.specs.declared.book.Book.{Book as KeptBook}
 use Rattle.rb_world_book.specs.declared.turn.Turn.{Turn}
 use Rattle.rb_laws_events.proofs.OneTake.{settle-ports}
 use Rattle.rb_laws_events.proofs.WorldNodes.{settle-sites}
@@ -30,7 +30,7 @@ use Rattle.rb_world.specs.Trailing.{BehindTick, GoesToTick, HappensFirst, Trails
 use Rattle.rb_world.proofs.Behind.{behind-tick, goes-on}
 
 -- what surrounds the nodes once something is settled
-pub around-settled : (sc : Scenario) (way : Way) (v : World) (scene : Scene) (book : Ledger) (turn : Turn) → Surrounds sc scene v → Settles sc way v book turn
+pub around-settled : (sc : Scenario) (way : Way) (v : World) (scene : Scene) (book : KeptBook) (turn : Turn) → Surrounds sc scene v → Settles sc way v book turn
     → Surrounds sc (record scene { book = book }) (settle sc way 2 v)
 around-settled sc way v scene book turn is settles =
     let sites = sym (settle-sites sc way 2 v) in
@@ -67,7 +67,7 @@ trails-first k w is = record {
 
 -- By a tick.
 
-pub goes-to-tick : (sc : Scenario) (kept new : Each KeptSite) (scene after : Scene) (until : Side → ℕ → ℕ) (w v : World) (me : Side) (i : ℕ) (a : Timed) (name : NodeName) (time : ℕ) (book : Ledger) (turn : Turn)
+pub goes-to-tick : (sc : Scenario) (kept new : Each KeptSite) (scene after : Scene) (until : Side → ℕ → ℕ) (w v : World) (me : Side) (i : ℕ) (a : Timed) (name : NodeName) (time : ℕ) (book : KeptBook) (turn : Turn)
     → (h : BehindTick sc kept scene until w v me i a) → HappensFirst sc new after v me i a → name ≡ name_of me i → time ≡ a.time → time < 18446744073709551615
     → Settles sc ByAnEvent (happens sc (alone sc me i a v) (record { side = me; node = i; pending = Tick a.tick })) book turn
     → GoesToTick sc new (record after { book = book }) until v name time turn
@@ -106,7 +106,7 @@ first-as-before v x me i a same first = record {
   first = λ side j s b there pends behind. first.first side j s b (ap (λ (y : Each Site). slice_get (of_kind side y) j) same ∙ there) pends behind;
 }
 
-pub trails-by-itself : (sc : Scenario) (kept : Each KeptSite) (scene : Scene) (until : Side → ℕ → ℕ) (w v : World) (book : Ledger) (turn : Turn) → Trails sc kept scene until w v
+pub trails-by-itself : (sc : Scenario) (kept : Each KeptSite) (scene : Scene) (until : Side → ℕ → ℕ) (w v : World) (book : KeptBook) (turn : Turn) → Trails sc kept scene until w v
     → v.book.ended ≡ false → Settles sc ByItself v book turn → Trails sc kept (record scene { book = book }) until (go_on sc w) (go_on sc v)
 trails-by-itself sc kept scene until w v book turn h going settles =
     let is : go_on sc v ≡ settle sc ByItself 2 v = going-settles sc v going in
@@ -121,5 +121,5 @@ trails-by-itself sc kept scene until w v book turn h going settles =
       behind = λ side j s there. h.behind side j s (ap (λ (y : Each Site). slice_get (of_kind side y) j) (sym sites) ∙ there);
     }
 
-pub turn-by-itself : (sc : Scenario) (v : World) (book : Ledger) (turn : Turn) → v.book.ended ≡ false → Settles sc ByItself v book turn → (go_on sc v).turn ≡ record_of turn
+pub turn-by-itself : (sc : Scenario) (v : World) (book : KeptBook) (turn : Turn) → v.book.ended ≡ false → Settles sc ByItself v book turn → (go_on sc v).turn ≡ record_of turn
 turn-by-itself sc v book turn going settles = ap (λ (x : World). x.turn) (going-settles sc v going) ∙ settles.turn_is

@@ -14,7 +14,7 @@ use Rattle.rb_port.specs.Keeping.{HoldsPort, KeptPort}
 use Rattle.rb_world_traffic.specs.Arriving.{AreRunning}
 use Rattle.rb_world_agenda.specs.Holding.{HoldsSites}
 use Rattle.rb_world_book.specs.Holding.{Holds}
-use Rattle.rb_world_book.specs.declared.ledger.Ledger.{Ledger}
+use Rattle.rb_world_book.specs.declared.book.Book.{Book as KeptBook}
 use Rattle.rb_world.specs.Buses.{HaveRooms}
 use Rattle.rb_world.specs.declared.last.Last.TheVariants as last
 use Rattle.rb_world.specs.declared.scene.Scene.{Scene}
@@ -127,7 +127,7 @@ good-within sc biu frame slot good = by (nat_lt biu sc.sizes.bius) refl (is_befo
     by false e c both = absurd (cc)
 
 -- what surrounds the nodes then
-book-holds : (sc : Scenario) (l : Ledger) (w : World) (biu state frame : ℕ) → Holds sc l w → Holds sc l (with_hand w biu state frame)
+book-holds : (sc : Scenario) (l : KeptBook) (w : World) (biu state frame : ℕ) → Holds sc l w → Holds sc l (with_hand w biu state frame)
 book-holds sc l w biu state frame is = record {
   fits = is.fits;
   upcoming = is.upcoming;

@@ -16,7 +16,7 @@ use Rattle.rb_world_agenda.specs.Agenda.{IsFirstAhead}
 use Rattle.rb_world_agenda.specs.Holding.{HoldsSites}
 use Rattle.rb_world_book.specs.Records.{record_of}
 use Rattle.rb_world_book.specs.Settling.{Settles}
-use Rattle.rb_world_book.specs.declared.ledger.Ledger.{Ledger}
+use Rattle.rb_world_book.specs.declared.book.Book.{Book as KeptBook}
 use Rattle.rb_world_book.specs.declared.turn.Turn.{Turn}
 use Rattle.rb_site.specs.Sites.{KeptSite}
 use Rattle.rb_laws_sweeps.specs.AheadOf.{until_tick}
@@ -135,13 +135,13 @@ rmu-taken sc after v me i a name time j bius rmus here e takes =
 -- What it completes is settled.
 
 -- how a tick is taken and settled
-abbrev pub TakesAndSettles : Scenario → Each KeptSite → Each KeptSite → Scene → Scene → (Side → ℕ → ℕ) → World → World → NodeName → ℕ → Ledger → Turn → Type 0
+abbrev pub TakesAndSettles : Scenario → Each KeptSite → Each KeptSite → Scene → Scene → (Side → ℕ → ℕ) → World → World → NodeName → ℕ → KeptBook → Turn → Type 0
 TakesAndSettles sc kept new scene after until w v name time book turn =
     ((me : Side) (i : ℕ) (a : Timed) → BehindTick sc kept scene until w v me i a → TakesFirstAt sc new after v me i a name time)
     × ((me : Side) (i : ℕ) (a : Timed) → HappensFirst sc new after v me i a
     → Settles sc ByAnEvent (happens sc (alone sc me i a v) (record { side = me; node = i; pending = Tick a.tick })) book turn)
 
-pub tick-goes : (sc : Scenario) (kept new : Each KeptSite) (scene after : Scene) (until : Side → ℕ → ℕ) (w v : World) (name : NodeName) (time : ℕ) (book : Ledger) (turn : Turn)
+pub tick-goes : (sc : Scenario) (kept new : Each KeptSite) (scene after : Scene) (until : Side → ℕ → ℕ) (w v : World) (name : NodeName) (time : ℕ) (book : KeptBook) (turn : Turn)
     → MayTickFirst sc kept scene until w v → TakesAndSettles sc kept new scene after until w v name time book turn
     → GoesToTick sc new (record after { book = book }) until v name time turn
 tick-goes sc kept new scene after until w v name time book turn may does =

@@ -23,7 +23,7 @@ use Rattle.rb_rules.specs.Ports.{PortState, delivered_to, fresh_port, losses_of}
 use Rattle.rb_rules.specs.WorldStep.{Site, World, with_delivery, with_epoch}
 use Rattle.rb_world_book.specs.Changing.{changed_at, number_in, row_shown, with_begun, with_row}
 use Rattle.rb_world_book.specs.Holding.{Holds}
-use Rattle.rb_world_book.specs.declared.ledger.Ledger.{Ledger}
+use Rattle.rb_world_book.specs.declared.book.Book.{Book as KeptBook}
 use Rattle.rb_port.specs.Keeping.{HoldsPort, KeptPort}
 use Rattle.rb_world_traffic.specs.Arriving.{number_of}
 use Rattle.rb_world.specs.declared.scene.Scene.{Scene}
@@ -37,7 +37,7 @@ use Rattle.rb_world.proofs.Sites.{at-id}
 pub begun-tells : (b : Begun) → Tells (with_begun b)
 begun-tells b = record { coming = λ s. refl; ahead = λ s. refl; runs = λ s. refl }
 
-pub begins : (sc : Scenario) (scene : Scene) (book : Ledger) (w : World) (me : Side) (i : ℕ) (e : Epoch) (b : Begun) → Surrounds sc scene w
+pub begins : (sc : Scenario) (scene : Scene) (book : KeptBook) (w : World) (me : Side) (i : ℕ) (e : Epoch) (b : Begun) → Surrounds sc scene w
     → b ≡ begun_of sc w.ports me i e → Holds sc book (moved me i (with_begun b) w)
     → Surrounds sc (record scene { book = book }) (moved me i (with_epoch sc w.ports me i (Some e)) w)
 begins sc scene book w me i e b is same holds =
@@ -55,7 +55,7 @@ pub begun-is : (sc : Scenario) (ports : List PortState) (me : Side) (i : ℕ) (e
 begun-is sc ports me i e time port time_is port_is = ap (λ t. begun_with me i e t port) time_is ∙ ap (begun_with me i e (time_of (clock_of sc me i) e.tick)) port_is
 
 -- a BIU begins a frame
-pub begin-biu : (sc : Scenario) (scene : Scene) (book : Ledger) (w : World) (name : NodeName) (i : ℕ) (e : Epoch) (epoch : Option Epoch) (time : ℕ) (port : PortLine)
+pub begin-biu : (sc : Scenario) (scene : Scene) (book : KeptBook) (w : World) (name : NodeName) (i : ℕ) (e : Epoch) (epoch : Option Epoch) (time : ℕ) (port : PortLine)
     → name ≡ node.Biu i → epoch ≡ Some e → time ≡ time_of (clock_of sc (kind_of name) (number_of name)) e.tick → Some port ≡ port_line Biu i (port_at sc w.ports i)
     → Surrounds sc scene w
     → Holds sc book (moved Biu i (with_begun (record { frame = e.frame; line = record { node = name; tick = e.tick; time = time; biu = e.biu; rmu = e.rmu }; port = Some port })) w)
@@ -69,7 +69,7 @@ begin-biu sc scene book w name i e epoch time port named begun time_is port_is i
     named holds)))
 
 -- and an RMU
-pub begin-rmu : (sc : Scenario) (scene : Scene) (book : Ledger) (w : World) (name : NodeName) (i : ℕ) (e : Epoch) (epoch : Option Epoch) (time : ℕ)
+pub begin-rmu : (sc : Scenario) (scene : Scene) (book : KeptBook) (w : World) (name : NodeName) (i : ℕ) (e : Epoch) (epoch : Option Epoch) (time : ℕ)
     → name ≡ node.Rmu i → epoch ≡ Some e → time ≡ time_of (clock_of sc (kind_of name) (number_of name)) e.tick → Surrounds sc scene w
     → Holds sc book (moved Rmu i (with_begun (record { frame = e.frame; line = record { node = name; tick = e.tick; time = time; biu = e.biu; rmu = e.rmu }; port = None })) w)
     → Surrounds sc (record scene { book = book }) (moved (kind_of name) (number_of name) (with_epoch sc w.ports (kind_of name) (number_of name) epoch) w)

@@ -16,7 +16,7 @@ use Rattle.rb_rules.specs.WorldStep.Way.{ByItself}
 use Rattle.rb_world_agenda.proofs.Which.{has-item}
 use Rattle.rb_world_book.specs.Records.{record_of}
 use Rattle.rb_world_book.specs.Settling.{Settles}
-use Rattle.rb_world_book.specs.declared.ledger.Ledger.{Ledger}
+use Rattle.rb_world_book.specs.declared.book.Book.{Book as KeptBook}
 use Rattle.rb_world_book.specs.declared.turn.Turn.{Turn}
 use Rattle.rb_laws_events.proofs.WorldNodes.{settle-sites}
 use Rattle.rb_site.specs.Sites.{KeptSite, number_of as number_at}
@@ -149,7 +149,7 @@ told-first S step name a sc kept scene w d may of_bus =
     }
 
 -- what needs no event
-pub told-by-itself : (S : Type 0) (step : S → Told → S → Type 0) (name : NodeName) (a b : S) (sc : Scenario) (kept : Each KeptSite) (scene : Scene) (until : Side → ℕ → ℕ) (n : ℕ) (w0 : World) (d : ℕ) (book : Ledger) (turn : Turn)
+pub told-by-itself : (S : Type 0) (step : S → Told → S → Type 0) (name : NodeName) (a b : S) (sc : Scenario) (kept : Each KeptSite) (scene : Scene) (until : Side → ℕ → ℕ) (n : ℕ) (w0 : World) (d : ℕ) (book : KeptBook) (turn : Turn)
     → (it : AlongTold S step name a b sc kept scene until n w0 d) → needs_no_event sc it.on.back.book.upcoming ≡ true → Settles sc ByItself it.on.back book turn
     → ComesTold S step name a b sc kept (record scene { book = book }) until n w0 d turn
 unfolding comes-by-itself

@@ -13,7 +13,7 @@ use Rattle.rb_world_agenda.specs.Agenda.{due_now}
 use Rattle.rb_world_agenda.specs.Holding.{HoldsSites}
 use Rattle.rb_world_book.specs.Records.{record_of}
 use Rattle.rb_world_book.specs.Settling.{Settles}
-use Rattle.rb_world_book.specs.declared.ledger.Ledger.{Ledger}
+use Rattle.rb_world_book.specs.declared.book.Book.{Book as KeptBook}
 use Rattle.rb_world_book.specs.declared.turn.Turn.{Turn}
 use Rattle.rb_laws_events.proofs.EveryWorld.{after-more}
 use Rattle.rb_laws_events.proofs.OneTake.{settle-ports}
@@ -35,7 +35,7 @@ reached-more sc w c reached = record {
 }
 
 -- what surrounds the nodes once something is settled
-surrounds-settled : (sc : Scenario) (way : Way) (v : World) (scene : Scene) (book : Ledger) (turn : Turn) → Surrounds sc scene v → Settles sc way v book turn
+surrounds-settled : (sc : Scenario) (way : Way) (v : World) (scene : Scene) (book : KeptBook) (turn : Turn) → Surrounds sc scene v → Settles sc way v book turn
     → Surrounds sc (record scene { book = book }) (settle sc way 2 v)
 surrounds-settled sc way v scene book turn is settles =
     let sites = sym (settle-sites sc way 2 v) in
@@ -58,7 +58,7 @@ surrounds-settled sc way v scene book turn is settles =
     running Rmu = subst (AreRunning Rmu scene.running_rmu) (sym (settle-sites sc way 2 v)) (is.running Rmu)
 
 -- A choice that settles what is due in this way, the nodes being these before
-pub gives : (sc : Scenario) (way : Way) (w v z : World) (c : Choice) (nodes : Each KeptSite) (scene : Scene) (draws : Seeding) (book : Ledger) (turn : Turn) (last : Last) → IsLawful sc
+pub gives : (sc : Scenario) (way : Way) (w v z : World) (c : Choice) (nodes : Each KeptSite) (scene : Scene) (draws : Seeding) (book : KeptBook) (turn : Turn) (last : Last) → IsLawful sc
     → IsReached sc w → z ≡ choose sc w c → z ≡ settle sc way 2 v → ((me : Side) → AreNodes sc me (of_kind me nodes) (of_kind me v.sites)) → Surrounds sc scene v
     → Settles sc way v book turn → last ≡ last_of (record_of turn)
     → Gives (record { bus = sc; nodes = nodes; scene = record scene { book = book }; seeding = draws; last = last }) turn z
@@ -75,7 +75,7 @@ gives sc way w v z c nodes scene draws book turn last lawful reached chosen sett
     })
 
 -- so with a due event that has happened
-pub taken : (sc : Scenario) (w : World) (i : ℕ) (d : Due) (nodes : Each KeptSite) (scene : Scene) (draws : Seeding) (book : Ledger) (turn : Turn) (last : Last) → IsLawful sc
+pub taken : (sc : Scenario) (w : World) (i : ℕ) (d : Due) (nodes : Each KeptSite) (scene : Scene) (draws : Seeding) (book : KeptBook) (turn : Turn) (last : Last) → IsLawful sc
     → IsReached sc w → slice_get (due_of sc w) i ≡ Some d → Happens sc nodes scene w d → Settles sc Way.ByAnEvent (happens sc w d) book turn
     → last ≡ last_of (record_of turn) → Gives (record { bus = sc; nodes = nodes; scene = record scene { book = book }; seeding = draws; last = last }) turn (take sc w i)
 unfolding take

@@ -20,7 +20,7 @@ use Rattle.rb_rules.specs.Hearing.{judged_see}
 use Rattle.rb_rules.specs.Slots.{count_of}
 use Rattle.rb_rules.specs.WorldStep.{Site, World}
 use Rattle.rb_world_book.specs.declared.group.Group.{Group}
-use Rattle.rb_world_book.specs.declared.ledger.Ledger.{Ledger}
+use Rattle.rb_world_book.specs.declared.book.Book.{Book as KeptBook}
 use Rattle.rb_world_book.specs.declared.milestone.Milestone.{Milestone}
 use Rattle.rb_world_book.specs.declared.milestone.Milestone.TheVariants.{Begin, Stage, End}
 use Rattle.rb_world_book.specs.Changing.{changed_at, line_from, row_shown, with_row}
@@ -82,7 +82,7 @@ none-out m frame count lasting all few is = λ j e out.
 stage-told : (stage : ℕ) (row : Row) (s : Site) → (stage == 4) ≡ false → with_row stage row s ≡ record s { row = Some row }
 stage-told stage row s e = ap (λ b. elim b as (λ _. Site) [ true ↦ s | false ↦ record s { row = Some row } ]) e
 
-pub biu-closed : (sc : Scenario) (l : Ledger) (w : World) (h : Group BiuKind) (i counted : ℕ) (closed : Closed) (times : List ℕ) (biu rmu : ℕ)
+pub biu-closed : (sc : Scenario) (l : KeptBook) (w : World) (h : Group BiuKind) (i counted : ℕ) (closed : Closed) (times : List ℕ) (biu rmu : ℕ)
     → IsNoted l.bius h i l.upcoming (told_closed counted closed times biu rmu (line_from i closed.delivered) (told_at l.bius.told i))
     → i < l.shape.bius → ((j : ℕ) → l.shape.rmus ≤ j → get_or closed.sees j Nothing ≡ Nothing) → (closed.place.stage == 4) ≡ false
     → OthersLast l.upcoming closed.place.frame sc.sizes.rmus l.rmus.lasting counted → Holds sc l w
@@ -106,7 +106,7 @@ biu-closed sc l w h i counted closed times biu rmu noted here unseen stage last 
     let others = other-kind sc Rmu Biu l.upcoming l.rmus i (with_row closed.place.stage row) w.sites refl is.rmus in
     with-bius sc l w h _ is holds others
 
-pub rmu-closed : (sc : Scenario) (l : Ledger) (w : World) (h : Group RmuKind) (i counted : ℕ) (closed : Closed) (times : List ℕ) (biu rmu : ℕ)
+pub rmu-closed : (sc : Scenario) (l : KeptBook) (w : World) (h : Group RmuKind) (i counted : ℕ) (closed : Closed) (times : List ℕ) (biu rmu : ℕ)
     → IsNoted l.rmus h i l.upcoming (told_closed counted closed times biu rmu (line_from i closed.delivered) (told_at l.rmus.told i))
     → i < l.shape.rmus → ((j : ℕ) → l.shape.bius ≤ j → get_or closed.sees j Nothing ≡ Nothing) → (closed.place.stage == 4) ≡ false
     → OthersLast l.upcoming closed.place.frame sc.sizes.bius l.bius.lasting counted → Holds sc l w

@@ -16,7 +16,7 @@ use Rattle.rb_rules.specs.Goodness.{Scenario, good_at, is_good}
 use Rattle.rb_rules.specs.Slots.{count_of}
 use Rattle.rb_rules.specs.WorldStep.{Site, Way, World, begun_for, book_with, comes_so, is_complete, needs_no_event, record_since, row_for, same_place, settle, settle_next}
 use Rattle.rb_world_book.specs.declared.group.Group.{Group}
-use Rattle.rb_world_book.specs.declared.ledger.Ledger.{Ledger}
+use Rattle.rb_world_book.specs.declared.book.Book.{Book as KeptBook}
 use Rattle.rb_world_book.specs.declared.milestone.Milestone.{Milestone}
 use Rattle.rb_world_book.specs.declared.milestone.Milestone.TheVariants.{Begin, Stage, End}
 use Rattle.rb_world_book.specs.declared.milestone.Way.{Way as KeptWay}
@@ -178,7 +178,7 @@ kind-end sc kind g sites holds =
     out false b e = refl
 
 -- all good nodes have told of the next milestone
-pub complete-is : (sc : Scenario) (l : Ledger) (w : World) → Holds sc l w
+pub complete-is : (sc : Scenario) (l : KeptBook) (w : World) → Holds sc l w
     → is_complete sc w.sites w.book.upcoming ≡ ((l.bius.waiting == 0) && (l.rmus.waiting == 0))
 complete-is sc l w h = ap (is_complete sc w.sites) h.upcoming ∙ by l.upcoming h.bius h.rmus
   where
@@ -196,7 +196,7 @@ complete-is sc l w h = ap (is_complete sc w.sites) h.upcoming ∙ by l.upcoming 
         sym (ap (λ s. (s == 0) && (l.rmus.waiting == 0)) (kind-end sc Biu l.bius w.sites biu) ∙ ap (λ s. (0 == 0) && (s == 0)) (kind-end sc Rmu l.rmus w.sites rmu))
 
 -- the next milestone needs no event
-pub free-is : (sc : Scenario) (l : Ledger) (w : World) → Holds sc l w → needs_no_event sc w.book.upcoming ≡ is_free l
+pub free-is : (sc : Scenario) (l : KeptBook) (w : World) → Holds sc l w → needs_no_event sc w.book.upcoming ≡ is_free l
 free-is sc l w h = ap (needs_no_event sc) h.upcoming ∙ by l.upcoming h.bius h.rmus
   where
     by : (m : Milestone) → HoldsKind sc Biu m l.bius w.sites → HoldsKind sc Rmu m l.rmus w.sites → needs_no_event sc (milestone_of m) ≡ is_free l
@@ -205,7 +205,7 @@ free-is sc l w h = ap (needs_no_event sc) h.upcoming ∙ by l.upcoming h.bius h.
         sym (ap (λ s. (s == 0) && (l.rmus.good == 0)) biu.good ∙ ap (λ s. (good_at sc Biu place.frame place.slot == 0) && (s == 0)) rmu.good)
     by End biu rmu = sym (ap (λ s. (s == 0) && (l.rmus.good == 0)) biu.good ∙ ap (λ s. (0 == 0) && (s == 0)) rmu.good)
 
-pub comes-is : (sc : Scenario) (l : Ledger) (w : World) (k : KeptWay) → Holds sc l w → comes_so sc (way_of k) w.book.upcoming ≡ comes_when (is_free l) k
+pub comes-is : (sc : Scenario) (l : KeptBook) (w : World) (k : KeptWay) → Holds sc l w → comes_so sc (way_of k) w.book.upcoming ≡ comes_when (is_free l) k
 comes-is sc l w way.ByAnEvent h = ap not (free-is sc l w h)
 comes-is sc l w way.ByItself h = free-is sc l w h
 
@@ -225,13 +225,13 @@ ended-same : (sc : Scenario) (w : World) → w.book.ended ≡ true → passed sc
 ended-same sc w e = ap (λ (b : Book). let v : World = record w { book = b } in v) (ended-book sc w.sites w.book w.book.upcoming e)
 
 -- what is due
-pub record IsDue (sc : Scenario) (k : KeptWay) (l : Ledger) (w : World) : Type 0 where
+pub record IsDue (sc : Scenario) (k : KeptWay) (l : KeptBook) (w : World) : Type 0 where
   pub going : l.ended ≡ false
   pub bius : l.bius.waiting ≡ 0
   pub rmus : l.rmus.waiting ≡ 0
   pub next : settle_next sc (way_of k) w ≡ passed sc w
 
-pub next-due : (sc : Scenario) (k : KeptWay) (l : Ledger) (w : World) → Holds sc l w → is_due k l ≡ true → IsDue sc k l w
+pub next-due : (sc : Scenario) (k : KeptWay) (l : KeptBook) (w : World) → Holds sc l w → is_due k l ≡ true → IsDue sc k l w
 next-due sc k l w h e = by (l.bius.waiting == 0) (l.rmus.waiting == 0) (comes_when (is_free l) k) l.ended refl refl refl refl e
   where
     zero_is : (s : ℕ) → (s == 0) ≡ true → s ≡ 0
@@ -249,7 +249,7 @@ next-due sc k l w h e = by (l.bius.waiting == 0) (l.rmus.waiting == 0) (comes_wh
     by true false c d ea eb ec ed e = absurd (cc)
     by false b c d ea eb ec ed e = absurd (cc)
 
-pub next-not : (sc : Scenario) (k : KeptWay) (l : Ledger) (w : World) → Holds sc l w → is_due k l ≡ false → settle_next sc (way_of k) w ≡ w
+pub next-not : (sc : Scenario) (k : KeptWay) (l : KeptBook) (w : World) → Holds sc l w → is_due k l ≡ false → settle_next sc (way_of k) w ≡ w
 next-not sc k l w h e =
     ap (step_if sc w) (ap (λ b. b && is_complete sc w.sites w.book.upcoming) (comes-is sc l w k h) ∙ ap (λ b. comes_when (is_free l) k && b) (complete-is sc l w h))
     ∙ by (l.bius.waiting == 0) (l.rmus.waiting == 0) (comes_when (is_free l) k) l.ended refl e
@@ -280,7 +280,7 @@ settle-one : (sc : Scenario) (way : Way) (w next : World) (r : Option Record) �
 settle-one sc way w next None is e = settle-more sc way 0 w next None is e
 settle-one sc way w next (Some r) is e = settle-more sc way 0 w next (Some r) is e
 
-pub with-turn : (sc : Scenario) (l : Ledger) (w : World) (t : Option Record) → Holds sc l w → Holds sc l (record w { turn = t })
+pub with-turn : (sc : Scenario) (l : KeptBook) (w : World) (t : Option Record) → Holds sc l w → Holds sc l (record w { turn = t })
 with-turn sc l w t h = record {
   fits = h.fits;
   upcoming = h.upcoming;
@@ -292,7 +292,7 @@ with-turn sc l w t h = record {
   rmus = record { all = h.rmus.all; saw = h.rmus.saw; rows = h.rmus.rows; sights = h.rmus.sights; begins = h.rmus.begins; within = h.rmus.within; good = h.rmus.good; waiting = h.rmus.waiting; lasting = h.rmus.lasting; counted = h.rmus.counted };
 }
 
-settles-at : (sc : Scenario) (way : Way) (w next : World) (l : Ledger) (t : Turn) (r : Option Record) → settle sc way 2 w ≡ record next { turn = r } → r ≡ record_of t
+settles-at : (sc : Scenario) (way : Way) (w next : World) (l : KeptBook) (t : Turn) (r : Option Record) → settle sc way 2 w ≡ record next { turn = r } → r ≡ record_of t
     → Holds sc l next → Settles sc way w l t
 settles-at sc way w next l t r is same h = record {
   holds = subst (λ x. Holds sc l x) (sym is) (with-turn sc l next r h);
@@ -300,13 +300,13 @@ settles-at sc way w next l t r is same h = record {
 }
 
 -- nothing is due
-pub settles-none : (sc : Scenario) (k : KeptWay) (l : Ledger) (w : World) → Holds sc l w → is_due k l ≡ false → Settles sc (way_of k) w l turn.Quiet
+pub settles-none : (sc : Scenario) (k : KeptWay) (l : KeptBook) (w : World) → Holds sc l w → is_due k l ≡ false → Settles sc (way_of k) w l turn.Quiet
 settles-none sc k l w h e =
     let not_due = next-not sc k l w h e in
     settles-at sc (way_of k) w w l turn.Quiet None (settle-not sc (way_of k) 1 w not_due ∙ settle-not sc (way_of k) 0 w not_due) refl h
 
 -- one milestone is settled, and it gives a record, or no other is due
-pub settles-one : (sc : Scenario) (k : KeptWay) (l after : Ledger) (w : World) (t : Turn) → IsDue sc k l w → Passes sc w after t
+pub settles-one : (sc : Scenario) (k : KeptWay) (l after : KeptBook) (w : World) (t : Turn) → IsDue sc k l w → Passes sc w after t
     → (is_none (record_of t) ≡ true → is_due k after ≡ false) → Settles sc (way_of k) w after t
 settles-one sc k l after w t due passes more = by (record_of t) refl
   where
@@ -319,7 +319,7 @@ settles-one sc k l after w t due passes more = by (record_of t) refl
         ∙ settle-not sc (way_of k) 0 (passed sc w) (next-not sc k after (passed sc w) passes.holds (more (ap is_none e)))) (sym e) passes.holds
 
 -- a milestone that gives none is settled, and the next
-pub settles-two : (sc : Scenario) (k : KeptWay) (l between after : Ledger) (w : World) (t u : Turn) → IsDue sc k l w → Passes sc w between t
+pub settles-two : (sc : Scenario) (k : KeptWay) (l between after : KeptBook) (w : World) (t u : Turn) → IsDue sc k l w → Passes sc w between t
     → is_none (record_of t) ≡ true → IsDue sc k between (passed sc w) → Passes sc (passed sc w) after u → Settles sc (way_of k) w after u
 settles-two sc k l between after w t u due passes quiet more second =
     settles-at sc (way_of k) w (passed sc (passed sc w)) after u (record_of u)

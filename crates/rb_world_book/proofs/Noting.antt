@@ -11,7 +11,7 @@ use Rattle.rb_base.proofs.Sets.{eq_other, eq_self, has-is, lt_true, same_set_of}
 use Rattle.rb_base.specs.declared.kind.Biu.{Biu as BiuKind}
 use Rattle.rb_base.specs.declared.kind.Rmu.{Rmu as RmuKind}
 use Rattle.rb_judge.specs.Stages.{Knows}
-use Rattle.rb_world_book.specs.declared.ledger.Ledger.{Ledger}
+use Rattle.rb_world_book.specs.declared.book.Book.{Book as KeptBook}
 use Rattle.rb_world_book.specs.Holding.{Holds, without_lasting}
 use Rattle.rb_rules.specs.Book.{Begun, Book, Each, Row, map_from, of_kind}
 use Rattle.rb_rules.specs.Goodness.{Scenario, is_good}
@@ -300,7 +300,7 @@ sees-kept counted sc source m o sites c times biu rmu line t most holds last nob
 
 -- The world.
 
-pub with-bius : (sc : Scenario) (l : Ledger) (w : World) (h : Group BiuKind) (sites : Each Site) → Holds sc l w → HoldsKind sc Biu l.upcoming h sites → HoldsKind sc Rmu l.upcoming l.rmus sites
+pub with-bius : (sc : Scenario) (l : KeptBook) (w : World) (h : Group BiuKind) (sites : Each Site) → Holds sc l w → HoldsKind sc Biu l.upcoming h sites → HoldsKind sc Rmu l.upcoming l.rmus sites
     → Holds sc (record l { bius = h }) (record w { sites = sites })
 with-bius sc l w h sites is bius rmus = record {
   fits = record { sizes = is.fits.sizes; is_shape = is.fits.is_shape; frames = is.fits.frames; few_frames = is.fits.few_frames; eps = is.fits.eps; onsets = is.fits.onsets };
@@ -313,7 +313,7 @@ with-bius sc l w h sites is bius rmus = record {
   rmus = rmus;
 }
 
-pub with-rmus : (sc : Scenario) (l : Ledger) (w : World) (h : Group RmuKind) (sites : Each Site) → Holds sc l w → HoldsKind sc Biu l.upcoming l.bius sites → HoldsKind sc Rmu l.upcoming h sites
+pub with-rmus : (sc : Scenario) (l : KeptBook) (w : World) (h : Group RmuKind) (sites : Each Site) → Holds sc l w → HoldsKind sc Biu l.upcoming l.bius sites → HoldsKind sc Rmu l.upcoming h sites
     → Holds sc (record l { rmus = h }) (record w { sites = sites })
 with-rmus sc l w h sites is bius rmus = record {
   fits = record { sizes = is.fits.sizes; is_shape = is.fits.is_shape; frames = is.fits.frames; few_frames = is.fits.few_frames; eps = is.fits.eps; onsets = is.fits.onsets };
@@ -327,7 +327,7 @@ with-rmus sc l w h sites is bius rmus = record {
 }
 
 -- Of the tail a node tells nothing: its site shows the same. So it is with all else that changes neither rows nor begins.
-pub same-shown : (sc : Scenario) (l : Ledger) (w : World) (v : World) → Holds sc l w → v.book ≡ w.book
+pub same-shown : (sc : Scenario) (l : KeptBook) (w : World) (v : World) → Holds sc l w → v.book ≡ w.book
     → ((kind : Side) → map (λ s. s.row) (of_kind kind v.sites) ≡ map (λ s. s.row) (of_kind kind w.sites))
     → ((kind : Side) → map (λ s. s.begun) (of_kind kind v.sites) ≡ map (λ s. s.begun) (of_kind kind w.sites)) → Holds sc l v
 same-shown sc l w v is book rows begins = record {

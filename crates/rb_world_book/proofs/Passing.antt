@@ -19,7 +19,7 @@ use Rattle.rb_rules.specs.Slots.{count_of}
 use Rattle.rb_rules.specs.WorldStep.{Site, World, begun_for, book_with, told_by_good}
 use Rattle.rb_rules.proofs.WindowNumbers.{get-back}
 use Rattle.rb_world_book.specs.declared.group.Group.{Group}
-use Rattle.rb_world_book.specs.declared.ledger.Ledger.{Ledger}
+use Rattle.rb_world_book.specs.declared.book.Book.{Book as KeptBook}
 use Rattle.rb_world_book.specs.declared.milestone.Milestone.{Milestone as Kept}
 use Rattle.rb_world_book.specs.declared.milestone.Milestone.TheVariants as kept
 use Rattle.rb_world_book.specs.declared.turn.Turn.{Turn}
@@ -38,7 +38,7 @@ since-is : (xs ys : List Record) → slice_get (xs ++ ys) (length xs) ≡ slice_
 since-is xs ys = let e : length xs ≡ length xs + 0 = omega arith in ap (slice_get (xs ++ ys)) e ∙ get-back xs ys 0
 
 -- what is kept stands for the world with this book
-pub passes-by : (sc : Scenario) (w : World) (after : Ledger) (turn : Turn) (b : Book) (records : List Record)
+pub passes-by : (sc : Scenario) (w : World) (after : KeptBook) (turn : Turn) (b : Book) (records : List Record)
     → book_with sc w.sites w.book w.book.upcoming ≡ b → Holds sc after (record w { book = b }) → b.given ≡ w.book.given ++ records
     → record_of turn ≡ slice_get records 0 → Passes sc w after turn
 passes-by sc w after turn b records is holds given record_is = record {

@@ -12,7 +12,7 @@ use Rattle.rb_rules.specs.Goodness.{Scenario, good_at, is_before, is_good, onset
 use Rattle.rb_rules.specs.Slots.{count_of}
 use Rattle.rb_world_onset.specs.Faults.{Faults}
 use Rattle.rb_world_book.specs.declared.group.Group.{Group}
-use Rattle.rb_world_book.specs.declared.ledger.Ledger.{Ledger}
+use Rattle.rb_world_book.specs.declared.book.Book.{Book as KeptBook}
 use Rattle.rb_world_book.specs.declared.milestone.Milestone.TheVariants.{Stage}
 use Rattle.rb_world_book.specs.declared.told.Told.{Told}
 use Rattle.rb_world_book.specs.Grouping.{AwaitsGood}
@@ -119,7 +119,7 @@ stays-good kind sizes good lasting sync place next same sync_is before frame slo
         (between (get_or (onsets_of kind sc) i None) place.frame place.slot next.slot (sync_slot_of sc.sizes) low high)
 
 -- the stage after the last of a slot, where all that are good are good to the end of the frame
-pub next-slot : (l : Ledger) (place : Place) (sync slot : ℕ) → 3 ≤ place.stage → sync ≡ sync_slot_of l.shape → sync < 65536 → (place.slot ≡ sync → ⊥)
+pub next-slot : (l : KeptBook) (place : Place) (sync slot : ℕ) → 3 ≤ place.stage → sync ≡ sync_slot_of l.shape → sync < 65536 → (place.slot ≡ sync → ⊥)
     → AllStay l.bius l.rmus → slot ≡ min (place.slot + 1) 65535 → IsSteady l place (record { frame = place.frame; slot = slot; stage = 1 })
 next-slot l place sync slot late sync_is few before stay slot_is = record {
   after = λ fits. sym (ap (λ b. if b then Milestone.Stage (record place { stage = place.stage + 1 })

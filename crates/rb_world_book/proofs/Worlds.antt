@@ -16,7 +16,7 @@ use Rattle.rb_rules.specs.Hearing.{Coming, judged_see, row_of, sole_time}
 use Rattle.rb_rules.specs.NodeState.{NodeState, trusted_of}
 use Rattle.rb_rules.specs.Slots.{same_side}
 use Rattle.rb_rules.specs.WorldStep.{Site, World, at_node, coming_from, with_close}
-use Rattle.rb_world_book.specs.declared.ledger.Ledger.{Ledger}
+use Rattle.rb_world_book.specs.declared.book.Book.{Book as KeptBook}
 use Rattle.rb_world_book.specs.Changing.{changed_at, number_in, row_shown, side_in, with_row}
 use Rattle.rb_world_book.specs.Holding.{Holds}
 use Rattle.rb_world_book.proofs.Noting.{at-kind, same-shown}
@@ -72,7 +72,7 @@ shows-alike h kind me i f g sites same =
     ∙ sym (ap (map h) (at-kind kind me i g sites))
 
 -- a node closes a window, as in the world
-pub closes : (sc : Scenario) (l : Ledger) (w : World) (n : NodeName) (st : NodeState) (c : Closed) (row : Row)
+pub closes : (sc : Scenario) (l : KeptBook) (w : World) (n : NodeName) (st : NodeState) (c : Closed) (row : Row)
     → ((s : Site) → slice_get (of_kind (side_in n) w.sites) (number_in n) ≡ Some s → row_of (side_in n) (number_in n) st (coming_from s.got) c ≡ row)
     → Holds sc l (changed_at n (with_row c.place.stage row) w) → Holds sc l (changed_at n (with_close (side_in n) (number_in n) st (Some c)) w)
 closes sc l w n st c row is holds =

@@ -17,7 +17,7 @@ use Rattle.rb_rules.specs.WorldStep.{Site, World, book_with, record_since}
 use Rattle.rb_judge.specs.Stages.{Knows}
 use Rattle.rb_world_onset.specs.Faults.{faults_of}
 use Rattle.rb_world_book.specs.declared.group.Group.{Group}
-use Rattle.rb_world_book.specs.declared.ledger.Ledger.{Ledger}
+use Rattle.rb_world_book.specs.declared.book.Book.{Book as KeptBook}
 use Rattle.rb_world_book.specs.declared.milestone.Milestone.{Milestone}
 use Rattle.rb_world_book.specs.declared.milestone.Milestone.TheVariants.{Begin, Stage, End}
 use Rattle.rb_world_book.specs.declared.turn.Turn.{Turn}
@@ -81,7 +81,7 @@ pub record HoldsKind {K : Type 0} (sc : Scenario) (kind : Side) (m : Milestone) 
   pub counted : (place : Place) → m ≡ Stage place → g.counted ≡ all_but (count_of kind sc.sizes) g.lasting
 
 -- the numbers of a scenario
-pub record Fits (sc : Scenario) (l : Ledger) : Type 0 where
+pub record Fits (sc : Scenario) (l : KeptBook) : Type 0 where
   pub sizes : l.shape ≡ sc.sizes
   pub is_shape : IsShape sc.sizes
   pub frames : l.frames ≡ sc.frames
@@ -90,7 +90,7 @@ pub record Fits (sc : Scenario) (l : Ledger) : Type 0 where
   pub onsets : l.onsets ≡ faults_of sc
 
 -- this is kept of what the nodes of a world have told, and of its book, but for the records given
-pub record Holds (sc : Scenario) (l : Ledger) (w : World) : Type 0 where
+pub record Holds (sc : Scenario) (l : KeptBook) (w : World) : Type 0 where
   pub fits : Fits sc l
   pub upcoming : w.book.upcoming ≡ milestone_of l.upcoming
   pub coming : IsComing sc l.upcoming
@@ -108,7 +108,7 @@ abbrev pub passed : Scenario → World → World
 passed sc w = record w { book = book_with sc w.sites w.book w.book.upcoming }
 
 -- the next milestone is settled, and this is the record that it gives, if any
-pub record Passes (sc : Scenario) (w : World) (after : Ledger) (turn : Turn) : Type 0 where
+pub record Passes (sc : Scenario) (w : World) (after : KeptBook) (turn : Turn) : Type 0 where
   pub holds : Holds sc after (passed sc w)
   pub record_is : record_of turn ≡ record_since w (passed sc w)
 
@@ -119,7 +119,7 @@ pub record TurnsKind {K : Type 0} (kind : Side) (sizes : Sizes) (before after : 
   pub counted : after.counted ≡ before.counted
   pub waiting : after.waiting ≡ waiting_for (count_of kind sizes) after.good m before.told
 
-pub record TurnsTo (before after : Ledger) (m : Milestone) : Type 0 where
+pub record TurnsTo (before after : KeptBook) (m : Milestone) : Type 0 where
   pub shape : after.shape ≡ before.shape
   pub frames : after.frames ≡ before.frames
   pub eps : after.eps ≡ before.eps
@@ -134,7 +134,7 @@ pub record TurnsTo (before after : Ledger) (m : Milestone) : Type 0 where
   pub good_rmus : (sc : Scenario) → before.onsets ≡ faults_of sc → after.rmus.good ≡ good_for sc Rmu m
 
 -- a stage is the upcoming one, and the same nodes are good there as at the one before
-pub record StaysUntil (before after : Ledger) (next : Place) : Type 0 where
+pub record StaysUntil (before after : KeptBook) (next : Place) : Type 0 where
   pub shape : after.shape ≡ before.shape
   pub frames : after.frames ≡ before.frames
   pub eps : after.eps ≡ before.eps
@@ -158,7 +158,7 @@ GoodNext kind sizes good lasting place next =
     → lasting ≡ good_at sc kind place.frame (sync_slot_of sc.sizes) → good ≡ good_at sc kind next.frame next.slot
 
 -- this is the next stage, and the same nodes are good there
-pub record IsSteady (l : Ledger) (place next : Place) : Type 0 where
+pub record IsSteady (l : KeptBook) (place next : Place) : Type 0 where
   pub after : place.slot + 1 < 2 ^ 16 → milestone_of (Stage next) ≡ after_stage l.shape place
   pub other : (place.stage == next.stage) ≡ false
   pub bius : GoodNext Biu l.shape l.bius.good l.bius.lasting place next

@@ -13,7 +13,7 @@ use Rattle.rb_rules.specs.WorldStep.{Site, Way, World, row_for, settle, told_by_
 use Rattle.rb_judge.specs.Stages.{KeptJudge, Knows}
 use Rattle.rb_world_onset.specs.Faults.{Faults, faults_of}
 use Rattle.rb_world_book.specs.declared.group.Group.{Group}
-use Rattle.rb_world_book.specs.declared.ledger.Ledger.{Ledger}
+use Rattle.rb_world_book.specs.declared.book.Book.{Book as KeptBook}
 use Rattle.rb_world_book.specs.declared.milestone.Milestone.{Milestone as KeptMilestone}
 use Rattle.rb_world_book.specs.declared.milestone.Milestone.TheVariants as kept
 use Rattle.rb_world_book.specs.declared.milestone.Way.{Way as KeptWay}
@@ -41,7 +41,7 @@ abbrev pub after_begin : ℕ → ℕ → Milestone
 after_begin frame frames = if frame == frames then End else Stage (record { frame = frame; slot = 0; stage = 1 })
 
 -- no node is good at the upcoming milestone
-abbrev pub is_free : Ledger → Bool
+abbrev pub is_free : KeptBook → Bool
 is_free l = (l.bius.good == 0) && (l.rmus.good == 0)
 
 abbrev pub comes_when : Bool → KeptWay → Bool
@@ -49,7 +49,7 @@ comes_when free way.ByAnEvent = not free
 comes_when free way.ByItself = free
 
 -- nobody is awaited, and this is the way
-abbrev pub is_due : KeptWay → Ledger → Bool
+abbrev pub is_due : KeptWay → KeptBook → Bool
 is_due w l = (l.bius.waiting == 0) && ((l.rmus.waiting == 0) && (comes_when (is_free l) w && not l.ended))
 
 -- what the nodes of a kind told stays, and those are awaited that have not told of the upcoming milestone
@@ -60,7 +60,7 @@ pub record GoesKind {K : Type 0} (kind : Side) (sizes : Sizes) (onsets : Faults)
       → before.lasting ≡ good_at sc kind place.frame (sync_slot_of sc.sizes) → after.good ≡ good_for sc kind m
 
 -- what follows a stage at which the premise holds is the upcoming milestone
-pub record GoesPast (before after : Ledger) (place : Place) (turn : Turn) : Type 0 where
+pub record GoesPast (before after : KeptBook) (place : Place) (turn : Turn) : Type 0 where
   pub record_is : record_of turn ≡ slot_record before.shape place before.lines.items
   pub shape : after.shape ≡ before.shape
   pub frames : after.frames ≡ before.frames
@@ -75,6 +75,6 @@ pub record GoesPast (before after : Ledger) (place : Place) (turn : Turn) : Type
   pub rmus : GoesKind Rmu before.shape before.onsets place before.rmus after.rmus after.upcoming
 
 -- what is due in this way is settled, and this is the turn
-pub record Settles (sc : Scenario) (way : Way) (w : World) (after : Ledger) (turn : Turn) : Type 0 where
+pub record Settles (sc : Scenario) (way : Way) (w : World) (after : KeptBook) (turn : Turn) : Type 0 where
   pub holds : Holds sc after (settle sc way 2 w)
   pub turn_is : (settle sc way 2 w).turn ≡ record_of turn

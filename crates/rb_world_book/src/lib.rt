@@ -3,7 +3,6 @@
 
 pub mod book;
 mod group;
-mod ledger;
 pub mod milestone;
 mod told;
 pub mod turn;

@@ -1,6 +1,20 @@
-use Rattle.std.proofs.Common.{sym, subst}
-use Rattle.rb_world_book.specs.Holding.{Holds}
+use Rattle.std.proofs.Common.{◌≡◌, ℕ, ◌==◌, true, false, refl, ap}
+use Rattle.std.specs.Prelude.{Some}
+use Rattle.rb_rules.specs.Book.{Row}
+use Rattle.rb_rules.specs.WorldStep.{Site}
+use Rattle.rb_world_book.specs.Changing.{changed_at, number_in, row_shown, side_in, with_row}
+use Rattle.rb_world_book.proofs.Noting.{same-shown, shows-same}
 use Rattle.rb_world_book.proofs.book.Book.close.Goals as goal
 
-pub returns-clause-noted : goal.returns-clause-noted
-returns-clause-noted c = λ sc w h. c.close.ensures.noted sc w (subst (λ l. Holds sc l w) (sym c.self.view_is) h)
+-- of the tail nothing is told
+tail-same : (stage : ℕ) (row : Row) (s : Site) → (stage == 4) ≡ true → with_row stage row s ≡ s
+tail-same stage row s e = ap (λ b. elim b as (λ _. Site) [ true ↦ s | false ↦ record s { row = Some row } ]) e
+
+pub returns-then-closed-eq4-clause-noted : goal.returns-then-closed-eq4-clause-noted
+returns-then-closed-eq4-clause-noted c = λ sc w h.
+    let row : Row = row_shown (number_in c.args.node) c.args.closed.now c.args.times.now c.args.biu c.args.rmu in
+    let stage : ℕ = c.args.closed.now.place.stage in
+    let tail : (stage == 4) ≡ true = ap (λ n. n == 4) c.if-closed-eq4.true in
+    same-shown sc c.args.self.now w (changed_at c.args.node (with_row stage row) w) h refl
+    (λ kind. shows-same (λ s. s.row) kind (side_in c.args.node) (number_in c.args.node) (with_row stage row) w.sites (λ s. ap (λ (x : Site). x.row) (tail-same stage row s tail)))
+    (λ kind. shows-same (λ s. s.begun) kind (side_in c.args.node) (number_in c.args.node) (with_row stage row) w.sites (λ s. ap (λ (x : Site). x.begun) (tail-same stage row s tail)))

@@ -1,5 +1,5 @@
 use Rattle.rb_world_book.proofs.Steady.{next-slot}
-use Rattle.rb_world_book.proofs.ledger.Ledger.steady_next.Goals as goal
+use Rattle.rb_world_book.proofs.book.Book.steady_next.Goals as goal
 
 pub returns-then-all_stay : goal.returns-then-all_stay
 returns-then-all_stay c =

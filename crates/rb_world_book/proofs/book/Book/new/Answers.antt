@@ -6,7 +6,7 @@ use Rattle.rb_world_book.specs.declared.milestone.Milestone.TheVariants.{Begin, 
 use Rattle.rb_world_book.specs.Holding.{HoldsKind, IsComing}
 use Rattle.rb_world_book.specs.Records.{milestone_of}
 use Rattle.rb_world_book.proofs.First.{first-kind}
-use Rattle.rb_world_book.proofs.ledger.Ledger.new.Goals as goal
+use Rattle.rb_world_book.proofs.book.Book.new.Goals as goal
 
 pub returns-clause-holds : goal.returns-clause-holds
 unfolding first_world

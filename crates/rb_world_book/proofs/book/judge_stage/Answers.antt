@@ -8,7 +8,7 @@ use Rattle.rb_world_book.specs.Holding.{without_lasting}
 use Rattle.rb_world_book.specs.Settling.{rows_found}
 use Rattle.rb_world_book.specs.Waiting.{was_taken, was_unlike}
 use Rattle.rb_world_book.proofs.Judged.{rows-found, rows_of, sets-are}
-use Rattle.rb_world_book.proofs.ledger.judge_stage.Goals as goal
+use Rattle.rb_world_book.proofs.book.judge_stage.Goals as goal
 
 pub returns : goal.returns
 returns c = λ sc sites stages sizes eps biu rmu none_bius none_rmus known.

@@ -17,7 +17,7 @@ use Rattle.rb_world_book.specs.declared.milestone.Milestone.TheVariants as kept
 use Rattle.rb_world_book.proofs.Judged.{rows_of}
 use Rattle.rb_world_book.proofs.Passing.{coming-after, few-slots, lines-after, passes-by, slot-record, stage-then, turns-holds}
 use Rattle.rb_world_book.proofs.Verdict.{verdict-is}
-use Rattle.rb_world_book.proofs.ledger.Ledger.pass_stage.Goals as goal
+use Rattle.rb_world_book.proofs.book.Book.pass_stage.Goals as goal
 
 pub returns-in-Some-clause-passes : goal.returns-in-Some-clause-passes
 returns-in-Some-clause-passes c = λ sc w h ended next none_bius none_rmus.

@@ -1,7 +1,7 @@
 use Rattle.std.proofs.Common.{ap}
 use Rattle.std.specs.Prelude.{Some}
 use Rattle.rb_rules.specs.Book.{Record}
-use Rattle.rb_world_book.proofs.ledger.write_slot.Goals as goal
+use Rattle.rb_world_book.proofs.book.write_slot.Goals as goal
 
 pub returns : goal.returns
 returns c =

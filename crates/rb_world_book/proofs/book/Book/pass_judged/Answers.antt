@@ -3,7 +3,7 @@ use Rattle.rb_base.specs.Nodes.Side.{Biu, Rmu}
 use Rattle.rb_world_book.specs.Records.{milestone_of}
 use Rattle.rb_world_book.specs.Settling.{GoesKind}
 use Rattle.rb_world_book.proofs.Steady.{goes-on}
-use Rattle.rb_world_book.proofs.ledger.Ledger.pass_judged.Goals as goal
+use Rattle.rb_world_book.proofs.book.Book.pass_judged.Goals as goal
 
 pub returns-in-Some : goal.returns-in-Some
 returns-in-Some c =

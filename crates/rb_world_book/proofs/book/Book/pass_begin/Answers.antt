@@ -13,7 +13,7 @@ use Rattle.rb_world_book.specs.declared.milestone.Milestone.TheVariants as kept
 use Rattle.rb_world_book.specs.Records.{milestone_of}
 use Rattle.rb_world_book.specs.Settling.{after_begin}
 use Rattle.rb_world_book.proofs.Passing.{coming-begun, frame-book, frame-record, passes-by, turns-holds}
-use Rattle.rb_world_book.proofs.ledger.Ledger.pass_begin.Goals as goal
+use Rattle.rb_world_book.proofs.book.Book.pass_begin.Goals as goal
 
 pub returns-clause-passes : goal.returns-clause-passes
 returns-clause-passes c = λ sc w h ended next.
