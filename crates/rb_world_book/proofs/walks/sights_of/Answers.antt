@@ -1,4 +1,4 @@
-use Rattle.std.proofs.Common.{◌≡◌, ℕ, ◌<◌, ◌^◌, refl, sym, ◌∙◌, ap, subst}
+use Rattle.std.proofs.Common.{ℕ, ◌<◌, ◌^◌, refl, sym, ◌∙◌, ap, subst}
 use Rattle.rb_base.specs.Nodes.{TakesFirst}
 use Rattle.rb_base.specs.declared.values.See.{See}
 use Rattle.rb_base.proofs.Sets.{set_of-lt}
