@@ -1,5 +1,5 @@
 -- The answer to `run`, from what came of its input and of its bridge.
-use Rattle.std.proofs.Common.{◌≡◌, ℕ, Bool, List, Option, inl, inr, refl, subst}
+use Rattle.std.proofs.Common.{◌≡◌, ◌⊎◌, ℕ, Bool, List, Option, inl, inr, refl, subst, sym}
 use Rattle.rb_outside.specs.Causes.{Rose}
 use Rattle.rb_world_book.specs.declared.turn.Turn.{Turn}
 use Rattle.rb_bridge_document.specs.declared.bridge.Bridge.{Bridge as Kept}
@@ -86,3 +86,12 @@ only-memory-runs TooLong run none = absurd run
 only-memory-runs ReadFault run none = absurd run
 only-memory-runs WriteFault run none = absurd none
 only-memory-runs OutOfMemory run none = refl
+
+-- the answer to a flag is one of a run, and something is written
+pub shown-of-run : (status : Status) → (status ≡ Done) ⊎ (status ≡ WriteFault) → IsOfRun status
+shown-of-run status (inl e) = subst IsOfRun (sym e) tt
+shown-of-run status (inr e) = subst IsOfRun (sym e) tt
+
+pub shown-writes : (status : Status) → (status ≡ Done) ⊎ (status ≡ WriteFault) → ¬ WritesNothing status
+shown-writes status (inl e) none = subst WritesNothing e none
+shown-writes status (inr e) none = subst WritesNothing e none

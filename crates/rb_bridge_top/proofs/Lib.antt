@@ -2,3 +2,4 @@ pub mod Accepted
 pub mod Opening
 pub mod Answered
 pub mod Completed
+pub mod OneForm

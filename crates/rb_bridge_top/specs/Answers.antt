@@ -8,22 +8,26 @@ use Rattle.rb_run.specs.declared.ending.Ending.{Ending}
 use Rattle.rb_rules_bridge.specs.Bridges.{Bridge, IsBridge}
 use Rattle.rb_bridge_document.specs.Acceptance.{IsBridgeAccepted}
 use Rattle.rb_bridge_run.specs.Crossing.{WritesAll, WritesPart}
+use Rattle.rb_bridge_top.specs.declared.form.Form.{Form}
+use Rattle.rb_bridge_top.specs.declared.form.Form.TheVariants.{Run}
 use Rattle.rb_bridge_top.specs.declared.status.Status.{Status}
 use Rattle.rb_bridge_top.specs.declared.status.Status.TheVariants as answer
-use Rattle.rb_bridge_top.specs.Inputs.{AreRun, IsRefusedWith, IsUnread, RefusesText, FailsToRefuse, input_limit}
+use Rattle.rb_bridge_top.specs.Inputs.{IsRefusedWith, IsUnread, RefusesText, FailsToRefuse, input_limit}
 use Rattle.rb_bridge_top.specs.Statuses.{HasEnded, HasFailed, MayRefuse, RunsNothing, WritesNothing, end_of, status_of}
+use Rattle.rb_bridge_top.specs.Words.{AskFor}
 
--- Usage comes exactly where the words are not `run` alone
+-- Usage comes exactly where the words ask for no form
 pub record UsageExactly (status : Status) (words : List (String Global)) : Type 0 where
-  pub unknown : status ≡ answer.Usage → ¬ AreRun words
-  pub refused : ¬ AreRun words → status ≡ answer.Usage
+  pub unknown : status ≡ answer.Usage → (form : Form) → ¬ AskFor words form
+  pub refused : ((form : Form) → ¬ AskFor words form) → status ≡ answer.Usage
+  pub known : ¬ (status ≡ answer.Usage) → (form : Form) × AskFor words form
 
--- the source, the sink and the drives are as they were, where the answer leaves them so
-pub record Untouched {S K D : Type 0} (status : Status) (source source' : S) (sink sink' : K) (left left' right right' : D) : Type 0 where
-  pub unread : status ≡ answer.Usage → source' ≡ source
+-- the source, the sink and the drives are as they were, where the words or the answer leave them so
+pub record Untouched {S K D : Type 0} (words : List (String Global)) (status : Status) (source source' : S) (sink sink' : K) (left left' right right' : D) : Type 0 where
+  pub unread : ¬ AskFor words Run → source' ≡ source
   pub unwritten : WritesNothing status → sink' ≡ sink
-  pub left_idle : RunsNothing status → left' ≡ left
-  pub right_idle : RunsNothing status → right' ≡ right
+  pub left_idle : (¬ AskFor words Run) ⊎ RunsNothing status → left' ≡ left
+  pub right_idle : (¬ AskFor words Run) ⊎ RunsNothing status → right' ≡ right
 
 -- Where `both` is true, both drives are plain. The drives gave turns of the bridge's runs, and with two plain ones its text was written: all of it, and
 -- this is the answer

@@ -1,6 +1,5 @@
 -- What is read, and how it is refused or not read to its end.
-use Rattle.std.specs.Prelude.{ℕ, ◌≡◌, ◌≤◌, ◌<◌, List, [], ◌∷◌, map, codes, Option, IsSome, unwrap_or, String, string_bytes}
-use Rattle.std.specs.declared.alloc.Global.{Global}
+use Rattle.std.specs.Prelude.{ℕ, ◌≡◌, ◌≤◌, ◌<◌, List, Option, IsSome, unwrap_or}
 use Rattle.std.specs.Io.KnownBytes.{Appends}
 use Rattle.rb_outside.specs.Bytes.{AppendsPart, Gave, ReadsToEnd}
 use Rattle.rb_outside.specs.Causes.{Rose}
@@ -13,10 +12,6 @@ use Rattle.rb_bridge.specs.Refusals.{IsBridgeRefusal, bridge_refused_text}
 use Rattle.rb_bridge_top.specs.declared.status.Status.{Status}
 use Rattle.rb_bridge_top.specs.declared.status.Status.TheVariants as answer
 use Rattle.rb_bridge_top.specs.Statuses.{MayRefuse}
-
--- the words are `run` alone
-abbrev pub AreRun : List (String Global) → Type 0
-AreRun words = map string_bytes words ≡ codes "run" ∷ []
 
 -- the most bytes of an input
 abbrev pub input_limit : ℕ

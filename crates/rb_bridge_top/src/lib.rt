@@ -1,6 +1,8 @@
 //! The top call of a bridge: words, input and output of the program as values.
 #![tactic(auto)]
 
+pub mod form;
+mod pages;
 mod reading;
 mod running;
 pub mod status;

@@ -1,11 +1,17 @@
 //! The top call of a bridge.
-ghost use Rattle.std.specs.Prelude.{◌≡◌, ◌↔◌, Bool, IsTrue, codes};
+ghost use Rattle.std.specs.Prelude.{◌≡◌, Bool, IsTrue};
+ghost use Rattle.rb_flags.specs.declared.Flag.{Flag};
 ghost use Rattle.rb_bridge_run.specs.Crossing.{ArePlain};
+ghost use Rattle.rb_bridge_top.specs.declared.form.Form.TheVariants.{Run, Show};
 ghost use Rattle.rb_bridge_top.specs.Answers.{Answers, Completes, Ends, FailsToWrite, Refuses, Untouched, UsageExactly};
-ghost use Rattle.rb_bridge_top.specs.Inputs.{AreRun, IsUnread};
+ghost use Rattle.rb_bridge_top.specs.Inputs.{IsUnread};
+ghost use Rattle.rb_bridge_top.specs.Pages.{Shows};
 ghost use Rattle.rb_bridge_top.specs.Promise.{KeepsTheBridge};
 ghost use Rattle.rb_bridge_top.specs.Statuses.{HasEnded, RunsNothing, WritesNothing};
+ghost use Rattle.rb_bridge_top.specs.Words.{AskFor};
 
+use crate::form::{Form, form_of};
+use crate::pages::write_page;
 use crate::reading::read_document;
 use crate::running::report;
 use crate::status::Status;
@@ -13,23 +19,6 @@ use rb_outside::{Sink, Source};
 use rb_port::Apps;
 use rb_world::Drive;
 use std::alloc::Global;
-
-// Whether a word is `run`.
-fn is_run(word: &str) -> bool
-    ensures { IsTrue result ↔ (word.now ≡ codes "run") }
-{
-    word == "run"
-}
-
-// Whether the words are `run` alone.
-fn are_run(words: &[String]) -> bool
-    ensures { IsTrue result ↔ AreRun words.now }
-{
-    match words {
-        [word] => is_run(word.as_str()),
-        _ => false,
-    }
-}
 
 // Reads a bridge, runs it and writes what is said of it.
 fn serve<S: Source, K: Sink, D: Drive>(
@@ -41,8 +30,11 @@ fn serve<S: Source, K: Sink, D: Drive>(
     right: &mut D,
 ) -> Status
     ensures answers { (both : Bool) → ArePlain both (D.is_plain left.old) (D.is_plain right.old)
-        → Answers both result (S.left input.old) (S.left input.new) (S.faults input.old) (S.faults input.new) (K.held output.old) (K.held output.new) (K.faults output.old) (K.faults output.new)
-        (D.is_plain left.old) (D.told left.old) (D.told left.new) (D.is_plain right.old) (D.told right.old) (D.told right.new) }
+        → Answers both result (S.left input.old) (S.left input.new)
+        (S.faults input.old) (S.faults input.new)
+        (K.held output.old) (K.held output.new) (K.faults output.old) (K.faults output.new)
+        (D.is_plain left.old) (D.told left.old) (D.told left.new)
+        (D.is_plain right.old) (D.told right.old) (D.told right.new) }
     ensures unwritten { WritesNothing result → output.new ≡ output.old }
     ensures not_driven { RunsNothing result → (left.new ≡ left.old) × (right.new ≡ right.old) }
 {
@@ -52,8 +44,14 @@ fn serve<S: Source, K: Sink, D: Drive>(
     }
 }
 
-/// The program `robus_bridge` as a call: with the word `run` it reads a bridge of two buses, runs both and writes to the sink what their receivers
-/// find, a line at a time. `left` is asked for the turns of the left bus, and `right` for those of the right one.
+/// The program `robus_bridge` as a call: it does what the words ask for. `left` is asked for the turns of the left bus, and `right` for
+/// those of the right one.
+///
+/// | words | what it does |
+/// |---|---|
+/// | `run` | reads a bridge of two buses, runs both and writes what their receivers find, a line at a time |
+/// | `--help`, `-h` | writes a page with these words and the statuses; reads nothing |
+/// | `--version` | writes the name of the program and its version; reads nothing |
 ///
 /// `Done`: all is written. `Breach`: the bridge ended with a breach of the fault premise on one of its buses, and all up to it is written.
 /// `Usage`: the words are others; nothing was read or written. `Refused`: the input says no bridge, or one of its scenarios is refused, or a
@@ -70,22 +68,43 @@ pub fn run_bridge<S: Source, K: Sink, D: Drive>(
     right: &mut D,
 ) -> Status
     ensures usage { UsageExactly result words.now }
-    ensures untouched { Untouched result input.old input.new output.old output.new left.old left.new right.old right.new }
-    ensures promise { IsTrue (D.is_plain left.old) → IsTrue (D.is_plain right.old) → HasEnded result
-        → KeepsTheBridge result (S.left input.old) (S.left input.new) (K.held output.old) (K.held output.new) }
-    ensures ended { (both : Bool) → ArePlain both (D.is_plain left.old) (D.is_plain right.old) → HasEnded result
-        → Ends both result (S.left input.old) (S.left input.new) (K.held output.old) (K.held output.new)
-        (D.is_plain left.old) (D.told left.old) (D.told left.new) (D.is_plain right.old) (D.told right.old) (D.told right.new) }
-    ensures refused { result ≡ Status.Refused → Refuses (S.left input.old) (S.left input.new) (K.held output.old) (K.held output.new) }
-    ensures unread { AreRun words.now → IsUnread result (S.left input.old) (S.left input.new) (S.faults input.old) (S.faults input.new) }
-    ensures write_fault { (both : Bool) → ArePlain both (D.is_plain left.old) (D.is_plain right.old) → result ≡ Status.WriteFault
-        → FailsToWrite both (S.left input.old) (S.left input.new) (K.held output.old) (K.held output.new) (K.faults output.old) (K.faults output.new)
-        (D.is_plain left.old) (D.told left.old) (D.told left.new) (D.is_plain right.old) (D.told right.old) (D.told right.new) }
-    ensures complete { AreRun words.now → (both : Bool) → ArePlain both (D.is_plain left.old) (D.is_plain right.old)
-        → Completes both result (S.left input.old) (S.faults input.old) (S.faults input.new) (K.faults output.old) (K.faults output.new) }
+    ensures untouched { Untouched words.now result input.old input.new output.old output.new
+        left.old left.new right.old right.new }
+    ensures shown { (flag : Flag) → AskFor words.now (Show flag)
+        → Shows flag result (K.held output.old) (K.held output.new)
+        (K.faults output.old) (K.faults output.new) }
+    ensures promise { AskFor words.now Run
+        → IsTrue (D.is_plain left.old) → IsTrue (D.is_plain right.old) → HasEnded result
+        → KeepsTheBridge result (S.left input.old) (S.left input.new)
+        (K.held output.old) (K.held output.new) }
+    ensures ended { AskFor words.now Run
+        → (both : Bool) → ArePlain both (D.is_plain left.old) (D.is_plain right.old)
+        → HasEnded result
+        → Ends both result (S.left input.old) (S.left input.new)
+        (K.held output.old) (K.held output.new)
+        (D.is_plain left.old) (D.told left.old) (D.told left.new)
+        (D.is_plain right.old) (D.told right.old) (D.told right.new) }
+    ensures refused { result ≡ Status.Refused
+        → Refuses (S.left input.old) (S.left input.new) (K.held output.old) (K.held output.new) }
+    ensures unread { AskFor words.now Run
+        → IsUnread result (S.left input.old) (S.left input.new)
+        (S.faults input.old) (S.faults input.new) }
+    ensures write_fault { AskFor words.now Run
+        → (both : Bool) → ArePlain both (D.is_plain left.old) (D.is_plain right.old)
+        → result ≡ Status.WriteFault
+        → FailsToWrite both (S.left input.old) (S.left input.new)
+        (K.held output.old) (K.held output.new)
+        (K.faults output.old) (K.faults output.new)
+        (D.is_plain left.old) (D.told left.old) (D.told left.new)
+        (D.is_plain right.old) (D.told right.old) (D.told right.new) }
+    ensures complete { AskFor words.now Run
+        → (both : Bool) → ArePlain both (D.is_plain left.old) (D.is_plain right.old)
+        → Completes both result (S.left input.old) (S.faults input.old) (S.faults input.new)
+        (K.faults output.old) (K.faults output.new) }
 {
-    if !are_run(words) {
-        return Status::Usage;
+    match form_of(words) {
+        Some(Form::Run) => serve(alloc, input, output, apps, left, right),
+        Some(Form::Show(flag)) => write_page(flag, output),
+        None => Status::Usage,
     }
-    serve(alloc, input, output, apps, left, right)
 }

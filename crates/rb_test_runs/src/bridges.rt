@@ -90,7 +90,7 @@ fn bridges(rt: HostRuntime) -> Result<(), Fail> {
     let alloc = rt.alloc();
     for (input, status, lines) in CASES {
         let mut sink = MemSink::new(alloc, 1000, vec![in alloc]?).map_err(|_| "no memory")?;
-        let found = crossed(alloc, joined(alloc, input)?, &mut sink)?;
+        let found = crossed(alloc, "run", joined(alloc, input)?, &mut sink)?;
         assert_eq!(rt; found, *status, "{input:?}");
         let text = text_of(alloc, lines)?;
         assert_eq!(rt; sink.bytes(), text.as_slice(), "{input:?}");

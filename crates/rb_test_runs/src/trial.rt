@@ -115,13 +115,14 @@ pub(crate) fn try_cases(rt: &impl Abort, alloc: Global, cases: &[Case]) -> Resul
     Ok(())
 }
 
-/// How the call of a bridge ends with this input, with drives that take the first event that is due.
+/// How the call of a bridge ends with these words and this input, with drives that take the first event that is due.
 pub(crate) fn crossed(
     alloc: Global,
+    words: &str,
     input: Vec<u8>,
     sink: &mut MemSink,
 ) -> Result<rb_bridge_top::Status, AllocError> {
-    let words = words_of(alloc, "run")?;
+    let words = words_of(alloc, words)?;
     let apps = applications!(alloc);
     Ok(run_bridge(
         alloc,

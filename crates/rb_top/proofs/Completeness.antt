@@ -16,7 +16,7 @@ use Rattle.rb_scenario_entries.specs.declared.refusal.Refusal.TheVariants as rul
 use Rattle.rb_world_book.specs.declared.turn.Turn.{Turn}
 use Rattle.rb_run.specs.declared.ending.Ending.{Ending}
 use Rattle.rb_top.specs.declared.form.Form.{Form}
-use Rattle.rb_top.specs.declared.form.Form.TheVariants.{Run, Check, Gen, Stress, Record, Replay, Spell, Letters, Group, Listen}
+use Rattle.rb_top.specs.declared.form.Form.TheVariants.{Run, Check, Gen, Stress, Record, Replay, Spell, Letters, Group, Listen, Show}
 use Rattle.rb_top.specs.declared.status.Status.{Status}
 use Rattle.rb_top.specs.declared.status.Status.TheVariants.{Done, Breach, Usage, Refused, TooLong, ReadFault, WriteFault, OutOfMemory}
 use Rattle.rb_top.specs.Answers.{Completes, Ends, EndsAs, IsDue, IsEnd, IsLeft, NothingFails, Refuses, status_of}
@@ -86,6 +86,7 @@ not_both Replay input line end e breaks = ok_or_err (log_in input) e.0 breaks.fa
 not_both (Listen skip) input line end e (inl breaks) = ok_or_err (log_in input) e.0 breaks.fault e.1 breaks.spells
 not_both (Listen skip) input line end e (inr rmu) = not_of_both (log_in input) e.0 rmu.log e.1 rmu.spells e.2 rmu.rmu
 not_both (Spell letter) input line end e refused = refused
+not_both (Show flag) input line end e refused = refused
 not_both Letters input line end e refused = breaks_none input line e.0 e.1 refused
 not_both (Group which members) input line end e (inl breaks) = breaks_none input line e.0 e.1 breaks
 not_both (Group which members) input line end e (inr lacks) =
@@ -109,6 +110,7 @@ read_is_left Replay left left' input read is r =
 read_is_left (Listen skip) left left' input read is r =
     let P : Option (List ℕ) → Type 0 = λ l. ReadsToEnd l left' read in read_bytes input left' read (subst P is r)
 read_is_left (Spell letter) left left' input read is r = r ∙ sym is
+read_is_left (Show flag) left left' input read is r = r ∙ sym is
 read_is_left Letters left left' input read is r =
     let P : Option (List ℕ) → Type 0 = λ l. ReadsToEnd l left' read in read_bytes input left' read (subst P is r)
 read_is_left (Group which members) left left' input read is r =
@@ -125,6 +127,7 @@ ends_so (Record node) input is_plain told told' status text due = (due.log.scena
 ends_so Replay input is_plain told told' status text due = (due.0.log, due.0.spells, due.1.done)
 ends_so (Listen skip) input is_plain told told' status text due = (due.0.log, due.0.spells, due.0.biu, due.1.done)
 ends_so (Spell letter) input is_plain told told' status text due = due.1.done
+ends_so (Show flag) input is_plain told told' status text due = due.1.done
 ends_so Letters input is_plain told told' status text due = (due.scenario, due.says, due.ends)
 ends_so (Group which members) input is_plain told told' status text due = (due.report.scenario, due.report.says, due.there, due.report.ends)
 
@@ -141,6 +144,7 @@ one_end (Record node) input a b is_a is_b =
 one_end Replay input a b is_a is_b = is_a.2 ∙ sym is_b.2
 one_end (Listen skip) input a b is_a is_b = is_a.3 ∙ sym is_b.3
 one_end (Spell letter) input a b is_a is_b = is_a ∙ sym is_b
+one_end (Show flag) input a b is_a is_b = is_a ∙ sym is_b
 one_end Letters input a b is_a is_b =
     let P : Scenario → Type 0 = λ sc. EndsAs sc a in
     same_end is_b.0 a b (subst P (same_scenario input is_a.0 is_b.0 is_a.1 is_b.1) is_a.2) is_b.2
@@ -174,6 +178,7 @@ never_long (Listen skip) left left' reads reads' writes writes' input is fine un
     let long : log_limit < length input = gave_within input left' log_limit (subst P is (unread.too_long refl)) in
     absurd (omega (arith, long, fine.within))
 never_long (Spell letter) left left' reads reads' writes writes' input is fine unread = unread.not_long refl
+never_long (Show flag) left left' reads reads' writes writes' input is fine unread = unread.not_long refl
 never_long Letters left left' reads reads' writes writes' input is fine unread =
     let P : Option (List ℕ) → Type 0 = λ l. Gave l left' (λ n. scenario_limit < n) in
     let long : scenario_limit < length input = gave_within input left' scenario_limit (subst P is (unread.too_long refl)) in
@@ -193,6 +198,7 @@ never_faulty (Record node) left left' reads reads' writes writes' input fine unr
 never_faulty Replay left left' reads reads' writes writes' input fine unread = fine.no_read (unread.fault refl)
 never_faulty (Listen skip) left left' reads reads' writes writes' input fine unread = fine.no_read (unread.fault refl)
 never_faulty (Spell letter) left left' reads reads' writes writes' input fine unread = unread.no_fault refl
+never_faulty (Show flag) left left' reads reads' writes writes' input fine unread = unread.no_fault refl
 never_faulty Letters left left' reads reads' writes writes' input fine unread = fine.no_read (unread.fault refl)
 never_faulty (Group which members) left left' reads reads' writes writes' input fine unread = fine.no_read (unread.fault refl)
 

@@ -17,16 +17,18 @@ use Rattle.rb_long_run.specs.Letters.{WritesSome}
 use Rattle.rb_group_values.specs.Members.{AreMembers}
 use Rattle.rb_group_values.specs.declared.asked.Asked.{Asked}
 use Rattle.rb_group_run.specs.Runs.{WritesPart as WritesGroupsPart}
+use Rattle.rb_flags.specs.declared.Flag.{Flag}
 use Rattle.rb_rules.specs.Goodness.{Scenario}
 use Rattle.rb_run.specs.Runs.{WritesPart}
 use Rattle.rb_run.specs.Turns.{AreAll, AreGiven, records_in}
 use Rattle.rb_top.specs.declared.form.Form.{Form}
-use Rattle.rb_top.specs.declared.form.Form.TheVariants.{Run, Check, Gen, Stress, Record, Replay, Spell, Letters, Group, Listen}
+use Rattle.rb_top.specs.declared.form.Form.TheVariants.{Run, Check, Gen, Stress, Record, Replay, Spell, Letters, Group, Listen, Show}
 use Rattle.rb_top.specs.declared.status.Status.{Status}
 use Rattle.rb_top.specs.declared.status.Status.TheVariants.{Done, Breach, Usage, Refused, TooLong, ReadFault, WriteFault, OutOfMemory}
 use Rattle.rb_top.specs.Answers.{EndsAs, IsDue, IsDueSoFar, IsOverheard, IsRefusedAlone, IsReplay, IsReport, IsReportSoFar}
 use Rattle.rb_top.specs.CheckText.{check_text}
 use Rattle.rb_top.specs.Inputs.{BreaksLog, BreaksRule, IsOfRmu, IsRead, IsRefusedWith, IsTextOf, IsUnread, IsUnreadOver, LacksMember, LacksNode, log_limit, member_text, rule_text, scenario_limit}
+use Rattle.rb_top.specs.Pages.{page_text}
 use Rattle.rb_top.specs.Reading.{ReadsNone, ReadsScenario}
 use Rattle.rb_top.specs.Serving.{Answers, FailsToListen, FailsToReplay, FailsToSum, IsGrouped, IsLettered, IsListened, IsLogged, IsNotRead, IsOfLog, IsOfRun, IsOfText, IsReplayed, IsReported, IsSummed, RefusesLog, RefusesToListen}
 use Rattle.rb_top.specs.Statuses.{HasEnded, MayRefuse, RunsNothing, WritesNothing}
@@ -386,6 +388,30 @@ spell_answers letter status left reads held held' writes writes' is_plain told x
     rose = x.cause e;
     input = [];
     text = spelling_text letter.items;
+    read = refl;
+    written = x.part e;
+    due = inr (refl, record { done = refl; silent = refl });
+  };
+}
+
+pub page_answers : (flag : Flag) (status : Status) (left : Option (List ℕ)) (reads : ℕ) (held held' : Option (List ℕ))
+    (writes writes' : ℕ) (is_plain : Bool) (told : Option (List Turn)) → Writes (page_text flag) status held held' writes writes'
+    → Answers (Show flag) status left left reads reads held held' writes writes' is_plain told told
+page_answers flag status left reads held held' writes writes' is_plain told x = record {
+  known = no_text status Usage (λ h. h) x.one_of;
+  ended = λ h. let done = only_done status x.one_of h in record {
+    input = [];
+    text = page_text flag;
+    read = refl;
+    written = x.done done;
+    due = (refl, record { done = done; silent = refl });
+  };
+  refused = λ e. absurd (no_text status Refused (λ h. h) x.one_of e);
+  unread = record { not_long = no_text status TooLong (λ h. h) x.one_of; no_fault = no_text status ReadFault (λ h. h) x.one_of };
+  failed = λ e. record {
+    rose = x.cause e;
+    input = [];
+    text = page_text flag;
     read = refl;
     written = x.part e;
     due = inr (refl, record { done = refl; silent = refl });

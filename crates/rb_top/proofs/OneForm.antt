@@ -1,5 +1,5 @@
 -- Words ask for one form.
-use Rattle.std.proofs.Common.{◌≡◌, ℕ, List, drop, get_or, [], ◌∷◌, String, Result, Ok, Err, arith, sym, ◌∙◌, ap, refl}
+use Rattle.std.proofs.Common.{◌≡◌, ℕ, List, codes, drop, get_or, [], ◌∷◌, String, Result, Ok, Err, arith, sym, ◌∙◌, ap, refl}
 use Rattle.arrayvec.specs.ArrayVec.{ArrayVec}
 use Rattle.hex.specs.Hex.{IsBytes, decode_of, encode_lower}
 use Rattle.hex.specs.declared.FromHexError.{FromHexError}
@@ -10,11 +10,14 @@ use Rattle.std.specs.declared.alloc.Global.{Global}
 use Rattle.rb_base.specs.declared.node.NodeName.{NodeName}
 use Rattle.rb_base.specs.declared.node.NodeName.TheVariants.{Biu, Rmu}
 use Rattle.rb_scenario_document.specs.Names.{IsNumbered}
+use Rattle.rb_flags.specs.declared.Flag.{Flag}
+use Rattle.rb_flags.specs.Flags.{flag_text}
+use Rattle.rb_flags.proofs.OneFlag.{no_flag, one_flag}
 use Rattle.rb_group.specs.declared.voters.Which.{Which}
 use Rattle.rb_group.specs.declared.voters.Which.TheVariants.{Most, Mid}
 use Rattle.rb_report.specs.Report.{node_text}
 use Rattle.rb_top.specs.declared.form.Form.{Form}
-use Rattle.rb_top.specs.declared.form.Form.TheVariants.{Run, Check, Gen, Stress, Record, Replay, Spell, Letters, Group, Listen}
+use Rattle.rb_top.specs.declared.form.Form.TheVariants.{Run, Check, Gen, Stress, Record, Replay, Spell, Letters, Group, Listen, Show}
 use Rattle.rb_top.specs.Words.{AreNumbers, AskFor, IsInRange, IsLetter, IsMask, voter_text, words_of}
 
 -- equal numbers
@@ -75,6 +78,21 @@ same_group which which' members members' a b is_voter is_members =
     let w : which ≡ which' = same_voter which which' is_voter in
     let m : members ≡ members' = decimal_injective members members' (omega (arith, a.mask_fits)) (omega (arith, b.mask_fits)) is_members in
     ap (λ x. Group x members) w ∙ ap (λ x. Group which' x) m
+
+-- the form whose word is a flag
+to_show : (form : Form) (flag : Flag) → words_of form ≡ flag_text flag ∷ [] → form ≡ Show flag
+unfolding first
+to_show Run flag e = absurd (no_flag flag (codes "run") (omega arith) (ap first e))
+to_show Check flag e = absurd (no_flag flag (codes "check") (omega arith) (ap first e))
+to_show (Gen seed frames) flag e = absurd (no_flag flag (codes "gen") (omega arith) (ap first e))
+to_show (Stress seed frames) flag e = absurd (no_flag flag (codes "stress") (omega arith) (ap first e))
+to_show (Record node) flag e = absurd (no_flag flag (codes "record") (omega arith) (ap first e))
+to_show Replay flag e = absurd (no_flag flag (codes "replay") (omega arith) (ap first e))
+to_show (Spell letter) flag e = absurd (no_flag flag (codes "spell") (omega arith) (ap first e))
+to_show Letters flag e = absurd (no_flag flag (codes "letters") (omega arith) (ap first e))
+to_show (Group which members) flag e = absurd (no_flag flag (codes "group") (omega arith) (ap first e))
+to_show (Listen skip) flag e = absurd (no_flag flag (codes "listen") (omega arith) (ap first e))
+to_show (Show flag') flag e = ap Show (one_flag flag' flag (ap first e))
 
 same_form : (a b : Form) → IsInRange a → IsInRange b → words_of a ≡ words_of b → a ≡ b
 unfolding first second third
@@ -181,6 +199,8 @@ same_form (Listen skip) Letters i j e = cc
 same_form (Listen skip) (Group which' members') i j e = cc
 same_form (Listen skip) (Listen skip') i j e =
     ap Listen (decimal_injective skip skip' (omega (arith, i)) (omega (arith, j)) (ap second e))
+same_form form (Show flag) i j e = to_show form flag e
+same_form (Show flag) form i j e = sym (to_show form flag (sym e))
 
 pub one_form : (words : List (String Global)) (a b : Form) → AskFor words a → AskFor words b → a ≡ b
 one_form words a b is_a is_b = same_form a b is_a.in_range is_b.in_range (sym is_a.same ∙ is_b.same)

@@ -8,7 +8,7 @@ use Rattle.rb_world_book.specs.declared.turn.Turn.{Turn}
 use Rattle.rb_outside.specs.Bytes.{ReadsToEnd}
 use Rattle.rb_run.proofs.Plain.{plain-records}
 use Rattle.rb_top.specs.declared.form.Form.{Form}
-use Rattle.rb_top.specs.declared.form.Form.TheVariants.{Run, Check, Gen, Stress, Record, Replay, Spell, Letters, Group, Listen}
+use Rattle.rb_top.specs.declared.form.Form.TheVariants.{Run, Check, Gen, Stress, Record, Replay, Spell, Letters, Group, Listen, Show}
 use Rattle.rb_top.specs.declared.status.Status.{Status}
 use Rattle.rb_top.specs.Answers.{Ends, IsReport}
 use Rattle.rb_top.specs.Promise.{KeepsItsPromise, KeepsTheHeadline}
@@ -57,3 +57,4 @@ promised (Group which members) status left left' held held' told told' e =
     let group = e.due in
     told_headline (told_by_group which members) status left left' held held' told told' e.input e.text e.read group.report e.written
 promised (Listen skip) status left left' held held' told told' e = tt
+promised (Show flag) status left left' held held' told told' e = tt

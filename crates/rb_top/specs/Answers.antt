@@ -23,10 +23,11 @@ use Rattle.rb_run.specs.Turns.{AreAll, AreGiven, records_in}
 use Rattle.rb_run.specs.declared.ending.Ending.{Ending}
 use Rattle.rb_run.specs.declared.ending.Ending.TheVariants as ending
 use Rattle.rb_top.specs.declared.form.Form.{Form}
-use Rattle.rb_top.specs.declared.form.Form.TheVariants.{Run, Check, Gen, Stress, Record, Replay, Spell, Letters, Group, Listen}
+use Rattle.rb_top.specs.declared.form.Form.TheVariants.{Run, Check, Gen, Stress, Record, Replay, Spell, Letters, Group, Listen, Show}
 use Rattle.rb_top.specs.declared.status.Status.{Status}
 use Rattle.rb_top.specs.declared.status.Status.TheVariants as answer
 use Rattle.rb_top.specs.CheckText.{check_text}
+use Rattle.rb_top.specs.Pages.{page_text}
 use Rattle.rb_top.specs.Texts.{Telling, generated_text, summary_with, told_by_group, told_by_letters, told_by_run}
 use Rattle.rb_top.specs.Inputs.{IsRead, IsRefusedWith, IsTextOf, limit_of}
 use Rattle.rb_top.specs.Statuses.{MayRefuse, RunsNothing, WritesNothing}
@@ -56,6 +57,7 @@ IsEnd (Spell letter) input status = status ≡ answer.Done
 IsEnd Letters input status = (sc : Scenario) × IsTextOf input sc × EndsAs sc status
 IsEnd (Group which members) input status = (sc : Scenario) × IsTextOf input sc × AreMembers sc.sizes members × EndsAs sc status
 IsEnd (Listen skip) input status = (log : Log) × (log_in input ≡ Ok log) × (is_of_biu log.node ≡ true) × (status ≡ answer.Done)
+IsEnd (Show flag) input status = status ≡ answer.Done
 
 -- What is due.
 
@@ -136,6 +138,7 @@ IsDue (Spell letter) input is_plain told told' status text = (text ≡ spelling_
 IsDue Letters input is_plain told told' status text = IsReport told_by_letters input is_plain told told' status text
 IsDue (Group which members) input is_plain told told' status text = IsGroupReport which members input is_plain told told' status text
 IsDue (Listen skip) input is_plain told told' status text = IsOverheard skip input text × IsAlone told told' status
+IsDue (Show flag) input is_plain told told' status text = (text ≡ page_text flag) × IsAlone told told' status
 
 -- of a run that goes on, what is told of the turns that the drive gave so far is due
 pub record IsReportSoFar (tells : Telling) (input : List ℕ) (is_plain : Bool) (told told' : Option (List Turn)) (text : List ℕ) : Type 0 where
@@ -161,6 +164,7 @@ IsDueSoFar (Spell letter) input is_plain told told' text = IsDue (Spell letter) 
 IsDueSoFar Letters input is_plain told told' text = IsReportSoFar told_by_letters input is_plain told told' text
 IsDueSoFar (Group which members) input is_plain told told' text = IsGroupSoFar which members input is_plain told told' text
 IsDueSoFar (Listen skip) input is_plain told told' text = IsDue (Listen skip) input is_plain told told' answer.Done text
+IsDueSoFar (Show flag) input is_plain told told' text = IsDue (Show flag) input is_plain told told' answer.Done text
 
 -- Answers.
 

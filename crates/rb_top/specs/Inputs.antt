@@ -17,7 +17,7 @@ use Rattle.rb_log.specs.declared.refusal.LogRefusal.TheVariants.{BadMagic, BadFi
 use Rattle.rb_scenario.specs.Acceptance.{IsAccepted, IsRefused, as_scenario}
 use Rattle.rb_scenario.specs.declared.scenario.Scenario.{Scenario as Accepted}
 use Rattle.rb_top.specs.declared.form.Form.{Form}
-use Rattle.rb_top.specs.declared.form.Form.TheVariants.{Run, Check, Gen, Stress, Record, Replay, Spell, Letters, Group, Listen}
+use Rattle.rb_top.specs.declared.form.Form.TheVariants.{Run, Check, Gen, Stress, Record, Replay, Spell, Letters, Group, Listen, Show}
 use Rattle.rb_top.specs.declared.status.Status.{Status}
 use Rattle.rb_top.specs.declared.status.Status.TheVariants as answer
 
@@ -43,6 +43,7 @@ limit_of (Spell letter) = None
 limit_of Letters = Some scenario_limit
 limit_of (Group which members) = Some scenario_limit
 limit_of (Listen skip) = Some log_limit
+limit_of (Show flag) = None
 
 -- by that limit: this is all that the source had left, and nothing where nothing is read
 abbrev pub IsReadBy : Option ℕ → Option (List ℕ) → Option (List ℕ) → List ℕ → Type 0
@@ -140,6 +141,7 @@ IsRefusedWith (Spell letter) input line = ⊥
 IsRefusedWith Letters input line = BreaksRule input line
 IsRefusedWith (Group which members) input line = BreaksRule input line ⊎ LacksMember members input line
 IsRefusedWith (Listen skip) input line = BreaksLog input line ⊎ IsOfRmu input line
+IsRefusedWith (Show flag) input line = ⊥
 
 -- Reading that doesn't come to the end.
 

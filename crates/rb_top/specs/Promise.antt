@@ -9,7 +9,7 @@ use Rattle.rb_rules.specs.StandsFor.{StandsFor}
 use Rattle.rb_laws_events.specs.Promise.{RunningNodesKeepThePromise}
 use Rattle.rb_gen.specs.Generated.{generated}
 use Rattle.rb_top.specs.declared.form.Form.{Form}
-use Rattle.rb_top.specs.declared.form.Form.TheVariants.{Run, Check, Gen, Stress, Record, Replay, Spell, Letters, Group, Listen}
+use Rattle.rb_top.specs.declared.form.Form.TheVariants.{Run, Check, Gen, Stress, Record, Replay, Spell, Letters, Group, Listen, Show}
 use Rattle.rb_top.specs.declared.status.Status.{Status}
 use Rattle.rb_top.specs.Answers.{EndsAs}
 use Rattle.rb_top.specs.Inputs.{IsTextOf}
@@ -47,3 +47,4 @@ KeepsItsPromise (Spell letter) status left left' held held' = ⊤
 KeepsItsPromise Letters status left left' held held' = KeepsTheHeadline told_by_letters status left left' held held'
 KeepsItsPromise (Group which members) status left left' held held' = KeepsTheHeadline (told_by_group which members) status left left' held held'
 KeepsItsPromise (Listen skip) status left left' held held' = ⊤
+KeepsItsPromise (Show flag) status left left' held held' = ⊤

@@ -4,12 +4,13 @@ use Rattle.std.specs.Fmt.{decimal}
 use Rattle.rb_scenario_document.specs.Names.{IsNumbered}
 use Rattle.rb_report.specs.Report.{node_text}
 use Rattle.hex.specs.Hex.{IsBytes, encode_lower}
+use Rattle.rb_flags.specs.Flags.{flag_text}
 use Rattle.rb_group.specs.declared.voters.Which.{Which}
 use Rattle.rb_group.specs.declared.voters.Which.TheVariants.{Most, Mid}
 use Rattle.rb_long.specs.Spelling.{is_length}
 use Rattle.std.specs.declared.alloc.Global.{Global}
 use Rattle.rb_top.specs.declared.form.Form.{Form}
-use Rattle.rb_top.specs.declared.form.Form.TheVariants.{Run, Check, Gen, Stress, Record, Replay, Spell, Letters, Group, Listen}
+use Rattle.rb_top.specs.declared.form.Form.TheVariants.{Run, Check, Gen, Stress, Record, Replay, Spell, Letters, Group, Listen, Show}
 
 -- the word of a voter
 abbrev pub voter_text : Which → List ℕ
@@ -29,6 +30,7 @@ words_of (Spell letter) = codes "spell" ∷ encode_lower letter.items ∷ []
 words_of Letters = codes "letters" ∷ []
 words_of (Group which members) = codes "group" ∷ voter_text which ∷ decimal members ∷ []
 words_of (Listen skip) = codes "listen" ∷ decimal skip ∷ []
+words_of (Show flag) = flag_text flag ∷ []
 
 -- a seed, and a number of frames
 pub record AreNumbers (seed frames : ℕ) : Type 0 where
@@ -63,6 +65,7 @@ IsInRange (Spell letter) = IsLetter letter.items
 IsInRange Letters = ⊤
 IsInRange (Group which members) = IsMask members
 IsInRange (Listen skip) = skip < 2 ^ 31
+IsInRange (Show flag) = ⊤
 
 -- the words, byte by byte, are those of the form, whose numbers and letter are in range
 pub record AskFor (words : List (String Global)) (form : Form) : Type 0 where

@@ -4,13 +4,16 @@ ghost use Rattle.hex.specs.Hex.{decode_of, encode_lower};
 ghost use Rattle.rb_base.specs.declared.node.NodeName.{NodeName};
 ghost use Rattle.rb_scenario_document.specs.Names.{IsNumbered};
 ghost use Rattle.rb_report.specs.Report.{node_text};
+ghost use Rattle.rb_flags.specs.declared.Flag.{Flag};
 ghost use Rattle.rb_top.specs.declared.form.Form.{Form};
+ghost use Rattle.rb_top.specs.declared.form.Form.TheVariants.{Show};
 ghost use Rattle.rb_group.specs.declared.voters.Which.{Which};
 ghost use Rattle.rb_top.specs.Words.{AskFor, IsInRange, IsLetter, IsMask, letter_bytes, voter_text, words_of};
 
 use arrayvec::ArrayVec;
 use itoa::Buffer;
 use rb_base::NodeName;
+use rb_flags::{Flag, flag_in};
 use rb_group::Which;
 
 /// What the words ask for. A seed is any number of 64 bits, and there are 1 to 4096 frames.
@@ -36,6 +39,8 @@ pub enum Form {
     Group(Which, u16),
     /// To give the log of a BIU to a passive listener, from the tick of this number on, which is below 2^31.
     Listen(u32),
+    /// To write what the flag asks for.
+    Show(Flag),
 }
 
 /// The most frames of a generated scenario.
@@ -196,6 +201,17 @@ fn mask_in(text: &str) -> Option<u16>
     }
 }
 
+// The form of a flag.
+fn show_of(word: &str) -> Option<Form>
+    ensures some { IfSome result (λ form. (words_of form ≡ word.now ∷ []) × IsInRange form) }
+    ensures none { IfNone result ((flag : Flag) → words_of (Show flag) ≢ word.now ∷ []) }
+{
+    match flag_in(word) {
+        Some(flag) => Some(Form::Show(flag)),
+        None => None,
+    }
+}
+
 // The form of one word.
 fn form_named(word: &str) -> Option<Form>
     ensures some { IfSome result (λ form. (words_of form ≡ word.now ∷ []) × IsInRange form) }
@@ -206,7 +222,7 @@ fn form_named(word: &str) -> Option<Form>
         "check" => Some(Form::Check),
         "replay" => Some(Form::Replay),
         "letters" => Some(Form::Letters),
-        _ => None,
+        _ => show_of(word),
     }
 }
 

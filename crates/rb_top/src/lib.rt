@@ -6,6 +6,7 @@ pub mod form;
 mod generating;
 mod lines;
 mod listening;
+mod pages;
 mod reading;
 mod recording;
 mod replaying;

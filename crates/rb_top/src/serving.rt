@@ -11,6 +11,7 @@ use crate::check::show_sides;
 use crate::form::Form;
 use crate::generating::generate_text;
 use crate::listening::listen_to;
+use crate::pages::write_page;
 use crate::reading::{read_log, read_scenario, refuse, refuse_member};
 use crate::recording::{has_node, write_log};
 use crate::replaying::replay_bytes;
@@ -188,5 +189,6 @@ pub(crate) fn serve<S: Source, K: Sink, D: Drive>(
         Form::Group(which, members) => {
             group(alloc, which, members, input, output, apps, drive, voters)
         }
+        Form::Show(flag) => write_page(flag, output),
     }
 }

@@ -1,7 +1,7 @@
 use Rattle.std.proofs.Common.{subst, sym}
 use Rattle.rb_top.specs.declared.form.Form.{Form}
 use Rattle.rb_top.specs.Serving.{Answers}
-use Rattle.rb_top.proofs.FormAnswers.{generated_answers, not_two, of_two, spell_answers, sum_answers}
+use Rattle.rb_top.proofs.FormAnswers.{generated_answers, not_two, of_two, page_answers, spell_answers, sum_answers}
 use Rattle.rb_top.proofs.serving.serve.Goals as goal
 
 pub returns-in-Check-clause-answers : goal.returns-in-Check-clause-answers
@@ -73,6 +73,22 @@ returns-in-Spell-clause-answers g c =
 
 pub returns-in-Spell-clause-unwritten : goal.returns-in-Spell-clause-unwritten
 returns-in-Spell-clause-unwritten g c h = absurd (not_two c.spell.result c.spell.ensures.one_of h)
+
+pub returns-in-Show-clause-answers : goal.returns-in-Show-clause-answers
+returns-in-Show-clause-answers g c =
+    let P : Form → Type 0 = λ f. Answers f c.write_page.result (g.S.Source.left c.args.input.now) (g.S.Source.left c.args.input.now) (g.S.Source.faults c.args.input.now) (g.S.Source.faults c.args.input.now)
+    (g.K.Sink.held c.args.output.now) (g.K.Sink.held c.write_page.new.output) (g.K.Sink.faults c.args.output.now) (g.K.Sink.faults c.write_page.new.output)
+    (g.D.Drive.is_plain c.args.drive.now) (g.D.Drive.told c.args.drive.now) (g.D.Drive.told c.args.drive.now) in
+    subst P (sym c.in-Show.is)
+    (page_answers c.in-Show.flag c.write_page.result _ _ _ _ _ _ _ _ (record {
+      done = c.write_page.ensures.done;
+      part = c.write_page.ensures.part;
+      cause = c.write_page.ensures.cause;
+      one_of = of_two c.write_page.result c.write_page.ensures.one_of;
+    }))
+
+pub returns-in-Show-clause-unwritten : goal.returns-in-Show-clause-unwritten
+returns-in-Show-clause-unwritten g c h = absurd (not_two c.write_page.result c.write_page.ensures.one_of h)
 
 pub returns-in-Group-clause-answers : goal.returns-in-Group-clause-answers
 returns-in-Group-clause-answers g c =

@@ -1,0 +1,40 @@
+-- What the program says of itself.
+use Rattle.std.specs.Prelude.{ℕ, ◌≡◌, ◌⊎◌, List, Option, codes, ◌++◌}
+use Rattle.std.specs.Io.KnownBytes.{Appends}
+use Rattle.rb_flags.specs.declared.Flag.{Flag}
+use Rattle.rb_flags.specs.declared.Flag.TheVariants.{Help, ShortHelp, Version}
+use Rattle.rb_outside.specs.Bytes.{AppendsPart}
+use Rattle.rb_outside.specs.Causes.{Rose}
+use Rattle.rb_bridge_top.specs.declared.status.Status.{Status}
+use Rattle.rb_bridge_top.specs.declared.status.Status.TheVariants as answer
+
+-- how it is used
+unfoldable pub help_text : List ℕ
+help_text =
+    codes "Usage: robus_bridge WORD < INPUT > OUTPUT\n"
+    ++ codes "Carries words between two fault-tolerant broadcast buses.\n"
+    ++ codes "\n"
+    ++ codes "WORD        INPUT   OUTPUT\n"
+    ++ codes "run         bridge  the words that cross, in each frame\n"
+    ++ codes "--help, -h  none    this page\n"
+    ++ codes "--version   none    the program's name and version\n"
+    ++ codes "\n"
+    ++ codes "Status: 0 done, 1 fault premise breached on a bus, 2 unknown words,\n"
+    ++ codes "3 input refused, 4 input too long, 5 reading failed, 6 writing failed,\n"
+    ++ codes "7 no memory, 8 arguments could not be had.\n"
+    ++ codes "\n"
+    ++ codes "Example: robus_bridge run < examples/bridges/carried_words.toml\n"
+    ++ codes "Manual: docs/robus_bridge.md\n"
+
+-- what a flag asks for
+abbrev pub page_text : Flag → List ℕ
+page_text Help = help_text
+page_text ShortHelp = help_text
+page_text Version = codes "robus_bridge 1.0\n"
+
+-- the answer to a flag: its text is written, or where the count of the sink's faults rose a first part of it
+pub record Shows (flag : Flag) (status : Status) (held held' : Option (List ℕ)) (faults faults' : ℕ) : Type 0 where
+  pub one_of : (status ≡ answer.Done) ⊎ (status ≡ answer.WriteFault)
+  pub done : status ≡ answer.Done → Appends held held' (page_text flag)
+  pub part : status ≡ answer.WriteFault → AppendsPart held held' (page_text flag)
+  pub rose : status ≡ answer.WriteFault → Rose faults faults'

@@ -1,0 +1,56 @@
+//! What the program says of itself.
+ghost use Rattle.std.specs.Prelude.{◌≡◌};
+ghost use Rattle.rb_bridge_top.specs.Pages.{Shows, help_text, page_text};
+
+use crate::status::Status;
+use rb_flags::Flag;
+use rb_outside::{Failed, Sink, write_all};
+
+const HELP: &'static str = "\
+Usage: robus_bridge WORD < INPUT > OUTPUT
+Carries words between two fault-tolerant broadcast buses.
+
+WORD        INPUT   OUTPUT
+run         bridge  the words that cross, in each frame
+--help, -h  none    this page
+--version   none    the program's name and version
+
+Status: 0 done, 1 fault premise breached on a bus, 2 unknown words,
+3 input refused, 4 input too long, 5 reading failed, 6 writing failed,
+7 no memory, 8 arguments could not be had.
+
+Example: robus_bridge run < examples/bridges/carried_words.toml
+Manual: docs/robus_bridge.md
+";
+
+const VERSION: &'static str = "robus_bridge 1.0\n";
+
+// How the program is used.
+#[tactic(auto, unfolding(crate::specs::Pages::help_text))]
+fn help() -> &'static str
+    ensures { result.now ≡ help_text }
+{
+    HELP
+}
+
+// What the flag asks for.
+fn page_of(flag: Flag) -> &'static str
+    ensures { result.now ≡ page_text flag }
+{
+    match flag {
+        Flag::Help => help(),
+        Flag::ShortHelp => help(),
+        Flag::Version => VERSION,
+    }
+}
+
+/// Writes what the flag asks for.
+pub(crate) fn write_page<K: Sink>(flag: Flag, output: &mut K) -> Status
+    ensures { Shows flag result (K.held output.old) (K.held output.new)
+        (K.faults output.old) (K.faults output.new) }
+{
+    match write_all(output, page_of(flag).as_bytes()) {
+        Ok(()) => Status::Done,
+        Err(Failed) => Status::WriteFault,
+    }
+}

@@ -1,0 +1,72 @@
+//! What the program says of itself.
+ghost use Rattle.std.specs.Prelude.{◌≡◌, ◌⊎◌};
+ghost use Rattle.std.specs.Io.KnownBytes.{Appends};
+ghost use Rattle.rb_outside.specs.Bytes.{AppendsPart};
+ghost use Rattle.rb_outside.specs.Causes.{Rose};
+ghost use Rattle.rb_top.specs.Pages.{help_text, page_text};
+
+use crate::status::Status;
+use rb_flags::Flag;
+use rb_outside::{Failed, Sink, write_all};
+
+const HELP: &'static str = "\
+Usage: robus WORDS < INPUT > OUTPUT
+Runs and checks scenarios of a fault-tolerant broadcast bus.
+
+WORDS                INPUT     OUTPUT
+run                  scenario  the report: frames, convictions, deliveries, end
+check                scenario  both sides of the plan's seven inequalities
+letters              scenario  the letters that BIUs receive whole
+group most|mid MASK  scenario  what the good BIUs find for a group in each frame
+record NODE          scenario  the log of all that the node is given
+replay               log       what the node of the log makes of it
+listen SKIP          log       what a passive listener makes of it
+gen SEED FRAMES      none      the scenario that the seed fixes
+stress SEED FRAMES   none      four numbers of that scenario's run
+spell HEX            none      the words that spell a letter
+--help, -h           none      this page
+--version            none      the program's name and version
+
+Status: 0 done, 1 fault premise breached, 2 unknown words, 3 input refused,
+4 input too long, 5 reading failed, 6 writing failed, 7 no memory,
+8 arguments could not be had.
+
+Example: robus run < examples/one_silent_rmu.toml
+Manual: docs/robus.md
+";
+
+const VERSION: &'static str = "robus 1.0\n";
+
+// How the program is used.
+#[tactic(auto, unfolding(crate::specs::Pages::help_text))]
+fn help() -> &'static str
+    ensures { result.now ≡ help_text }
+{
+    HELP
+}
+
+// What the flag asks for.
+fn page_of(flag: Flag) -> &'static str
+    ensures { result.now ≡ page_text flag }
+{
+    match flag {
+        Flag::Help => help(),
+        Flag::ShortHelp => help(),
+        Flag::Version => VERSION,
+    }
+}
+
+/// Writes what the flag asks for.
+pub(crate) fn write_page<K: Sink>(flag: Flag, output: &mut K) -> Status
+    ensures done { result ≡ Status.Done
+        → Appends (K.held output.old) (K.held output.new) (page_text flag) }
+    ensures part { result ≡ Status.WriteFault
+        → AppendsPart (K.held output.old) (K.held output.new) (page_text flag) }
+    ensures cause { result ≡ Status.WriteFault → Rose (K.faults output.old) (K.faults output.new) }
+    ensures one_of { (result ≡ Status.Done) ⊎ (result ≡ Status.WriteFault) }
+{
+    match write_all(output, page_of(flag).as_bytes()) {
+        Ok(()) => Status::Done,
+        Err(Failed) => Status::WriteFault,
+    }
+}
