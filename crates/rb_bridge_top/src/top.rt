@@ -50,7 +50,7 @@ fn serve<S: Source, K: Sink, D: Drive>(
 /// | words | what it does |
 /// |---|---|
 /// | `run` | reads a bridge of two buses, runs both and writes what their receivers find, a line at a time |
-/// | `--help`, `-h` | writes a page with these words and the statuses; reads nothing |
+/// | `--help`, `-h` | writes a page with these words and the statuses, at once; reads nothing |
 /// | `--version` | writes the name of the program and its version; reads nothing |
 ///
 /// `Done`: all is written. `Breach`: the bridge ended with a breach of the fault premise on one of its buses, and all up to it is written.

@@ -30,7 +30,7 @@ use std::alloc::Global;
 /// | `spell HEX` | writes the words that spell a letter of 1 to 255 bytes, each byte being two digits in lower case; reads nothing |
 /// | `letters` | reads a scenario, runs it and writes each letter that a port receives whole in the drive's turns |
 /// | `group most MASK`, `group mid MASK` | reads a scenario, runs it and writes what the good BIUs find for a group, by majority or as the middle word, in each complete frame of the drive's turns |
-/// | `--help`, `-h` | writes a page with these words and the statuses; reads nothing |
+/// | `--help`, `-h` | writes a page with these words and the statuses, at once; reads nothing |
 /// | `--version` | writes the name of the program and its version; reads nothing |
 ///
 /// The members of a group are the bits of MASK, 1 to 65535. `Done`: all is written. `Breach`: the run of `run`, `stress`, `record`, `letters`
