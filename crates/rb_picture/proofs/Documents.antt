@@ -1,5 +1,5 @@
 -- a picture is one element
-use Rattle.std.proofs.Common.{ℕ, ◌+◌, List, [], ◌∷◌, codes}
+use Rattle.std.proofs.Common.{ℕ, ◌+◌, ◌&&◌, nat_lt, not, List, [], ◌∷◌, codes}
 use Rattle.rb_base.specs.Nodes.{has}
 use Rattle.rb_base.specs.declared.node.NodeName.{NodeName}
 use Rattle.rb_base.specs.declared.values.Place.{Place}
@@ -7,11 +7,12 @@ use Rattle.rb_rules.specs.declared.cause.Cause.{Cause}
 use Rattle.rb_picture.specs.declared.line.DeliveryLine.{DeliveryLine}
 use Rattle.rb_picture.specs.declared.extent.Extent.{Extent}
 use Rattle.rb_picture.specs.declared.extent.Facts.{Facts}
+use Rattle.rb_picture.specs.declared.extent.Rows.{Rows}
 use Rattle.rb_picture.specs.Content.{AddsContent}
 use Rattle.rb_picture.specs.Markup.{with_label, with_opening}
-use Rattle.rb_picture.specs.Extents.{extent_of}
-use Rattle.rb_picture.specs.Places.{picture_height, picture_width, row_top, slots_of}
-use Rattle.rb_picture.specs.Drawing.{with_breach, with_cell, with_cross, with_crosses, with_crosses_of, with_ending, with_ground, with_heading, with_legend, with_marks, with_name, with_names, with_names_of, with_panel, with_sender, with_senders, with_slot_number, with_slots, with_strokes, with_tick}
+use Rattle.rb_picture.specs.Extents.{biu_rows, extent_of, rmu_rows}
+use Rattle.rb_picture.specs.Places.{is_wide, picture_height, picture_width, row_top, slots_of}
+use Rattle.rb_picture.specs.Drawing.{follows, with_breach, with_cell, with_absence, with_cross, with_ending, with_ground, with_heading, with_legend, with_marks, with_name, with_names, with_names_of, with_panel, with_sender, with_senders, with_slot_number, with_slots, with_state, with_states, with_states_of, with_strokes, with_tick}
 use Rattle.rb_picture.specs.Picture.{Piece, picture_text, pieces_of, with_piece, with_pieces}
 use Rattle.rb_picture.specs.Picture.Piece.{Ground, Tick, Cell, Break, Ending}
 use Rattle.rb_picture.specs.Laws.{IsWellFormed}
@@ -30,13 +31,13 @@ adds_breach : (extent : Extent) (t : List ℕ) (place : Place) (cause : Cause) �
 unfolding with_breach
 adds_breach extent t place cause = adds_more (adds_label _ _ _ _ _ _) (adds_more (adds_label _ _ _ _ _ _) (adds_more (adds_label _ _ _ _ _ _) (adds_box _ _ _)))
 
-adds_ending : (t : List ℕ) (frames : ℕ) → AddsContent t (with_ending t frames)
+adds_ending : (extent : Extent) (t : List ℕ) (frames : ℕ) → AddsContent t (with_ending extent t frames)
 unfolding with_ending
-adds_ending t frames = adds_label _ _ _ _ _ _
+adds_ending extent t frames = adds_more (adds_if (follows extent frames) _ _ (adds_label _ _ _ _ _ _)) (adds_label _ _ _ _ _ _)
 
 adds_name : (extent : Extent) (frame : ℕ) (t letter : List ℕ) (row number : ℕ) → AddsContent t (with_name extent frame t letter row number)
 unfolding with_name
-adds_name extent frame t letter row number = adds_label _ _ _ _ _ _
+adds_name extent frame t letter row number = adds_more (adds_if (is_wide extent) _ _ (adds_label _ _ _ _ _ _)) (adds_label _ _ _ _ _ _)
 
 adds_names_of : (extent : Extent) (frame : ℕ) (letter : List ℕ) (above count : ℕ) (t : List ℕ) → AddsContent t (with_names_of extent frame letter above count t)
 unfolding with_names_of
@@ -57,19 +58,27 @@ adds_slots : (extent : Extent) (frame : ℕ) (t : List ℕ) → AddsContent t (w
 unfolding with_slots
 adds_slots extent frame t = adds_each (with_slot_number extent frame) (adds_slot_number extent frame) (slots_of extent) t
 
-adds_cross : (extent : Extent) (frame above set : ℕ) (t : List ℕ) (i : ℕ) → AddsContent t (with_cross extent frame above set t i)
+adds_cross : (y set : ℕ) (t : List ℕ) (i : ℕ) → AddsContent t (with_cross y set t i)
 unfolding with_cross
-adds_cross extent frame above set t i =
-    adds_if (has set i) t (with_label t 60 (row_top extent frame (above + i) + 15) (codes "cross") (codes "X") []) (adds_label _ _ _ _ _ _)
+adds_cross y set t i = adds_if (has set i) _ _ (adds_label _ _ _ _ _ _)
 
-adds_crosses_of : (extent : Extent) (frame above set : ℕ) (t : List ℕ) → AddsContent t (with_crosses_of extent frame above set t)
-unfolding with_crosses_of
-adds_crosses_of extent frame above set t = adds_each (with_cross extent frame above set) (adds_cross extent frame above set) 16 t
+adds_absence : (y : ℕ) (rows : Rows) (t : List ℕ) (i : ℕ) → AddsContent t (with_absence y rows t i)
+unfolding with_absence
+adds_absence y rows t i = adds_if (nat_lt i rows.count && not (has rows.present i)) _ _ (adds_label _ _ _ _ _ _)
 
-adds_crosses : (extent : Extent) (frame : ℕ) (facts : Facts) (t : List ℕ) → AddsContent t (with_crosses extent frame facts t)
-unfolding with_crosses
-adds_crosses extent frame facts t =
-    adds_more (adds_crosses_of extent frame extent.bius facts.rmu (with_crosses_of extent frame 0 facts.biu t)) (adds_crosses_of extent frame 0 facts.biu t)
+adds_state : (extent : Extent) (frame : ℕ) (rows : Rows) (t : List ℕ) (i : ℕ) → AddsContent t (with_state extent frame rows t i)
+unfolding with_state
+adds_state extent frame rows t i = adds_more (adds_absence _ rows _ i) (adds_cross _ rows.convicted t i)
+
+adds_states_of : (extent : Extent) (frame : ℕ) (rows : Rows) (t : List ℕ) → AddsContent t (with_states_of extent frame rows t)
+unfolding with_states_of
+adds_states_of extent frame rows t = adds_each (with_state extent frame rows) (adds_state extent frame rows) 16 t
+
+adds_states : (extent : Extent) (frame : ℕ) (facts : Facts) (t : List ℕ) → AddsContent t (with_states extent frame facts t)
+unfolding with_states
+adds_states extent frame facts t =
+    adds_more (adds_states_of extent frame (rmu_rows extent facts) (with_states_of extent frame (biu_rows extent facts) t))
+    (adds_states_of extent frame (biu_rows extent facts) t)
 
 adds_ground : (extent : Extent) (frame : ℕ) (facts : Facts) (t : List ℕ) → AddsContent t (with_ground extent frame facts t)
 unfolding with_ground
@@ -79,7 +88,7 @@ adds_ground extent frame facts t =
 adds_panel : (extent : Extent) (frame : ℕ) (facts : Facts) (t : List ℕ) → AddsContent t (with_panel extent frame facts t)
 unfolding with_panel
 adds_panel extent frame facts t =
-    adds_more (adds_crosses extent frame facts (with_slots extent frame (with_names extent frame (with_ground extent frame facts t))))
+    adds_more (adds_states extent frame facts (with_slots extent frame (with_names extent frame (with_ground extent frame facts t))))
     (adds_more (adds_slots extent frame (with_names extent frame (with_ground extent frame facts t)))
     (adds_more (adds_names extent frame (with_ground extent frame facts t)) (adds_ground extent frame facts t)))
 
@@ -114,7 +123,7 @@ adds_piece extent t (Ground frame facts) = adds_panel extent frame facts t
 adds_piece extent t (Tick frame node after) = adds_tick extent t frame node after
 adds_piece extent t (Cell l) = adds_cell extent t l
 adds_piece extent t (Break place cause) = adds_breach extent t place cause
-adds_piece extent t (Ending frames) = adds_ending t frames
+adds_piece extent t (Ending frames) = adds_ending extent t frames
 
 adds_pieces : (extent : Extent) (t : List ℕ) (ps : List Piece) → AddsContent t (with_pieces extent t ps)
 adds_pieces extent t [] = adds_nothing

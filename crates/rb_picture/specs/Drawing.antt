@@ -1,5 +1,5 @@
 -- What is drawn: the parts of a picture, each written behind a text.
-use Rattle.std.specs.Prelude.{ℕ, ◌+◌, ◌*◌, ◌/◌, List, [], ◌∷◌, codes, slice_index_or, if◌then◌else◌}
+use Rattle.std.specs.Prelude.{ℕ, ◌+◌, ◌*◌, ◌/◌, nat_lt, nat_le, ◌==◌, ◌&&◌, not, Bool, List, [], ◌∷◌, codes, slice_index_or, if◌then◌else◌}
 use Rattle.std.specs.Fmt.{decimal}
 use Rattle.rb_base.specs.Nodes.{has}
 use Rattle.rb_base.specs.declared.node.NodeName.{NodeName}
@@ -7,13 +7,15 @@ use Rattle.rb_base.specs.declared.values.Heard.{Heard}
 use Rattle.rb_base.specs.declared.values.Heard.TheVariants.{Word, Fault}
 use Rattle.rb_base.specs.declared.values.Place.{Place}
 use Rattle.rb_rules.specs.declared.cause.Cause.{Cause}
-use Rattle.rb_report.specs.Report.{cause_text, heard_text}
+use Rattle.rb_rules.specs.declared.cause.Cause.TheVariants.{FewGoodBiu, FewGoodRmu, TwoSided}
+use Rattle.rb_report.specs.Report.{heard_text}
 use Rattle.rb_picture.specs.declared.extent.Extent.{Extent}
 use Rattle.rb_picture.specs.declared.extent.Facts.{Facts}
+use Rattle.rb_picture.specs.declared.extent.Rows.{Rows}
 use Rattle.rb_picture.specs.declared.line.DeliveryLine.{DeliveryLine}
-use Rattle.rb_picture.specs.Extents.{spread_of}
+use Rattle.rb_picture.specs.Extents.{biu_rows, rmu_rows, spread_of}
 use Rattle.rb_picture.specs.Markup.{each_below, with_box, with_label}
-use Rattle.rb_picture.specs.Places.{breach_area, cell_area, cell_width, column_left, grid_area, panel_area, panel_top, picture_height, picture_width, row_top, slots_of, strip_area, tick_area}
+use Rattle.rb_picture.specs.Places.{breach_area, cell_area, cell_width, column_left, grid_area, is_wide, names_left, panel_area, panel_top, picture_height, picture_width, row_top, slots_of, strip_area, tick_area}
 
 -- the looks of the senders' cells, by number
 abbrev pub looks : List (List ℕ)
@@ -42,22 +44,35 @@ with_cell extent text l =
 unfoldable pub with_tick : Extent → List ℕ → ℕ → NodeName → ℕ → List ℕ
 with_tick extent text frame node after = with_box text (tick_area extent frame node after) (codes "tick")
 
--- a breach: a line in the place, and its cause
+-- a cause, and what it means
+abbrev pub cause_words : Cause → List ℕ
+cause_words FewGoodBiu = codes "FewGoodBiu: the good BIUs are no majority"
+cause_words FewGoodRmu = codes "FewGoodRmu: the good RMUs are no majority"
+cause_words TwoSided = codes "TwoSided: one BIU, one RMU told two things"
+
+-- a breach: a line in the place, and its slot, stage and cause
 unfoldable pub with_breach : Extent → List ℕ → Place → Cause → List ℕ
 with_breach extent text place cause =
     with_label (with_label (with_label (with_box text (breach_area extent place) (codes "breach"))
-    284 (panel_top extent place.frame + 24) (codes "cause") (codes "breach: ") (cause_text cause))
-    460 (panel_top extent place.frame + 24) (codes "cause") (codes "in slot ") (decimal place.slot))
-    570 (panel_top extent place.frame + 24) (codes "cause") (codes "stage ") (decimal place.stage)
+    112 (panel_top extent place.frame + 24) (codes "cause") (codes "breach in slot ") (decimal place.slot))
+    250 (panel_top extent place.frame + 24) (codes "cause") (codes "stage ") (decimal place.stage))
+    306 (panel_top extent place.frame + 24) (codes "cause") (cause_words cause) []
 
--- the run came to its end
-unfoldable pub with_ending : List ℕ → ℕ → List ℕ
-with_ending text frames = with_label text 420 28 (codes "note") (codes "frames to the end of the run: ") (decimal frames)
+-- the last frame that is drawn is the one that would follow the run
+abbrev pub follows : Extent → ℕ → Bool
+follows extent frames = (frames == extent.last) && nat_le extent.first extent.last
 
--- the name of a node in its row
+-- the run came to its end, and its last panel says so
+unfoldable pub with_ending : Extent → List ℕ → ℕ → List ℕ
+with_ending extent text frames =
+    let ended : List ℕ = with_label text 420 28 (codes "note") (codes "frames to the end of the run: ") (decimal frames) in
+    if follows extent frames then with_label ended 120 (panel_top extent frames + 24) (codes "note") (codes "the run is over: this is the frame that would follow") [] else ended
+
+-- the name of a node in its row, and behind many columns once more
 unfoldable pub with_name : Extent → ℕ → List ℕ → List ℕ → ℕ → ℕ → List ℕ
 with_name extent frame text letter row number =
-    with_label text 20 (row_top extent frame row + 15) (codes "name") letter (decimal number)
+    let named : List ℕ = with_label text 20 (row_top extent frame row + 15) (codes "name") letter (decimal number) in
+    if is_wide extent then with_label named (names_left extent) (row_top extent frame row + 15) (codes "name") letter (decimal number) else named
 
 -- the names of nodes of a kind, in the rows behind so many others
 unfoldable pub with_names_of : Extent → ℕ → List ℕ → ℕ → ℕ → List ℕ → List ℕ
@@ -77,17 +92,26 @@ unfoldable pub with_slots : Extent → ℕ → List ℕ → List ℕ
 with_slots extent frame text = each_below (with_slot_number extent frame) (slots_of extent) text
 
 -- a cross in the row of a node that is convicted
-unfoldable pub with_cross : Extent → ℕ → ℕ → ℕ → List ℕ → ℕ → List ℕ
-with_cross extent frame above set text i =
-    if has set i then with_label text 60 (row_top extent frame (above + i) + 15) (codes "cross") (codes "X") [] else text
+unfoldable pub with_cross : ℕ → ℕ → List ℕ → ℕ → List ℕ
+with_cross y set text i = if has set i then with_label text 60 y (codes "cross") (codes "X") [] else text
 
--- in the rows behind so many others
-unfoldable pub with_crosses_of : Extent → ℕ → ℕ → ℕ → List ℕ → List ℕ
-with_crosses_of extent frame above set text = each_below (with_cross extent frame above set) 16 text
+-- a word in the row of a node of which no line is
+unfoldable pub with_absence : ℕ → Rows → List ℕ → ℕ → List ℕ
+with_absence y rows text i =
+    if nat_lt i rows.count && not (has rows.present i) then with_label text 100 y (codes "note") (codes "absent") [] else text
 
-unfoldable pub with_crosses : Extent → ℕ → Facts → List ℕ → List ℕ
-with_crosses extent frame facts text =
-    with_crosses_of extent frame extent.bius facts.rmu (with_crosses_of extent frame 0 facts.biu text)
+-- what is known of a node in its row
+unfoldable pub with_state : Extent → ℕ → Rows → List ℕ → ℕ → List ℕ
+with_state extent frame rows text i =
+    with_absence (row_top extent frame (rows.above + i) + 15) rows (with_cross (row_top extent frame (rows.above + i) + 15) rows.convicted text i) i
+
+-- in the rows of a kind
+unfoldable pub with_states_of : Extent → ℕ → Rows → List ℕ → List ℕ
+with_states_of extent frame rows text = each_below (with_state extent frame rows) 16 text
+
+unfoldable pub with_states : Extent → ℕ → Facts → List ℕ → List ℕ
+with_states extent frame facts text =
+    with_states_of extent frame (rmu_rows extent facts) (with_states_of extent frame (biu_rows extent facts) text)
 
 -- the ground of a frame: its number, the spread of its begins, the time axis and the columns
 unfoldable pub with_ground : Extent → ℕ → Facts → List ℕ → List ℕ
@@ -101,7 +125,7 @@ with_ground extent frame facts text =
 -- a frame without what is in its cells
 unfoldable pub with_panel : Extent → ℕ → Facts → List ℕ → List ℕ
 with_panel extent frame facts text =
-    with_crosses extent frame facts (with_slots extent frame (with_names extent frame (with_ground extent frame facts text)))
+    with_states extent frame facts (with_slots extent frame (with_names extent frame (with_ground extent frame facts text)))
 
 -- a sender's colour
 unfoldable pub with_sender : List ℕ → ℕ → List ℕ

@@ -1,5 +1,5 @@
 -- What the lines of the frames asked for span: nodes, slots, words and times.
-use Rattle.std.specs.Prelude.{ℕ, zero, suc, ◌+◌, ◌-◌, ◌^◌, min, max, nat_le, ◌==◌, ◌&&◌, ◌||◌, Bool, true, if◌then◌else◌, List, [], ◌∷◌}
+use Rattle.std.specs.Prelude.{ℕ, zero, suc, ◌+◌, ◌-◌, ◌^◌, min, max, nat_lt, nat_le, ◌==◌, ◌&&◌, ◌||◌, Bool, true, if◌then◌else◌, List, [], ◌∷◌}
 use Rattle.rb_base.specs.Nodes.{has, set_of}
 use Rattle.rb_base.specs.declared.node.NodeName.{NodeName}
 use Rattle.rb_base.specs.declared.node.NodeName.TheVariants.{Biu, Rmu}
@@ -10,6 +10,8 @@ use Rattle.rb_picture.specs.declared.line.Line.TheVariants as line
 use Rattle.rb_picture.specs.declared.extent.Extent.{Extent}
 use Rattle.rb_picture.specs.declared.extent.Begins.{Begins}
 use Rattle.rb_picture.specs.declared.extent.Facts.{Facts}
+use Rattle.rb_picture.specs.declared.extent.Nodes.{Nodes}
+use Rattle.rb_picture.specs.declared.extent.Rows.{Rows}
 
 -- whether a frame is one of those asked for
 abbrev pub is_between : ℕ → ℕ → ℕ → Bool
@@ -88,7 +90,7 @@ extent_after extent begins (line.Port l) = with_node (with_frame extent l.frame)
 extent_after extent begins (line.Delivery l) =
     with_word (with_slot (with_node (with_node (with_frame extent l.frame) (Biu l.receiver)) (Biu l.sender)) l.slot) l.value
 extent_after extent begins (line.End frames) = extent
-extent_after extent begins (line.Breach place cause) = with_frame extent place.frame
+extent_after extent begins (line.Breach place cause) = with_slot (with_frame extent place.frame) place.slot
 
 -- what lines span
 abbrev pub extent_from : Extent → Begins → List Line → Extent
@@ -107,20 +109,39 @@ mark_of mark (line.Delivery l) = l.frame + 1
 mark_of mark (line.End frames) = mark
 mark_of mark (line.Breach place cause) = place.frame + 1
 
+abbrev pub no_nodes : Nodes
+no_nodes = record { biu = 0; rmu = 0 }
+
 -- nothing is known of a frame
 abbrev pub no_facts : Facts
-no_facts = record { begins = no_begins; biu = 0; rmu = 0 }
+no_facts = record { begins = no_begins; convicted = no_nodes; present = no_nodes }
 
 -- the nodes of both sets
 abbrev pub both : ℕ → ℕ → ℕ
 both a b = set_of (λ i. has a i || has b i)
 
+-- a set with one more node, which a bus has
+abbrev pub with_number : ℕ → ℕ → ℕ
+with_number set i = if nat_lt i 16 then set_of (λ j. has set j || (j == i)) else set
+
+abbrev pub with_name : Nodes → NodeName → Nodes
+with_name nodes (Biu i) = record nodes { biu = with_number nodes.biu i }
+with_name nodes (Rmu i) = record nodes { rmu = with_number nodes.rmu i }
+
+-- a line of the frame is of this node
+abbrev pub with_present : Facts → NodeName → Facts
+with_present facts node = record facts { present = with_name facts.present node }
+
+-- such nodes are convicted
+abbrev pub with_convicted : Facts → ℕ → ℕ → Facts
+with_convicted facts biu rmu = record facts { convicted = record { biu = both facts.convicted.biu biu; rmu = both facts.convicted.rmu rmu } }
+
 -- what is known of a frame with one more of its lines
 abbrev pub facts_after : Facts → Line → Facts
-facts_after facts (line.Epoch l) = record facts { begins = with_begin facts.begins l.frame l.time }
-facts_after facts (line.Convicted l) = record facts { biu = both facts.biu l.biu; rmu = both facts.rmu l.rmu }
-facts_after facts (line.Port l) = facts
-facts_after facts (line.Delivery l) = facts
+facts_after facts (line.Epoch l) = with_present (record facts { begins = with_begin facts.begins l.frame l.time }) l.node
+facts_after facts (line.Convicted l) = with_present (with_convicted facts l.biu l.rmu) l.node
+facts_after facts (line.Port l) = with_present facts (Biu l.biu)
+facts_after facts (line.Delivery l) = with_present facts (Biu l.receiver)
 facts_after facts (line.End frames) = facts
 facts_after facts (line.Breach place cause) = facts
 
@@ -131,3 +152,10 @@ facts_from mark facts (l ∷ lines) = if mark_of 0 l == mark then facts_from mar
 
 abbrev pub facts_of : ℕ → List Line → Facts
 facts_of mark lines = facts_from mark no_facts lines
+
+-- the rows of the nodes of a kind, in a frame of which this is known: how many rows stand above them, and how many they are
+abbrev pub biu_rows : Extent → Facts → Rows
+biu_rows extent facts = record { above = 0; count = extent.bius; convicted = facts.convicted.biu; present = facts.present.biu }
+
+abbrev pub rmu_rows : Extent → Facts → Rows
+rmu_rows extent facts = record { above = extent.bius; count = extent.rmus; convicted = facts.convicted.rmu; present = facts.present.rmu }

@@ -29,7 +29,7 @@ with_piece extent text (Ground frame facts) = with_panel extent frame facts text
 with_piece extent text (Tick frame node after) = with_tick extent text frame node after
 with_piece extent text (Cell l) = with_cell extent text l
 with_piece extent text (Break place cause) = with_breach extent text place cause
-with_piece extent text (Ending frames) = with_ending text frames
+with_piece extent text (Ending frames) = with_ending extent text frames
 
 abbrev pub with_pieces : Extent → List ℕ → List Piece → List ℕ
 with_pieces extent text [] = text

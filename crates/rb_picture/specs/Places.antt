@@ -1,5 +1,5 @@
 -- Where things stand in a picture, in pixels: a panel for each frame, in it a row for each node, and a column for each slot.
-use Rattle.std.specs.Prelude.{ℕ, ◌+◌, ◌-◌, ◌*◌, ◌/◌, min, max, nat_lt, if◌then◌else◌}
+use Rattle.std.specs.Prelude.{ℕ, ◌+◌, ◌-◌, ◌*◌, ◌/◌, min, max, nat_lt, Bool, if◌then◌else◌}
 use Rattle.rb_base.specs.declared.node.NodeName.{NodeName}
 use Rattle.rb_base.specs.declared.node.NodeName.TheVariants.{Biu, Rmu}
 use Rattle.rb_base.specs.declared.values.Place.{Place}
@@ -35,8 +35,16 @@ cell_width extent = if nat_lt extent.word 1000 then 36 else if nat_lt extent.wor
 abbrev pub column_left : Extent → ℕ → ℕ
 column_left extent slot = 284 + cell_width extent * (slot - extent.low)
 
+-- more columns than can be seen beside the names
+abbrev pub is_wide : Extent → Bool
+is_wide extent = nat_lt 12 (slots_of extent)
+
+-- behind the columns
+abbrev pub names_left : Extent → ℕ
+names_left extent = 292 + cell_width extent * slots_of extent
+
 abbrev pub picture_width : Extent → ℕ
-picture_width extent = max 640 (max (40 + 60 * extent.bius) (304 + cell_width extent * slots_of extent))
+picture_width extent = max 640 (max (40 + 60 * extent.bius) (340 + cell_width extent * slots_of extent))
 
 abbrev pub picture_height : Extent → ℕ
 picture_height extent = 92 + panel_height extent * (extent.last + 1 - extent.first)

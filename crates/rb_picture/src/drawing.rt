@@ -1,13 +1,13 @@
 //! The parts of a picture.
 ghost use Rattle.std.specs.Prelude.{◌≡◌, ◌≤◌, OnOk, slice_index_or, codes, length};
-ghost use Rattle.rb_report.specs.Report.{cause_text, heard_text};
-ghost use Rattle.rb_picture.specs.Drawing.{look_of, with_breach, with_cell, with_cross, with_crosses, with_crosses_of, with_ending, with_ground, with_heading, with_legend, with_marks, with_name, with_names, with_names_of, with_panel, with_sender, with_senders, with_slot_number, with_slots, with_strokes, with_tick};
+ghost use Rattle.rb_report.specs.Report.{heard_text};
+ghost use Rattle.rb_picture.specs.Drawing.{cause_words, follows, look_of, with_absence, with_breach, with_cell, with_cross, with_ending, with_ground, with_heading, with_legend, with_marks, with_name, with_names, with_names_of, with_panel, with_sender, with_senders, with_slot_number, with_slots, with_state, with_states, with_states_of, with_strokes, with_tick};
 
-use crate::extent::{Extent, Facts};
+use crate::extent::{Extent, Facts, Rows, biu_rows, rmu_rows};
 use crate::line::DeliveryLine;
 use crate::markup::{Area, push_box, push_label};
 use crate::places::{
-    breach_area, cell_area, cell_width, column_left, grid_area, panel_area, panel_top,
+    breach_area, cell_area, cell_width, column_left, grid_area, is_wide, names_left, panel_area, panel_top,
     picture_height, picture_width, row_top, slots_of, strip_area, tick_area,
 };
 use itoa::Buffer;
@@ -38,13 +38,13 @@ fn look_of(sender: u64) -> &'static str
     }
 }
 
-fn cause_name(cause: Cause) -> &'static str
-    ensures { result.now ≡ cause_text cause }
+fn cause_words(cause: Cause) -> &'static str
+    ensures { result.now ≡ cause_words cause }
 {
     match cause {
-        Cause::FewGoodBiu => "FewGoodBiu",
-        Cause::FewGoodRmu => "FewGoodRmu",
-        Cause::TwoSided => "TwoSided",
+        Cause::FewGoodBiu => "FewGoodBiu: the good BIUs are no majority",
+        Cause::FewGoodRmu => "FewGoodRmu: the good RMUs are no majority",
+        Cause::TwoSided => "TwoSided: one BIU, one RMU told two things",
     }
 }
 
@@ -98,29 +98,39 @@ pub(crate) fn push_breach(
 {
     let y = panel_top(extent, place.frame) + 24;
     push_box(out, breach_area(extent, place), "breach")?;
-    push_label(out, 284, y, "cause", "breach: ", cause_name(cause))?;
     push_label(
         out,
-        460,
+        112,
         y,
         "cause",
-        "in slot ",
+        "breach in slot ",
         Buffer::new().format(place.slot),
     )?;
     push_label(
         out,
-        570,
+        250,
         y,
         "cause",
         "stage ",
         Buffer::new().format(place.stage),
-    )
+    )?;
+    push_label(out, 306, y, "cause", cause_words(cause), "")
+}
+
+fn follows(extent: Extent, frames: u32) -> bool
+    ensures { result ≡ follows extent frames }
+{
+    frames == extent.last && extent.first <= extent.last
 }
 
 /// The run came to its end.
 #[tactic(auto, unfolding(crate::specs::Drawing::with_ending))]
-pub(crate) fn push_ending(out: &mut Vec<u8>, frames: u32) -> Result<(), OutOfMemory>
-    ensures { OnOk result (out.new.items ≡ with_ending out.old.items frames) }
+pub(crate) fn push_ending(
+    out: &mut Vec<u8>,
+    extent: Extent,
+    frames: u32,
+) -> Result<(), OutOfMemory>
+    ensures { OnOk result (out.new.items ≡ with_ending extent out.old.items frames) }
 {
     push_label(
         out,
@@ -129,7 +139,13 @@ pub(crate) fn push_ending(out: &mut Vec<u8>, frames: u32) -> Result<(), OutOfMem
         "note",
         "frames to the end of the run: ",
         Buffer::new().format(frames),
-    )
+    )?;
+    if follows(extent, frames) {
+        let y = panel_top(extent, frames) + 24;
+        let note = "the run is over: this is the frame that would follow";
+        return push_label(out, 120, y, "note", note, "");
+    }
+    Ok(())
 }
 
 #[tactic(auto, unfolding(crate::specs::Drawing::with_name))]
@@ -145,7 +161,12 @@ fn push_name(
     ensures { OnOk result (out.new.items ≡ with_name extent frame out.old.items letter.now row number) }
 {
     let y = row_top(extent, frame, row) + 15;
-    push_label(out, 20, y, "name", letter, Buffer::new().format(number))
+    push_label(out, 20, y, "name", letter, Buffer::new().format(number))?;
+    if is_wide(extent) {
+        let x = names_left(extent);
+        return push_label(out, x, y, "name", letter, Buffer::new().format(number));
+    }
+    Ok(())
 }
 
 #[tactic(auto, using(crate::proofs::Turns::each_turns), unfolding(crate::specs::Drawing::with_names_of))]
@@ -202,51 +223,70 @@ fn push_slots(out: &mut Vec<u8>, extent: Extent, frame: u32) -> Result<(), OutOf
 }
 
 #[tactic(auto, unfolding(crate::specs::Drawing::with_cross))]
-fn push_cross(
-    out: &mut Vec<u8>,
-    extent: Extent,
-    frame: u32,
-    above: u16,
-    set: u16,
-    number: u8,
-) -> Result<(), OutOfMemory>
+fn push_cross(out: &mut Vec<u8>, y: u64, set: u16, number: u8) -> Result<(), OutOfMemory>
     requires { number ≤ 15 }
-    ensures { OnOk result (out.new.items ≡ with_cross extent frame above set out.old.items number) }
+    ensures { OnOk result (out.new.items ≡ with_cross y set out.old.items number) }
 {
     if NodeSet::<Biu>::from_bits(set).has(number) {
-        let y = row_top(extent, frame, u64::from(above) + u64::from(number)) + 15;
         return push_label(out, 60, y, "cross", "X", "");
     }
     Ok(())
 }
 
-#[tactic(auto, using(crate::proofs::Turns::each_turns), unfolding(crate::specs::Drawing::with_crosses_of))]
-fn push_crosses_of(
-    out: &mut Vec<u8>,
-    extent: Extent,
-    frame: u32,
-    above: u16,
-    set: u16,
-) -> Result<(), OutOfMemory>
-    ensures { OnOk result (out.new.items ≡ with_crosses_of extent frame above set out.old.items) }
+#[tactic(auto, unfolding(crate::specs::Drawing::with_absence))]
+fn push_absence(out: &mut Vec<u8>, y: u64, rows: Rows, number: u8) -> Result<(), OutOfMemory>
+    requires { number ≤ 15 }
+    ensures { OnOk result (out.new.items ≡ with_absence y rows out.old.items number) }
 {
-    for number in 0..16 {
-        push_cross(out, extent, frame, above, set, number)?;
+    let present = NodeSet::<Biu>::from_bits(rows.present);
+    if u16::from(number) < rows.count && !present.has(number) {
+        return push_label(out, 100, y, "note", "absent", "");
     }
     Ok(())
 }
 
-#[tactic(auto, unfolding(crate::specs::Drawing::with_crosses))]
-fn push_crosses(
+#[tactic(auto, unfolding(crate::specs::Drawing::with_state))]
+fn push_state(
+    out: &mut Vec<u8>,
+    extent: Extent,
+    frame: u32,
+    rows: Rows,
+    number: u8,
+) -> Result<(), OutOfMemory>
+    requires { number ≤ 15 }
+    ensures { OnOk result (out.new.items ≡ with_state extent frame rows out.old.items number) }
+{
+    let y = row_top(extent, frame, u64::from(rows.above) + u64::from(number)) + 15;
+    push_cross(out, y, rows.convicted, number)?;
+    push_absence(out, y, rows, number)
+}
+
+#[tactic(auto, using(crate::proofs::Turns::each_turns), unfolding(crate::specs::Drawing::with_states_of))]
+fn push_states_of(
+    out: &mut Vec<u8>,
+    extent: Extent,
+    frame: u32,
+    rows: Rows,
+) -> Result<(), OutOfMemory>
+    ensures { OnOk result (out.new.items ≡ with_states_of extent frame rows out.old.items) }
+{
+    for number in 0..16 {
+        push_state(out, extent, frame, rows, number)?;
+    }
+    Ok(())
+}
+
+#[tactic(auto, unfolding(crate::specs::Drawing::with_states))]
+fn push_states(
     out: &mut Vec<u8>,
     extent: Extent,
     frame: u32,
     facts: Facts,
 ) -> Result<(), OutOfMemory>
-    ensures { OnOk result (out.new.items ≡ with_crosses extent frame facts out.old.items) }
+    ensures { OnOk result (out.new.items ≡ with_states extent frame facts out.old.items) }
 {
-    push_crosses_of(out, extent, frame, 0, facts.biu)?;
-    push_crosses_of(out, extent, frame, extent.bius, facts.rmu)
+    push_states_of(out, extent, frame, biu_rows(extent, facts))?;
+    push_states_of(out, extent, frame, rmu_rows(extent, facts))
 }
 
 #[tactic(auto, unfolding(crate::specs::Drawing::with_ground))]
@@ -295,7 +335,7 @@ pub(crate) fn push_panel(
     push_ground(out, extent, frame, facts)?;
     push_names(out, extent, frame)?;
     push_slots(out, extent, frame)?;
-    push_crosses(out, extent, frame, facts)
+    push_states(out, extent, frame, facts)
 }
 
 #[tactic(auto, unfolding(crate::specs::Drawing::with_sender))]

@@ -84,7 +84,7 @@ fn push_line(out: &mut Vec<u8>, extent: Extent, facts: Facts, line: Line) -> Res
         ),
         Line::Convicted(_) | Line::Port(_) => Ok(()),
         Line::Delivery(l) => push_cell(out, extent, l),
-        Line::End(frames) => push_ending(out, frames),
+        Line::End(frames) => push_ending(out, extent, frames),
         Line::Breach(place, cause) => push_breach(out, extent, place, cause),
     }
 }

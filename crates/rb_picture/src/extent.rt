@@ -1,9 +1,9 @@
 //! What the lines of the frames asked for span.
 ghost use Rattle.std.specs.Prelude.{◌≡◌};
-ghost use Rattle.rb_picture.specs.Extents.{begins_after, both, extent_after, extent_of, facts_after, facts_of, is_asked, is_between, mark_of, spread_of, top_of, with_begin, with_frame, with_node, with_sets, with_slot, with_spread, with_word};
+ghost use Rattle.rb_picture.specs.Extents.{begins_after, biu_rows, both, extent_after, extent_of, facts_after, facts_of, is_asked, is_between, mark_of, rmu_rows, spread_of, top_of, with_begin, with_convicted, with_frame, with_name, with_node, with_number, with_present, with_sets, with_slot, with_spread, with_word};
 
 use crate::line::Line;
-use rb_base::{Biu, Heard, NodeName, NodeSet};
+use rb_base::{Biu, Heard, NodeId, NodeName, NodeSet};
 
 /// Frames, nodes, slots, and the greatest word and spread: what a picture has to have room for. Of the frames the first and the last, of
 /// the nodes of a kind one more than the greatest number, of the slots the lowest and one more than the highest.
@@ -47,12 +47,28 @@ pub(crate) fn is_asked(first: u32, last: u32, line: Line) -> bool
     }
 }
 
-/// What the lines of a frame say: when it begins, and whom any node holds convicted, as masks.
+/// Nodes of both kinds, as masks.
+#[derive(Clone, Copy, Debug, PartialEq, Eq)]
+pub struct Nodes {
+    pub biu: u16,
+    pub rmu: u16,
+}
+
+/// What the lines of a frame say: when it begins, whom any node holds convicted, and of which nodes they are.
 #[derive(Clone, Copy, Debug, PartialEq, Eq)]
 pub struct Facts {
     pub begins: Begins,
-    pub biu: u16,
-    pub rmu: u16,
+    pub convicted: Nodes,
+    pub present: Nodes,
+}
+
+/// The rows of the nodes of a kind: how many rows stand above them, how many they are, and which nodes are convicted and present.
+#[derive(Clone, Copy, Debug, PartialEq, Eq)]
+pub struct Rows {
+    pub above: u16,
+    pub count: u16,
+    pub convicted: u16,
+    pub present: u16,
 }
 
 const NO_EXTENT: Extent = Extent {
@@ -72,10 +88,12 @@ const NO_BEGINS: Begins = Begins {
     greatest: 0,
 };
 
+const NO_NODES: Nodes = Nodes { biu: 0, rmu: 0 };
+
 pub(crate) const NO_FACTS: Facts = Facts {
     begins: NO_BEGINS,
-    biu: 0,
-    rmu: 0,
+    convicted: NO_NODES,
+    present: NO_NODES,
 };
 
 fn with_begin(begins: Begins, frame: u32, time: u64) -> Begins
@@ -214,7 +232,7 @@ fn extent_after(extent: Extent, begins: Begins, line: Line) -> Extent
             l.value,
         ),
         Line::End(_) => extent,
-        Line::Breach(place, _) => with_frame(extent, place.frame),
+        Line::Breach(place, _) => with_slot(with_frame(extent, place.frame), place.slot),
     }
 }
 
@@ -254,20 +272,64 @@ fn both(first: u16, second: u16) -> u16
         .bits()
 }
 
+// The set with one more node, which a bus has.
+fn with_number(set: u16, number: u8) -> u16
+    ensures { result ≡ with_number set number }
+{
+    if number < 16 {
+        let mut nodes = NodeSet::<Biu>::from_bits(set);
+        nodes.insert(NodeId::of(number));
+        return nodes.bits();
+    }
+    set
+}
+
+fn with_name(nodes: Nodes, node: NodeName) -> Nodes
+    ensures { result ≡ with_name nodes node }
+{
+    match node {
+        NodeName::Biu(i) => Nodes {
+            biu: with_number(nodes.biu, i),
+            ..nodes
+        },
+        NodeName::Rmu(i) => Nodes {
+            rmu: with_number(nodes.rmu, i),
+            ..nodes
+        },
+    }
+}
+
+fn with_present(facts: Facts, node: NodeName) -> Facts
+    ensures { result ≡ with_present facts node }
+{
+    Facts {
+        present: with_name(facts.present, node),
+        ..facts
+    }
+}
+
+fn with_convicted(facts: Facts, biu: u16, rmu: u16) -> Facts
+    ensures { result ≡ with_convicted facts biu rmu }
+{
+    let convicted = Nodes {
+        biu: both(facts.convicted.biu, biu),
+        rmu: both(facts.convicted.rmu, rmu),
+    };
+    Facts { convicted, ..facts }
+}
+
 fn facts_after(facts: Facts, line: Line) -> Facts
     ensures { result ≡ facts_after facts line }
 {
     match line {
-        Line::Epoch(l) => Facts {
-            begins: with_begin(facts.begins, l.frame, l.time),
-            ..facts
-        },
-        Line::Convicted(l) => Facts {
-            biu: both(facts.biu, l.biu),
-            rmu: both(facts.rmu, l.rmu),
-            ..facts
-        },
-        Line::Port(_) | Line::Delivery(_) | Line::End(_) | Line::Breach(_, _) => facts,
+        Line::Epoch(l) => {
+            let begins = with_begin(facts.begins, l.frame, l.time);
+            with_present(Facts { begins, ..facts }, l.node)
+        }
+        Line::Convicted(l) => with_present(with_convicted(facts, l.biu, l.rmu), l.node),
+        Line::Port(l) => with_present(facts, NodeName::Biu(l.biu)),
+        Line::Delivery(l) => with_present(facts, NodeName::Biu(l.receiver)),
+        Line::End(_) | Line::Breach(_, _) => facts,
     }
 }
 
@@ -284,4 +346,26 @@ pub(crate) fn facts_of(mark: u64, lines: &[Line]) -> Facts
         facts = facts_after(facts, *line);
     }
     facts
+}
+
+pub(crate) fn biu_rows(extent: Extent, facts: Facts) -> Rows
+    ensures { result ≡ biu_rows extent facts }
+{
+    Rows {
+        above: 0,
+        count: extent.bius,
+        convicted: facts.convicted.biu,
+        present: facts.present.biu,
+    }
+}
+
+pub(crate) fn rmu_rows(extent: Extent, facts: Facts) -> Rows
+    ensures { result ≡ rmu_rows extent facts }
+{
+    Rows {
+        above: extent.bius,
+        count: extent.rmus,
+        convicted: facts.convicted.rmu,
+        present: facts.present.rmu,
+    }
 }

@@ -1,6 +1,6 @@
 //! Where things stand in a picture.
 ghost use Rattle.std.specs.Prelude.{◌≡◌, ◌^◌, ◌<◌, ◌≤◌};
-ghost use Rattle.rb_picture.specs.Places.{breach_area, cell_area, cell_width, column_left, grid_area, panel_area, panel_height, panel_top, picture_height, picture_width, row_of, row_top, rows_of, scale_of, slots_of, strip_area, tick_area};
+ghost use Rattle.rb_picture.specs.Places.{breach_area, cell_area, cell_width, column_left, grid_area, is_wide, names_left, panel_area, panel_height, panel_top, picture_height, picture_width, row_of, row_top, rows_of, scale_of, slots_of, strip_area, tick_area};
 
 use crate::extent::Extent;
 use crate::line::DeliveryLine;
@@ -76,11 +76,23 @@ pub(crate) fn column_left(extent: Extent, slot: u32) -> u64
     284 + cell_width(extent) * u64::from(slot.saturating_sub(u32::from(extent.low)))
 }
 
+pub(crate) fn is_wide(extent: Extent) -> bool
+    ensures { result ≡ is_wide extent }
+{
+    12 < slots_of(extent)
+}
+
+pub(crate) fn names_left(extent: Extent) -> u64
+    ensures { result ≡ names_left extent }
+{
+    292 + cell_width(extent) * slots_of(extent)
+}
+
 pub(crate) fn picture_width(extent: Extent) -> u64
     ensures value { result ≡ picture_width extent }
     ensures least { 640 ≤ result }
 {
-    let columns = 304 + cell_width(extent) * slots_of(extent);
+    let columns = 340 + cell_width(extent) * slots_of(extent);
     let senders = 40 + 60 * u64::from(extent.bius);
     senders.max(columns).max(640)
 }

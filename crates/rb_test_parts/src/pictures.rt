@@ -94,7 +94,11 @@ Manual: docs/robus_picture.md, or man robus_picture
 #[test]
 fn pages(rt: HostRuntime) -> Result<(), Fail> {
     let alloc = rt.alloc();
-    for (word, page) in [("--help", HELP), ("-h", HELP), ("--version", "robus_picture 1.0\n")] {
+    for (word, page) in [
+        ("--help", HELP),
+        ("-h", HELP),
+        ("--version", "robus_picture 1.0\n"),
+    ] {
         let (status, written) = answer(alloc, &[word], "no report")?;
         assert_eq!(rt; status, Status::Done);
         assert_eq!(rt; written.as_slice(), page.as_bytes());

@@ -1,7 +1,0 @@
-use Rattle.std.proofs.Common.{◌≡◌}
-use Rattle.rb_picture.specs.Markup.{each_below}
-use Rattle.rb_picture.specs.Drawing.{with_cross}
-use Rattle.rb_picture.proofs.drawing.push_crosses_of.Given as goal
-
-abbrev pub invariant-loop-number : goal.invariant-loop-number
-invariant-loop-number l = l.out.items ≡ each_below (with_cross l.extent l.frame l.above l.set) l.number l.initial.out.items
