@@ -9,9 +9,9 @@ use Rattle.rb_picture.specs.declared.extent.Extent.{Extent}
 use Rattle.rb_picture.specs.declared.extent.Facts.{Facts}
 use Rattle.rb_picture.specs.declared.extent.Rows.{Rows}
 use Rattle.rb_picture.specs.Content.{AddsContent}
-use Rattle.rb_picture.specs.Markup.{with_label, with_opening}
+use Rattle.rb_picture.specs.Markup.{with_opening}
 use Rattle.rb_picture.specs.Extents.{biu_rows, extent_of, rmu_rows}
-use Rattle.rb_picture.specs.Places.{is_wide, picture_height, picture_width, row_top, slots_of}
+use Rattle.rb_picture.specs.Places.{is_wide, picture_height, picture_width, slots_of}
 use Rattle.rb_picture.specs.Drawing.{follows, with_breach, with_cell, with_absence, with_cross, with_ending, with_ground, with_heading, with_legend, with_marks, with_name, with_names, with_names_of, with_panel, with_sender, with_senders, with_slot_number, with_slots, with_state, with_states, with_states_of, with_strokes, with_tick}
 use Rattle.rb_picture.specs.Picture.{Piece, picture_text, pieces_of, with_piece, with_pieces}
 use Rattle.rb_picture.specs.Picture.Piece.{Ground, Tick, Cell, Break, Ending}

@@ -7,8 +7,8 @@ use crate::extent::{Extent, Facts, Rows, biu_rows, rmu_rows};
 use crate::line::DeliveryLine;
 use crate::markup::{Area, push_box, push_label};
 use crate::places::{
-    breach_area, cell_area, cell_width, column_left, grid_area, is_wide, names_left, panel_area, panel_top,
-    picture_height, picture_width, row_top, slots_of, strip_area, tick_area,
+    breach_area, cell_area, cell_width, column_left, grid_area, is_wide, names_left, panel_area,
+    panel_top, picture_height, picture_width, row_top, slots_of, strip_area, tick_area,
 };
 use itoa::Buffer;
 use rb_base::{Biu, Heard, NodeName, NodeSet, OutOfMemory, Place};
@@ -125,11 +125,7 @@ fn follows(extent: Extent, frames: u32) -> bool
 
 /// The run came to its end.
 #[tactic(auto, unfolding(crate::specs::Drawing::with_ending))]
-pub(crate) fn push_ending(
-    out: &mut Vec<u8>,
-    extent: Extent,
-    frames: u32,
-) -> Result<(), OutOfMemory>
+pub(crate) fn push_ending(out: &mut Vec<u8>, extent: Extent, frames: u32) -> Result<(), OutOfMemory>
     ensures { OnOk result (out.new.items ≡ with_ending extent out.old.items frames) }
 {
     push_label(
