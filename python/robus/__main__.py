@@ -5,19 +5,30 @@
     layout    the frame of a scenario, slot by slot
     faults    writes the say entries of a node that is good but for given lies
     explain   says who broke a run, why a node was convicted, and what was said in a slot
+    sweep     runs a scenario with other values at its keys, a row of CSV for each
+    campaign  runs many scenarios, a row of each
     table     a report as CSV or as JSON lines
     quick     runs a program of the repository as a quick build
 
-None of them is proved."""
+    run, check, letters, record, group, replay, listen, gen, stress, spell, bridge, picture
+              the programs' own words, by the engine that docs/LIBRARY.md says
+
+None of them is proved but for the programs that they run."""
 import importlib
 import sys
 
-TOOLS = ("lint", "plan", "layout", "faults", "explain", "table", "quick")
+from robus.words import FORMS
+
+# The tools, with the module of each where it has another name
+TOOLS = {name: name for name in ("lint", "plan", "layout", "faults", "sweep", "table", "quick")}
+TOOLS["explain"] = "explanation"
 
 
-def run(tool: str, words: list[str]) -> int:
+def run(tool: str, words: list) -> int:
     """The tool with these words; its status."""
-    return importlib.import_module("robus." + tool).main(words) or 0
+    if tool in FORMS:
+        return importlib.import_module("robus.words").main([tool, *words])
+    return importlib.import_module("robus." + TOOLS[tool]).main(words) or 0
 
 
 def main() -> int:
@@ -25,7 +36,7 @@ def main() -> int:
     if words[:1] in (["--help"], ["-h"]):
         print(__doc__)
         return 0
-    if not words or words[0] not in TOOLS:
+    if not words or words[0] not in {*TOOLS, *FORMS}:
         print(__doc__, file=sys.stderr)
         return 2
     try:

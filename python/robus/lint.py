@@ -9,6 +9,7 @@ from dataclasses import asdict, dataclass
 from robus import forms, laws, ranges, syntax
 from robus.locate import Locator
 from robus.model import TooLong, model, read
+from robus.scenario import path_of
 
 HELP = """Says where and why a scenario is refused: every finding with its line, what stands there and what may stand there. It agrees with
 robus on what is refused, and names first the rule for which robus refuses it. Of an accepted scenario it says what can have no effect, for
@@ -26,6 +27,7 @@ class Finding:
     place: str
     stands: str
     why: str
+    path: str = ""  # the place as Scenario.with_ takes it, say[1].slots
 
 
 def spelt(place: tuple) -> str:
@@ -66,7 +68,7 @@ def findings_in(data: bytes) -> list[Finding]:
 
     def finding(code: int, place: tuple, why: str) -> Finding:
         stands = locator.texts.get(place, "")
-        return Finding(code, locator.line_of(place), spelt(place), short(stands), why)
+        return Finding(code, locator.line_of(place), spelt(place), short(stands), why, path_of(place))
 
     wide = [finding(1, place, "integers are of 64 bits") for place, value in syntax.values_in(document)
             if not -(1 << 63) <= value < 1 << 63]
@@ -83,7 +85,8 @@ def lint(data: bytes) -> tuple[str | None, list[Finding]]:
     if refusal is None:
         from robus import effects
 
-        return None, [Finding(0, line, spelt(place), "", why) for line, place, why in effects.warnings(data)]
+        return None, [Finding(0, line, spelt(place), "", why, path_of(place))
+                      for line, place, why in effects.warnings(data)]
     found = findings_in(data)
     code = int(refusal.split()[1])
     if code not in [it.code for it in found]:

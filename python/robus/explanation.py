@@ -190,33 +190,43 @@ def row_of(bus, node, it, is_sync: bool) -> tuple:
     return name_of(node), said, heard, took, vote, names(against) if against else "-"
 
 
-def explain(run: Watched) -> list[str]:
+def told(run: Watched) -> list[str]:
     """All that is told of a whole run."""
     frames = run.scenario.frames
-    ended = "the run came to its end after %d frame%s, without a breach" % (frames, "" if frames == 1 else "s")
-    lines, told = classes(run) if run.breach else [ended], convictions(run)
-    return lines + (told or ["", "nobody is convicted"])
+    ended = "the run came to its end after %d frame%s, without a breach" % (
+        frames, "" if frames == 1 else "s")
+    lines, found = classes(run) if run.breach else [ended], convictions(run)
+    return lines + (found or ["", "nobody is convicted"])
+
+
+def explanation_of(scenario, frame: int | None = None, slot: int | None = None) -> str:
+    """What is told of a scenario's run, or of a slot of it; ValueError where the run has no such
+    slot."""
+    if (frame is None) != (slot is None):
+        raise ValueError("frame and slot stand together")
+    if frame is None:
+        return "\n".join(told(watch(scenario)))
+    run = watch(scenario, (frame, slot))
+    if (frame, slot) not in run.reached:
+        raise ValueError("the run has no slot %d in frame %d" % (slot, frame))
+    return "\n".join(slot_table(run, frame, slot))
 
 
 def main(words: list[str]) -> int:
-    parser = argparse.ArgumentParser(prog="tools/explain", description=HELP, formatter_class=argparse.RawDescriptionHelpFormatter)
+    parser = argparse.ArgumentParser(prog="tools/explain", description=HELP,
+                                     formatter_class=argparse.RawDescriptionHelpFormatter)
     parser.add_argument("scenario", help="a file, or - for standard input")
     parser.add_argument("frame", type=int, nargs="?")
     parser.add_argument("slot", type=int, nargs="?")
     asked = parser.parse_args(words)
-    if (asked.frame is None) != (asked.slot is None):
-        parser.error("FRAME and SLOT stand together")
     scenario = scenario_or_status(asked.scenario, "tools/explain")
     if isinstance(scenario, int):
         return scenario
-    run = watch(scenario, None if asked.frame is None else (asked.frame, asked.slot))
-    if asked.frame is None:
-        print("(by tools/model, a second model of the bus, not by the proved program)\n")
-        print("\n".join(explain(run)))
-        return 0
-    if (asked.frame, asked.slot) not in run.reached:
-        print("tools/explain: the run has no slot %d in frame %d" % (asked.slot, asked.frame), file=sys.stderr)
+    try:
+        text = explanation_of(scenario, asked.frame, asked.slot)
+    except ValueError as fault:
+        print("tools/explain: %s" % fault, file=sys.stderr)
         return 2
     print("(by tools/model, a second model of the bus, not by the proved program)\n")
-    print("\n".join(slot_table(run, asked.frame, asked.slot)))
+    print(text)
     return 0

@@ -1,0 +1,73 @@
+"""What is raised where a program gives no result."""
+from __future__ import annotations
+
+import sys
+from functools import cached_property
+from typing import Optional, Tuple
+
+from robus.rows import Refusal
+
+MEANINGS = {1: "the run ended with a breach of the fault premise",
+            2: "the program has no such words, or a number in them is out of its range",
+            4: "the input is longer than it may be", 5: "reading failed", 6: "writing failed",
+            7: "no memory was left", 8: "the arguments could not be had"}
+
+
+class RobusError(Exception):
+    """All that this package raises of its own."""
+
+
+class NoEngine(RobusError):
+    """The engine that was asked for is not there, or none that is there has these words."""
+
+
+class Failed(RobusError):
+    """A program ended with a status that gives no result; docs/robus.md has their meanings."""
+
+    def __init__(self, words: Tuple[str, ...], status: int):
+        self.words, self.status = words, status
+        meaning = MEANINGS.get(status, "docs/robus.md says nothing of it")
+        super().__init__("robus %s: status %d, %s" % (" ".join(words), status, meaning))
+
+
+class Refused(RobusError):
+    """The input is refused. Code, name and number are those of the line `refused CODE NAME NUMBER`.
+
+    Of a scenario `findings` are all that tools/lint finds, and `file`, `line` (from 1) and `key`
+    (as Scenario.with_ takes it) tell the place of the first that breaks this rule; they are None
+    where no place shows it, for a log, for a bridge, and below Python 3.11. The linter is no part
+    of the proved programs."""
+
+    def __init__(self, refusal: Refusal, data: Optional[bytes] = None, file: Optional[str] = None):
+        super().__init__(refusal, data, file)
+        self.code, self.name, self.number = refusal.code, refusal.name, refusal.number
+        self.data, self.file = data, file
+
+    @cached_property
+    def findings(self) -> tuple:
+        """What tools/lint finds in the scenario, in the order of its lines."""
+        if self.data is None or sys.version_info < (3, 11):
+            return ()
+        from robus.lint import lint
+
+        return tuple(lint(self.data)[1])
+
+    @property
+    def finding(self):
+        """The first finding for the rule that is broken, or None."""
+        return next((it for it in self.findings if it.code == self.code), None)
+
+    @property
+    def line(self) -> Optional[int]:
+        return self.finding.line if self.finding else None
+
+    @property
+    def key(self) -> Optional[str]:
+        return self.finding.path if self.finding else None
+
+    def __str__(self) -> str:
+        number = "" if self.number is None else " %d" % self.number
+        refused = "refused %d %s%s" % (self.code, self.name, number)
+        if self.finding is None:
+            return refused
+        return "%s: %s:%d: %s" % (refused, self.file or "scenario", self.line, self.finding.why)
