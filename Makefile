@@ -7,17 +7,20 @@
 # make examples                                    runs each example, and looks for the lines that its page names
 # make tutorial                                    runs the commands of docs/TUTORIAL.md, and compares what they print
 # make compare COUNT=1000 SEED=1                   gives so many cases to the program and to a second model of the bus
-# make install PREFIX=/usr/local                   puts the programs that were built, manual pages, documents and examples there
+# make install PREFIX=/usr/local                   puts the programs that were built, manual pages, documents, examples and the Python
+#                                                  package there
+# make install-python PREFIX=/usr/local            puts the Python package alone there
 
 PREFIX ?= /usr/local
 ROBUS = crates/robus/out/robus
 PICTURE = crates/robus_picture/out/robus_picture
 BRIDGE = crates/robus_bridge/out/robus_bridge
 AT = $(DESTDIR)$(PREFIX)
+PACKAGES = $(AT)/lib/python3/dist-packages
 COUNT = 1000
 SEED = 1
 
-.PHONY: run picture bridge build test bench examples tutorial compare install uninstall
+.PHONY: run picture bridge build test bench examples tutorial compare install install-python uninstall
 
 run:
 	@test -n "$(SCENARIO)" || { echo "usage: make run SCENARIO=examples/one_silent_rmu.toml (or another of examples/)" >&2; exit 2; }
@@ -64,7 +67,12 @@ install:
 	tools/manual docs/SCENARIOS.md robus_scenario 5 "scenarios of a fault-tolerant broadcast bus" > "$(AT)/share/man/man5/robus_scenario.5"
 	tools/manual docs/FORMATS.md robus_formats 5 "messages and logs of a fault-tolerant broadcast bus" > "$(AT)/share/man/man5/robus_formats.5"
 	cp -R README.md docs examples "$(AT)/share/doc/robus"
+	$(MAKE) install-python
+
+install-python:
+	install -d "$(PACKAGES)/robus"
+	install -m 644 python/robus/*.py "$(PACKAGES)/robus"
 
 uninstall:
 	rm -f "$(AT)/bin/robus" "$(AT)/bin/robus_picture" "$(AT)/bin/robus_bridge" "$(AT)/share/man/man1/robus.1" "$(AT)/share/man/man1/robus_picture.1" "$(AT)/share/man/man1/robus_bridge.1" "$(AT)/share/man/man5/robus_scenario.5" "$(AT)/share/man/man5/robus_formats.5"
-	rm -rf "$(AT)/share/doc/robus"
+	rm -rf "$(AT)/share/doc/robus" "$(PACKAGES)/robus"

@@ -6,6 +6,7 @@ import sys
 from importlib.machinery import SourceFileLoader
 from importlib.util import module_from_spec, spec_from_loader
 
+from robus import engines
 from robus.__main__ import run
 from robus.model import model
 
@@ -46,3 +47,12 @@ def script(name: str):
 def run_model(*words: str, data: bytes) -> str:
     """What tools/model writes."""
     return model.answer(list(words), io.BytesIO(data))[1].decode()
+
+
+def is_fast(program: str) -> bool:
+    """Whether a library or a program runs the bus here, and not tools/model."""
+    words = ["letters"] if program == "robus" else ["run"]
+    try:
+        return engines.choose(words, program=program).name != "model"
+    except engines.NoEngine:
+        return False

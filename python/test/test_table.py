@@ -4,7 +4,7 @@ import re
 import unittest
 
 from helpers import EXAMPLES, TOP, output_of, run_model
-from robus.rows import FIELDS, LINES
+from robus import rows
 
 LINES = """e 0 B0 917 9170000
 c 1 R2 4 5
@@ -78,7 +78,8 @@ class Tables(unittest.TestCase):
     def test_the_kinds_are_those_of_the_page(self):
         page = (TOP / "docs/robus.md").read_text()
         first = set(re.findall(r"^\| `(\w+)[ `]", page[page.index("| line | where |"):page.index("`record` writes")], re.M))
-        forms = [re.sub(r"<(\w+)>", lambda it: "(?:%s)" % FIELDS[it[1]], re.split(r"[ \[]", form)[0]) for _, form in LINES.values()]
+        forms = [re.sub(r"<(\w+)>", lambda it: "(?:%s)" % rows.FIELDS[it[1]], re.split(r"[ \[]", form)[0])
+                 for _, form in rows.LINES.values()]
         self.assertIn("d", first)
         for word in first:
             self.assertTrue(any(re.fullmatch(form, word) for form in forms), word)
