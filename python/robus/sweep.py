@@ -73,6 +73,11 @@ def sweep(scenario: Source, values: Mapping[str, Iterable[Any]], *, engine: Whic
         return list(pool.map(row_of, scenarios_of(scenario_of(scenario), values)))
 
 
+def value_cell(value: Any) -> Any:
+    """A changed value as CSV has it: arrays and tables as TOML."""
+    return toml.value_text(value) if isinstance(value, (list, tuple, dict)) else value
+
+
 def write_csv(rows: List[SweepRow], file: TextIO) -> None:
     """Writes the rows as CSV: the changed keys, then the columns of a summary."""
     out = csv.writer(file, lineterminator="\n")
@@ -80,7 +85,7 @@ def write_csv(rows: List[SweepRow], file: TextIO) -> None:
     out.writerow(keys + COLUMNS)
     for row in rows:
         summary = [cell(getattr(row.summary, name)) for name in COLUMNS]
-        out.writerow([cell(row.changes[key]) for key in keys] + summary)
+        out.writerow([value_cell(row.changes[key]) for key in keys] + summary)
 
 
 def values_in(text: str) -> List[Any]:

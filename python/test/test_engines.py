@@ -1,0 +1,126 @@
+"""Which engine runs a call, and how the shared library is called: docs/LIBRARY.md."""
+import os
+import shutil
+import stat
+import subprocess
+import sys
+import tempfile
+import unittest
+from pathlib import Path
+from unittest import mock
+
+import robus
+from helpers import EXAMPLES, TOP
+from robus import engines
+
+# Stands for librobus.so: the words with `|` between them, the input, and so many bytes more as the last word says
+STUB = r"""
+#include <stdint.h>
+#include <stdlib.h>
+#include <string.h>
+typedef struct { int32_t status; uint64_t length; } robus_answer;
+
+robus_answer robus_call(const uint8_t *words, size_t words_length, const uint8_t *input, size_t input_length,
+                        uint8_t *output, size_t output_length) {
+    size_t last = words_length;
+    while (last > 0 && words[last - 1] != 0) last--;
+    size_t more = strtoull((const char *)words + last, 0, 10), length = 0;
+    for (size_t i = 0; i < words_length + input_length + more; i++) {
+        uint8_t byte = i < words_length ? (words[i] ? words[i] : '|') : i < words_length + input_length ? input[i - words_length] : '+';
+        if (length == output_length) return (robus_answer){6, length};
+        output[length++] = byte;
+    }
+    return (robus_answer){0, length};
+}
+"""
+PROGRAM = """#!/bin/sh
+echo "end $#"
+cat
+exit 1
+"""
+
+
+class Choice(unittest.TestCase):
+    def test_the_variable_and_the_argument(self):
+        with mock.patch.dict(os.environ, ROBUS_ENGINE="model"):
+            self.assertEqual(robus.run(EXAMPLES / "two_sided.toml").engine.name, "model")
+            with self.assertRaises(robus.NoEngine):
+                robus.letters(EXAMPLES / "letter.toml")
+        self.assertEqual(robus.run(EXAMPLES / "two_sided.toml", engine="model").engine, engines.model())
+        self.assertIn("not proved", str(engines.model()))
+        with self.assertRaises(robus.NoEngine):
+            robus.run(EXAMPLES / "two_sided.toml", engine="nosuch")
+
+    def test_the_first_that_is_there(self):
+        found = [find() for find in engines.ENGINES.values()]
+        first = next(it for it in found if it is not None)
+        with mock.patch.dict(os.environ):
+            os.environ.pop("ROBUS_ENGINE", None)
+            self.assertEqual(robus.choose(["run"]), first)
+        for name, it in zip(engines.ENGINES, found):
+            if it is not None:
+                self.assertEqual(robus.choose(["run"], name).name, name)
+
+    def test_a_program_by_its_path(self):
+        with tempfile.TemporaryDirectory() as folder:
+            path = Path(folder, "robus")
+            path.write_text(PROGRAM)
+            path.chmod(path.stat().st_mode | stat.S_IXUSR)
+            report = robus.run(b"breach 0 0 2 TwoSided\n", engine=str(path))
+            self.assertEqual((report.status, report.text), (1, "end 1\nbreach 0 0 2 TwoSided\n"))
+            self.assertEqual(str(report.engine), "program %s" % path)
+            with self.assertRaises(robus.NoEngine):
+                report.picture()
+
+    def test_the_words_tell_what_ran_them(self):
+        env = dict(os.environ, PYTHONPATH=str(TOP / "python"), ROBUS_ENGINE="model", PYTHONDONTWRITEBYTECODE="1")
+        words = [sys.executable, "-m", "robus", "run", str(EXAMPLES / "too_few_good.toml")]
+        done = subprocess.run(words, capture_output=True, text=True, env=env)
+        self.assertEqual((done.returncode, done.stdout.splitlines()[-1]), (1, "breach 0 0 2 FewGoodRmu"))
+        self.assertEqual(done.stderr, "robus: run by tools/model, a second model of the bus, which is not proved\n")
+
+
+@unittest.skipUnless(shutil.which("cc"), "no C compiler")
+class SharedLibrary(unittest.TestCase):
+    @classmethod
+    def setUpClass(cls):
+        cls.folder = tempfile.TemporaryDirectory()
+        path = Path(cls.folder.name, "librobus.so")
+        path.with_suffix(".c").write_text(STUB)
+        subprocess.run(["cc", "-shared", "-fPIC", "-o", str(path), str(path.with_suffix(".c"))], check=True)
+        cls.engine = robus.choose(["run"], str(path))
+
+    @classmethod
+    def tearDownClass(cls):
+        cls.folder.cleanup()
+
+    def test_words_and_input_as_they_are(self):
+        found = self.engine.call(["group", "most", "7"], b"a\0\xffb")
+        self.assertEqual((found.status, found.output), (0, b"group|most|7a\0\xffb+++++++"))
+        self.assertEqual(self.engine.call(["run"]).output, b"run")
+
+    def test_a_buffer_that_is_too_small_is_made_greater(self):
+        more = 2 * engines.FIRST_LENGTH
+        found = self.engine.call(["stress", str(more)], b"")
+        self.assertEqual((found.status, len(found.output)), (0, len("stress|%d" % more) + more))
+        with mock.patch.object(engines, "MOST_LENGTH", engines.FIRST_LENGTH):
+            self.assertEqual(self.engine.call(["stress", str(more)], b"").status, engines.WRITING_FAILED)
+
+    def test_it_has_no_bridge(self):
+        self.assertFalse(self.engine.has(["run"], "robus_bridge"))
+
+
+class Installed(unittest.TestCase):
+    def test_from_a_prefix(self):
+        with tempfile.TemporaryDirectory() as prefix:
+            done = subprocess.run(["make", "-s", "install-python", "PREFIX=" + prefix], cwd=TOP, capture_output=True, text=True)
+            self.assertEqual((done.returncode, done.stderr), (0, ""))
+            env = {"PATH": os.environ["PATH"], "PYTHONPATH": prefix + "/lib/python3/dist-packages", "ROBUS_ENGINE": "model",
+                   "PYTHONDONTWRITEBYTECODE": "1"}
+            words = "import robus; print(robus.__file__, robus.run('%s').convicted)" % (EXAMPLES / "one_silent_rmu.toml")
+            done = subprocess.run([sys.executable, "-c", words], cwd=prefix, env=env, capture_output=True, text=True)
+            self.assertEqual(done.stdout, "%s/lib/python3/dist-packages/robus/__init__.py ('R2',)\n" % prefix)
+
+
+if __name__ == "__main__":
+    unittest.main()
