@@ -35,7 +35,8 @@ class Wrappers(unittest.TestCase):
             self.assertIn("usage: tools/" + tool, said)
 
     def test_help(self):
-        tools = ("run", "picture", "bridge", "lint", "plan", "layout", "faults", "explain", "table", "quick", "campaign", "no_memory")
+        tools = ("run", "picture", "bridge", "lint", "plan", "layout", "faults", "explain", "sweep", "table",
+                 "quick", "campaign", "no_memory")
         for tool in tools:
             status, out, said = call("tools/" + tool, "--help")
             self.assertEqual((status, said), (0, ""), tool)
