@@ -20,7 +20,8 @@ import sys
 from robus.words import FORMS
 
 # The tools, with the module of each where it has another name
-TOOLS = {name: name for name in ("lint", "plan", "layout", "faults", "sweep", "table", "quick")}
+TOOLS = {name: name for name in ("lint", "plan", "layout", "faults", "sweep", "campaign",
+                                   "campaign_rows", "table", "quick")}
 TOOLS["explain"] = "explanation"
 
 
