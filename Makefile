@@ -71,7 +71,7 @@ install:
 
 install-python:
 	install -d "$(PACKAGES)/robus"
-	install -m 644 python/robus/*.py "$(PACKAGES)/robus"
+	install -m 644 python/robus/*.py python/robus/py.typed "$(PACKAGES)/robus"
 
 uninstall:
 	rm -f "$(AT)/bin/robus" "$(AT)/bin/robus_picture" "$(AT)/bin/robus_bridge" "$(AT)/share/man/man1/robus.1" "$(AT)/share/man/man1/robus_picture.1" "$(AT)/share/man/man1/robus_bridge.1" "$(AT)/share/man/man5/robus_scenario.5" "$(AT)/share/man/man5/robus_formats.5"

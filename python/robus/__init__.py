@@ -4,8 +4,8 @@
     report = robus.run("examples/one_silent_rmu.toml")
     print(report.convicted, report.spread)
 
-docs/LIBRARY.md is its page. The bus is run by the proved programs where they are there; this package
-around them is not proved."""
+docs/LIBRARY.md is its page. The bus is run by the proved programs where they are there; this
+package around them is not proved."""
 from robus.calls import (bridge, check, explain, gen, group, letters, listen, record, replay, run,
                          spell, stress)
 from robus.engines import Answer, Engine, choose

@@ -1,9 +1,9 @@
-"""The words of the programs as calls. Each raises Refused where the input is refused, Failed where a
-program ends with another status than 0 and 1, and NoEngine where nothing there can run it.
+"""The words of the programs as calls. Each raises Refused where the input is refused, Failed where
+a program ends with another status than 0 and 1, and NoEngine where nothing there can run it.
 
 A scenario is a Scenario, the path of a file, the bytes of a TOML document, or a dict of its keys.
-`engine` is `library`, `program`, `model`, a path, or an Engine (robus.engines); without it the first of
-these three that is there runs the call."""
+`engine` is `library`, `program`, `model`, a path, or an Engine (robus.engines); without it the
+first of these three that is there runs the call."""
 from __future__ import annotations
 
 import os
@@ -64,7 +64,7 @@ def biu_in(name: str) -> int:
 
 
 def run(scenario: Source, *, engine: Which = None) -> Report:
-    """Runs a scenario. A breach of the fault premise is no error: `breach` of the report tells it."""
+    """Runs a scenario. A breach of the fault premise is no error: the report has it."""
     return of_scenario(Report, ["run"], scenario, engine)
 
 
@@ -81,7 +81,7 @@ def letters(scenario: Source, *, engine: Which = None) -> Letters:
 def group(scenario: Source, how: str, members: Iterable[str], *, engine: Which = None) -> Groups:
     """Runs a scenario; what its good BIUs find for a group of BIUs, as ["B0", "B1", "B2"].
 
-    `how` is `most`, the value that more than half of the members gave, or `mid`, the middle word."""
+    `how` is `most`, the value that more than half of them gave, or `mid`, the middle word."""
     mask = sum({1 << biu_in(name) for name in members})
     return of_scenario(Groups, ["group", how, str(mask)], scenario, engine)
 
@@ -141,9 +141,9 @@ def spell(letter: bytes, *, engine: Which = None) -> List[int]:
 
 
 def explain(scenario: Source, frame: Optional[int] = None, slot: Optional[int] = None) -> str:
-    """What tools/explain says: who broke the run and why nodes were convicted, or with a frame and a
-    slot what each good node said, heard, took and voted there. It runs the second model, and wants
-    Python 3.11."""
+    """What tools/explain says: who broke the run and why nodes were convicted, or with a frame and
+    a slot what each good node said, heard, took and voted there. It runs the second model, and
+    wants Python 3.11."""
     from robus.explanation import explanation_of
     from robus.model import TooLong, model, read
 

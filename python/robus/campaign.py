@@ -26,16 +26,17 @@ usage: tools/campaign FOLDER COUNT SEED [--generator COMMAND] [--engine ENGINE] 
        tools/campaign FOLDER summary
        tools/campaign FOLDER scenario NUMBER
 
-FOLDER is the campaign's. Where *.toml files lie in it, they are the scenarios, in an order that SEED
-shuffles. Else scenario NUMBER is what COMMAND prints for the seed SEED + NUMBER - 1, which stands for
-{} in COMMAND, or behind it. Without --generator it is tools/scenario where tools/compare_models is, and
-else `robus gen {} 8`. N workers run at a time, as many as there are processors where it is not given.
-What is not named here, as --sshlogin 8/host, goes to GNU parallel as it is, which then starts the
-workers. The same line again goes on where the last run stopped; a greater COUNT adds to it.
+FOLDER is the campaign's. Where *.toml files lie in it, they are the scenarios, in an order that
+SEED shuffles. Else scenario NUMBER is what COMMAND prints for the seed SEED + NUMBER - 1, which
+stands for {} in COMMAND, or behind it. Without --generator it is tools/scenario where
+tools/compare_models is, and else `robus gen {} 8`. N workers run at a time, as many as there are
+processors where it is not given. What is not named here, as --sshlogin 8/host, goes to GNU parallel
+as it is, which then starts the workers. The same line again goes on where the last run stopped; a
+greater COUNT adds to it.
 
 The scenarios are run by the library or the proved program (make build). --model, which is --engine
-model, runs them by tools/model, a second model of the bus in Python, which is not proved and slower,
-and needs no build.
+model, runs them by tools/model, a second model of the bus in Python, which is not proved and
+slower, and needs no build.
 
 Written are rows.csv, summary.txt, spread.svg, and plan.json for the next run. `scenario` prints the
 scenario of a row. docs/CAMPAIGNS.md has more."""
@@ -44,6 +45,7 @@ MOST_ITEMS = 64
 
 
 def fail(why: str) -> NoReturn:
+    """Ends the tool with status 1 and a line on standard error."""
     sys.exit("tools/campaign: " + why)
 
 
@@ -58,6 +60,7 @@ class Asked:
 
 
 def default_generator() -> str:
+    """The command that prints the scenario of a seed where none is named."""
     if (TOP / "tools/compare_models").exists():
         return shlex.quote(str(TOP / "tools/scenario"))
     return "robus gen {} 8"
@@ -117,8 +120,8 @@ def item_of(folder: Path, plan: Dict[str, Any], number: int) -> str:
 
 def run_workers(words: List[str], items: List[str], size: int, jobs: int, rows: BinaryIO,
                 lock: TextIO) -> None:
-    """Runs the items in worker processes, so many items each and so many workers at a time. A signal
-    lets the scenarios that are under way come to their end."""
+    """Runs the items in worker processes, so many items each and so many workers at a time. A
+    signal lets the scenarios that are under way come to their end."""
     stopped: List[bool] = []
     for it in (signal.SIGTERM, signal.SIGINT):
         signal.signal(it, lambda *_: stopped.append(True))

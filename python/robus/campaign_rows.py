@@ -2,10 +2,10 @@
 
     tools/campaign_row ENGINE ITEM..
 
-runs the scenarios of the items and writes a row of each. An item is `NUMBER file PATH`, `NUMBER seed
-SEED` for a scenario of tools/scenario, or `NUMBER command SEED COMMAND`, whose output is the scenario.
-An item whose scenario can't be had, or whose run is killed, has no row, and the status is 1 then. After
-SIGINT or SIGTERM the items that are left have none either."""
+runs the scenarios of the items and writes a row of each. An item is `NUMBER file PATH`, `NUMBER
+seed SEED` for a scenario of tools/scenario, or `NUMBER command SEED COMMAND`, whose output is the
+scenario. An item whose scenario can't be had, or whose run is killed, has no row, and the status is
+1 then. After SIGINT or SIGTERM the items that are left have none either."""
 from __future__ import annotations
 
 import csv

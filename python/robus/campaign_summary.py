@@ -14,6 +14,7 @@ STYLE = """.page { fill: #fff } text { font: 12px sans-serif; fill: #333 }
 
 
 def thousands(number: int) -> str:
+    """A number with a comma before each three digits."""
     return "{:,}".format(number)
 
 

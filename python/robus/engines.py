@@ -2,8 +2,8 @@
 
 All three take words and input as bytes and give a status and output as bytes, and the rest of the
 package asks no more of them. Without a choice the first that is there is taken, in the order of
-ENGINES. A choice is an argument `engine`, or the variable ROBUS_ENGINE of the environment: a name, or
-the path of a library (`..so`) or of a program `robus`."""
+ENGINES. A choice is an argument `engine`, or the variable ROBUS_ENGINE of the environment: a name,
+or the path of a library (`..so`) or of a program `robus`."""
 from __future__ import annotations
 
 import ctypes
@@ -63,7 +63,7 @@ class CAnswer(ctypes.Structure):
 
 @lru_cache(maxsize=None)
 def function_of(path: str):
-    """`robus_call` of a library: words with NUL between them, input, and a buffer for the output."""
+    """`robus_call` of a library: words with a NUL between them, input, buffer for the output."""
     call = ctypes.CDLL(path).robus_call
     call.argtypes = [ctypes.c_char_p, ctypes.c_size_t] * 2 + [ctypes.c_void_p, ctypes.c_size_t]
     call.restype = CAnswer

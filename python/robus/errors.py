@@ -59,10 +59,12 @@ class Refused(RobusError):
 
     @property
     def line(self) -> Optional[int]:
+        """The line of the scenario's text, from 1."""
         return self.finding.line if self.finding else None
 
     @property
     def key(self) -> Optional[str]:
+        """The place in the scenario, as fault[0].slot."""
         return self.finding.path if self.finding else None
 
     def __str__(self) -> str:

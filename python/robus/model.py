@@ -1,4 +1,4 @@
-"""The second model of the bus, tools/model: `second_model.py` is that file. It wants Python 3.11."""
+"""The second model of the bus: `second_model.py` is tools/model. It wants Python 3.11."""
 from __future__ import annotations
 
 from robus import second_model as model

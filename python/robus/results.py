@@ -9,11 +9,10 @@ from functools import cached_property
 from pathlib import Path
 from typing import Any, ClassVar, Dict, List, Optional, Tuple, Union
 
-from robus import rows
 from robus.engines import Engine, choose
 from robus.errors import NoEngine
-from robus.rows import (Breach, Conviction, Crossing, Delivery, Epoch, GroupValue, Inequality,
-                        Letter, Port, Row)
+from robus.rows import (KIND_OF, LINES, Breach, Conviction, Crossing, Delivery, Epoch, GroupValue,
+                        Inequality, Letter, Port, Row, columns, dict_of, rows_of, write_csv)
 from robus.summary import Summary, convicted_in, spread_of, summary_of
 
 
@@ -35,14 +34,14 @@ class Result:
     @cached_property
     def rows(self) -> List[Row]:
         """Each line of the output, in order."""
-        return list(rows.rows_of(self.text.splitlines()))
+        return list(rows_of(self.text.splitlines()))
 
     @cached_property
     def by_kind(self) -> Dict[str, list]:
         """The rows of each kind, by its name in docs/DATA.md."""
-        found: Dict[str, list] = {kind: [] for kind in rows.LINES}
+        found: Dict[str, list] = {kind: [] for kind in LINES}
         for row in self.rows:
-            found[rows.KIND_OF[type(row)]].append(row)
+            found[KIND_OF[type(row)]].append(row)
         return found
 
     @property
@@ -57,21 +56,21 @@ class Result:
 
     def to_dicts(self) -> List[Dict[str, Any]]:
         """Each row as a dict with its kind, as tools/table --json writes it."""
-        return [rows.dict_of(row) for row in self.rows]
+        return [dict_of(row) for row in self.rows]
 
     def to_csv(self, path: Union[str, os.PathLike], kind: Optional[str] = None) -> None:
         """Writes the rows of one kind as CSV, as tools/table does; without a kind the main one."""
         with open(path, "w", encoding="ascii", newline="") as file:
-            rows.write_csv(kind or self.main_kind, self.rows, file)
+            write_csv(kind or self.main_kind, self.rows, file)
 
     def to_pandas(self, kind: Optional[str] = None) -> Any:
         """The rows of one kind as a pandas.DataFrame; ImportError where pandas is not there."""
         import pandas
 
-        columns = rows.columns(kind or self.main_kind)
-        found = [[getattr(row, name) for name in columns]
-                 for row in self.by_kind[kind or self.main_kind]]
-        return pandas.DataFrame(found, columns=columns)
+        kind = kind or self.main_kind
+        names = columns(kind)
+        found = [[getattr(row, name) for name in names] for row in self.by_kind[kind]]
+        return pandas.DataFrame(found, columns=names)
 
     def ending(self) -> str:
         """How the run ended, in words."""
@@ -170,6 +169,7 @@ class Letters(Result):
 
     @property
     def letters(self) -> List[Letter]:
+        """Each letter, where its last word is delivered."""
         return self.by_kind["letters"]
 
 
@@ -181,6 +181,7 @@ class Groups(Result):
 
     @property
     def values(self) -> List[GroupValue]:
+        """What each good BIU found in each frame."""
         return self.by_kind["groups"]
 
 
@@ -192,6 +193,7 @@ class BridgeReport(Result):
 
     @property
     def crossings(self) -> List[Crossing]:
+        """What each good BIU of either bus found, from frame 1 on."""
         return self.by_kind["crossings"]
 
 
@@ -203,9 +205,11 @@ class Check(Result):
 
     @property
     def inequalities(self) -> List[Inequality]:
+        """C1 to C7."""
         return self.by_kind["inequalities"]
 
     def ending(self) -> str:
+        """What is known of the plan, in words."""
         return "the plan is feasible"
 
 
@@ -221,6 +225,7 @@ class Stress(Result):
         return {it.name: it.number for it in self.by_kind["numbers"]}
 
     def ending(self) -> str:
+        """The numbers, in words."""
         return ", ".join("%s %d" % it for it in self.numbers.items())
 
 

@@ -1,8 +1,8 @@
 """The lines that the programs write, each kind as a dataclass, and the one parser of them.
 
 docs/robus.md and docs/robus_bridge.md say when which line is written. Times are in reference units,
-ticks are those of the node's clock, frames and slots count from 0, stages from 1. Nodes are named as
-`B0` or `R12`; a word is None where the line has `none`."""
+ticks are those of the node's clock, frames and slots count from 0, stages from 1. Nodes are named
+as `B0` or `R12`; a word is None where the line has `none`."""
 from __future__ import annotations
 
 import csv
@@ -60,7 +60,7 @@ class Delivery:
 
 @dataclass(frozen=True)
 class Letter:
-    """With this slot's word the receiver has a whole letter of the sender, in hexadecimal digits."""
+    """With this slot's word the receiver has a whole letter of the sender; two digits a byte."""
 
     frame: int
     slot: int
@@ -133,7 +133,7 @@ class Breach:
 
 @dataclass(frozen=True)
 class Refusal:
-    """Why the input is refused; the number is that of an inequality, a place in a log, or a code."""
+    """Why the input is refused; the number is an inequality, a place in a log, or a code."""
 
     code: int
     name: str
@@ -161,8 +161,8 @@ LINES: Dict[str, Tuple[type, str]] = {
 }
 NODE = r"[BR](?:\d|1[0-5])"
 FIELDS = {"node": NODE, "receiver": NODE, "sender": NODE, "word": r"\d+|none", "bus": "left|right",
-          "hex": "(?:[0-9a-f]{2})+", "cause": "[A-Za-z]+", "name": "[A-Za-z]+", "inequality": "[1-7]",
-          "total": "frames|deliveries|convicted|spread"}
+          "hex": "(?:[0-9a-f]{2})+", "cause": "[A-Za-z]+", "name": "[A-Za-z]+",
+          "inequality": "[1-7]", "total": "frames|deliveries|convicted|spread"}
 TEXTS = set("node receiver sender bus hex cause name total".split())
 
 

@@ -17,22 +17,22 @@ from robus.rows import cell
 from robus.scenario import Scenario, Source, scenario_of
 from robus.summary import Summary, summary_of_output
 
-HELP = """Runs a scenario with each choice of values at some of its keys, and writes a row of CSV for
-each: the values, how the run ended, whom good nodes convicted, the spread in reference units, how many
-deliveries there were and how many of them none. It is not proved; what runs the bus is told on standard
-error.
+HELP = """Runs a scenario with each choice of values at some of its keys, and writes a row of CSV
+for each: the values, how the run ended, whom good nodes convicted, the spread in reference units,
+how many deliveries there were and how many of them none. It is not proved; what runs the bus is
+told on standard error.
 
     tools/sweep SCENARIO KEY=VALUES..
 
-KEY is as frames, plan.p or fault[0].slot, entries counting from 0. VALUES are a range, as 0..15, values
-with commas between them, as 1,5,9 or B0,R2, or an array of TOML, as '[[1, 2], [3, 4]]'. With several
-keys each value of one is taken with each of the others.
+KEY is as frames, plan.p or fault[0].slot, entries counting from 0. VALUES are a range, as 0..15,
+values with commas between them, as 1,5,9 or B0,R2, or an array of TOML, as '[[1, 2], [3, 4]]'. With
+several keys each value of one is taken with each of the others.
 
     tools/sweep examples/late_onset.toml 'fault[0].slot=0..13'
     tools/sweep examples/late_onset.toml 'fault[0].node=B2,R2' 'fault[0].frame=0..2' --workers 4
 
-status: 0 done, whatever the runs' ends, 2 wrong words or no such file, 3 the scenario is no TOML, or a
-run gave no report"""
+status: 0 done, whatever the runs' ends, 2 wrong words or no such file, 3 the scenario is no TOML,
+or a run gave no report"""
 COLUMNS = [it.name for it in fields(Summary)]
 
 
@@ -54,9 +54,9 @@ def scenarios_of(scenario: Scenario, values: Mapping[str, Iterable[Any]]) -> Ite
 
 def sweep(scenario: Source, values: Mapping[str, Iterable[Any]], *, engine: Which = None,
           workers: int = 1) -> List[SweepRow]:
-    """Runs the scenario with each choice of the values, as {"fault[0].slot": range(16)}, and gives a
-    row for each, in the order of the values. With several keys each value of one is taken with each
-    of the others.
+    """Runs the scenario with each choice of the values, as {"fault[0].slot": range(16)}, and gives
+    a row for each, in the order of the values. With several keys each value of one is taken with
+    each of the others.
 
     So many `workers` run at a time, which helps where a library or a program runs them. Failed is
     raised where a run gives neither a report nor a refusal."""

@@ -8,12 +8,13 @@ from typing import Iterable, Optional
 
 from robus.rows import LINES, NoRow, columns, dict_of, rows_of, write_csv
 
-HELP = """Makes rows of what robus run, letters, group, check, stress, spell, replay or listen wrote,
-or robus_bridge run: CSV of one kind of line with its columns named, or with --json a line of JSON for
-each line of any kind. It reads a file, or standard input where none is named, and is not proved.
+HELP = """Makes rows of what robus run, letters, group, check, stress, spell, replay or listen
+wrote, or robus_bridge run: CSV of one kind of line with its columns named, or with --json a line of
+JSON for each line of any kind. It reads a file, or standard input where none is named, and is not
+proved.
 
-kinds and their columns (times in reference units, ticks of the node's clock; a word that is `none` is
-empty, in JSON null):
+kinds and their columns (times in reference units, ticks of the node's clock; a word that is `none`
+is empty, in JSON null):
 
 %s
 
@@ -38,7 +39,7 @@ def main(words: list[str]) -> int:
                                      formatter_class=argparse.RawDescriptionHelpFormatter,
                                      usage="tools/table KIND [FILE], tools/table --json [FILE]")
     parser.add_argument("words", nargs="*", help=argparse.SUPPRESS)
-    parser.add_argument("--json", action="store_true", help="a line of JSON for each line of any kind")
+    parser.add_argument("--json", action="store_true", help="JSON of all lines, a line for each")
     asked = parser.parse_args(words)
     names = asked.words[:]
     kind = None if asked.json else names.pop(0) if names else None

@@ -8,9 +8,9 @@ from typing import List
 from robus.engines import choose
 from robus.errors import NoEngine
 
-HELP = """Runs the words of robus, or of robus_bridge as bridge and of robus_picture as picture, and writes
-what the program writes, with its status. FILE is what the program reads; without it that is standard
-input. What ran it is told on standard error. docs/robus.md has the words.
+HELP = """Runs the words of robus, or of robus_bridge as bridge and of robus_picture as picture, and
+writes what the program writes, with its status. FILE is what the program reads; without it that is
+standard input. What ran it is told on standard error. docs/robus.md has the words.
 
     run FILE, check FILE, letters FILE, record NODE FILE, group most MASK FILE, group mid MASK FILE
     replay LOG, listen SKIP LOG, gen SEED FRAMES, stress SEED FRAMES, spell HEX
