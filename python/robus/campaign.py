@@ -3,6 +3,7 @@ from __future__ import annotations
 
 import fcntl
 import hashlib
+import itertools
 import json
 import os
 import shlex
@@ -118,31 +119,36 @@ def item_of(folder: Path, plan: Dict[str, Any], number: int) -> str:
     return "%d command %s %s" % (number, seed, command)
 
 
-def run_workers(words: List[str], items: List[str], size: int, jobs: int, rows: BinaryIO,
-                lock: TextIO) -> None:
-    """Runs the items in worker processes, so many items each and so many workers at a time. A
-    signal lets the scenarios that are under way come to their end."""
-    stopped: List[bool] = []
+def run_workers(words: List[str], items: List[str], jobs: int, rows: BinaryIO) -> None:
+    """Runs the items in so many worker processes, each of which is given the next item when it has
+    written the row of the last one. A signal lets what is under way come to its end."""
+    left, done, stopped = iter(items), itertools.count(1), []
     for it in (signal.SIGTERM, signal.SIGINT):
         signal.signal(it, lambda *_: stopped.append(True))
 
-    def work(first: int) -> int:
-        part = items[first : first + size]
-        if not stopped:
-            subprocess.run([*words, *part], stdout=rows, pass_fds=[lock.fileno()])
-        return first + len(part)
+    def work(_: int) -> None:
+        with subprocess.Popen(words, stdin=subprocess.PIPE, stdout=subprocess.PIPE) as worker:
+            for item in left:
+                worker.stdin.write(item.encode() + b"\n")
+                worker.stdin.flush()
+                row = worker.stdout.readline()
+                os.write(rows.fileno(), row)
+                if stopped or not row:
+                    return
+                if sys.stderr.isatty():
+                    print("\r%d of %d " % (next(done), len(items)), end="", file=sys.stderr)
 
     with ThreadPoolExecutor(jobs) as pool:
-        for done in pool.map(work, range(0, len(items), size)):
-            if sys.stderr.isatty() and not stopped:
-                print("\r%d of %d" % (done, len(items)), end="", file=sys.stderr, flush=True)
+        list(pool.map(work, range(min(jobs, len(items)))))
     if sys.stderr.isatty():
         print(file=sys.stderr)
 
 
-def run_parallel(words: List[str], items: List[str], size: int, asked: Asked, rows: BinaryIO,
+def run_parallel(words: List[str], items: List[str], asked: Asked, rows: BinaryIO,
                  lock: TextIO) -> None:
-    """Runs the items by GNU parallel."""
+    """Runs the items by GNU parallel, so many in a worker. It holds the lock too, so that no second
+    run begins beside it where this process is killed."""
+    size = max(1, min(MOST_ITEMS, len(items) // 64))
     options = ["--line-buffer", "--max-args", str(size), *asked.options]
     if asked.jobs is not None:
         options += ["--jobs", str(asked.jobs)]
@@ -155,19 +161,16 @@ def run_parallel(words: List[str], items: List[str], size: int, asked: Asked, ro
 
 def run(folder: Path, plan: Dict[str, Any], count: int, engine: Engine, asked: Asked,
         lock: TextIO) -> None:
-    """Runs what has no row yet. The workers hold the lock too, so that no second run begins beside
-    those of one whose first process was killed."""
+    """Runs what has no row yet."""
     found = rows_in(folder)
     numbers = [number for number in range(1, count + 1) if number not in found]
     items = [item_of(folder, plan, number) for number in numbers]
-    jobs = asked.jobs or os.cpu_count() or 1
-    size = max(1, min(MOST_ITEMS, len(items) // (4 * jobs)))
     words = [str(WORKER), "model" if engine.name == "model" else engine.path]
     with open(folder / "rows.csv", "ab") as rows:
         if asked.options:
-            run_parallel(words, items, size, asked, rows, lock)
+            run_parallel(words, items, asked, rows, lock)
         else:
-            run_workers(words, items, size, jobs, rows, lock)
+            run_workers(words, items, asked.jobs or os.cpu_count() or 1, rows)
 
 
 def tell(folder: Path, rows: Rows) -> int:

@@ -1,11 +1,12 @@
 """The rows of a campaign (docs/CAMPAIGNS.md): what a worker writes, and the file that keeps them.
 
-    tools/campaign_row ENGINE ITEM..
+    tools/campaign_row ENGINE [ITEM..]
 
-runs the scenarios of the items and writes a row of each. An item is `NUMBER file PATH`, `NUMBER
-seed SEED` for a scenario of tools/scenario, or `NUMBER command SEED COMMAND`, whose output is the
-scenario. An item whose scenario can't be had, or whose run is killed, has no row, and the status is
-1 then. After SIGINT or SIGTERM the items that are left have none either."""
+runs the scenarios of the items, or where there are none those of the lines of standard input, and
+writes a row of each. An item is `NUMBER file PATH`, `NUMBER seed SEED` for a scenario of
+tools/scenario, or `NUMBER command SEED COMMAND`, whose output is the scenario. An item whose
+scenario can't be had, or whose run is killed, has an empty line in place of its row, and the status
+is 1 then. After SIGINT or SIGTERM no further item is run."""
 from __future__ import annotations
 
 import csv
@@ -74,20 +75,21 @@ def row_text(engine: Engine, item: str) -> str:
 
 def main(words: List[str]) -> int:
     """Runs the items and writes their rows, each at once and whole."""
-    if len(words) < 2 or words[0] in ("--help", "-h"):
+    if not words or words[0] in ("--help", "-h"):
         print(__doc__)
-        return 0 if words[:1] in (["--help"], ["-h"]) else 2
+        return 0 if words else 2
     engine, stopped, status = named(words[0]), [], 0
     for it in (signal.SIGINT, signal.SIGTERM):
         signal.signal(it, lambda *_: stopped.append(True))
-    for item in words[1:]:
+    for item in words[1:] or (line.rstrip("\n") for line in sys.stdin):
         if stopped:
             return 1
         try:
-            os.write(sys.stdout.fileno(), row_text(engine, item).encode())
+            row = row_text(engine, item)
         except (NoScenario, OSError) as fault:
             print("campaign: no row %s: %s" % (item.split(" ")[0], fault), file=sys.stderr)
-            status = 1
+            row, status = "\n", 1
+        os.write(sys.stdout.fileno(), row.encode())
     return status
 
 
