@@ -22,8 +22,8 @@ from robus.errors import NoEngine
 
 PACKAGE = Path(__file__).resolve().parent
 # The top of the repository, where the package lies in one; and the prefix, where it is installed
-TOP, PREFIX = PACKAGE.parents[1], PACKAGE.parents[3]
-PROGRAMS = ("robus", "robus_bridge", "robus_picture")
+TOP = PACKAGE.parents[1]
+PREFIX = PACKAGE.parents[3] if PACKAGE.parent.name == "dist-packages" else None
 FIRST_LENGTH, MOST_LENGTH = 1 << 20, 1 << 30
 WRITING_FAILED = 6
 
@@ -62,9 +62,12 @@ class CAnswer(ctypes.Structure):
 
 
 @lru_cache(maxsize=None)
-def function_of(path: str):
-    """`robus_call` of a library: words with a NUL between them, input, buffer for the output."""
-    call = ctypes.CDLL(path).robus_call
+def function_of(path: str, program: str):
+    """`robus_call` of a library, or `robus_bridge_call` or `robus_picture_call`: it takes words with
+    a NUL between them, input, and a buffer for the output. None where the library has none."""
+    call = getattr(ctypes.CDLL(path), program + "_call", None)
+    if call is None:
+        return None
     call.argtypes = [ctypes.c_char_p, ctypes.c_size_t] * 2 + [ctypes.c_void_p, ctypes.c_size_t]
     call.restype = CAnswer
     return call
@@ -77,12 +80,13 @@ class Library(Engine):
     name = "library"
 
     def has(self, words: Sequence[str], program: str = "robus") -> bool:
-        return program == "robus"
+        return function_of(self.path, program) is not None
 
     def call(self, words: Sequence[str], data: bytes = b"", program: str = "robus") -> Answer:
         """A buffer that is too small ends a call as a fault of writing does: a greater one is
         tried."""
-        call, text, length = function_of(self.path), "\0".join(words).encode(), FIRST_LENGTH
+        call, length = function_of(self.path, program), FIRST_LENGTH
+        text = "\0".join(words).encode()
         while True:
             buffer = ctypes.create_string_buffer(length)
             found = call(text, len(text), data, len(data), buffer, length)
@@ -122,9 +126,7 @@ class Model(Engine):
     name = "model"
 
     def has(self, words: Sequence[str], program: str = "robus") -> bool:
-        from robus.model import model
-
-        return program == "robus" and tuple(words[:1]) not in LACKING and model is not None
+        return program == "robus" and not LACKING & set(words[:1])
 
     def call(self, words: Sequence[str], data: bytes = b"", program: str = "robus") -> Answer:
         from robus.model import model
@@ -135,8 +137,14 @@ class Model(Engine):
         return "tools/model, a second model of the bus, which is not proved"
 
 
-LACKING = {("letters",), ("spell",), ("group",), ("listen",)}
+LACKING = {"letters", "spell", "group", "listen"}
 Which = Union[None, str, Engine]
+
+
+def installed(place: str) -> Optional[str]:
+    """A file of the prefix in which the package lies, if it is there."""
+    path = PREFIX / place if PREFIX else None
+    return str(path) if path and path.exists() else None
 
 
 def is_current(path: Path) -> bool:
@@ -147,22 +155,20 @@ def is_current(path: Path) -> bool:
 @lru_cache(maxsize=None)
 def library() -> Optional[Library]:
     """The library of the repository, of the prefix, or of the system."""
-    built, installed = TOP / "crates/robus_c/out/librobus.so", PREFIX / "lib/librobus.so"
-    path = str(built) if is_current(built) else str(installed) if installed.exists() else None
+    built = TOP / "crates/robus_c/out/librobus.so"
+    path = str(built) if is_current(built) else installed("lib/librobus.so")
     path = path or ctypes.util.find_library("robus")
     try:
-        return Library(path) if path and function_of(path) else None
-    except (OSError, AttributeError):
+        return Library(path) if path and function_of(path, "robus") else None
+    except OSError:
         return None
 
 
 @lru_cache(maxsize=None)
 def program() -> Optional[Program]:
     """The program of the repository where it is up to date, of the prefix, or in PATH."""
-    built, installed = TOP / "crates/robus/out/robus", PREFIX / "bin/robus"
-    if is_current(built):
-        return Program(str(built))
-    path = str(installed) if installed.exists() else shutil.which("robus")
+    built = TOP / "crates/robus/out/robus"
+    path = str(built) if is_current(built) else installed("bin/robus") or shutil.which("robus")
     return Program(path) if path else None
 
 

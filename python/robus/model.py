@@ -1,8 +1,13 @@
 """The second model of the bus: `second_model.py` is tools/model. It wants Python 3.11."""
 from __future__ import annotations
 
-from robus import second_model as model
+import sys
+
 from robus.rows import names_in
+
+if sys.version_info < (3, 11):
+    raise ImportError("tools/model wants Python 3.11")
+from robus import second_model as model  # noqa: E402
 
 BIU, RMU, TAIL = model.BIU, model.RMU, model.TAIL
 name_of = model.name_of

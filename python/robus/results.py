@@ -10,7 +10,7 @@ from pathlib import Path
 from typing import Any, ClassVar, Dict, List, Optional, Tuple, Union
 
 from robus.engines import Engine, choose
-from robus.errors import NoEngine
+from robus.errors import Failed, NoEngine
 from robus.rows import (KIND_OF, LINES, Breach, Conviction, Crossing, Delivery, Epoch, GroupValue,
                         Inequality, Letter, Port, Row, columns, dict_of, rows_of, write_csv)
 from robus.summary import Summary, convicted_in, spread_of, summary_of
@@ -127,11 +127,14 @@ class Report(Result):
 
     def picture(self, first: Optional[int] = None, last: Optional[int] = None) -> str:
         """The run, or the frames from first to last of it, as an SVG that robus_picture draws.
-        NoEngine where that program is not there."""
+        NoEngine where that program is not there, Failed where the frames are none."""
         words = [] if first is None else [str(first), str(first if last is None else last)]
         engine = self.engine if self.engine.has(words, "robus_picture") else None
         engine = engine or choose(words, program="robus_picture")
-        return engine.call(words, self.output, "robus_picture").output.decode("utf-8")
+        found = engine.call(words, self.output, "robus_picture")
+        if found.status != 0:
+            raise Failed(("picture", *words), found.status)
+        return found.output.decode("utf-8")
 
     def _repr_svg_(self) -> Optional[str]:
         """How a notebook shows the run: as a picture, where robus_picture is there."""

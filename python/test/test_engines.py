@@ -10,7 +10,7 @@ from pathlib import Path
 from unittest import mock
 
 import robus
-from helpers import EXAMPLES, TOP
+from helpers import EXAMPLES, TOP, output_of
 from robus import engines
 
 # Stands for librobus.so: the words with `|` between them, the input, and so many bytes more as the last word says
@@ -72,12 +72,31 @@ class Choice(unittest.TestCase):
             with self.assertRaises(robus.NoEngine):
                 report.picture()
 
-    def test_the_words_tell_what_ran_them(self):
+
+
+class Words(unittest.TestCase):
+    """python3 -m robus WORD ..: the programs' words."""
+
+    def words(self, *words, data: bytes = b"") -> tuple[int, bytes, str]:
         env = dict(os.environ, PYTHONPATH=str(TOP / "python"), ROBUS_ENGINE="model", PYTHONDONTWRITEBYTECODE="1")
-        words = [sys.executable, "-m", "robus", "run", str(EXAMPLES / "too_few_good.toml")]
-        done = subprocess.run(words, capture_output=True, text=True, env=env)
-        self.assertEqual((done.returncode, done.stdout.splitlines()[-1]), (1, "breach 0 0 2 FewGoodRmu"))
-        self.assertEqual(done.stderr, "robus: run by tools/model, a second model of the bus, which is not proved\n")
+        done = subprocess.run([sys.executable, "-m", "robus", *map(str, words)], capture_output=True, env=env, input=data)
+        return done.returncode, done.stdout, done.stderr.decode()
+
+    def test_what_ran_them_is_told(self):
+        status, out, said = self.words("run", EXAMPLES / "too_few_good.toml")
+        self.assertEqual((status, out.splitlines()[-1]), (1, b"breach 0 0 2 FewGoodRmu"))
+        self.assertEqual(said, "robus: run by tools/model, a second model of the bus, which is not proved\n")
+
+    def test_files_and_standard_input(self):
+        path = EXAMPLES / "one_silent_rmu.toml"
+        log = robus.record(path, "R0", engine="model").data
+        self.assertEqual(self.words("record", "R0", path)[:2], (0, log))
+        self.assertEqual(self.words("replay", data=log)[:2], (0, robus.replay(log, engine="model").output))
+
+    def test_words_that_make_no_sense(self):
+        with mock.patch.dict(os.environ, ROBUS_ENGINE="model"):
+            for tool, *words in (["record"], ["run", "a", "b"], ["gen", "7"], ["run", "nosuch.toml"], ["letters", str(EXAMPLES / "letter.toml")]):
+                self.assertEqual(output_of(tool, words), (2, ""), words)
 
 
 @unittest.skipUnless(shutil.which("cc"), "no C compiler")
@@ -120,6 +139,12 @@ class Installed(unittest.TestCase):
             words = "import robus; print(robus.__file__, robus.run('%s').convicted)" % (EXAMPLES / "one_silent_rmu.toml")
             done = subprocess.run([sys.executable, "-c", words], cwd=prefix, env=env, capture_output=True, text=True)
             self.assertEqual(done.stdout, "%s/lib/python3/dist-packages/robus/__init__.py ('R2',)\n" % prefix)
+            program = Path(prefix, "bin/robus")
+            program.parent.mkdir()
+            program.write_text(PROGRAM)
+            words = "from robus import engines; print(engines.program())"
+            done = subprocess.run([sys.executable, "-c", words], cwd=prefix, env=env, capture_output=True, text=True)
+            self.assertEqual(done.stdout, "program %s\n" % program)
 
 
 if __name__ == "__main__":
