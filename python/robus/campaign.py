@@ -241,6 +241,7 @@ def campaign(folder: Path, count: int, seed: int, asked: Asked) -> int:
 
 
 def main(words: List[str]) -> int:
+    """tools/campaign with these words; its status."""
     if {"--help", "-h"} & set(words):
         print(HELP)
         return 0

@@ -16,7 +16,7 @@ import sys
 from dataclasses import dataclass
 from functools import lru_cache
 from pathlib import Path
-from typing import Optional, Sequence, Union
+from typing import Callable, Optional, Sequence, Union
 
 from robus.errors import NoEngine
 
@@ -62,7 +62,7 @@ class CAnswer(ctypes.Structure):
 
 
 @lru_cache(maxsize=None)
-def function_of(path: str, program: str):
+def function_of(path: str, program: str) -> Optional[Callable[..., CAnswer]]:
     """`robus_call` of a library, or `robus_bridge_call` or `robus_picture_call`: it takes words with
     a NUL between them, input, and a buffer for the output. None where the library has none."""
     call = getattr(ctypes.CDLL(path), program + "_call", None)

@@ -99,6 +99,7 @@ def values_in(text: str) -> List[Any]:
 
 
 def main(words: List[str]) -> int:
+    """tools/sweep with these words; its status."""
     parser = argparse.ArgumentParser(prog="tools/sweep", description=HELP, usage=argparse.SUPPRESS,
                                      formatter_class=argparse.RawDescriptionHelpFormatter)
     parser.add_argument("scenario", help="a file, or - for standard input")

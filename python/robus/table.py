@@ -34,6 +34,7 @@ def write(kind: Optional[str], source: Iterable[str]) -> None:
 
 
 def main(words: list[str]) -> int:
+    """tools/table with these words; its status."""
     listed = "\n".join("    %-13s %s" % (kind, ", ".join(columns(kind))) for kind in LINES)
     parser = argparse.ArgumentParser(prog="tools/table", description=HELP % listed,
                                      formatter_class=argparse.RawDescriptionHelpFormatter,

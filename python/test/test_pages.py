@@ -1,7 +1,9 @@
 """The blocks of docs/LIBRARY.md and docs/NOTEBOOK.md print what stands there."""
 import contextlib
 import doctest
+import inspect
 import re
+import typing
 import unittest
 
 import robus
@@ -31,11 +33,15 @@ class Pages(unittest.TestCase):
         if is_fast("robus_picture"):
             self.assertEqual(drawing, (TOP / "docs/pictures/two_sided.svg").read_text(encoding="utf-8"))
 
-    def test_all_names_are_on_the_page(self):
+    def test_all_names_are_on_the_page_with_types_and_a_sentence(self):
         page = (TOP / "docs/LIBRARY.md").read_text(encoding="utf-8")
         for name in robus.__all__:
-            if name not in ("Answer", "Engine", "Result", "choose"):
+            it = getattr(robus, name)
+            self.assertTrue(it.__doc__, name)
+            if name not in ("Answer", "Engine", "Result"):
                 self.assertIn(name, page)
+            if inspect.isfunction(it):
+                self.assertEqual(set(typing.get_type_hints(it)), {*inspect.signature(it).parameters, "return"}, name)
 
 
 if __name__ == "__main__":
