@@ -11,8 +11,10 @@ import signal
 import subprocess
 import sys
 from concurrent.futures import ThreadPoolExecutor
+from contextlib import suppress
 from dataclasses import dataclass, field
 from pathlib import Path
+from subprocess import PIPE
 from typing import Any, BinaryIO, Dict, List, NoReturn, Optional, TextIO
 
 from robus.campaign_rows import put, rows_in, settle, text_of
@@ -127,7 +129,7 @@ def run_workers(words: List[str], items: List[str], jobs: int, rows: BinaryIO) -
         signal.signal(it, lambda *_: stopped.append(True))
 
     def work(_: int) -> None:
-        with subprocess.Popen(words, stdin=subprocess.PIPE, stdout=subprocess.PIPE) as worker:
+        with suppress(BrokenPipeError), subprocess.Popen(words, stdin=PIPE, stdout=PIPE) as worker:
             for item in left:
                 worker.stdin.write(item.encode() + b"\n")
                 worker.stdin.flush()
@@ -153,7 +155,7 @@ def run_parallel(words: List[str], items: List[str], asked: Asked, rows: BinaryI
     if asked.jobs is not None:
         options += ["--jobs", str(asked.jobs)]
     child = subprocess.Popen(["parallel", *options, *map(shlex.quote, words)], text=True,
-                             stdin=subprocess.PIPE, stdout=rows, pass_fds=[lock.fileno()])
+                             stdin=PIPE, stdout=rows, pass_fds=[lock.fileno()])
     for it in (signal.SIGTERM, signal.SIGINT):
         signal.signal(it, lambda *_: child.send_signal(signal.SIGTERM))
     child.communicate("".join(item + "\n" for item in items))

@@ -14,7 +14,11 @@ from robus.model import model
 
 SILENT = EXAMPLES / "one_silent_rmu.toml"
 maker = script("compare_models")
-needs_programs = unittest.skipUnless(is_fast("robus_picture") and is_fast("robus_bridge"), "no program is built")
+
+
+def needs(program: str):
+    """For a test of words that tools/model lacks."""
+    return unittest.skipUnless(is_fast(program), "no library or program of %s is there" % program)
 
 
 def line_of(row) -> str:
@@ -62,7 +66,7 @@ class WorkedExamples(unittest.TestCase):
         self.assertEqual(stress.numbers["deliveries"], len(report.deliveries))
         self.assertEqual(stress.numbers["spread"], report.spread)
 
-    @needs_programs
+    @needs("robus")
     def test_the_other_words(self):
         self.assertEqual(robus.stress(7, 200).numbers, {"frames": 200, "deliveries": 22621, "convicted": 2, "spread": 60200})
         self.assertEqual(robus.spell(bytes.fromhex("6869")), [16777218, 40397056])
@@ -70,7 +74,7 @@ class WorkedExamples(unittest.TestCase):
         self.assertEqual([line_of(it).replace("letters", "m") for it in found.letters], ["m 0 5 B%d B0 6869" % it for it in range(3)])
         self.assertEqual([it.word for it in robus.group(SILENT, "mid", ["B0", "B1", "B2"]).values], [20] * 4)
 
-    @needs_programs
+    @needs("robus")
     def test_a_listener_follows(self):
         scenario = robus.Scenario.read(SILENT).with_("frames", 4)
         heard, held = robus.listen(robus.record(scenario, "B0"), 7), robus.run(scenario)
@@ -104,7 +108,7 @@ class Examples(unittest.TestCase):
         log = robus.record(EXAMPLES / "two_sided.toml", "B0")
         self.assertEqual(log.status, 1)
 
-    @needs_programs
+    @needs("robus_bridge")
     def test_bridges(self):
         found = robus.bridge(EXAMPLES / "bridges/carried_words.toml")
         self.assertEqual({it.word for it in found.crossings if it.bus == "left"}, {60})
@@ -113,7 +117,7 @@ class Examples(unittest.TestCase):
             robus.bridge(b"left = 1\n")
         self.assertEqual((caught.exception.code, caught.exception.name), (22, "BridgeForm"))
 
-    @needs_programs
+    @needs("robus_picture")
     def test_pictures(self):
         for path in (TOP / "docs/pictures").glob("*.svg"):
             drawn = robus.run(EXAMPLES / (path.stem + ".toml"))._repr_svg_()
