@@ -43,7 +43,6 @@ slower, and needs no build.
 
 Written are rows.csv, summary.txt, spread.svg, and plan.json for the next run. `scenario` prints the
 scenario of a row. docs/CAMPAIGNS.md has more."""
-WORKER = TOP / "tools/campaign_row"
 MOST_ITEMS = 64
 
 
@@ -167,11 +166,12 @@ def run(folder: Path, plan: Dict[str, Any], count: int, engine: Engine, asked: A
     found = rows_in(folder)
     numbers = [number for number in range(1, count + 1) if number not in found]
     items = [item_of(folder, plan, number) for number in numbers]
-    words = [str(WORKER), "model" if engine.name == "model" else engine.path]
+    name = "model" if engine.name == "model" else engine.path
     with open(folder / "rows.csv", "ab") as rows:
         if asked.options:
-            run_parallel(words, items, asked, rows, lock)
+            run_parallel([str(TOP / "tools/campaign_row"), name], items, asked, rows, lock)
         else:
+            words = [sys.executable, "-m", "robus", "campaign_rows", name]
             run_workers(words, items, asked.jobs or os.cpu_count() or 1, rows)
 
 
