@@ -75,7 +75,7 @@ class Result:
     def ending(self) -> str:
         """How the run ended, in words."""
         if self.breach is None:
-            return "ended after %s frames" % self.frames
+            return "ended after %s frame%s" % (self.frames, "" if self.frames == 1 else "s")
         it = self.breach
         return "breach %s at frame %d, slot %d, stage %d" % (it.cause, it.frame, it.slot, it.stage)
 

@@ -9,8 +9,8 @@ from robus.engines import choose
 from robus.errors import NoEngine
 
 HELP = """Runs the words of robus, or of robus_bridge as bridge and of robus_picture as picture, and
-writes what the program writes, with its status. FILE is what the program reads; without it that is
-standard input. What ran it is told on standard error. docs/robus.md has the words.
+writes what the program writes, with its status. FILE is what the program reads; without it, or
+for -, that is standard input. What ran it is told on standard error. docs/robus.md has the words.
 
     run FILE, check FILE, letters FILE, record NODE FILE, group most MASK FILE, group mid MASK FILE
     replay LOG, listen SKIP LOG, gen SEED FRAMES, stress SEED FRAMES, spell HEX
@@ -20,6 +20,14 @@ standard input. What ran it is told on standard error. docs/robus.md has the wor
 FORMS = {"run": (0, True), "check": (0, True), "letters": (0, True), "record": (1, True),
          "group": (2, True), "replay": (0, True), "listen": (1, True), "gen": (2, False),
          "stress": (2, False), "spell": (1, False), "bridge": (0, True), "picture": (0, True)}
+
+
+def input_of(path: str) -> bytes:
+    """The bytes of a file, or for `-` those of standard input."""
+    if path == "-":
+        return sys.stdin.buffer.read()
+    with open(path, "rb") as file:
+        return file.read()
 
 
 def main(words: List[str]) -> int:
@@ -40,12 +48,10 @@ def main(words: List[str]) -> int:
     program = {"bridge": "robus_bridge", "picture": "robus_picture"}.get(call[0], "robus")
     call = {"bridge": ["run"], "picture": call[1:]}.get(call[0], call)
     try:
-        data = b""
-        if reads:
-            data = open(rest[0], "rb").read() if rest else sys.stdin.buffer.read()
+        data = input_of(rest[0] if rest else "-") if reads else b""
         engine = choose(call, asked.engine, program)
     except OSError as fault:
-        print("robus: %s: %s" % (rest[0] if rest else "standard input", fault.strerror),
+        print("robus: %s: %s" % (fault.filename or "standard input", fault.strerror),
               file=sys.stderr)
         return 2
     except NoEngine as fault:

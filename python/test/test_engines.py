@@ -91,6 +91,7 @@ class Words(unittest.TestCase):
         path = EXAMPLES / "one_silent_rmu.toml"
         log = robus.record(path, "R0", engine="model").data
         self.assertEqual(self.words("record", "R0", path)[:2], (0, log))
+        self.assertEqual(self.words("record", "R0", "-", data=path.read_bytes())[:2], (0, log))
         self.assertEqual(self.words("replay", data=log)[:2], (0, robus.replay(log, engine="model").output))
 
     def test_words_that_make_no_sense(self):

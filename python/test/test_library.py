@@ -104,6 +104,7 @@ class Examples(unittest.TestCase):
     def test_a_breach_is_no_error(self):
         found = robus.run(EXAMPLES / "two_sided.toml")
         self.assertEqual(found.breach, rows.Breach(None, 0, 6, 2, "TwoSided"))
+        self.assertIn("breach TwoSided at frame 0, slot 6, stage 2, 7 deliveries, by %s" % found.engine, repr(found))
         self.assertEqual((found.status, found.frames), (1, None))
         log = robus.record(EXAMPLES / "two_sided.toml", "B0")
         self.assertEqual(log.status, 1)
