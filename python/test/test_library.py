@@ -120,9 +120,11 @@ class Examples(unittest.TestCase):
 
     @needs("robus_picture")
     def test_pictures(self):
-        for path in (TOP / "docs/pictures").glob("*.svg"):
-            drawn = robus.run(EXAMPLES / (path.stem + ".toml"))._repr_svg_()
-            self.assertEqual(drawn, path.read_text(encoding="utf-8"))
+        kept = [path for path in EXAMPLES.glob("*.toml") if (TOP / "docs/pictures" / (path.stem + ".svg")).exists()]
+        self.assertGreaterEqual(len(kept), 5)
+        for path in kept:
+            drawn = robus.run(path)._repr_svg_()
+            self.assertEqual(drawn, (TOP / "docs/pictures" / (path.stem + ".svg")).read_text(encoding="utf-8"))
 
 
 class Promises(unittest.TestCase):
