@@ -1,20 +1,28 @@
 -- a picture is one element
 use Rattle.std.proofs.Common.{ℕ, ◌+◌, ◌&&◌, nat_lt, not, List, [], ◌∷◌, codes}
-use Rattle.rb_base.specs.Nodes.{has}
+use Rattle.rb_base.specs.Nodes.{has, size}
 use Rattle.rb_base.specs.declared.node.NodeName.{NodeName}
 use Rattle.rb_base.specs.declared.values.Place.{Place}
 use Rattle.rb_rules.specs.declared.cause.Cause.{Cause}
 use Rattle.rb_picture.specs.declared.line.DeliveryLine.{DeliveryLine}
 use Rattle.rb_picture.specs.declared.extent.Extent.{Extent}
 use Rattle.rb_picture.specs.declared.extent.Facts.{Facts}
+use Rattle.rb_picture.specs.declared.extent.Nodes.{Nodes}
 use Rattle.rb_picture.specs.declared.extent.Rows.{Rows}
+use Rattle.rb_picture.specs.declared.column.Column.{Column}
+use Rattle.rb_picture.specs.declared.sheet.Sheet.{Sheet}
+use Rattle.rb_picture.specs.declared.sheet.View.{View}
+use Rattle.rb_picture.specs.declared.sheet.View.TheVariants.{Panels, Overview}
+use Rattle.rb_picture.specs.Headings.{with_heading, with_key}
+use Rattle.rb_picture.specs.Overview.{is_numbered, newly, with_break, with_break_words, with_frame_number, with_newcomer, with_newcomers, with_newcomers_of, with_outcomes, with_row, with_signature, with_signs, with_slot_range, with_square}
+use Rattle.rb_picture.specs.Sheets.{sheet_height, sheet_width}
 use Rattle.rb_picture.specs.Content.{AddsContent}
-use Rattle.rb_picture.specs.Markup.{with_opening}
-use Rattle.rb_picture.specs.Extents.{biu_rows, extent_of, rmu_rows}
-use Rattle.rb_picture.specs.Places.{is_wide, picture_height, picture_width, slots_of}
-use Rattle.rb_picture.specs.Drawing.{follows, with_breach, with_cell, with_absence, with_cross, with_ending, with_ground, with_heading, with_legend, with_marks, with_name, with_names, with_names_of, with_panel, with_sender, with_senders, with_slot_number, with_slots, with_state, with_states, with_states_of, with_strokes, with_tick}
-use Rattle.rb_picture.specs.Picture.{Piece, picture_text, pieces_of, with_piece, with_pieces}
-use Rattle.rb_picture.specs.Picture.Piece.{Ground, Tick, Cell, Break, Ending}
+use Rattle.rb_picture.specs.Markup.{with_label, with_opening}
+use Rattle.rb_picture.specs.Extents.{biu_rows, rmu_rows}
+use Rattle.rb_picture.specs.Places.{is_wide, row_top, slots_of}
+use Rattle.rb_picture.specs.Drawing.{follows, with_breach, with_cell, with_absence, with_cross, with_ending, with_ground, with_last_panel, with_legend, with_marks, with_name, with_names, with_names_of, with_owner, with_panel, with_sender, with_senders, with_slot_number, with_slots, with_state, with_states, with_states_of, with_strokes, with_tick}
+use Rattle.rb_picture.specs.Picture.{Piece, picture_text, pieces_of, with_part, with_piece, with_pieces}
+use Rattle.rb_picture.specs.Picture.Piece.{Ground, Head, Tick, Cell, Break, Ending}
 use Rattle.rb_picture.specs.Laws.{IsWellFormed}
 use Rattle.rb_picture.proofs.WellFormed.{adds_box, adds_each, adds_if, adds_label, adds_more, adds_nothing}
 use Rattle.rb_picture.proofs.Openings.{document}
@@ -31,9 +39,17 @@ adds_breach : (extent : Extent) (t : List ℕ) (place : Place) (cause : Cause) �
 unfolding with_breach
 adds_breach extent t place cause = adds_more (adds_label _ _ _ _ _ _) (adds_more (adds_label _ _ _ _ _ _) (adds_more (adds_label _ _ _ _ _ _) (adds_box _ _ _)))
 
-adds_ending : (extent : Extent) (t : List ℕ) (frames : ℕ) → AddsContent t (with_ending extent t frames)
+adds_ending : (t : List ℕ) (frames : ℕ) → AddsContent t (with_ending t frames)
 unfolding with_ending
-adds_ending extent t frames = adds_more (adds_if (follows extent frames) _ _ (adds_label _ _ _ _ _ _)) (adds_label _ _ _ _ _ _)
+adds_ending t frames = adds_label _ _ _ _ _ _
+
+adds_last_panel : (extent : Extent) (t : List ℕ) (frames : ℕ) → AddsContent t (with_last_panel extent t frames)
+unfolding with_last_panel
+adds_last_panel extent t frames = adds_if (follows extent frames) _ _ (adds_label _ _ _ _ _ _)
+
+adds_owner : (extent : Extent) (t : List ℕ) (column : Column) → AddsContent t (with_owner extent t column)
+unfolding with_owner
+adds_owner extent t column = adds_label _ _ _ _ _ _
 
 adds_name : (extent : Extent) (frame : ℕ) (t letter : List ℕ) (row number : ℕ) → AddsContent t (with_name extent frame t letter row number)
 unfolding with_name
@@ -114,32 +130,100 @@ unfolding with_legend
 adds_legend extent t =
     adds_more (adds_strokes (with_marks (with_senders extent t))) (adds_more (adds_marks (with_senders extent t)) (adds_senders extent t))
 
-adds_heading : (extent : Extent) (t : List ℕ) → AddsContent t (with_heading extent t)
+adds_newcomer : (extent : Extent) (frame : ℕ) (letter : List ℕ) (before set : ℕ) (t : List ℕ) (i : ℕ) → AddsContent t (with_newcomer extent frame letter before set t i)
+unfolding with_newcomer
+adds_newcomer extent frame letter before set t i = adds_if (has set i) _ _ (adds_label _ _ _ _ _ _)
+
+adds_newcomers_of : (extent : Extent) (frame : ℕ) (letter : List ℕ) (before set : ℕ) (t : List ℕ) → AddsContent t (with_newcomers_of extent frame letter before set t)
+unfolding with_newcomers_of
+adds_newcomers_of extent frame letter before set t =
+    adds_each (with_newcomer extent frame letter before set) (adds_newcomer extent frame letter before set) 16 t
+
+adds_newcomers : (extent : Extent) (frame : ℕ) (before after : Nodes) (t : List ℕ) → AddsContent t (with_newcomers extent frame before after t)
+unfolding with_newcomers
+adds_newcomers extent frame before after t =
+    adds_more (adds_newcomers_of extent frame (codes "R") (size (newly before.biu after.biu)) (newly before.rmu after.rmu)
+    (with_newcomers_of extent frame (codes "B") 0 (newly before.biu after.biu) t))
+    (adds_newcomers_of extent frame (codes "B") 0 (newly before.biu after.biu) t)
+
+adds_frame_number : (extent : Extent) (t : List ℕ) (frame : ℕ) → AddsContent t (with_frame_number extent t frame)
+unfolding with_frame_number
+adds_frame_number extent t frame = adds_if (is_numbered extent frame) _ _ (adds_label _ _ _ _ _ _)
+
+adds_row : (extent : Extent) (frame : ℕ) (before after : Nodes) (t : List ℕ) → AddsContent t (with_row extent frame before after t)
+unfolding with_row
+adds_row extent frame before after t =
+    adds_more (adds_newcomers extent frame before after _) (adds_more (adds_frame_number extent _ frame) (adds_box _ _ _))
+
+adds_square : (extent : Extent) (t : List ℕ) (column : Column) → AddsContent t (with_square extent t column)
+unfolding with_square
+adds_square extent t column = adds_box _ _ _
+
+adds_break_words : (t : List ℕ) (place : Place) (cause : Cause) → AddsContent t (with_break_words t place cause)
+unfolding with_break_words
+adds_break_words t place cause =
+    adds_more (adds_label _ _ _ _ _ _) (adds_more (adds_label _ _ _ _ _ _) (adds_more (adds_label _ _ _ _ _ _) (adds_label _ _ _ _ _ _)))
+
+adds_break : (extent : Extent) (t : List ℕ) (place : Place) (cause : Cause) → AddsContent t (with_break extent t place cause)
+unfolding with_break
+adds_break extent t place cause = adds_more (adds_break_words _ place cause) (adds_box _ _ _)
+
+adds_outcomes : (t : List ℕ) → AddsContent t (with_outcomes t)
+unfolding with_outcomes
+adds_outcomes t =
+    adds_more (adds_label _ _ _ _ _ _) (adds_more (adds_box _ _ _) (adds_more (adds_label _ _ _ _ _ _) (adds_more (adds_box _ _ _) (adds_more (adds_label _ _ _ _ _ _) (adds_box _ _ _)))))
+
+adds_signs : (t : List ℕ) → AddsContent t (with_signs t)
+unfolding with_signs
+adds_signs t =
+    adds_more (adds_label _ _ _ _ _ _) (adds_more (adds_label _ _ _ _ _ _) (adds_more (adds_label _ _ _ _ _ _) (adds_more (adds_box _ _ _) (adds_more (adds_label _ _ _ _ _ _) (adds_box _ _ _)))))
+
+adds_slot_range : (extent : Extent) (t : List ℕ) → AddsContent t (with_slot_range extent t)
+unfolding with_slot_range
+adds_slot_range extent t = adds_more (adds_label _ _ _ _ _ _) (adds_label _ _ _ _ _ _)
+
+adds_signature : (extent : Extent) (t : List ℕ) → AddsContent t (with_signature extent t)
+unfolding with_signature
+adds_signature extent t = adds_more (adds_slot_range extent _) (adds_more (adds_signs _) (adds_outcomes t))
+
+adds_heading : (sheet : Sheet) (t : List ℕ) → AddsContent t (with_heading sheet t)
 unfolding with_heading
-adds_heading extent t = adds_more (adds_label _ _ _ _ _ _) (adds_more (adds_label _ _ _ _ _ _) (adds_box _ _ _))
+adds_heading sheet t = adds_more (adds_label _ _ _ _ _ _) (adds_more (adds_label _ _ _ _ _ _) (adds_box _ _ _))
 
-adds_piece : (extent : Extent) (t : List ℕ) (p : Piece) → AddsContent t (with_piece extent t p)
-adds_piece extent t (Ground frame facts) = adds_panel extent frame facts t
-adds_piece extent t (Tick frame node after) = adds_tick extent t frame node after
-adds_piece extent t (Cell l) = adds_cell extent t l
-adds_piece extent t (Break place cause) = adds_breach extent t place cause
-adds_piece extent t (Ending frames) = adds_ending extent t frames
+adds_key : (view : View) (extent : Extent) (t : List ℕ) → AddsContent t (with_key view extent t)
+adds_key Panels extent t = adds_legend extent t
+adds_key Overview extent t = adds_signature extent t
 
-adds_pieces : (extent : Extent) (t : List ℕ) (ps : List Piece) → AddsContent t (with_pieces extent t ps)
-adds_pieces extent t [] = adds_nothing
-adds_pieces extent t (p ∷ ps) = adds_more (adds_pieces extent (with_piece extent t p) ps) (adds_piece extent t p)
+adds_part : (view : View) (extent : Extent) (t : List ℕ) (p : Piece) → AddsContent t (with_part view extent t p)
+adds_part Panels extent t (Ground frame before facts) = adds_panel extent frame facts t
+adds_part Panels extent t (Head column) = adds_owner extent t column
+adds_part Panels extent t (Tick frame node after) = adds_tick extent t frame node after
+adds_part Panels extent t (Cell l) = adds_cell extent t l
+adds_part Panels extent t (Break place cause) = adds_breach extent t place cause
+adds_part Panels extent t (Ending frames) = adds_more (adds_last_panel extent _ frames) (adds_ending t frames)
+adds_part Overview extent t (Ground frame before facts) = adds_row extent frame before.convicted facts.convicted t
+adds_part Overview extent t (Head column) = adds_square extent t column
+adds_part Overview extent t (Tick frame node after) = adds_nothing
+adds_part Overview extent t (Cell l) = adds_nothing
+adds_part Overview extent t (Break place cause) = adds_break extent t place cause
+adds_part Overview extent t (Ending frames) = adds_ending t frames
+
+adds_pieces : (sheet : Sheet) (t : List ℕ) (ps : List Piece) → AddsContent t (with_pieces sheet t ps)
+adds_pieces sheet t [] = adds_nothing
+adds_pieces sheet t (p ∷ ps) = adds_more (adds_pieces sheet (with_piece sheet t p) ps) (adds_part sheet.view sheet.extent t p)
 
 -- what stands in a picture behind its opening
-abbrev body : Extent → List ℕ → List Piece → List ℕ
-body extent t ps = with_pieces extent (with_legend extent (with_heading extent t)) ps
+abbrev body : Sheet → List ℕ → List Piece → List ℕ
+body sheet t ps = with_pieces sheet (with_key sheet.view sheet.extent (with_heading sheet t)) ps
 
-adds_body : (extent : Extent) (t : List ℕ) (ps : List Piece) → AddsContent t (body extent t ps)
-adds_body extent t ps =
-    adds_more (adds_pieces extent (with_legend extent (with_heading extent t)) ps) (adds_more (adds_legend extent (with_heading extent t)) (adds_heading extent t))
+adds_body : (sheet : Sheet) (t : List ℕ) (ps : List Piece) → AddsContent t (body sheet t ps)
+adds_body sheet t ps =
+    adds_more (adds_pieces sheet (with_key sheet.view sheet.extent (with_heading sheet t)) ps)
+    (adds_more (adds_key sheet.view sheet.extent (with_heading sheet t)) (adds_heading sheet t))
 
 pub well_formed : IsWellFormed
 unfolding picture_text
-well_formed style lines =
-    document (picture_width (extent_of lines)) (picture_height (extent_of lines)) style
-    (body (extent_of lines) (with_opening [] (picture_width (extent_of lines)) (picture_height (extent_of lines)) style) (pieces_of lines))
-    (adds_body (extent_of lines) (with_opening [] (picture_width (extent_of lines)) (picture_height (extent_of lines)) style) (pieces_of lines))
+well_formed style sheet lines =
+    document (sheet_width sheet) (sheet_height sheet) style
+    (body sheet (with_opening [] (sheet_width sheet) (sheet_height sheet) style) (pieces_of lines))
+    (adds_body sheet (with_opening [] (sheet_width sheet) (sheet_height sheet) style) (pieces_of lines))

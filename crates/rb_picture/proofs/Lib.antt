@@ -1,5 +1,6 @@
 pub mod Cells
 pub mod WellFormed
+pub mod Sizes
 pub mod Openings
 pub mod Documents
 pub mod Orders

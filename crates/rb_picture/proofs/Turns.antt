@@ -1,15 +1,18 @@
 -- a turn of each loop over lines, and its end
-use Rattle.std.proofs.Common.{◌≡◌, ◌∙◌, ℕ, ◌+◌, ◌<◌, ◌≤◌, ◌==◌, if◌then◌else◌, List, [], ◌∷◌, ◌++◌, length, get_or, drop, refl, sym, ap, subst, add-one}
+use Rattle.std.proofs.Common.{◌≡◌, ◌∙◌, ℕ, Bool, true, false, ◌+◌, ◌<◌, ◌≤◌, ◌==◌, if◌then◌else◌, List, [], ◌∷◌, ◌++◌, length, get_or, drop, refl, sym, ap, subst, add-one}
 use Rattle.std.proofs.lemmas.List.{at_drop_all, at_drop_more, drop_more}
 use Rattle.rb_base.specs.Nodes.{has}
 use Rattle.rb_picture.specs.declared.line.Line.{Line}
-use Rattle.rb_picture.specs.declared.drawn.Panel.{Panel}
+use Rattle.rb_base.specs.declared.values.Heard.{Heard}
+use Rattle.rb_picture.specs.declared.drawn.Stand.{Stand}
+use Rattle.rb_picture.specs.declared.sheet.Sheet.{Sheet}
 use Rattle.rb_picture.specs.declared.extent.Begins.{Begins}
 use Rattle.rb_picture.specs.declared.extent.Extent.{Extent}
 use Rattle.rb_picture.specs.declared.extent.Facts.{Facts}
 use Rattle.rb_picture.specs.Extents.{begins_after, extent_after, extent_from, facts_after, facts_from, mark_of, top_below}
 use Rattle.rb_picture.specs.Markup.{each_below}
-use Rattle.rb_picture.specs.Picture.{Piece, ground_of, panel_with, pieces_from, pieces_of_line, with_piece, with_pieces}
+use Rattle.rb_picture.specs.Columns.{all_bring, brings, line_mark}
+use Rattle.rb_picture.specs.Picture.{Piece, pieces_at, pieces_from, stand_with, with_piece, with_pieces}
 
 pub extent_turn : (extent : Extent) (begins : Begins) (ls : List Line) (i : ℕ) (d : Line) → i < length ls
     → extent_from extent begins (drop i ls)
@@ -27,38 +30,46 @@ facts_turn mark facts ls i d below = at_drop_more (facts_from mark facts) ls i d
 pub facts_end : (mark : ℕ) (facts : Facts) (ls : List Line) (i : ℕ) → length ls ≤ i → facts_from mark facts (drop i ls) ≡ facts
 facts_end mark facts ls i end = at_drop_all (facts_from mark facts) ls i end
 
-pub with_pieces-append : (extent : Extent) (text : List ℕ) (ps qs : List Piece) → with_pieces extent text (ps ++ qs) ≡ with_pieces extent (with_pieces extent text ps) qs
-with_pieces-append extent text [] qs = refl
-with_pieces-append extent text (p ∷ ps) qs = with_pieces-append extent (with_piece extent text p) ps qs
+pub bring_turn : (mark : ℕ) (value : Heard) (ls : List Line) (i : ℕ) (d : Line) → i < length ls
+    → all_bring mark value (drop i ls)
+    ≡ (if line_mark (get_or ls i d) == mark then (if brings value (get_or ls i d) then all_bring mark value (drop (i + 1) ls) else false) else true)
+bring_turn mark value ls i d below = at_drop_more (all_bring mark value) ls i d below
+
+pub bring_end : (mark : ℕ) (value : Heard) (ls : List Line) (i : ℕ) → length ls ≤ i → all_bring mark value (drop i ls) ≡ true
+bring_end mark value ls i end = at_drop_all (all_bring mark value) ls i end
+
+pub with_pieces-append : (sheet : Sheet) (text : List ℕ) (ps qs : List Piece) → with_pieces sheet text (ps ++ qs) ≡ with_pieces sheet (with_pieces sheet text ps) qs
+with_pieces-append sheet text [] qs = refl
+with_pieces-append sheet text (p ∷ ps) qs = with_pieces-append sheet (with_piece sheet text p) ps qs
 
 -- what the first of some lines shows
-abbrev next_pieces : Panel → Line → List Line → List Piece
-next_pieces panel x lines = ground_of panel (panel_with panel x lines) ++ pieces_of_line (panel_with panel x lines).facts x
+abbrev next_pieces : Stand → Line → List Line → List Piece
+next_pieces stand x lines = pieces_at stand (stand_with stand x lines) x
 
-pieces_first : (extent : Extent) (text : List ℕ) (panel : Panel) (x : Line) (xs lines : List Line) → lines ≡ x ∷ xs
-    → with_pieces extent text (pieces_from panel lines) ≡ with_pieces extent (with_pieces extent text (next_pieces panel x lines)) (pieces_from (panel_with panel x lines) xs)
-pieces_first extent text panel x xs lines is =
-    subst (λ ls. with_pieces extent text (pieces_from panel ls) ≡ with_pieces extent (with_pieces extent text (next_pieces panel x ls)) (pieces_from (panel_with panel x ls) xs))
+pieces_first : (sheet : Sheet) (text : List ℕ) (stand : Stand) (x : Line) (xs lines : List Line) → lines ≡ x ∷ xs
+    → with_pieces sheet text (pieces_from stand lines) ≡ with_pieces sheet (with_pieces sheet text (next_pieces stand x lines)) (pieces_from (stand_with stand x lines) xs)
+pieces_first sheet text stand x xs lines is =
+    subst (λ ls. with_pieces sheet text (pieces_from stand ls) ≡ with_pieces sheet (with_pieces sheet text (next_pieces stand x ls)) (pieces_from (stand_with stand x ls) xs))
     (sym is)
-    (with_pieces-append extent text (next_pieces panel x (x ∷ xs)) (pieces_from (panel_with panel x (x ∷ xs)) xs))
+    (with_pieces-append sheet text (next_pieces stand x (x ∷ xs)) (pieces_from (stand_with stand x (x ∷ xs)) xs))
 
-pub pieces_turn : (extent : Extent) (text : List ℕ) (panel : Panel) (ls : List Line) (i : ℕ) (d : Line) → i < length ls
-    → with_pieces extent text (pieces_from panel (drop i ls))
-    ≡ with_pieces extent (with_pieces extent text (ground_of panel (panel_with panel (get_or ls i d) (drop i ls)) ++ pieces_of_line (panel_with panel (get_or ls i d) (drop i ls)).facts (get_or ls i d)))
-    (pieces_from (panel_with panel (get_or ls i d) (drop i ls)) (drop (i + 1) ls))
-pieces_turn extent text panel ls i d below = pieces_first extent text panel (get_or ls i d) (drop (i + 1) ls) (drop i ls) (drop_more ls i d below)
+pub pieces_turn : (sheet : Sheet) (text : List ℕ) (stand : Stand) (ls : List Line) (i : ℕ) (d : Line) → i < length ls
+    → with_pieces sheet text (pieces_from stand (drop i ls))
+    ≡ with_pieces sheet (with_pieces sheet text (pieces_at stand (stand_with stand (get_or ls i d) (drop i ls)) (get_or ls i d)))
+    (pieces_from (stand_with stand (get_or ls i d) (drop i ls)) (drop (i + 1) ls))
+pieces_turn sheet text stand ls i d below = pieces_first sheet text stand (get_or ls i d) (drop (i + 1) ls) (drop i ls) (drop_more ls i d below)
 
 -- what the next line shows was written
-pub line_turn : (extent : Extent) (text next : List ℕ) (panel after : Panel) (ls rest : List Line) (i : ℕ) (d : Line) → i < length ls → rest ≡ drop i ls
-    → after ≡ panel_with panel (get_or ls i d) rest → next ≡ with_pieces extent text (ground_of panel after ++ pieces_of_line after.facts (get_or ls i d))
-    → with_pieces extent next (pieces_from after (drop (i + 1) ls)) ≡ with_pieces extent text (pieces_from panel (drop i ls))
-line_turn extent text next panel after ls rest i d below rest_is is written =
-    ap (λ t. with_pieces extent t (pieces_from after (drop (i + 1) ls))) written
-    ∙ subst (λ a. with_pieces extent (with_pieces extent text (ground_of panel a ++ pieces_of_line a.facts (get_or ls i d))) (pieces_from a (drop (i + 1) ls)) ≡ with_pieces extent text (pieces_from panel (drop i ls)))
-    (sym (is ∙ ap (λ r. panel_with panel (get_or ls i d) r) rest_is)) (sym (pieces_turn extent text panel ls i d below))
+pub line_turn : (sheet : Sheet) (text next : List ℕ) (stand after : Stand) (ls rest : List Line) (i : ℕ) (d : Line) → i < length ls → rest ≡ drop i ls
+    → after ≡ stand_with stand (get_or ls i d) rest → next ≡ with_pieces sheet text (pieces_at stand after (get_or ls i d))
+    → with_pieces sheet next (pieces_from after (drop (i + 1) ls)) ≡ with_pieces sheet text (pieces_from stand (drop i ls))
+line_turn sheet text next stand after ls rest i d below rest_is is written =
+    ap (λ t. with_pieces sheet t (pieces_from after (drop (i + 1) ls))) written
+    ∙ subst (λ a. with_pieces sheet (with_pieces sheet text (pieces_at stand a (get_or ls i d))) (pieces_from a (drop (i + 1) ls)) ≡ with_pieces sheet text (pieces_from stand (drop i ls)))
+    (sym (is ∙ ap (λ r. stand_with stand (get_or ls i d) r) rest_is)) (sym (pieces_turn sheet text stand ls i d below))
 
-pub pieces_end : (extent : Extent) (text : List ℕ) (panel : Panel) (ls : List Line) (i : ℕ) → length ls ≤ i → with_pieces extent text (pieces_from panel (drop i ls)) ≡ text
-pieces_end extent text panel ls i end = at_drop_all (λ lines. with_pieces extent text (pieces_from panel lines)) ls i end
+pub pieces_end : (sheet : Sheet) (text : List ℕ) (stand : Stand) (ls : List Line) (i : ℕ) → length ls ≤ i → with_pieces sheet text (pieces_from stand (drop i ls)) ≡ text
+pieces_end sheet text stand ls i end = at_drop_all (λ lines. with_pieces sheet text (pieces_from stand lines)) ls i end
 
 -- one number more
 pub each_next : (with_one : List ℕ → ℕ → List ℕ) (n : ℕ) (text : List ℕ) → each_below with_one (n + 1) text ≡ with_one (each_below with_one n text) n
@@ -82,5 +93,7 @@ pub ruleset each_turns = (each_none, each_next)
 pub ruleset top_turns = (top_none, top_next)
 
 pub ruleset line_turns = (extent_turn, extent_end, facts_turn, facts_end)
+
+pub ruleset bring_turns = (bring_turn, bring_end)
 
 pub ruleset piece_turns = (pieces_turn, pieces_end, with_pieces-append)

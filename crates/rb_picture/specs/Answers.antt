@@ -1,5 +1,5 @@
 -- How the top call answers.
-use Rattle.std.specs.Prelude.{⊤, ℕ, ◌≡◌, ◌⊎◌, List, ◌++◌, codes, Option, String}
+use Rattle.std.specs.Prelude.{⊤, ℕ, ◌≡◌, ◌^◌, ◌-◌, ◌<◌, ◌≤◌, ◌⊎◌, List, [], ◌∷◌, ◌++◌, map, codes, Option, String, string_bytes}
 use Rattle.std.specs.Fmt.{decimal}
 use Rattle.std.specs.Io.KnownBytes.{Appends}
 use Rattle.std.specs.declared.alloc.Global.{Global}
@@ -16,6 +16,7 @@ use Rattle.rb_picture.specs.Lines.{FailsAt, IsReport}
 use Rattle.rb_picture.specs.Forms.{AskFor, first_of, last_of}
 use Rattle.rb_picture.specs.Pages.{page_text}
 use Rattle.rb_picture.specs.Picture.{asked_of, picture_text}
+use Rattle.rb_picture.specs.Sheets.{sheet_of}
 
 -- the most bytes of a report
 abbrev pub report_limit : ℕ
@@ -31,11 +32,15 @@ fault_name fault.NoEnd = codes "3 NoEnd"
 abbrev pub fault_text : Fault → ℕ → List ℕ
 fault_text f number = (((codes "refused " ++ fault_name f) ++ codes " ") ++ decimal number) ++ codes "\n"
 
+-- the picture of lines, which are those of these frames
+abbrev pub picture_of : List ℕ → Frames → List Line → List ℕ
+picture_of style frames lines = picture_text style (sheet_of frames lines) lines
+
 -- the picture of these frames of a report
 pub record IsPicture (style : List ℕ) (frames : Frames) (bytes text : List ℕ) : Type 0 where
   pub lines : List Line
   pub report : IsReport bytes lines
-  pub picture : text ≡ picture_text style (asked_of (first_of frames) (last_of frames) lines)
+  pub picture : text ≡ picture_of style frames (asked_of (first_of frames) (last_of frames) lines)
 
 -- the line that says where and why the bytes are no report
 pub record IsRefusal (bytes text : List ℕ) : Type 0 where

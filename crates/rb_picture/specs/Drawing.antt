@@ -9,6 +9,7 @@ use Rattle.rb_base.specs.declared.values.Place.{Place}
 use Rattle.rb_rules.specs.declared.cause.Cause.{Cause}
 use Rattle.rb_rules.specs.declared.cause.Cause.TheVariants.{FewGoodBiu, FewGoodRmu, TwoSided}
 use Rattle.rb_report.specs.Report.{heard_text}
+use Rattle.rb_picture.specs.declared.column.Column.{Column}
 use Rattle.rb_picture.specs.declared.extent.Extent.{Extent}
 use Rattle.rb_picture.specs.declared.extent.Facts.{Facts}
 use Rattle.rb_picture.specs.declared.extent.Rows.{Rows}
@@ -62,11 +63,19 @@ with_breach extent text place cause =
 abbrev pub follows : Extent → ℕ → Bool
 follows extent frames = (frames == extent.last) && nat_le extent.first extent.last
 
--- the run came to its end, and its last panel says so
-unfoldable pub with_ending : Extent → List ℕ → ℕ → List ℕ
-with_ending extent text frames =
-    let ended : List ℕ = with_label text 420 28 (codes "note") (codes "frames to the end of the run: ") (decimal frames) in
-    if follows extent frames then with_label ended 120 (panel_top extent frames + 24) (codes "note") (codes "the run is over: this is the frame that would follow") [] else ended
+-- the run came to its end
+unfoldable pub with_ending : List ℕ → ℕ → List ℕ
+with_ending text frames = with_label text 420 28 (codes "note") (codes "frames to the end of the run: ") (decimal frames)
+
+-- its last panel says so
+unfoldable pub with_last_panel : Extent → List ℕ → ℕ → List ℕ
+with_last_panel extent text frames =
+    if follows extent frames then with_label text 120 (panel_top extent frames + 24) (codes "note") (codes "the run is over: this is the frame that would follow") [] else text
+
+-- the owner of a slot stands at its column
+unfoldable pub with_owner : Extent → List ℕ → Column → List ℕ
+with_owner extent text column =
+    with_label text (column_left extent column.slot + cell_width extent / 2) (panel_top extent column.frame + 58) (codes "owner") (codes "B") (decimal column.sender)
 
 -- the name of a node in its row, and behind many columns once more
 unfoldable pub with_name : Extent → ℕ → List ℕ → List ℕ → ℕ → ℕ → List ℕ
@@ -157,10 +166,3 @@ with_senders extent text = each_below with_sender extent.bius text
 
 unfoldable pub with_legend : Extent → List ℕ → List ℕ
 with_legend extent text = with_strokes (with_marks (with_senders extent text))
-
--- the frames that are drawn
-unfoldable pub with_heading : Extent → List ℕ → List ℕ
-with_heading extent text =
-    with_label (with_label (with_box text (record { x = 0; y = 0; width = picture_width extent; height = picture_height extent }) (codes "page"))
-    20 28 (codes "title") (codes "first frame ") (decimal extent.first))
-    220 28 (codes "title") (codes "last frame ") (decimal extent.last)

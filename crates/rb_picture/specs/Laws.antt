@@ -3,14 +3,16 @@ use Rattle.std.specs.Prelude.{ℕ, ◌≡◌, List, [], ◌∷◌}
 use Rattle.rb_picture.specs.declared.line.Line.{Line}
 use Rattle.rb_picture.specs.declared.line.Line.TheVariants as line
 use Rattle.rb_picture.specs.declared.line.DeliveryLine.{DeliveryLine}
+use Rattle.rb_picture.specs.declared.sheet.Sheet.{Sheet}
 use Rattle.rb_picture.specs.Content.{IsDocument}
 use Rattle.rb_picture.specs.Picture.{Piece, picture_text, pieces_of}
-use Rattle.rb_picture.specs.Picture.Piece.{Ground, Tick, Cell, Break, Ending}
+use Rattle.rb_picture.specs.Picture.Piece.{Ground, Head, Tick, Cell, Break, Ending}
 
 -- the cells among parts of a picture, each by its delivery
 abbrev pub cells_of : List Piece → List DeliveryLine
 cells_of [] = []
-cells_of (Ground frame facts ∷ pieces) = cells_of pieces
+cells_of (Ground frame before facts ∷ pieces) = cells_of pieces
+cells_of (Head column ∷ pieces) = cells_of pieces
 cells_of (Tick frame node after ∷ pieces) = cells_of pieces
 cells_of (Cell l ∷ pieces) = l ∷ cells_of pieces
 cells_of (Break place cause ∷ pieces) = cells_of pieces
@@ -32,4 +34,4 @@ OneCellEach = (lines : List Line) → cells_of (pieces_of lines) ≡ deliveries_
 
 -- its text is one element, in which all others nest and close and all text is escaped
 abbrev pub IsWellFormed : Type 0
-IsWellFormed = (style : List ℕ) (lines : List Line) → IsDocument (picture_text style lines)
+IsWellFormed = (style : List ℕ) (sheet : Sheet) (lines : List Line) → IsDocument (picture_text style sheet lines)

@@ -5,8 +5,12 @@ pub mod Content
 pub mod Extents
 pub mod Places
 pub mod Drawing
-pub mod Picture
-pub mod Laws
+pub mod Columns
+pub mod Overview
 pub mod Pages
 pub mod Forms
+pub mod Sheets
+pub mod Headings
+pub mod Picture
+pub mod Laws
 pub mod Answers

@@ -17,7 +17,7 @@ help_lines =
     ∷ codes "Draws a run of a fault-tolerant broadcast bus from the report of robus run.\n"
     ∷ codes "\n"
     ∷ codes "words          what is written\n"
-    ∷ codes "none           panels of all frames\n"
+    ∷ codes "none           all frames in panels; from 13 whole frames on an overview\n"
     ∷ codes "FIRST LAST     panels of the frames from one number to the other\n"
     ∷ codes "--help, -h     this page; nothing is read\n"
     ∷ codes "--version      the name and the version; nothing is read\n"

@@ -7,33 +7,52 @@ use Rattle.rb_rules.specs.declared.cause.Cause.{Cause}
 use Rattle.rb_picture.specs.declared.line.Line.{Line}
 use Rattle.rb_picture.specs.declared.line.Line.TheVariants as line
 use Rattle.rb_picture.specs.declared.line.DeliveryLine.{DeliveryLine}
+use Rattle.rb_picture.specs.declared.column.Column.{Column}
 use Rattle.rb_picture.specs.declared.extent.Extent.{Extent}
 use Rattle.rb_picture.specs.declared.extent.Facts.{Facts}
 use Rattle.rb_picture.specs.declared.drawn.Panel.{Panel}
-use Rattle.rb_picture.specs.Drawing.{with_breach, with_cell, with_ending, with_heading, with_legend, with_panel, with_tick}
-use Rattle.rb_picture.specs.Extents.{extent_of, facts_of, is_asked, mark_of, no_facts}
+use Rattle.rb_picture.specs.declared.drawn.Stand.{Stand}
+use Rattle.rb_picture.specs.declared.sheet.Sheet.{Sheet}
+use Rattle.rb_picture.specs.declared.sheet.View.{View}
+use Rattle.rb_picture.specs.declared.sheet.View.TheVariants.{Panels, Overview}
+use Rattle.rb_picture.specs.Columns.{column_with, no_column}
+use Rattle.rb_picture.specs.Drawing.{with_breach, with_cell, with_ending, with_last_panel, with_owner, with_panel, with_tick}
+use Rattle.rb_picture.specs.Headings.{with_heading, with_key}
+use Rattle.rb_picture.specs.Overview.{with_break, with_row, with_square}
+use Rattle.rb_picture.specs.Sheets.{sheet_height, sheet_width}
+use Rattle.rb_picture.specs.Extents.{facts_of, is_asked, mark_of, no_facts}
 use Rattle.rb_picture.specs.Markup.{with_opening}
-use Rattle.rb_picture.specs.Places.{picture_height, picture_width}
 
 -- a part of a picture
 pub data Piece : Type 0 where
-  Ground : (frame : ℕ) (facts : Facts) → Piece  -- of a frame
+  Ground : (frame : ℕ) (before facts : Facts) → Piece  -- of a frame, with what is known of the one before it
+  Head : (column : Column) → Piece  -- of a slot in which something is delivered
   Tick : (frame : ℕ) (node : NodeName) (after : ℕ) → Piece  -- of a node that begins a frame, so long after the first
   Cell : (delivery : DeliveryLine) → Piece
   Break : (place : Place) (cause : Cause) → Piece
   Ending : (frames : ℕ) → Piece
 
 -- a part behind a text
-abbrev pub with_piece : Extent → List ℕ → Piece → List ℕ
-with_piece extent text (Ground frame facts) = with_panel extent frame facts text
-with_piece extent text (Tick frame node after) = with_tick extent text frame node after
-with_piece extent text (Cell l) = with_cell extent text l
-with_piece extent text (Break place cause) = with_breach extent text place cause
-with_piece extent text (Ending frames) = with_ending extent text frames
+abbrev pub with_part : View → Extent → List ℕ → Piece → List ℕ
+with_part Panels extent text (Ground frame before facts) = with_panel extent frame facts text
+with_part Panels extent text (Head column) = with_owner extent text column
+with_part Panels extent text (Tick frame node after) = with_tick extent text frame node after
+with_part Panels extent text (Cell l) = with_cell extent text l
+with_part Panels extent text (Break place cause) = with_breach extent text place cause
+with_part Panels extent text (Ending frames) = with_last_panel extent (with_ending text frames) frames
+with_part Overview extent text (Ground frame before facts) = with_row extent frame before.convicted facts.convicted text
+with_part Overview extent text (Head column) = with_square extent text column
+with_part Overview extent text (Tick frame node after) = text
+with_part Overview extent text (Cell l) = text
+with_part Overview extent text (Break place cause) = with_break extent text place cause
+with_part Overview extent text (Ending frames) = with_ending text frames
 
-abbrev pub with_pieces : Extent → List ℕ → List Piece → List ℕ
-with_pieces extent text [] = text
-with_pieces extent text (piece ∷ pieces) = with_pieces extent (with_piece extent text piece) pieces
+abbrev pub with_piece : Sheet → List ℕ → Piece → List ℕ
+with_piece sheet text piece = with_part sheet.view sheet.extent text piece
+
+abbrev pub with_pieces : Sheet → List ℕ → List Piece → List ℕ
+with_pieces sheet text [] = text
+with_pieces sheet text (piece ∷ pieces) = with_pieces sheet (with_piece sheet text piece) pieces
 
 -- what a line shows in a frame of which this is known
 abbrev pub pieces_of_line : Facts → Line → List Piece
@@ -64,27 +83,40 @@ panel_with panel l lines =
     then panel
     else record { mark = mark_of panel.mark l; frame = frame_of panel.frame l; facts = facts_of (mark_of panel.mark l) lines }
 
-abbrev pub panel_at : Panel → Line → List Line → Panel
-panel_at panel l lines = panel_with panel l (l ∷ lines)
+-- the frame and the slot that are drawn
+abbrev pub no_stand : Stand
+no_stand = record { panel = no_panel; column = no_column }
+
+abbrev pub stand_with : Stand → Line → List Line → Stand
+stand_with stand l lines = record { panel = panel_with stand.panel l lines; column = column_with stand.column l lines }
+
+abbrev pub stand_at : Stand → Line → List Line → Stand
+stand_at stand l lines = stand_with stand l (l ∷ lines)
 
 -- the ground of another panel
 abbrev pub ground_of : Panel → Panel → List Piece
-ground_of before after = if after.mark == before.mark then [] else Ground after.frame after.facts ∷ []
+ground_of before after = if after.mark == before.mark then [] else Ground after.frame before.facts after.facts ∷ []
+
+-- the head of another column
+abbrev pub head_of : Column → Column → List Piece
+head_of before after = if after.mark == before.mark then [] else Head after ∷ []
+
+-- what a line shows with which one stand is followed by another
+abbrev pub pieces_at : Stand → Stand → Line → List Piece
+pieces_at before after l = ground_of before.panel after.panel ++ (head_of before.column after.column ++ pieces_of_line after.panel.facts l)
 
 -- what lines show
-abbrev pub pieces_from : Panel → List Line → List Piece
-pieces_from panel [] = []
-pieces_from panel (l ∷ lines) =
-    (ground_of panel (panel_at panel l lines) ++ pieces_of_line (panel_at panel l lines).facts l) ++ pieces_from (panel_at panel l lines) lines
+abbrev pub pieces_from : Stand → List Line → List Piece
+pieces_from stand [] = []
+pieces_from stand (l ∷ lines) = pieces_at stand (stand_at stand l lines) l ++ pieces_from (stand_at stand l lines) lines
 
 abbrev pub pieces_of : List Line → List Piece
-pieces_of lines = pieces_from no_panel lines
+pieces_of lines = pieces_from no_stand lines
 
 -- the text of a picture of these lines
-unfoldable pub picture_text : List ℕ → List Line → List ℕ
-picture_text style lines =
-    with_pieces (extent_of lines) (with_legend (extent_of lines) (with_heading (extent_of lines)
-    (with_opening [] (picture_width (extent_of lines)) (picture_height (extent_of lines)) style))) (pieces_of lines)
+unfoldable pub picture_text : List ℕ → Sheet → List Line → List ℕ
+picture_text style sheet lines =
+    with_pieces sheet (with_key sheet.view sheet.extent (with_heading sheet (with_opening [] (sheet_width sheet) (sheet_height sheet) style))) (pieces_of lines)
     ++ codes "</svg>\n"
 
 -- the lines of the frames from first to last

@@ -20,13 +20,13 @@ row_of extent (Rmu i) = extent.bius + i
 
 -- a head, the rows and a gap
 abbrev pub panel_height : Extent → ℕ
-panel_height extent = 76 + 20 * rows_of extent
+panel_height extent = 88 + 20 * rows_of extent
 
 abbrev pub panel_top : Extent → ℕ → ℕ
 panel_top extent frame = 92 + panel_height extent * (frame - extent.first)
 
 abbrev pub row_top : Extent → ℕ → ℕ → ℕ
-row_top extent frame row = panel_top extent frame + 56 + 20 * row
+row_top extent frame row = panel_top extent frame + 68 + 20 * row
 
 -- room for the longest word
 abbrev pub cell_width : Extent → ℕ
@@ -75,4 +75,4 @@ cell_area extent l =
 
 abbrev pub breach_area : Extent → Place → Area
 breach_area extent place =
-    record { x = column_left extent (min place.slot extent.high); y = row_top extent place.frame 0 - 24; width = 3; height = 20 * rows_of extent + 28 }
+    record { x = column_left extent (min place.slot extent.high); y = row_top extent place.frame 0 - 36; width = 3; height = 20 * rows_of extent + 40 }

@@ -4,9 +4,9 @@ ghost use Rattle.std.specs.Io.KnownBytes.{Appends};
 ghost use Rattle.rb_outside.specs.Bytes.{AppendsPart, Gave, ReadsToEnd};
 ghost use Rattle.rb_outside.specs.Causes.{Rose};
 ghost use Rattle.rb_picture.specs.declared.form.Form.{Form};
-ghost use Rattle.rb_picture.specs.Answers.{Draws, FailsToWrite, IsCutOff, IsDone, IsDrawn, IsDrawnInPart, IsOfReport, IsRefused, Refuses, WritesNothing, fault_name, fault_text, report_limit};
+ghost use Rattle.rb_picture.specs.Answers.{Draws, FailsToWrite, IsCutOff, IsDone, IsDrawn, IsDrawnInPart, IsOfReport, IsRefused, Refuses, WritesNothing, fault_name, fault_text, picture_of, report_limit};
 ghost use Rattle.rb_picture.specs.Forms.{AskFor, first_of, last_of};
-ghost use Rattle.rb_picture.specs.Picture.{asked_of, picture_text};
+ghost use Rattle.rb_picture.specs.Picture.{asked_of};
 
 use crate::drawn::picture_of;
 use crate::extent::is_asked;
@@ -14,6 +14,7 @@ use crate::form::{Form, Frames, first_of, form_in, last_of};
 use crate::line::Line;
 use crate::pages::show_page;
 use crate::reading::{Fault, Unreadable, lines_in};
+use crate::sheet::sheet_of;
 use crate::status::Status;
 use crate::style::STYLE;
 use arrayvec::ArrayString;
@@ -65,10 +66,10 @@ fn asked_of(alloc: Global, lines: &[Line], first: u32, last: u32) -> Result<Vec<
 
 // The picture of these frames.
 fn picture_of_frames(alloc: Global, lines: &[Line], frames: Frames) -> Result<Vec<u8>, OutOfMemory>
-    ensures { IfOk result (λ v. v.items ≡ picture_text STYLE.now (asked_of (first_of frames) (last_of frames) lines.now)) }
+    ensures { IfOk result (λ v. v.items ≡ picture_of STYLE.now frames (asked_of (first_of frames) (last_of frames) lines.now)) }
 {
     let asked = asked_of(alloc, lines, first_of(frames), last_of(frames))?;
-    picture_of(alloc, &asked)
+    picture_of(alloc, sheet_of(frames, &asked), &asked)
 }
 
 // Writes the line that says where and why bytes are no report.
@@ -134,7 +135,7 @@ fn draw_frames<S: Source, K: Sink>(
 
 /// Reads a report of `robus run` and writes one SVG picture of it, or writes a page about the program.
 ///
-/// With no words all frames are drawn, with two, decimal numbers FIRST and LAST in order and below 2^32, the frames from one to the other.
+/// With no words all frames are drawn, those of 13 whole frames and more as an overview, with two, decimal numbers FIRST and LAST in order and below 2^32, the frames from one to the other.
 /// With `--help`, `-h` or `--version` nothing is read, and the page is written.
 ///
 /// `Done`: the picture or the page is written. `Usage`: the words are of no form; nothing was read or written. `Refused`: the input is no

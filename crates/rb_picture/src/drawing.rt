@@ -1,15 +1,18 @@
 //! The parts of a picture.
 ghost use Rattle.std.specs.Prelude.{◌≡◌, ◌≤◌, OnOk, slice_index_or, codes, length};
 ghost use Rattle.rb_report.specs.Report.{heard_text};
-ghost use Rattle.rb_picture.specs.Drawing.{cause_words, follows, look_of, with_absence, with_breach, with_cell, with_cross, with_ending, with_ground, with_heading, with_legend, with_marks, with_name, with_names, with_names_of, with_panel, with_sender, with_senders, with_slot_number, with_slots, with_state, with_states, with_states_of, with_strokes, with_tick};
+ghost use Rattle.rb_picture.specs.Headings.{with_heading};
+ghost use Rattle.rb_picture.specs.Drawing.{cause_words, follows, look_of, with_absence, with_breach, with_cell, with_cross, with_ending, with_ground, with_last_panel, with_legend, with_marks, with_name, with_names, with_names_of, with_owner, with_panel, with_sender, with_senders, with_slot_number, with_slots, with_state, with_states, with_states_of, with_strokes, with_tick};
 
+use crate::column::Column;
 use crate::extent::{Extent, Facts, Rows, biu_rows, rmu_rows};
 use crate::line::DeliveryLine;
 use crate::markup::{Area, push_box, push_label};
 use crate::places::{
     breach_area, cell_area, cell_width, column_left, grid_area, is_wide, names_left, panel_area,
-    panel_top, picture_height, picture_width, row_top, slots_of, strip_area, tick_area,
+    panel_top, row_top, slots_of, strip_area, tick_area,
 };
+use crate::sheet::{Sheet, sheet_height, sheet_width};
 use itoa::Buffer;
 use rb_base::{Biu, Heard, NodeName, NodeSet, OutOfMemory, Place};
 use rb_rules::Cause;
@@ -38,7 +41,7 @@ fn look_of(sender: u64) -> &'static str
     }
 }
 
-fn cause_words(cause: Cause) -> &'static str
+pub(crate) fn cause_words(cause: Cause) -> &'static str
     ensures { result.now ≡ cause_words cause }
 {
     match cause {
@@ -125,8 +128,8 @@ fn follows(extent: Extent, frames: u32) -> bool
 
 /// The run came to its end.
 #[tactic(auto, unfolding(crate::specs::Drawing::with_ending))]
-pub(crate) fn push_ending(out: &mut Vec<u8>, extent: Extent, frames: u32) -> Result<(), OutOfMemory>
-    ensures { OnOk result (out.new.items ≡ with_ending extent out.old.items frames) }
+pub(crate) fn push_ending(out: &mut Vec<u8>, frames: u32) -> Result<(), OutOfMemory>
+    ensures { OnOk result (out.new.items ≡ with_ending out.old.items frames) }
 {
     push_label(
         out,
@@ -135,13 +138,38 @@ pub(crate) fn push_ending(out: &mut Vec<u8>, extent: Extent, frames: u32) -> Res
         "note",
         "frames to the end of the run: ",
         Buffer::new().format(frames),
-    )?;
+    )
+}
+
+/// The last panel of a run that came to its end says so.
+#[tactic(auto, unfolding(crate::specs::Drawing::with_last_panel))]
+pub(crate) fn push_last_panel(
+    out: &mut Vec<u8>,
+    extent: Extent,
+    frames: u32,
+) -> Result<(), OutOfMemory>
+    ensures { OnOk result (out.new.items ≡ with_last_panel extent out.old.items frames) }
+{
     if follows(extent, frames) {
         let y = panel_top(extent, frames) + 24;
         let note = "the run is over: this is the frame that would follow";
         return push_label(out, 120, y, "note", note, "");
     }
     Ok(())
+}
+
+/// The owner of a slot stands at its column.
+#[tactic(auto, unfolding(crate::specs::Drawing::with_owner))]
+pub(crate) fn push_owner(
+    out: &mut Vec<u8>,
+    extent: Extent,
+    column: Column,
+) -> Result<(), OutOfMemory>
+    ensures { OnOk result (out.new.items ≡ with_owner extent out.old.items column) }
+{
+    let x = column_left(extent, u32::from(column.slot)) + cell_width(extent) / 2;
+    let y = panel_top(extent, column.frame) + 58;
+    push_label(out, x, y, "owner", "B", Buffer::new().format(column.sender))
 }
 
 #[tactic(auto, unfolding(crate::specs::Drawing::with_name))]
@@ -355,7 +383,7 @@ fn push_sender(out: &mut Vec<u8>, sender: u16) -> Result<(), OutOfMemory>
     )
 }
 
-fn area(x: u64, y: u64, width: u64, height: u64) -> Area
+pub(crate) fn area(x: u64, y: u64, width: u64, height: u64) -> Area
     ensures { result ≡ record { x = x; y = y; width = width; height = height } }
 {
     Area {
@@ -408,11 +436,11 @@ pub(crate) fn push_legend(out: &mut Vec<u8>, extent: Extent) -> Result<(), OutOf
 }
 
 /// Which frames are drawn.
-#[tactic(auto, unfolding(crate::specs::Drawing::with_heading))]
-pub(crate) fn push_heading(out: &mut Vec<u8>, extent: Extent) -> Result<(), OutOfMemory>
-    ensures { OnOk result (out.new.items ≡ with_heading extent out.old.items) }
+#[tactic(auto, unfolding(crate::specs::Headings::with_heading))]
+pub(crate) fn push_heading(out: &mut Vec<u8>, sheet: Sheet) -> Result<(), OutOfMemory>
+    ensures { OnOk result (out.new.items ≡ with_heading sheet out.old.items) }
 {
-    let page = area(0, 0, picture_width(extent), picture_height(extent));
+    let page = area(0, 0, sheet_width(sheet), sheet_height(sheet));
     push_box(out, page, "page")?;
     push_label(
         out,
@@ -420,7 +448,7 @@ pub(crate) fn push_heading(out: &mut Vec<u8>, extent: Extent) -> Result<(), OutO
         28,
         "title",
         "first frame ",
-        Buffer::new().format(extent.first),
+        Buffer::new().format(sheet.extent.first),
     )?;
     push_label(
         out,
@@ -428,6 +456,6 @@ pub(crate) fn push_heading(out: &mut Vec<u8>, extent: Extent) -> Result<(), OutO
         28,
         "title",
         "last frame ",
-        Buffer::new().format(extent.last),
+        Buffer::new().format(sheet.extent.last),
     )
 }

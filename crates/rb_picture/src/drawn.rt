@@ -1,14 +1,18 @@
 //! A picture of lines.
 ghost use Rattle.std.specs.Prelude.{◌≡◌, ◌++◌, codes, IfOk, OnOk};
-ghost use Rattle.rb_picture.specs.Picture.{asked_of, frame_of, ground_of, panel_with, picture_text, pieces_of, pieces_of_line, with_pieces};
+ghost use Rattle.rb_picture.specs.Picture.{frame_of, ground_of, head_of, panel_with, picture_text, pieces_at, pieces_of, pieces_of_line, stand_with, with_pieces};
+ghost use Rattle.rb_picture.specs.Headings.{with_key};
 
+use crate::column::{Column, NO_COLUMN, column_with};
 use crate::drawing::{
-    push_breach, push_cell, push_ending, push_heading, push_legend, push_panel, push_tick,
+    push_breach, push_cell, push_ending, push_heading, push_last_panel, push_legend, push_owner,
+    push_panel, push_tick,
 };
-use crate::extent::{Extent, Facts, NO_FACTS, extent_of, facts_of, mark_of};
+use crate::extent::{Extent, Facts, NO_FACTS, facts_of, mark_of};
 use crate::line::Line;
 use crate::markup::{push, push_opening};
-use crate::places::{picture_height, picture_width};
+use crate::overview::{push_break, push_row, push_signature, push_square};
+use crate::sheet::{Sheet, View, sheet_height, sheet_width};
 use crate::style::STYLE;
 use rb_base::OutOfMemory;
 use std::alloc::Global;
@@ -20,6 +24,18 @@ pub struct Panel {
     pub frame: u32,
     pub facts: Facts,
 }
+
+/// The frame and the slot that are drawn.
+#[derive(Clone, Copy, Debug, PartialEq, Eq)]
+pub struct Stand {
+    pub panel: Panel,
+    pub column: Column,
+}
+
+const NO_STAND: Stand = Stand {
+    panel: NO_PANEL,
+    column: NO_COLUMN,
+};
 
 const NO_PANEL: Panel = Panel {
     mark: 0,
@@ -55,86 +71,158 @@ fn panel_with(panel: Panel, line: Line, lines: &[Line]) -> Panel
     }
 }
 
+// The stand at the first of these lines.
+fn stand_with(stand: Stand, line: Line, lines: &[Line]) -> Stand
+    ensures { result ≡ stand_with stand line lines.now }
+{
+    Stand {
+        panel: panel_with(stand.panel, line, lines),
+        column: column_with(stand.column, line, lines),
+    }
+}
+
 // The ground of another panel.
 fn push_ground_of(
     out: &mut Vec<u8>,
-    extent: Extent,
+    sheet: Sheet,
     before: Panel,
     after: Panel,
 ) -> Result<(), OutOfMemory>
-    ensures { OnOk result (out.new.items ≡ with_pieces extent out.old.items (ground_of before after)) }
+    ensures { OnOk result (out.new.items ≡ with_pieces sheet out.old.items (ground_of before after)) }
 {
     if after.mark == before.mark {
         return Ok(());
     }
-    push_panel(out, extent, after.frame, after.facts)
+    let (earlier, facts) = (before.facts.convicted, after.facts);
+    match sheet.view {
+        View::Panels => push_panel(out, sheet.extent, after.frame, facts),
+        View::Overview => push_row(out, sheet.extent, after.frame, earlier, facts.convicted),
+    }
 }
 
-// What a line shows.
-fn push_line(out: &mut Vec<u8>, extent: Extent, facts: Facts, line: Line) -> Result<(), OutOfMemory>
-    ensures { OnOk result (out.new.items ≡ with_pieces extent out.old.items (pieces_of_line facts line)) }
+// The head of another column.
+fn push_head_of(
+    out: &mut Vec<u8>,
+    sheet: Sheet,
+    before: Column,
+    after: Column,
+) -> Result<(), OutOfMemory>
+    ensures { OnOk result (out.new.items ≡ with_pieces sheet out.old.items (head_of before after)) }
+{
+    if after.mark == before.mark {
+        return Ok(());
+    }
+    match sheet.view {
+        View::Panels => push_owner(out, sheet.extent, after),
+        View::Overview => push_square(out, sheet.extent, after),
+    }
+}
+
+// What a line shows in its panel.
+fn push_in_panel(
+    out: &mut Vec<u8>,
+    extent: Extent,
+    facts: Facts,
+    line: Line,
+) -> Result<(), OutOfMemory>
+    ensures { OnOk result (out.new.items ≡ with_pieces (record { view = View.Panels; extent = extent }) out.old.items (pieces_of_line facts line)) }
 {
     match line {
-        Line::Epoch(l) => push_tick(
-            out,
-            extent,
-            l.frame,
-            l.node,
-            l.time.saturating_sub(facts.begins.least),
-        ),
+        Line::Epoch(l) => {
+            let after = l.time.saturating_sub(facts.begins.least);
+            push_tick(out, extent, l.frame, l.node, after)
+        }
         Line::Convicted(_) | Line::Port(_) => Ok(()),
         Line::Delivery(l) => push_cell(out, extent, l),
-        Line::End(frames) => push_ending(out, extent, frames),
+        Line::End(frames) => {
+            push_ending(out, frames)?;
+            push_last_panel(out, extent, frames)
+        }
         Line::Breach(place, cause) => push_breach(out, extent, place, cause),
     }
 }
 
-// What the first of these lines shows, and its panel.
+// What a line shows in an overview.
+fn push_in_overview(
+    out: &mut Vec<u8>,
+    extent: Extent,
+    facts: Facts,
+    line: Line,
+) -> Result<(), OutOfMemory>
+    ensures { OnOk result (out.new.items ≡ with_pieces (record { view = View.Overview; extent = extent }) out.old.items (pieces_of_line facts line)) }
+{
+    match line {
+        Line::Epoch(_) | Line::Convicted(_) | Line::Port(_) | Line::Delivery(_) => Ok(()),
+        Line::End(frames) => push_ending(out, frames),
+        Line::Breach(place, cause) => push_break(out, extent, place, cause),
+    }
+}
+
+// What a line shows.
+fn push_line(out: &mut Vec<u8>, sheet: Sheet, facts: Facts, line: Line) -> Result<(), OutOfMemory>
+    ensures { OnOk result (out.new.items ≡ with_pieces sheet out.old.items (pieces_of_line facts line)) }
+{
+    match sheet.view {
+        View::Panels => push_in_panel(out, sheet.extent, facts, line),
+        View::Overview => push_in_overview(out, sheet.extent, facts, line),
+    }
+}
+
+// What the first of these lines shows, and the stand at it.
 #[tactic(auto, using(crate::proofs::Turns::piece_turns))]
 fn push_next(
     out: &mut Vec<u8>,
-    extent: Extent,
-    panel: Panel,
+    sheet: Sheet,
+    stand: Stand,
     line: Line,
     lines: &[Line],
-) -> Result<Panel, OutOfMemory>
-    ensures { IfOk result (λ after. (after ≡ panel_with panel line lines.now)
-        × (out.new.items ≡ with_pieces extent out.old.items (ground_of panel after ++ pieces_of_line after.facts line))) }
+) -> Result<Stand, OutOfMemory>
+    ensures { IfOk result (λ after. (after ≡ stand_with stand line lines.now)
+        × (out.new.items ≡ with_pieces sheet out.old.items (pieces_at stand after line))) }
 {
-    let after = panel_with(panel, line, lines);
-    push_ground_of(out, extent, panel, after)?;
-    push_line(out, extent, after.facts, line)?;
+    let after = stand_with(stand, line, lines);
+    push_ground_of(out, sheet, stand.panel, after.panel)?;
+    push_head_of(out, sheet, stand.column, after.column)?;
+    push_line(out, sheet, after.panel.facts, line)?;
     Ok(after)
 }
 
 // What the lines show.
 #[tactic(auto, using(crate::proofs::Turns::piece_turns))]
-fn push_lines(out: &mut Vec<u8>, extent: Extent, lines: &[Line]) -> Result<(), OutOfMemory>
-    ensures { OnOk result (out.new.items ≡ with_pieces extent out.old.items (pieces_of lines.now)) }
+fn push_lines(out: &mut Vec<u8>, sheet: Sheet, lines: &[Line]) -> Result<(), OutOfMemory>
+    ensures { OnOk result (out.new.items ≡ with_pieces sheet out.old.items (pieces_of lines.now)) }
 {
-    let mut panel = NO_PANEL;
+    let mut stand = NO_STAND;
     for index in 0..lines.len() {
-        panel = push_next(out, extent, panel, lines[index], &lines[index..])?;
+        stand = push_next(out, sheet, stand, lines[index], &lines[index..])?;
     }
     Ok(())
 }
 
+// What colours and signs mean.
+fn push_key(out: &mut Vec<u8>, sheet: Sheet) -> Result<(), OutOfMemory>
+    ensures { OnOk result (out.new.items ≡ with_key sheet.view sheet.extent out.old.items) }
+{
+    match sheet.view {
+        View::Panels => push_legend(out, sheet.extent),
+        View::Overview => push_signature(out, sheet.extent),
+    }
+}
+
 /// The text of the picture of these lines.
 #[tactic(auto, unfolding(crate::specs::Picture::picture_text))]
-pub(crate) fn picture_of(alloc: Global, lines: &[Line]) -> Result<Vec<u8>, OutOfMemory>
-    ensures { IfOk result (λ v. v.items ≡ picture_text STYLE.now lines.now) }
+pub(crate) fn picture_of(
+    alloc: Global,
+    sheet: Sheet,
+    lines: &[Line],
+) -> Result<Vec<u8>, OutOfMemory>
+    ensures { IfOk result (λ v. v.items ≡ picture_text STYLE.now sheet lines.now) }
 {
-    let extent = extent_of(lines);
     let mut out = Vec::new(alloc);
-    push_opening(
-        &mut out,
-        picture_width(extent),
-        picture_height(extent),
-        STYLE,
-    )?;
-    push_heading(&mut out, extent)?;
-    push_legend(&mut out, extent)?;
-    push_lines(&mut out, extent, lines)?;
+    push_opening(&mut out, sheet_width(sheet), sheet_height(sheet), STYLE)?;
+    push_heading(&mut out, sheet)?;
+    push_key(&mut out, sheet)?;
+    push_lines(&mut out, sheet, lines)?;
     push(&mut out, "</svg>\n")?;
     Ok(out)
 }

@@ -1,5 +1,6 @@
 //! What holds of every picture. Each law is the contract of a function that does nothing.
 ghost use Rattle.rb_picture.specs.Laws.{IsWellFormed, OneCellEach};
+ghost use Rattle.rb_picture.specs.Sheets.{IsSmall};
 
 /// A picture has one cell for each delivery of its lines, in order, and no other cells.
 pub fn one_cell_each()
@@ -9,4 +10,9 @@ pub fn one_cell_each()
 /// The text of a picture is one element, in which all others nest and close and all text is escaped.
 pub fn a_picture_is_well_formed()
     ensures { IsWellFormed }
+{}
+
+/// An overview of up to 4,800 frames and 320 slots is no wider than 2,000 pixels and no higher than 4,000.
+pub fn an_overview_is_small()
+    ensures { IsSmall }
 {}

@@ -1,6 +1,7 @@
 //! A report of a run as a picture.
 #![tactic(auto)]
 
+pub mod column;
 pub mod draw;
 mod drawing;
 pub mod drawn;
@@ -10,9 +11,11 @@ pub mod form;
 pub mod laws;
 pub mod line;
 pub mod markup;
+mod overview;
 pub mod pages;
 mod places;
 pub mod reading;
+pub mod sheet;
 pub mod status;
 mod style;
 

@@ -24,7 +24,7 @@ const HELP: &str = "Usage: robus_picture [FIRST LAST] < REPORT > PICTURE
 Draws a run of a fault-tolerant broadcast bus from the report of robus run.
 
 words          what is written
-none           panels of all frames
+none           all frames in panels; from 13 whole frames on an overview
 FIRST LAST     panels of the frames from one number to the other
 --help, -h     this page; nothing is read
 --version      the name and the version; nothing is read

@@ -33,10 +33,10 @@ fn row_of(extent: Extent, node: NodeName) -> u64
 
 fn panel_height(extent: Extent) -> u64
     ensures value { result ≡ panel_height extent }
-    ensures least { 76 ≤ result }
-    ensures most { result ≤ 2621476 }
+    ensures least { 88 ≤ result }
+    ensures most { result ≤ 2621488 }
 {
-    76 + 20 * rows_of(extent)
+    88 + 20 * rows_of(extent)
 }
 
 pub(crate) fn panel_top(extent: Extent, frame: u32) -> u64
@@ -49,10 +49,10 @@ pub(crate) fn panel_top(extent: Extent, frame: u32) -> u64
 pub(crate) fn row_top(extent: Extent, frame: u32, row: u64) -> u64
     requires { row ≤ 131070 }
     ensures value { result ≡ row_top extent frame row }
-    ensures least { 56 ≤ result }
+    ensures least { 68 ≤ result }
     ensures most { result < 2 ^ 55 }
 {
-    panel_top(extent, frame) + 56 + 20 * row
+    panel_top(extent, frame) + 68 + 20 * row
 }
 
 pub(crate) fn cell_width(extent: Extent) -> u64
@@ -171,8 +171,8 @@ pub(crate) fn breach_area(extent: Extent, place: Place) -> Area
 {
     Area {
         x: column_left(extent, extent.high.min(u32::from(place.slot))),
-        y: row_top(extent, place.frame, 0) - 24,
+        y: row_top(extent, place.frame, 0) - 36,
         width: 3,
-        height: 20 * rows_of(extent) + 28,
+        height: 20 * rows_of(extent) + 40,
     }
 }

@@ -5,4 +5,4 @@ use Rattle.rb_picture.proofs.drawn.push_lines.Given as goal
 
 abbrev pub invariant-loop-index : goal.invariant-loop-index
 invariant-loop-index l =
-    with_pieces l.extent l.out.items (pieces_from l.panel (drop l.index l.lines)) ≡ with_pieces l.extent l.initial.out.items (pieces_of l.lines)
+    with_pieces l.sheet l.out.items (pieces_from l.stand (drop l.index l.lines)) ≡ with_pieces l.sheet l.initial.out.items (pieces_of l.lines)
