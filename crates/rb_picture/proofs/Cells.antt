@@ -5,7 +5,7 @@ use Rattle.rb_picture.specs.declared.line.Line.TheVariants as line
 use Rattle.rb_picture.specs.declared.column.Column.{Column}
 use Rattle.rb_picture.specs.declared.drawn.Stand.{Stand}
 use Rattle.rb_picture.specs.declared.extent.Facts.{Facts}
-use Rattle.rb_picture.specs.Picture.{Piece, ground_of, head_of, no_stand, pieces_at, pieces_from, pieces_of_line, stand_at}
+use Rattle.rb_picture.specs.Picture.{Piece, head_of, no_stand, pieces_at, pieces_from, pieces_of_line, stand_at}
 use Rattle.rb_picture.specs.Picture.Piece.{Ground, Head, Tick, Cell, Break, Ending}
 use Rattle.rb_picture.specs.Laws.{OneCellEach, cells_of, deliveries_of}
 

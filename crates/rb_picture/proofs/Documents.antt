@@ -17,9 +17,9 @@ use Rattle.rb_picture.specs.Headings.{with_heading, with_key}
 use Rattle.rb_picture.specs.Overview.{is_numbered, newly, with_break, with_break_words, with_frame_number, with_newcomer, with_newcomers, with_newcomers_of, with_outcomes, with_row, with_signature, with_signs, with_slot_range, with_square}
 use Rattle.rb_picture.specs.Sheets.{sheet_height, sheet_width}
 use Rattle.rb_picture.specs.Content.{AddsContent}
-use Rattle.rb_picture.specs.Markup.{with_label, with_opening}
+use Rattle.rb_picture.specs.Markup.{with_opening}
 use Rattle.rb_picture.specs.Extents.{biu_rows, rmu_rows}
-use Rattle.rb_picture.specs.Places.{is_wide, row_top, slots_of}
+use Rattle.rb_picture.specs.Places.{is_wide, slots_of}
 use Rattle.rb_picture.specs.Drawing.{follows, with_breach, with_cell, with_absence, with_cross, with_ending, with_ground, with_last_panel, with_legend, with_marks, with_name, with_names, with_names_of, with_owner, with_panel, with_sender, with_senders, with_slot_number, with_slots, with_state, with_states, with_states_of, with_strokes, with_tick}
 use Rattle.rb_picture.specs.Picture.{Piece, picture_text, pieces_of, with_part, with_piece, with_pieces}
 use Rattle.rb_picture.specs.Picture.Piece.{Ground, Head, Tick, Cell, Break, Ending}

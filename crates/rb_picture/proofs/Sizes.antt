@@ -3,8 +3,7 @@ use Rattle.std.proofs.Common.{◌≡◌, ℕ, ◌+◌, ◌*◌, ◌/◌, ◌≤�
 use Rattle.std.proofs.Math.Nat.{div-mul-le_self, max-le, min-le_left, min-le_right}
 use Rattle.std.proofs.lemmas.Bool.{leb-true}
 use Rattle.std.proofs.lemmas.Nat.{mul-le}
-use Rattle.rb_picture.specs.declared.extent.Extent.{Extent}
-use Rattle.rb_picture.specs.Overview.{frames_of, overview_height, overview_width, row_height, slot_width}
+use Rattle.rb_picture.specs.Overview.{frames_of, slot_width}
 use Rattle.rb_picture.specs.Places.{slots_of}
 use Rattle.rb_picture.specs.Sheets.{IsSmall}
 

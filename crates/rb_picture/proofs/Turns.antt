@@ -1,5 +1,5 @@
 -- a turn of each loop over lines, and its end
-use Rattle.std.proofs.Common.{◌≡◌, ◌∙◌, ℕ, Bool, true, false, ◌+◌, ◌<◌, ◌≤◌, ◌==◌, if◌then◌else◌, List, [], ◌∷◌, ◌++◌, length, get_or, drop, refl, sym, ap, subst, add-one}
+use Rattle.std.proofs.Common.{◌≡◌, ◌∙◌, ℕ, true, false, ◌+◌, ◌<◌, ◌≤◌, ◌==◌, if◌then◌else◌, List, [], ◌∷◌, ◌++◌, length, get_or, drop, refl, sym, ap, subst, add-one}
 use Rattle.std.proofs.lemmas.List.{at_drop_all, at_drop_more, drop_more}
 use Rattle.rb_base.specs.Nodes.{has}
 use Rattle.rb_picture.specs.declared.line.Line.{Line}

@@ -16,7 +16,7 @@ use Rattle.rb_picture.specs.declared.extent.Rows.{Rows}
 use Rattle.rb_picture.specs.declared.line.DeliveryLine.{DeliveryLine}
 use Rattle.rb_picture.specs.Extents.{biu_rows, rmu_rows, spread_of}
 use Rattle.rb_picture.specs.Markup.{each_below, with_box, with_label}
-use Rattle.rb_picture.specs.Places.{breach_area, cell_area, cell_width, column_left, grid_area, is_wide, names_left, panel_area, panel_top, picture_height, picture_width, row_top, slots_of, strip_area, tick_area}
+use Rattle.rb_picture.specs.Places.{breach_area, cell_area, cell_width, column_left, grid_area, is_wide, names_left, panel_area, panel_top, row_top, slots_of, strip_area, tick_area}
 
 -- the looks of the senders' cells, by number
 abbrev pub looks : List (List ℕ)

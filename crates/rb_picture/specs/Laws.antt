@@ -28,7 +28,7 @@ deliveries_of (line.Delivery l ∷ lines) = l ∷ deliveries_of lines
 deliveries_of (line.End frames ∷ lines) = deliveries_of lines
 deliveries_of (line.Breach place cause ∷ lines) = deliveries_of lines
 
--- a picture has one cell for each delivery, in order, and no other cells
+-- a picture in panels has one cell for each delivery, in order, and no other cells
 abbrev pub OneCellEach : Type 0
 OneCellEach = (lines : List Line) → cells_of (pieces_of lines) ≡ deliveries_of lines
 

@@ -1,5 +1,5 @@
 -- An overview: a row for each frame, a cell for each slot, in bands side by side.
-use Rattle.std.specs.Prelude.{ℕ, ◌+◌, ◌-◌, ◌*◌, ◌/◌, ◌%◌, ◌≤◌, min, max, nat_le, nat_lt, ◌==◌, ◌&&◌, ◌||◌, not, Bool, if◌then◌else◌, List, [], ◌∷◌, codes}
+use Rattle.std.specs.Prelude.{ℕ, ◌+◌, ◌-◌, ◌*◌, ◌/◌, ◌%◌, min, max, nat_le, nat_lt, ◌==◌, ◌&&◌, not, Bool, if◌then◌else◌, List, [], codes}
 use Rattle.std.specs.Fmt.{decimal}
 use Rattle.rb_base.specs.Nodes.{has, set_of, size}
 use Rattle.rb_base.specs.declared.values.Place.{Place}
@@ -24,11 +24,18 @@ band_rows = 1200
 
 -- the more there are, the smaller they are
 abbrev pub row_height : Extent → ℕ
-row_height extent = if nat_le (frames_of extent) 300 then 12 else if nat_le (frames_of extent) 600 then 6 else 3
+row_height extent =
+    if nat_le (frames_of extent) 300 then 12
+    else if nat_le (frames_of extent) 600 then 6
+    else 3
 
 abbrev pub slot_width : Extent → ℕ
 slot_width extent =
-    if nat_le (slots_of extent) 16 then 20 else if nat_le (slots_of extent) 32 then 10 else if nat_le (slots_of extent) 64 then 5 else if nat_le (slots_of extent) 160 then 2 else 1
+    if nat_le (slots_of extent) 16 then 20
+    else if nat_le (slots_of extent) 32 then 10
+    else if nat_le (slots_of extent) 64 then 5
+    else if nat_le (slots_of extent) 160 then 2
+    else 1
 
 -- the number of a frame, its cells, and two names
 abbrev pub band_width : Extent → ℕ

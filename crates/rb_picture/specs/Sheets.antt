@@ -35,4 +35,6 @@ sheet_height sheet = view_height sheet.view sheet.extent
 
 -- an overview of up to 4,800 frames and 320 slots is no wider than 2,000 pixels and no higher than 4,000
 abbrev pub IsSmall : Type 0
-IsSmall = (extent : Extent) → frames_of extent ≤ 4800 → slots_of extent ≤ 320 → (overview_width extent ≤ 2000) × (overview_height extent ≤ 4000)
+IsSmall =
+    (extent : Extent) → frames_of extent ≤ 4800 → slots_of extent ≤ 320
+    → (overview_width extent ≤ 2000) × (overview_height extent ≤ 4000)

@@ -135,12 +135,14 @@ fn draw_frames<S: Source, K: Sink>(
 
 /// Reads a report of `robus run` and writes one SVG picture of it, or writes a page about the program.
 ///
-/// With no words all frames are drawn, those of 13 whole frames and more as an overview, with two, decimal numbers FIRST and LAST in order and below 2^32, the frames from one to the other.
-/// With `--help`, `-h` or `--version` nothing is read, and the page is written.
+/// With no words all frames are drawn: up to 12 whole frames in panels, more as an overview. With two,
+/// decimal numbers FIRST and LAST in order and below 2^32, the frames from one to the other are drawn
+/// in panels. With `--help`, `-h` or `--version` nothing is read, and the page is written.
 ///
-/// `Done`: the picture or the page is written. `Usage`: the words are of no form; nothing was read or written. `Refused`: the input is no
-/// report; one line `refused CODE NAME LINE` says where and why. `TooLong`: the source gave more than 67,108,864 bytes. `ReadFault`,
-/// `WriteFault`: the source or the sink failed; what a failing sink took is a first part of what was due. `OutOfMemory`: an allocation
+/// `Done`: the picture or the page is written. `Usage`: the words are of no form; nothing was read or
+/// written. `Refused`: the input is no report; one line `refused CODE NAME LINE` says where and why.
+/// `TooLong`: the source gave more than 67,108,864 bytes. `ReadFault`, `WriteFault`: the source or the
+/// sink failed; what a failing sink took is a first part of what was due. `OutOfMemory`: an allocation
 /// failed before anything was written.
 pub fn draw<S: Source, K: Sink>(
     alloc: Global,

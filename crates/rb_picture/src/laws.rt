@@ -2,7 +2,7 @@
 ghost use Rattle.rb_picture.specs.Laws.{IsWellFormed, OneCellEach};
 ghost use Rattle.rb_picture.specs.Sheets.{IsSmall};
 
-/// A picture has one cell for each delivery of its lines, in order, and no other cells.
+/// A picture in panels has one cell for each delivery of its lines, in order, and no other cells.
 pub fn one_cell_each()
     ensures { OneCellEach }
 {}
