@@ -1,4 +1,4 @@
-"""The second model of the bus: `second_model.py` is tools/model. It wants Python 3.11."""
+"""What the package asks of the second model of the bus, `second_model.py`, which takes nothing from the package. It wants Python 3.11."""
 from __future__ import annotations
 
 import sys
