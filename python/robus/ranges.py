@@ -214,8 +214,6 @@ def of_ticks(values: Values, place: tuple) -> Iterator[tuple]:
     least = min(bus.length_of(slot, stage) for slot in set(slots) for stage in range(stages[0], stages[1] + 1))
     if "offset" in values.tables[place][1]:
         yield from number(values, place, "offset", 0, least - 1, ": the shortest window of the ranges has %d ticks" % least)
-    elif values.plan.h >= least:
-        yield 5, place, "%s has no offset, and tick h, which is %d, is not in windows of %d ticks" % (title(place), values.plan.h, least)
     most = values.plan.u - values.plan.r - 1 if in_sync_slot else 0
     yield from number(values, place, "early", 0, most, "" if in_sync_slot else ": a message comes early in the sync slot alone")
 

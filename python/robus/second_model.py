@@ -840,7 +840,7 @@ def say_in(bus, frames, entry):
         pair_in(entry["frames"], 0, frames - 1),
         slots,
         stages,
-        within(entry.get("offset", bus.plan.h), 0, min(lengths) - 1),
+        within(entry["offset"], 0, min(lengths) - 1) if "offset" in entry else bus.plan.h,
         within(entry.get("early", 0), 0, bus.plan.u - bus.plan.r - 1 if in_sync_slot else 0),
         tag,
         within(entry.get("word", 0), 0, (1 << 32) - 1),
