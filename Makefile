@@ -3,6 +3,7 @@
 # make bridge SCENARIO=examples/bridges/carried_words.toml   runs a bridge of two buses
 # make build                                       proves and builds the programs, where they are not up to date
 # make test                                        the gate: every proof, must-fail edit, test and program, and the documents
+# make library                                     proves the calls for C, and builds librobus.a and librobus.so in crates/robus_c/out
 # make bench                                       builds the programs and measures them
 # make examples                                    runs each example, and looks for the lines that its page names
 # make tutorial                                    runs the commands of docs/TUTORIAL.md, and compares what they print
@@ -15,12 +16,13 @@ PREFIX ?= /usr/local
 ROBUS = crates/robus/out/robus
 PICTURE = crates/robus_picture/out/robus_picture
 BRIDGE = crates/robus_bridge/out/robus_bridge
+LIBRARY = crates/robus_c/out/librobus
 AT = $(DESTDIR)$(PREFIX)
 PACKAGES = $(AT)/lib/python3/dist-packages
 COUNT = 1000
 SEED = 1
 
-.PHONY: run picture bridge build test bench examples tutorial compare install install-python uninstall
+.PHONY: run picture bridge build library test bench examples tutorial compare install install-python install-library uninstall
 
 run:
 	@test -n "$(SCENARIO)" || { echo "usage: make run SCENARIO=examples/one_silent_rmu.toml (or another of examples/)" >&2; exit 2; }
@@ -38,6 +40,9 @@ build:
 	tools/proved $(ROBUS) || (cd crates/robus && rt run -- run < stdin > /dev/null)
 	tools/proved $(PICTURE) || (cd crates/robus_picture && rt run < stdin > /dev/null)
 	tools/proved $(BRIDGE) || (cd crates/robus_bridge && rt run -- run < stdin > /dev/null)
+
+library:
+	tools/proved $(LIBRARY).so || tools/library
 
 test:
 	.ci/run
@@ -68,6 +73,14 @@ install:
 	tools/manual docs/FORMATS.md robus_formats 5 "messages and logs of a fault-tolerant broadcast bus" > "$(AT)/share/man/man5/robus_formats.5"
 	cp -R README.md docs examples "$(AT)/share/doc/robus"
 	$(MAKE) install-python
+	@tools/proved $(LIBRARY).so && $(MAKE) install-library || echo "make install: no library is up to date (make library): it is left out" >&2
+
+install-library:
+	install -d "$(AT)/include" "$(AT)/lib/pkgconfig"
+	install -m 644 include/robus.h "$(AT)/include/robus.h"
+	install -m 644 $(LIBRARY).a "$(AT)/lib/librobus.a"
+	install -m 755 $(LIBRARY).so "$(AT)/lib/librobus.so"
+	printf 'prefix=%s\nName: robus\nDescription: a fault-tolerant broadcast bus, as proved calls\nVersion: 1.0\nCflags: -I$${prefix}/include\nLibs: -L$${prefix}/lib -lrobus\n' "$(PREFIX)" > "$(AT)/lib/pkgconfig/robus.pc"
 
 install-python:
 	install -d "$(PACKAGES)/robus"
@@ -75,4 +88,5 @@ install-python:
 
 uninstall:
 	rm -f "$(AT)/bin/robus" "$(AT)/bin/robus_picture" "$(AT)/bin/robus_bridge" "$(AT)/share/man/man1/robus.1" "$(AT)/share/man/man1/robus_picture.1" "$(AT)/share/man/man1/robus_bridge.1" "$(AT)/share/man/man5/robus_scenario.5" "$(AT)/share/man/man5/robus_formats.5"
+	rm -f "$(AT)/include/robus.h" "$(AT)/lib/librobus.a" "$(AT)/lib/librobus.so" "$(AT)/lib/pkgconfig/robus.pc"
 	rm -rf "$(AT)/share/doc/robus" "$(PACKAGES)/robus"

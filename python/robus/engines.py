@@ -24,8 +24,8 @@ PACKAGE = Path(__file__).resolve().parent
 # The top of the repository, where the package lies in one; and the prefix, where it is installed
 TOP = PACKAGE.parents[1]
 PREFIX = PACKAGE.parents[3] if PACKAGE.parent.name == "dist-packages" else None
-FIRST_LENGTH, MOST_LENGTH = 1 << 20, 1 << 30
-WRITING_FAILED = 6
+FIRST_LENGTH = 1 << 20
+TOO_SMALL = 9
 
 
 @dataclass(frozen=True)
@@ -83,16 +83,15 @@ class Library(Engine):
         return function_of(self.path, program) is not None
 
     def call(self, words: Sequence[str], data: bytes = b"", program: str = "robus") -> Answer:
-        """A buffer that is too small ends a call as a fault of writing does: a greater one is
-        tried."""
+        """Where the buffer is too small, the answer says how many bytes are wanted."""
         call, length = function_of(self.path, program), FIRST_LENGTH
         text = "\0".join(words).encode()
         while True:
             buffer = ctypes.create_string_buffer(length)
             found = call(text, len(text), data, len(data), buffer, length)
-            if found.status != WRITING_FAILED or length >= MOST_LENGTH:
+            if found.status != TOO_SMALL:
                 return Answer(found.status, ctypes.string_at(buffer, found.length))
-            length *= 8
+            length = found.length
 
 
 @dataclass(frozen=True)

@@ -1,0 +1,149 @@
+-- What the clauses of `run_robus` come to over bytes in memory.
+use Rattle.std.proofs.Common.{◌≡◌, ◌⊎◌, ⊤, ℕ, ◌<◌, List, [], String, map, string_bytes, Option, None, Some, true, false, IsTrue, inl, inr, sym, ap, subst, ◌∙◌, refl, arith}
+use Rattle.std.specs.declared.alloc.Global.{Global}
+use Rattle.rb_outside.specs.Causes.{Rose}
+use Rattle.rb_world.specs.declared.drive.FirstDrive.{FirstDrive}
+use Rattle.rb_library.specs.Held.{Held, faults_of}
+use Rattle.rb_library.proofs.OverBytes.{fresh, given_over, never_rose, no_fault, read_is, written_is}
+use Rattle.rb_top.specs.declared.form.Form.{Form}
+use Rattle.rb_top.specs.declared.form.Form.TheVariants.{Run, Check, Gen, Stress, Record, Replay, Spell, Letters, Group, Listen, Show}
+use Rattle.rb_top.specs.declared.status.Status.{Status}
+use Rattle.rb_top.specs.declared.status.Status.TheVariants as code
+use Rattle.rb_top.specs.Answers.{Completes, Ends, FailsToWrite, IsDue, IsEnd, IsLeft, IsWithin, NothingFails, Refuses, Untouched, UsageExactly}
+use Rattle.rb_top.specs.Inputs.{IsReadBy, IsRefusedWith, IsTextOf, IsUnread, IsUnreadBy, limit_of}
+use Rattle.rb_top.specs.Promise as outside
+use Rattle.rb_top.specs.Statuses.{HasEnded, MayRefuse}
+use Rattle.rb_top.specs.Texts.{Telling}
+use Rattle.rb_top.specs.Words.{AskFor}
+use Rattle.robus_c.specs.Bus.{Answers, AnswersForm, Ask, IsOver, KeepsItsPromise, KeepsTheHeadline, SumsTheHeadline, number_of, read_by}
+
+-- Words.
+
+pub to_asked : (words : List (String Global)) (form : Form) → Ask (map string_bytes words) form → AskFor words form
+to_asked words form a = record { same = a.same; in_range = a.in_range }
+
+pub from_asked : (words : List (String Global)) (form : Form) → AskFor words form → Ask (map string_bytes words) form
+from_asked words form a = record { same = a.same; in_range = a.in_range }
+
+-- Input.
+
+read_by_is : (limit : Option ℕ) (input source source' bytes : List ℕ) → source ≡ input → IsReadBy limit (Some source) (Some source') bytes → bytes ≡ read_by limit input
+read_by_is None input source source' bytes e r = r
+read_by_is (Some limit) input source source' bytes e r = read_is input source source' bytes e r
+
+is_left : (limit : Option ℕ) (input source : List ℕ) → source ≡ input → IsLeft limit (Some source) (read_by limit input)
+is_left None input source e = refl
+is_left (Some limit) input source e = ap Some e
+
+is_over : (limit : Option ℕ) (status : Status) (input source source' : List ℕ) → source ≡ input
+    → IsUnreadBy limit status (Some source) (Some source') 0 0 → status ≡ code.TooLong → IsOver limit (read_by limit input)
+is_over None status input source source' e u long = absurd (u.not_long long)
+is_over (Some limit) status input source source' e u long = given_over limit input source source' e (u.too_long long)
+
+never_unread : (limit : Option ℕ) (status : Status) (source source' : List ℕ) → IsUnreadBy limit status (Some source) (Some source') 0 0 → status ≡ code.ReadFault → ⊥
+never_unread None status source source' u fault = u.no_fault fault
+never_unread (Some limit) status source source' u fault = never_rose (u.fault fault)
+
+-- The promise.
+
+headline : (tells : Telling) (status : Status) (input source source' : List ℕ) (sink sink' : Held) → source ≡ input → sink ≡ fresh
+    → outside.KeepsTheHeadline tells status (Some source) (Some source') (Some sink.bytes) (Some sink'.bytes)
+    → KeepsTheHeadline tells status input sink'.bytes
+headline tells status input source source' sink sink' e f k = record {
+  scenario = k.scenario;
+  accepted = subst (λ bytes. IsTextOf bytes k.scenario) (read_is input source source' k.input e k.read) k.accepted;
+  is = written_is sink sink' _ f k.written;
+  ends = k.ends;
+  promise = k.promise;
+  machine = k.machine;
+  nodes = k.nodes;
+}
+
+sums : (seed frames : ℕ) (status : Status) (sink sink' : Held) → sink ≡ fresh
+    → outside.SumsTheHeadline seed frames status (Some sink.bytes) (Some sink'.bytes) → SumsTheHeadline seed frames status sink'.bytes
+sums seed frames status sink sink' f k = record {
+  ends = k.ends;
+  is = written_is sink sink' _ f k.written;
+  promise = k.promise;
+  machine = k.machine;
+  nodes = k.nodes;
+}
+
+promised : (form : Form) (status : Status) (input source source' : List ℕ) (sink sink' : Held) → source ≡ input → sink ≡ fresh
+    → outside.KeepsItsPromise form status (Some source) (Some source') (Some sink.bytes) (Some sink'.bytes)
+    → KeepsItsPromise form status (read_by (limit_of form) input) sink'.bytes
+promised Run status input source source' sink sink' e f k = headline _ status input source source' sink sink' e f k
+promised Check status input source source' sink sink' e f k = tt
+promised (Gen seed frames) status input source source' sink sink' e f k = tt
+promised (Stress seed frames) status input source source' sink sink' e f k = sums seed frames status sink sink' f k
+promised (Record node) status input source source' sink sink' e f k = tt
+promised Replay status input source source' sink sink' e f k = tt
+promised (Spell letter) status input source source' sink sink' e f k = tt
+promised Letters status input source source' sink sink' e f k = headline _ status input source source' sink sink' e f k
+promised (Group which members) status input source source' sink sink' e f k = headline _ status input source source' sink sink' e f k
+promised (Listen skip) status input source source' sink sink' e f k = tt
+promised (Show flag) status input source source' sink sink' e f k = tt
+
+-- Answers.
+
+not_usage : (status : Status) → MayRefuse status → ¬ (status ≡ code.Usage)
+not_usage status may e = subst MayRefuse e may
+
+-- all clauses of the call, with a source of this input and an empty sink, of which no call failed
+pub over_bytes : (words : List (String Global)) (status : Status) (input source source' : List ℕ) (sink sink' : Held) (drive drive' : FirstDrive)
+    → source ≡ input → sink ≡ fresh → sink'.failed ≡ false
+    → UsageExactly status words
+    → Untouched words status source source' sink sink' drive drive'
+    → (HasEnded status → (form : Form) → AskFor words form → Ends form status (Some source) (Some source') (Some sink.bytes) (Some sink'.bytes) true None None)
+    → (IsTrue true → HasEnded status → (form : Form) → AskFor words form
+      → outside.KeepsItsPromise form status (Some source) (Some source') (Some sink.bytes) (Some sink'.bytes))
+    → (status ≡ code.Refused → (form : Form) → AskFor words form → Refuses form (Some source) (Some source') (Some sink.bytes) (Some sink'.bytes))
+    → ((form : Form) → AskFor words form → IsUnread form status (Some source) (Some source') 0 0)
+    → (status ≡ code.WriteFault → (form : Form) → AskFor words form
+      → FailsToWrite form (Some source) (Some source') (Some sink.bytes) (Some sink'.bytes) (faults_of sink) (faults_of sink') true None None)
+    → ((form : Form) → AskFor words form → Completes form status (Some source) 0 0 (faults_of sink) (faults_of sink'))
+    → Answers (map string_bytes words) input sink'.bytes status
+over_bytes words status input source source' sink sink' drive drive' e f ok usage untouched ends promise refuses unread fails completes = record {
+  unknown = λ u form a. usage.unknown u form (to_asked words form a);
+  usage = λ none. inl (usage.refused (λ form a. none form (from_asked words form a)));
+  nothing = λ w. ap (λ s. s.bytes) (untouched.unwritten w) ∙ ap (λ s. s.bytes) f;
+  reads = λ fault. let known : (form : Form) × AskFor words form = usage.known (not_usage status (subst MayRefuse (sym fault) tt)) in
+    never_unread (limit_of known.0) status source source' (unread known.0 known.1) fault;
+  writes = λ fault. let known : (form : Form) × AskFor words form = usage.known (not_usage status (subst MayRefuse (sym fault) tt)) in
+    no_fault sink sink' f ok (fails fault known.0 known.1).rose;
+  of_form = λ form a.
+    let asked : AskFor words form = to_asked words form a in
+    let input_is : (limit : Option ℕ) (bytes : List ℕ) → IsReadBy limit (Some source) (Some source') bytes → bytes ≡ read_by limit input = λ limit bytes r. read_by_is limit input source source' bytes e r in
+    record {
+      promise = λ h. promised form status input source source' sink sink' e f (promise refl h form asked);
+      ended = λ h. let d : Ends form status (Some source) (Some source') (Some sink.bytes) (Some sink'.bytes) true None None = ends h form asked in
+        subst (λ bytes. IsDue form bytes true None None status sink'.bytes) (input_is (limit_of form) d.input d.read)
+        (subst (λ text. IsDue form d.input true None None status text) (sym (written_is sink sink' d.text f d.written)) d.due);
+      refused = λ r. let d : Refuses form (Some source) (Some source') (Some sink.bytes) (Some sink'.bytes) = refuses r form asked in
+        subst (λ bytes. IsRefusedWith form bytes sink'.bytes) (input_is (limit_of form) d.input d.read)
+        (subst (λ text. IsRefusedWith form d.input text) (sym (written_is sink sink' d.line f d.written)) d.refused);
+      too_long = λ long. is_over (limit_of form) status input source source' e (unread form asked) long;
+      complete = λ end is within. (completes form asked).ended (read_by (limit_of form) input) end (is_left (limit_of form) input source e) is
+        (record { within = within; no_read = never_rose; no_write = no_fault sink sink' f ok });
+      refused_at_once = λ line is within. (completes form asked).refused_at_once (read_by (limit_of form) input) line (is_left (limit_of form) input source e) is
+        (record { within = within; no_read = never_rose; no_write = no_fault sink sink' f ok });
+    };
+}
+
+-- want of memory, before any word is looked at
+pub no_memory : (words : List (List ℕ)) (input : List ℕ) → Answers words input [] code.OutOfMemory
+no_memory words input = record {
+  unknown = λ e. let n : 7 ≡ 2 = ap number_of e in absurd (omega (arith, n));
+  usage = λ _. inr refl;
+  nothing = λ _. refl;
+  reads = λ e. let n : 7 ≡ 5 = ap number_of e in absurd (omega (arith, n));
+  writes = λ e. let n : 7 ≡ 6 = ap number_of e in absurd (omega (arith, n));
+  of_form = λ form a. record {
+    promise = λ h. absurd h;
+    ended = λ h. absurd h;
+    refused = λ e. let n : 7 ≡ 3 = ap number_of e in absurd (omega (arith, n));
+    too_long = λ e. let n : 7 ≡ 4 = ap number_of e in absurd (omega (arith, n));
+    complete = λ _ _ _. inr refl;
+    refused_at_once = λ _ _ _. inr refl;
+  };
+}

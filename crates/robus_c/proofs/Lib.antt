@@ -1,0 +1,3 @@
+pub mod BusOverBytes
+pub mod BridgeOverBytes
+pub mod PictureOverBytes

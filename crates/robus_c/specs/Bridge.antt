@@ -1,0 +1,73 @@
+-- What `robus_bridge_call` promises of the very bytes.
+use Rattle.std.specs.Prelude.{ℕ, ◌≡◌, ◌<◌, ◌≤◌, ◌⊎◌, List, [], length}
+use Rattle.rb_library.specs.Words.{words_in}
+use Rattle.rb_flags.specs.declared.Flag.{Flag}
+use Rattle.rb_rules_bridge.specs.Bridges.{Bridge, IsBridge}
+use Rattle.rb_rules_bridge.specs.Texts.{bridge_text}
+use Rattle.rb_laws_bridge.specs.Laws.{WordsCrossOn}
+use Rattle.rb_bridge_document.specs.Acceptance.{IsBridgeAccepted}
+use Rattle.rb_bridge_top.specs.declared.form.Form.{Form}
+use Rattle.rb_bridge_top.specs.declared.form.Form.TheVariants.{Run, Show}
+use Rattle.rb_bridge_top.specs.declared.status.Status.{Status}
+use Rattle.rb_bridge_top.specs.declared.status.Status.TheVariants as code
+use Rattle.rb_bridge_top.specs.Inputs.{IsRefusedWith, input_limit}
+use Rattle.rb_bridge_top.specs.Pages.{page_text}
+use Rattle.rb_bridge_top.specs.Statuses.{HasEnded, WritesNothing, end_of}
+use Rattle.rb_bridge_top.specs.Words.{words_of}
+use Rattle.robus_c.specs.declared.answer.Answer.{Answer}
+use Rattle.robus_c.specs.Put.{AreNoText, IsPut}
+
+-- the number that a status has in the answer
+abbrev pub number_of : Status → ℕ
+number_of code.Done = 0
+number_of code.Breach = 1
+number_of code.Usage = 2
+number_of code.Refused = 3
+number_of code.TooLong = 4
+number_of code.ReadFault = 5
+number_of code.WriteFault = 6
+number_of code.OutOfMemory = 7
+
+-- these words are those of the form
+abbrev pub Ask : List (List ℕ) → Form → Type 0
+Ask words form = words ≡ words_of form
+
+-- The promise of `run`, at Done and at Breach
+pub record KeepsTheBridge (status : Status) (input output : List ℕ) : Type 0 where
+  pub bridge : Bridge
+  pub accepted : IsBridgeAccepted input bridge  -- the input is the text of an accepted bridge
+  pub lawful : IsBridge bridge  -- whose buses are lawful, and which fits them
+  pub is : output ≡ bridge_text bridge  -- the output is what is said of that bridge
+  pub ends : status ≡ end_of bridge  -- the answer is Breach exactly where it ends with one
+  pub promise : WordsCrossOn bridge  -- and up to a breach, words cross it
+
+-- The answer to `run`
+pub record AnswersRun (input output : List ℕ) (status : Status) : Type 0 where
+  pub promise : HasEnded status → KeepsTheBridge status input output
+  pub refused : status ≡ code.Refused → IsRefusedWith input output  -- the input is refused, and the output is the line that says why
+  pub too_long : status ≡ code.TooLong → input_limit < length input
+  pub complete : (b : Bridge) → IsBridgeAccepted input b → length input ≤ input_limit
+      → (status ≡ end_of b) ⊎ (status ≡ code.OutOfMemory)  -- the answer that is due comes, or memory runs out
+  pub refused_at_once : (line : List ℕ) → IsRefusedWith input line → length input ≤ input_limit
+      → (status ≡ code.Refused) ⊎ (status ≡ code.OutOfMemory)
+
+-- The answer to words. Reading and writing never fail
+pub record Answers (words : List (List ℕ)) (input output : List ℕ) (status : Status) : Type 0 where
+  pub unknown : status ≡ code.Usage → (form : Form) → ¬ Ask words form
+  pub usage : ((form : Form) → ¬ Ask words form) → (status ≡ code.Usage) ⊎ (status ≡ code.OutOfMemory)
+  pub nothing : WritesNothing status → output ≡ []
+  pub reads : ¬ (status ≡ code.ReadFault)
+  pub writes : ¬ (status ≡ code.WriteFault)
+  pub shown : (flag : Flag) → Ask words (Show flag) → ((status ≡ code.Done) × (output ≡ page_text flag)) ⊎ (status ≡ code.OutOfMemory)
+  pub run : Ask words Run → AnswersRun input output status
+
+-- words are answered so, and that output is put to the host's bytes
+pub record IsAnswered (words : List (List ℕ)) (input before after : List ℕ) (answer : Answer) : Type 0 where
+  pub status : Status
+  pub output : List ℕ
+  pub answers : Answers words input output status
+  pub put : IsPut (number_of status) output before after answer
+
+-- what `robus_bridge_call` answers
+abbrev pub IsBridgeAnswer : List ℕ → List ℕ → List ℕ → List ℕ → Answer → Type 0
+IsBridgeAnswer words input before after answer = AreNoText words before after answer ⊎ IsAnswered (words_in words) input before after answer

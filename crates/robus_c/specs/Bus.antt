@@ -1,0 +1,109 @@
+-- What `robus_call` promises of the very bytes.
+use Rattle.std.specs.Prelude.{⊤, ℕ, ◌≡◌, ◌<◌, ◌≤◌, ◌⊎◌, true, List, [], length, Option, Some, None}
+use Rattle.rb_library.specs.Words.{words_in}
+use Rattle.rb_rules.specs.Goodness.{Scenario}
+use Rattle.rb_rules.specs.Headline.{Headline}
+use Rattle.rb_rules.specs.Rounds.{records_of}
+use Rattle.rb_rules.specs.StandsFor.{StandsFor}
+use Rattle.rb_laws_events.specs.Promise.{RunningNodesKeepThePromise}
+use Rattle.rb_gen.specs.Generated.{generated}
+use Rattle.rb_top.specs.declared.form.Form.{Form}
+use Rattle.rb_top.specs.declared.form.Form.TheVariants.{Run, Check, Gen, Stress, Record, Replay, Spell, Letters, Group, Listen, Show}
+use Rattle.rb_top.specs.declared.status.Status.{Status}
+use Rattle.rb_top.specs.declared.status.Status.TheVariants as code
+use Rattle.rb_top.specs.Answers.{EndsAs, IsDue, IsEnd, IsWithin}
+use Rattle.rb_top.specs.Inputs.{IsRefusedWith, IsTextOf, limit_of}
+use Rattle.rb_top.specs.Statuses.{HasEnded, WritesNothing}
+use Rattle.rb_top.specs.Texts.{Telling, summary_with, told_by_group, told_by_letters, told_by_run}
+use Rattle.rb_top.specs.Words.{IsInRange, words_of}
+use Rattle.robus_c.specs.declared.answer.Answer.{Answer}
+use Rattle.robus_c.specs.Put.{AreNoText, IsPut}
+
+-- the number that a status has in the answer
+abbrev pub number_of : Status → ℕ
+number_of code.Done = 0
+number_of code.Breach = 1
+number_of code.Usage = 2
+number_of code.Refused = 3
+number_of code.TooLong = 4
+number_of code.ReadFault = 5
+number_of code.WriteFault = 6
+number_of code.OutOfMemory = 7
+
+-- these words are those of the form, whose numbers and letter are in range
+pub record Ask (words : List (List ℕ)) (form : Form) : Type 0 where
+  pub same : words ≡ words_of form
+  pub in_range : IsInRange form
+
+-- what is read of the input: all of it, or nothing by a form that reads nothing
+abbrev pub read_by : Option ℕ → List ℕ → List ℕ
+read_by None input = []
+read_by (Some limit) input = input
+
+-- the input is longer than the form allows
+abbrev pub IsOver : Option ℕ → List ℕ → Type 0
+IsOver None input = ⊥
+IsOver (Some limit) input = limit < length input
+
+-- The promise of `run`, of `letters` and of `group`, at Done and at Breach
+pub record KeepsTheHeadline (tells : Telling) (status : Status) (input output : List ℕ) : Type 0 where
+  pub scenario : Scenario
+  pub accepted : IsTextOf input scenario  -- the input is the text of an accepted scenario
+  pub is : output ≡ tells scenario (records_of scenario [])  -- the output is what is told of its rounds
+  pub ends : EndsAs scenario status  -- the answer is Breach exactly where they end with one
+  pub promise : Headline scenario []  -- up to the breach the bus keeps its promise
+  pub machine : StandsFor scenario []  -- and all good nodes are one machine
+  pub nodes : RunningNodesKeepThePromise scenario  -- and so do the nodes that run, in every world of its events
+
+-- The promise of `stress`, at Done and at Breach
+pub record SumsTheHeadline (seed frames : ℕ) (status : Status) (output : List ℕ) : Type 0 where
+  pub ends : EndsAs (generated seed frames) status  -- the answer is Breach exactly where its rounds end with one
+  pub is : output ≡ summary_with ends.ending (records_of (generated seed frames) [])  -- the output is the numbers of its rounds
+  pub promise : Headline (generated seed frames) []  -- up to the breach the bus keeps its promise
+  pub machine : StandsFor (generated seed frames) []  -- and all good nodes are one machine
+  pub nodes : RunningNodesKeepThePromise (generated seed frames)  -- and so do the nodes that run, in every world of its events
+
+-- the promise of a form. There is none where no bus is run, or one node's log is all that is told
+abbrev pub KeepsItsPromise : Form → Status → List ℕ → List ℕ → Type 0
+KeepsItsPromise Run status input output = KeepsTheHeadline told_by_run status input output
+KeepsItsPromise Check status input output = ⊤
+KeepsItsPromise (Gen seed frames) status input output = ⊤
+KeepsItsPromise (Stress seed frames) status input output = SumsTheHeadline seed frames status output
+KeepsItsPromise (Record node) status input output = ⊤
+KeepsItsPromise Replay status input output = ⊤
+KeepsItsPromise (Spell letter) status input output = ⊤
+KeepsItsPromise Letters status input output = KeepsTheHeadline told_by_letters status input output
+KeepsItsPromise (Group which members) status input output = KeepsTheHeadline (told_by_group which members) status input output
+KeepsItsPromise (Listen skip) status input output = ⊤
+KeepsItsPromise (Show flag) status input output = ⊤
+
+-- The answer to a form, for what is read of the input
+pub record AnswersForm (form : Form) (input output : List ℕ) (status : Status) : Type 0 where
+  pub promise : HasEnded status → KeepsItsPromise form status input output
+  pub ended : HasEnded status → IsDue form input true None None status output  -- the output is the form's text
+  pub refused : status ≡ code.Refused → IsRefusedWith form input output  -- the input is refused, and the output is the line that says why
+  pub too_long : status ≡ code.TooLong → IsOver (limit_of form) input
+  pub complete : (end : Status) → IsEnd form input end → IsWithin (limit_of form) input
+      → (status ≡ end) ⊎ (status ≡ code.OutOfMemory)  -- the answer that is due comes, or memory runs out
+  pub refused_at_once : (line : List ℕ) → IsRefusedWith form input line → IsWithin (limit_of form) input
+      → (status ≡ code.Refused) ⊎ (status ≡ code.OutOfMemory)
+
+-- The answer to words. Reading and writing never fail
+pub record Answers (words : List (List ℕ)) (input output : List ℕ) (status : Status) : Type 0 where
+  pub unknown : status ≡ code.Usage → (form : Form) → ¬ Ask words form
+  pub usage : ((form : Form) → ¬ Ask words form) → (status ≡ code.Usage) ⊎ (status ≡ code.OutOfMemory)
+  pub nothing : WritesNothing status → output ≡ []
+  pub reads : ¬ (status ≡ code.ReadFault)
+  pub writes : ¬ (status ≡ code.WriteFault)
+  pub of_form : (form : Form) → Ask words form → AnswersForm form (read_by (limit_of form) input) output status
+
+-- words are answered so, and that output is put to the host's bytes
+pub record IsAnswered (words : List (List ℕ)) (input before after : List ℕ) (answer : Answer) : Type 0 where
+  pub status : Status
+  pub output : List ℕ
+  pub answers : Answers words input output status
+  pub put : IsPut (number_of status) output before after answer
+
+-- what `robus_call` answers
+abbrev pub IsBusAnswer : List ℕ → List ℕ → List ℕ → List ℕ → Answer → Type 0
+IsBusAnswer words input before after answer = AreNoText words before after answer ⊎ IsAnswered (words_in words) input before after answer

@@ -1,0 +1,4 @@
+pub mod Put
+pub mod Bus
+pub mod Bridge
+pub mod Picture

@@ -1,0 +1,60 @@
+-- What `robus_picture_call` promises of the very bytes.
+use Rattle.std.specs.Prelude.{ℕ, ◌≡◌, ◌<◌, ◌⊎◌, List, [], length}
+use Rattle.rb_library.specs.Words.{words_in}
+use Rattle.rb_picture.specs.declared.form.Form.{Form}
+use Rattle.rb_picture.specs.declared.form.Form.TheVariants.{Draw, Show}
+use Rattle.rb_picture.specs.declared.status.Status.{Status}
+use Rattle.rb_picture.specs.declared.status.Status.TheVariants as code
+use Rattle.rb_picture.specs.Answers.{IsPicture, IsRefusal, WritesNothing, report_limit}
+use Rattle.rb_picture.specs.Forms.{IsInRange, words_of}
+use Rattle.rb_picture.specs.Pages.{page_text}
+use Rattle.robus_c.specs.declared.answer.Answer.{Answer}
+use Rattle.robus_c.specs.Put.{AreNoText, IsPut}
+
+-- the number that a status has in the answer
+abbrev pub number_of : Status → ℕ
+number_of code.Done = 0
+number_of code.Usage = 2
+number_of code.Refused = 3
+number_of code.TooLong = 4
+number_of code.ReadFault = 5
+number_of code.WriteFault = 6
+number_of code.OutOfMemory = 7
+
+-- these words are those of the form, whose numbers are in range
+pub record Ask (words : List (List ℕ)) (form : Form) : Type 0 where
+  pub same : words ≡ words_of form
+  pub in_range : IsInRange form
+
+-- the output is what the form asks for: the picture, in this style, of these frames of the report that the input is, or a page
+abbrev pub Gives : List ℕ → Form → List ℕ → List ℕ → Type 0
+Gives style (Draw frames) input output = IsPicture style frames input output
+Gives style (Show page) input output = output ≡ page_text page
+
+-- the words ask for a form, and the output is what it asks for. The style is that of `draw`
+pub record IsDone (words : List (List ℕ)) (input output : List ℕ) : Type 0 where
+  pub style : List ℕ
+  pub form : Form
+  pub asked : Ask words form
+  pub gives : Gives style form input output
+
+-- The answer to words. Reading and writing never fail
+pub record Answers (words : List (List ℕ)) (input output : List ℕ) (status : Status) : Type 0 where
+  pub unknown : status ≡ code.Usage → (form : Form) → ¬ Ask words form
+  pub nothing : WritesNothing status → output ≡ []
+  pub reads : ¬ (status ≡ code.ReadFault)
+  pub writes : ¬ (status ≡ code.WriteFault)
+  pub done : status ≡ code.Done → IsDone words input output
+  pub refused : status ≡ code.Refused → IsRefusal input output  -- the input is no report, and the output is the line that says where and why
+  pub too_long : status ≡ code.TooLong → report_limit < length input
+
+-- words are answered so, and that output is put to the host's bytes
+pub record IsAnswered (words : List (List ℕ)) (input before after : List ℕ) (answer : Answer) : Type 0 where
+  pub status : Status
+  pub output : List ℕ
+  pub answers : Answers words input output status
+  pub put : IsPut (number_of status) output before after answer
+
+-- what `robus_picture_call` answers
+abbrev pub IsPictureAnswer : List ℕ → List ℕ → List ℕ → List ℕ → Answer → Type 0
+IsPictureAnswer words input before after answer = AreNoText words before after answer ⊎ IsAnswered (words_in words) input before after answer

@@ -1,0 +1,56 @@
+//! The three programs as calls for C, over bytes in memory. No call keeps anything: several threads of a host may call at once, each with
+//! bytes of its own.
+#![tactic(auto)]
+
+ghost use Rattle.robus_c.specs.Bridge.{IsBridgeAnswer};
+ghost use Rattle.robus_c.specs.Bus.{IsBusAnswer};
+ghost use Rattle.robus_c.specs.Picture.{IsPictureAnswer};
+
+pub mod answer;
+mod bridge;
+mod bus;
+mod picture;
+
+use answer::Answer;
+use std::alloc::Global;
+
+/// What `robus` does with these words, a NUL byte between one and the next, and this input. Its output stands in `output`, and the answer
+/// has the number of its status, 0 to 4 or 7, and the number of bytes of the output. Where there are more than `output` has room for, the
+/// status is 9 and the first of them stand there. Where the words are not UTF-8, the status is 8. Beyond its output `output` is as it was.
+#[unsafe(no_mangle)]
+pub extern "C" fn robus_call(
+    alloc: Global,
+    words: &[u8],
+    input: &[u8],
+    output: &mut [u8],
+) -> Answer
+    ensures { IsBusAnswer words.now input.now output.old output.new result }
+{
+    bus::call(alloc, words, input, output)
+}
+
+/// The same for `robus_bridge`.
+#[unsafe(no_mangle)]
+pub extern "C" fn robus_bridge_call(
+    alloc: Global,
+    words: &[u8],
+    input: &[u8],
+    output: &mut [u8],
+) -> Answer
+    ensures { IsBridgeAnswer words.now input.now output.old output.new result }
+{
+    bridge::call(alloc, words, input, output)
+}
+
+/// The same for `robus_picture`, whose status is 0, 2 to 4 or 7.
+#[unsafe(no_mangle)]
+pub extern "C" fn robus_picture_call(
+    alloc: Global,
+    words: &[u8],
+    input: &[u8],
+    output: &mut [u8],
+) -> Answer
+    ensures { IsPictureAnswer words.now input.now output.old output.new result }
+{
+    picture::call(alloc, words, input, output)
+}
