@@ -74,7 +74,7 @@ rose_so writes writes' f g (inr b) = g b
 never_written : (words : List (String Global)) (status : Status) (source source' : List ℕ) (sink sink' : Held) → sink ≡ fresh → sink'.failed ≡ false
     → ((flag : Flag) → AskFor words (Show flag) → Shows flag status (Some sink.bytes) (Some sink'.bytes) (faults_of sink) (faults_of sink'))
     → (AskFor words Run → (both : Bool) → ArePlain both true true → status ≡ code.WriteFault
-      → FailsToWrite both (Some source) (Some source') (Some sink.bytes) (Some sink'.bytes) (faults_of sink) (faults_of sink') true None None true None None)
+    → FailsToWrite both (Some source) (Some source') (Some sink.bytes) (Some sink'.bytes) (faults_of sink) (faults_of sink') true None None true None None)
     → status ≡ code.WriteFault → (form : Form) → AskFor words form → ⊥
 never_written words status source source' sink sink' f ok shows fails e Run a =
     no_fault sink sink' f ok (rose_so (faults_of sink) (faults_of sink') (λ x. x.rose) (λ x. x.rose) (fails a true both_plain e))
@@ -99,11 +99,11 @@ pub over_bytes : (words : List (String Global)) (status : Status) (input source 
     → Untouched words status source source' sink sink' left left' right right'
     → ((flag : Flag) → AskFor words (Show flag) → Shows flag status (Some sink.bytes) (Some sink'.bytes) (faults_of sink) (faults_of sink'))
     → (AskFor words Run → IsTrue true → IsTrue true → HasEnded status
-      → outside.KeepsTheBridge status (Some source) (Some source') (Some sink.bytes) (Some sink'.bytes))
+    → outside.KeepsTheBridge status (Some source) (Some source') (Some sink.bytes) (Some sink'.bytes))
     → (status ≡ code.Refused → Refuses (Some source) (Some source') (Some sink.bytes) (Some sink'.bytes))
     → (AskFor words Run → IsUnread status (Some source) (Some source') 0 0)
     → (AskFor words Run → (both : Bool) → ArePlain both true true → status ≡ code.WriteFault
-      → FailsToWrite both (Some source) (Some source') (Some sink.bytes) (Some sink'.bytes) (faults_of sink) (faults_of sink') true None None true None None)
+    → FailsToWrite both (Some source) (Some source') (Some sink.bytes) (Some sink'.bytes) (faults_of sink) (faults_of sink') true None None true None None)
     → (AskFor words Run → (both : Bool) → ArePlain both true true → Completes both status (Some source) 0 0 (faults_of sink) (faults_of sink'))
     → Answers (map string_bytes words) input sink'.bytes status
 over_bytes words status input source source' sink sink' left left' right right' e f ok usage untouched shows promise refuses unread fails completes = record {
@@ -111,21 +111,21 @@ over_bytes words status input source source' sink sink' left left' right right' 
   usage = λ none. inl (usage.refused none);
   nothing = λ w. ap (λ s. s.bytes) (untouched.unwritten w) ∙ ap (λ s. s.bytes) f;
   reads = λ fault. let known : (form : Form) × AskFor words form = usage.known (not_usage status (subst MayRefuse (sym fault) tt)) in
-    never_read words status source source' _ _ _ _ shows unread fault known.0 known.1;
+      never_read words status source source' _ _ _ _ shows unread fault known.0 known.1;
   writes = λ fault. let known : (form : Form) × AskFor words form = usage.known (not_usage status (subst MayRefuse (sym fault) tt)) in
-    never_written words status source source' sink sink' f ok shows fails fault known.0 known.1;
+      never_written words status source source' sink sink' f ok shows fails fault known.0 known.1;
   shown = λ flag a. inl (shown_done flag status sink sink' f ok (shows flag a));
   run = λ a. record {
     promise = λ h. bridge status input source source' sink sink' e f (promise a refl refl h);
     refused = λ r. let d : Refuses (Some source) (Some source') (Some sink.bytes) (Some sink'.bytes) = refuses r in
-      subst (λ bytes. IsRefusedWith bytes sink'.bytes) (read_is input source source' d.input e d.read)
-      (subst (λ text. IsRefusedWith d.input text) (sym (written_is sink sink' d.line f d.written)) d.refused);
+        subst (λ bytes. IsRefusedWith bytes sink'.bytes) (read_is input source source' d.input e d.read)
+        (subst (λ text. IsRefusedWith d.input text) (sym (written_is sink sink' d.line f d.written)) d.refused);
     too_long = λ long. given_over input_limit input source source' e ((unread a).too_long long);
     complete = λ b accepted within. let all : Completes true status (Some source) 0 0 (faults_of sink) (faults_of sink') = completes a true both_plain in
-      due_or_memory status (end_of b) (all.ended input b (ap Some e) accepted refl)
-      (all.ended_at_once input b (ap Some e) accepted (record { within = within; no_read = never_rose; no_write = no_fault sink sink' f ok }));
+        due_or_memory status (end_of b) (all.ended input b (ap Some e) accepted refl)
+        (all.ended_at_once input b (ap Some e) accepted (record { within = within; no_read = never_rose; no_write = no_fault sink sink' f ok }));
     refused_at_once = λ line is within. (completes a true both_plain).refused_at_once input line (ap Some e) is
-      (record { within = within; no_read = never_rose; no_write = no_fault sink sink' f ok });
+        (record { within = within; no_read = never_rose; no_write = no_fault sink sink' f ok });
   };
 }
 

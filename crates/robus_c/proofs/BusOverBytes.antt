@@ -1,5 +1,5 @@
 -- What the clauses of `run_robus` come to over bytes in memory.
-use Rattle.std.proofs.Common.{◌≡◌, ◌⊎◌, ⊤, ℕ, ◌<◌, List, [], String, map, string_bytes, Option, None, Some, true, false, IsTrue, inl, inr, sym, ap, subst, ◌∙◌, refl, arith}
+use Rattle.std.proofs.Common.{◌≡◌, ◌⊎◌, ℕ, ◌<◌, List, [], String, map, string_bytes, Option, None, Some, true, false, IsTrue, inl, inr, sym, ap, subst, ◌∙◌, refl, arith}
 use Rattle.std.specs.declared.alloc.Global.{Global}
 use Rattle.rb_outside.specs.Causes.{Rose}
 use Rattle.rb_world.specs.declared.drive.FirstDrive.{FirstDrive}
@@ -96,11 +96,11 @@ pub over_bytes : (words : List (String Global)) (status : Status) (input source 
     → Untouched words status source source' sink sink' drive drive'
     → (HasEnded status → (form : Form) → AskFor words form → Ends form status (Some source) (Some source') (Some sink.bytes) (Some sink'.bytes) true None None)
     → (IsTrue true → HasEnded status → (form : Form) → AskFor words form
-      → outside.KeepsItsPromise form status (Some source) (Some source') (Some sink.bytes) (Some sink'.bytes))
+    → outside.KeepsItsPromise form status (Some source) (Some source') (Some sink.bytes) (Some sink'.bytes))
     → (status ≡ code.Refused → (form : Form) → AskFor words form → Refuses form (Some source) (Some source') (Some sink.bytes) (Some sink'.bytes))
     → ((form : Form) → AskFor words form → IsUnread form status (Some source) (Some source') 0 0)
     → (status ≡ code.WriteFault → (form : Form) → AskFor words form
-      → FailsToWrite form (Some source) (Some source') (Some sink.bytes) (Some sink'.bytes) (faults_of sink) (faults_of sink') true None None)
+    → FailsToWrite form (Some source) (Some source') (Some sink.bytes) (Some sink'.bytes) (faults_of sink) (faults_of sink') true None None)
     → ((form : Form) → AskFor words form → Completes form status (Some source) 0 0 (faults_of sink) (faults_of sink'))
     → Answers (map string_bytes words) input sink'.bytes status
 over_bytes words status input source source' sink sink' drive drive' e f ok usage untouched ends promise refuses unread fails completes = record {
@@ -108,26 +108,26 @@ over_bytes words status input source source' sink sink' drive drive' e f ok usag
   usage = λ none. inl (usage.refused (λ form a. none form (from_asked words form a)));
   nothing = λ w. ap (λ s. s.bytes) (untouched.unwritten w) ∙ ap (λ s. s.bytes) f;
   reads = λ fault. let known : (form : Form) × AskFor words form = usage.known (not_usage status (subst MayRefuse (sym fault) tt)) in
-    never_unread (limit_of known.0) status source source' (unread known.0 known.1) fault;
+      never_unread (limit_of known.0) status source source' (unread known.0 known.1) fault;
   writes = λ fault. let known : (form : Form) × AskFor words form = usage.known (not_usage status (subst MayRefuse (sym fault) tt)) in
-    no_fault sink sink' f ok (fails fault known.0 known.1).rose;
+      no_fault sink sink' f ok (fails fault known.0 known.1).rose;
   of_form = λ form a.
-    let asked : AskFor words form = to_asked words form a in
-    let input_is : (limit : Option ℕ) (bytes : List ℕ) → IsReadBy limit (Some source) (Some source') bytes → bytes ≡ read_by limit input = λ limit bytes r. read_by_is limit input source source' bytes e r in
-    record {
-      promise = λ h. promised form status input source source' sink sink' e f (promise refl h form asked);
-      ended = λ h. let d : Ends form status (Some source) (Some source') (Some sink.bytes) (Some sink'.bytes) true None None = ends h form asked in
-        subst (λ bytes. IsDue form bytes true None None status sink'.bytes) (input_is (limit_of form) d.input d.read)
-        (subst (λ text. IsDue form d.input true None None status text) (sym (written_is sink sink' d.text f d.written)) d.due);
-      refused = λ r. let d : Refuses form (Some source) (Some source') (Some sink.bytes) (Some sink'.bytes) = refuses r form asked in
-        subst (λ bytes. IsRefusedWith form bytes sink'.bytes) (input_is (limit_of form) d.input d.read)
-        (subst (λ text. IsRefusedWith form d.input text) (sym (written_is sink sink' d.line f d.written)) d.refused);
-      too_long = λ long. is_over (limit_of form) status input source source' e (unread form asked) long;
-      complete = λ end is within. (completes form asked).ended (read_by (limit_of form) input) end (is_left (limit_of form) input source e) is
-        (record { within = within; no_read = never_rose; no_write = no_fault sink sink' f ok });
-      refused_at_once = λ line is within. (completes form asked).refused_at_once (read_by (limit_of form) input) line (is_left (limit_of form) input source e) is
-        (record { within = within; no_read = never_rose; no_write = no_fault sink sink' f ok });
-    };
+      let asked : AskFor words form = to_asked words form a in
+      let input_is : (limit : Option ℕ) (bytes : List ℕ) → IsReadBy limit (Some source) (Some source') bytes → bytes ≡ read_by limit input = λ limit bytes r. read_by_is limit input source source' bytes e r in
+      record {
+        promise = λ h. promised form status input source source' sink sink' e f (promise refl h form asked);
+        ended = λ h. let d : Ends form status (Some source) (Some source') (Some sink.bytes) (Some sink'.bytes) true None None = ends h form asked in
+            subst (λ bytes. IsDue form bytes true None None status sink'.bytes) (input_is (limit_of form) d.input d.read)
+            (subst (λ text. IsDue form d.input true None None status text) (sym (written_is sink sink' d.text f d.written)) d.due);
+        refused = λ r. let d : Refuses form (Some source) (Some source') (Some sink.bytes) (Some sink'.bytes) = refuses r form asked in
+            subst (λ bytes. IsRefusedWith form bytes sink'.bytes) (input_is (limit_of form) d.input d.read)
+            (subst (λ text. IsRefusedWith form d.input text) (sym (written_is sink sink' d.line f d.written)) d.refused);
+        too_long = λ long. is_over (limit_of form) status input source source' e (unread form asked) long;
+        complete = λ end is within. (completes form asked).ended (read_by (limit_of form) input) end (is_left (limit_of form) input source e) is
+            (record { within = within; no_read = never_rose; no_write = no_fault sink sink' f ok });
+        refused_at_once = λ line is within. (completes form asked).refused_at_once (read_by (limit_of form) input) line (is_left (limit_of form) input source e) is
+            (record { within = within; no_read = never_rose; no_write = no_fault sink sink' f ok });
+      };
 }
 
 -- want of memory, before any word is looked at

@@ -53,8 +53,8 @@ over_bytes style words status input source source' sink sink' e f ok usage done 
     gives = gives style is.form input source source' sink sink' e f is.gives;
   };
   refused = λ r. let is : IsRefused (Some source) (Some source') (Some sink.bytes) (Some sink'.bytes) = refused r in
-    subst (λ bytes. IsRefusal bytes sink'.bytes) (read_is input source source' is.bytes e is.read)
-    (subst (λ text. IsRefusal is.bytes text) (sym (written_is sink sink' is.refuses.text f is.refuses.written)) is.refuses.due);
+      subst (λ bytes. IsRefusal bytes sink'.bytes) (read_is input source source' is.bytes e is.read)
+      (subst (λ text. IsRefusal is.bytes text) (sym (written_is sink sink' is.refuses.text f is.refuses.written)) is.refuses.due);
   too_long = λ l. given_over report_limit input source source' e (long l);
 }
 

@@ -24,15 +24,7 @@ fn run_over(
     let mut source = SliceSource::new(input);
     let mut left = FirstDrive::new();
     let mut right = FirstDrive::new();
-    run_bridge(
-        alloc,
-        words,
-        &mut source,
-        sink,
-        apps,
-        &mut left,
-        &mut right,
-    )
+    run_bridge(alloc, words, &mut source, sink, apps, &mut left, &mut right)
 }
 
 // The same with the three applications, or want of memory for them.
