@@ -1,4 +1,8 @@
-mod QuietText
+mod QuietActs
+mod QuietHeeds
 mod Written
+mod Advanced
 mod Events
-mod Dues
+mod Skips
+mod ActsDue
+mod HeedsDue

@@ -1,1 +1,4 @@
+pub mod Advancing
 pub mod Replaying
+pub mod Overhearing
+pub mod ListeningOn

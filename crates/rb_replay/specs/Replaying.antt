@@ -1,6 +1,5 @@
 -- A replay as it goes on.
-use Rattle.std.specs.Prelude.{ℕ, ◌+◌, ◌≡◌, ◌≤◌, Option, List, ◌++◌}
-use Rattle.std.specs.Io.KnownBytes.{Appends}
+use Rattle.std.specs.Prelude.{ℕ, ◌+◌, ◌≡◌, ◌≤◌, List, ◌++◌}
 use Rattle.std.specs.List.{flat_map}
 use Rattle.rb_base.specs.Nodes.{Side}
 use Rattle.rb_base.specs.declared.node.NodeName.{NodeName}
@@ -23,11 +22,3 @@ pub record IsDue (me : Side) (n : Running) (name : NodeName) (frames : ℕ) (eve
   pub stands : IsCore n core
   pub few : frames ≤ core.had
   pub text : due ≡ text_after name frames (acts_at me n core events)
-
--- a first part of the text that was due was appended, and with so many frames more the rest is due
-pub record Advances (me : Side) (n : Running) (name : NodeName) (frames : ℕ) (events : List CoreEvent) (due : List ℕ) (before after : Option (List ℕ)) : Type 0 where
-  pub part : List ℕ
-  pub rest : List ℕ
-  pub whole : due ≡ part ++ rest
-  pub appended : Appends before after part
-  pub goes_on : IsDue me n name frames events rest

@@ -1,7 +1,9 @@
-//! The replay of a log: what one node was given is given to a fresh core again, and what it tells is written as text.
+//! A log that is given to its node once more, or that of a BIU to a listener: what either tells is written as text.
 #![tactic(auto)]
 
 mod lines;
+mod overhearing;
 mod replaying;
 
+pub use overhearing::{is_biu, listen};
 pub use replaying::replay;

@@ -1,4 +1,4 @@
-//! What a node tells, as lines.
+//! What a node or a listener tells, as lines.
 ghost use Rattle.std.specs.Prelude.{◌≡◌, ◌≤◌, ◌++◌, OnOk, OnErr};
 ghost use Rattle.std.specs.Io.KnownBytes.{Appends};
 ghost use Rattle.rb_outside.specs.Bytes.{AppendsPart};
@@ -6,10 +6,12 @@ ghost use Rattle.rb_outside.specs.Causes.{HasCause};
 ghost use Rattle.rb_laws_logs.specs.Given.{index_of};
 ghost use Rattle.rb_laws_logs.specs.Replays.{act_lines, delivery_lines, epoch_lines, frames_with};
 ghost use Rattle.rb_node.specs.Acts.{IsAct};
+ghost use Rattle.rb_replay.specs.Overhearing.{begun_with, heed_lines};
 ghost use Rattle.rb_rules.specs.Core.{Act};
 
 use arrayvec::ArrayString;
 use rb_base::{Delivery, NodeName};
+use rb_listen::Heed;
 use rb_node::{Closed, Epoch, Step};
 use rb_outside::{Failed, Sink, write_all};
 use rb_report::{convicted_line, delivery_line, epoch_line};
@@ -38,7 +40,7 @@ fn write_two<S: Sink>(
     write_line(output, second)
 }
 
-// Writes the begin of a frame, where one begins: its first tick, and whom the node holds convicted.
+// Writes the begin of a frame, where one begins: its first tick, and whom the node or the listener holds convicted.
 #[inline(always)]
 fn write_epoch<S: Sink>(node: NodeName, epoch: Option<Epoch>, output: &mut S) -> Result<(), Failed>
     ensures all { OnOk result (Appends (S.held output.old) (S.held output.new) (epoch_lines node epoch)) }
@@ -106,12 +108,34 @@ pub(crate) fn write_step<S: Sink>(
 }
 
 /// How many frames above 0 begin: 1 or none.
-pub(crate) fn begun_by(epoch: Option<Epoch>) -> u32
+pub(crate) fn frames_by(epoch: Option<Epoch>) -> u32
     ensures value { result ≡ frames_with epoch }
     ensures most { result ≤ 1 }
 {
     match epoch {
         Some(epoch) if epoch.frame > 0 => 1,
         _ => 0,
+    }
+}
+
+/// Writes what a listener tells at a tick under the name of a node.
+#[tactic(auto, using(crate::proofs::Written::in_turn))]
+pub(crate) fn write_heed<S: Sink>(node: NodeName, heed: Heed, output: &mut S) -> Result<(), Failed>
+    ensures all { OnOk result (Appends (S.held output.old) (S.held output.new) (heed_lines node heed)) }
+    ensures part { OnErr result (AppendsPart (S.held output.old) (S.held output.new) (heed_lines node heed)) }
+    ensures cause { HasCause (S.faults output.old) (S.faults output.new) result }
+{
+    write_epoch(node, heed.epoch, output)?;
+    write_delivery(node, &heed.delivered, output)
+}
+
+/// How many frames begin: 1 or none.
+pub(crate) fn begun_by(epoch: Option<Epoch>) -> u32
+    ensures value { result ≡ begun_with epoch }
+    ensures most { result ≤ 1 }
+{
+    match epoch {
+        Some(_) => 1,
+        None => 0,
     }
 }

@@ -9,9 +9,10 @@ ghost use Rattle.rb_outside.specs.Bytes.{AppendsPart};
 ghost use Rattle.rb_outside.specs.Causes.{HasCause};
 ghost use Rattle.rb_rules.specs.Core.{Core};
 ghost use Rattle.rb_rules.specs.Core.CoreEvent.{Tick};
-ghost use Rattle.rb_replay.specs.Replaying.{Advances, IsDue};
+ghost use Rattle.rb_replay.specs.Advancing.{Advances};
+ghost use Rattle.rb_replay.specs.Replaying.{IsDue};
 
-use crate::lines::{begun_by, write_line, write_step};
+use crate::lines::{frames_by, write_line, write_step};
 use rb_base::{Biu, Kind, NodeName, Rmu};
 use rb_log::{LogEvent, LogReader};
 use rb_node::Node;
@@ -57,7 +58,7 @@ fn give_tick<K: Kind, S: Sink>(
 {
     let step = node.step(word);
     write_step(name, &step, node.shown(), output)?;
-    Ok(begun_by(step.epoch))
+    Ok(frames_by(step.epoch))
 }
 
 // Gives the node a tick and the quiet ticks that stand behind it in the log.
@@ -69,7 +70,7 @@ fn give_ticks<K: Kind, S: Sink>(
     output: &mut S,
 ) -> Result<u32, Failed>
     ensures advances { (frames : ℕ) (due : List ℕ) → IsDue (side_of K.CODE) node.old name frames (Tick word ∷ log.old.events) due
-        → IfOk result (λ n. Advances (side_of K.CODE) node.new name (frames + n) log.new.events due (S.held output.old) (S.held output.new)) }
+        → IfOk result (λ n. Advances (IsDue (side_of K.CODE) node.new name (frames + n) log.new.events) due (S.held output.old) (S.held output.new)) }
     ensures part { (frames : ℕ) (due : List ℕ) → IsDue (side_of K.CODE) node.old name frames (Tick word ∷ log.old.events) due
         → OnErr result (AppendsPart (S.held output.old) (S.held output.new) due) }
     ensures most { IfOk result (λ n. n ≤ 1) }
@@ -92,7 +93,7 @@ fn give<K: Kind, S: Sink>(
     output: &mut S,
 ) -> Result<u32, Failed>
     ensures advances { (frames : ℕ) (due : List ℕ) → IsDue (side_of K.CODE) node.old name frames (shown event.entry ∷ log.old.events) due
-        → IfOk result (λ n. Advances (side_of K.CODE) node.new name (frames + n) log.new.events due (S.held output.old) (S.held output.new)) }
+        → IfOk result (λ n. Advances (IsDue (side_of K.CODE) node.new name (frames + n) log.new.events) due (S.held output.old) (S.held output.new)) }
     ensures part { (frames : ℕ) (due : List ℕ) → IsDue (side_of K.CODE) node.old name frames (shown event.entry ∷ log.old.events) due
         → OnErr result (AppendsPart (S.held output.old) (S.held output.new) due) }
     ensures most { IfOk result (λ n. n ≤ 1) }

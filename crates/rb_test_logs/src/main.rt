@@ -5,7 +5,7 @@
 use anyhow::Result;
 use rb_log::LogReader;
 use rb_outside::StdSink;
-use rb_overheard::{is_biu, listen};
+use rb_replay::{is_biu, listen};
 use rb_report::refused_line;
 use std::{fs, io};
 

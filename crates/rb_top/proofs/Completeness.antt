@@ -5,7 +5,7 @@ use Rattle.rb_outside.proofs.Known.{gave_within, read_bytes}
 use Rattle.rb_rules.specs.Goodness.{Scenario}
 use Rattle.rb_rules.specs.Lawful.{IsNodeOf}
 use Rattle.rb_log.specs.LogText.{Log, log_in}
-use Rattle.rb_overheard.specs.Overhearing.{is_of_biu}
+use Rattle.rb_replay.specs.Overhearing.{is_of_biu}
 use Rattle.rb_group_values.specs.Members.{AreMembers}
 use Rattle.rb_gen.specs.Generated.{generated}
 use Rattle.rb_scenario.specs.Acceptance.{IsAccepted, IsRefused}

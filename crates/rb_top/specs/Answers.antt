@@ -13,7 +13,7 @@ use Rattle.rb_world_book.specs.declared.turn.Turn.{Turn}
 use Rattle.rb_laws_logs.specs.Given.{AreGiven as AreGivenTo}
 use Rattle.rb_laws_logs.specs.Replays.{replay_text}
 use Rattle.rb_log.specs.LogText.{Log, log_in}
-use Rattle.rb_overheard.specs.Overhearing.{is_of_biu, overheard_text}
+use Rattle.rb_replay.specs.Overhearing.{is_of_biu, overheard_text}
 use Rattle.rb_record.specs.Recording.{log_text}
 use Rattle.rb_group.specs.declared.voters.Which.{Which}
 use Rattle.rb_long_text.specs.Texts.{spelling_text}

@@ -11,7 +11,7 @@ use crate::replaying::refuse_log;
 use crate::status::Status;
 use rb_log::LogReader;
 use rb_outside::{Failed, Sink};
-use rb_overheard::{is_biu, listen};
+use rb_replay::{is_biu, listen};
 use rb_report::refused_line;
 
 // Refuses a log that is not that of a BIU.

@@ -3,7 +3,7 @@ use Rattle.rb_base.specs.Nodes.{side_of}
 use Rattle.rb_log.specs.Cursor.{shown}
 use Rattle.rb_rules.specs.Core.{CoreEvent}
 use Rattle.rb_replay.specs.Replaying.{IsDue}
-use Rattle.rb_replay.proofs.Dues.{arrival-advances}
+use Rattle.rb_replay.proofs.ActsDue.{arrival-advances}
 use Rattle.rb_replay.proofs.replaying.give.Goals as goal
 
 pub returns-in-Tick-clause-advances : goal.returns-in-Tick-clause-advances

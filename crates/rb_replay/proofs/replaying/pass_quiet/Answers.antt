@@ -3,7 +3,7 @@ use Rattle.rb_base.specs.Nodes.{side_of}
 use Rattle.rb_rules.specs.Core.{CoreEvent}
 use Rattle.rb_node.specs.Cores.{Running}
 use Rattle.rb_replay.specs.Replaying.{IsDue}
-use Rattle.rb_replay.proofs.Dues.{passes-due}
+use Rattle.rb_replay.proofs.ActsDue.{passes-due}
 use Rattle.rb_replay.proofs.replaying.pass_quiet.Goals as goal
 
 pub returns-clause-due : goal.returns-clause-due

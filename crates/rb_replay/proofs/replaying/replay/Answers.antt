@@ -5,7 +5,7 @@ use Rattle.rb_laws_logs.specs.Replays.{replay_text}
 use Rattle.rb_plan.specs.Timetable.{Timetable}
 use Rattle.rb_rules.specs.Lawful.{kind_of}
 use Rattle.rb_replay.specs.Replaying.{IsDue}
-use Rattle.rb_replay.proofs.Dues.{all-due}
+use Rattle.rb_replay.proofs.ActsDue.{all-due}
 use Rattle.rb_replay.proofs.replaying.replay.Goals as goal
 
 pub replay_at-requires : goal.replay_at-requires

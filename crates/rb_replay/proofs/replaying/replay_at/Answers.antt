@@ -3,14 +3,15 @@ use Rattle.rb_base.specs.Nodes.{side_of}
 use Rattle.rb_log.specs.Cursor.{shown}
 use Rattle.rb_laws_logs.specs.Replays.{replay_text}
 use Rattle.rb_replay.specs.Replaying.{IsDue}
-use Rattle.rb_replay.proofs.Dues.{advances-more, advances-none, advances-is, advances-part, ends, ends-part}
+use Rattle.rb_replay.proofs.ActsDue.{end-is}
+use Rattle.rb_replay.proofs.Advanced.{advances-is, advances-more, advances-none, advances-part, ends, ends-part}
 use Rattle.rb_replay.proofs.Events.{first-is, none-left}
 use Rattle.rb_replay.proofs.Written.{on_err}
 use Rattle.rb_replay.proofs.replaying.replay_at.Goals as goal
 
 pub events-init : goal.events-init
 events-init g c = record {
-  due = advances-none (side_of g.K.Kind.CODE) c.args.node c.node-name.result 0 c.args.log.events _ _
+  due = advances-none (IsDue (side_of g.K.Kind.CODE) c.args.node c.node-name.result 0 c.args.log.events) _ _
       (subst (λ name. IsDue (side_of g.K.Kind.CODE) c.args.node name 0 c.args.log.events (replay_text c.args.log.timetable.sizes c.args.log.timetable.plan c.args.log.node c.args.log.events))
       (sym c.node-name.ensures.value) c.requires);
   most = search rules;
@@ -20,8 +21,8 @@ events-init g c = record {
 pub returns-in_err-frames-clause-part : goal.returns-in_err-frames-clause-part
 returns-in_err-frames-clause-part g c =
     on_err c.from_residual.result
-    (advances-part (side_of g.K.Kind.CODE) c.events.node c.node-name.result c.events.frames (shown c.in-Some.event ∷ c.next.new.self.events) _ _ _ _
-    (advances-is (side_of g.K.Kind.CODE) c.events.node c.node-name.result c.events.frames c.events.log.events _ _ _ _
+    (advances-part (IsDue (side_of g.K.Kind.CODE) c.events.node c.node-name.result c.events.frames (shown c.in-Some.event ∷ c.next.new.self.events)) _ _ _ _
+    (advances-is (IsDue (side_of g.K.Kind.CODE) c.events.node c.node-name.result c.events.frames) c.events.log.events _ _ _ _
     (first-is (shown c.in-Some.event) c.events.log.events c.next.new.self.events c.in-Some.ensures.event c.in-Some.ensures.rest)
     c.events.invariant.due)
     (λ rest d. c.in_err-frames.ensures.part c.events.frames rest d))
@@ -34,9 +35,9 @@ overflow_add-frames g c =
 
 pub events-preserved : goal.events-preserved
 events-preserved g c = record {
-  due = advances-more (side_of g.K.Kind.CODE) c.events.node c.give.new.node c.node-name.result c.events.frames _
-      (shown c.in-Some.event ∷ c.next.new.self.events) c.give.new.log.events _ _ _ _
-      (advances-is (side_of g.K.Kind.CODE) c.events.node c.node-name.result c.events.frames c.events.log.events _ _ _ _
+  due = advances-more (IsDue (side_of g.K.Kind.CODE) c.events.node c.node-name.result c.events.frames (shown c.in-Some.event ∷ c.next.new.self.events))
+      (IsDue (side_of g.K.Kind.CODE) c.give.new.node c.node-name.result _ c.give.new.log.events) _ _ _ _
+      (advances-is (IsDue (side_of g.K.Kind.CODE) c.events.node c.node-name.result c.events.frames) c.events.log.events _ _ _ _
       (first-is (shown c.in-Some.event) c.events.log.events c.next.new.self.events c.in-Some.ensures.event c.in-Some.ensures.rest)
       c.events.invariant.due)
       (λ rest d. c.in_ok-frames.ensures.advances c.events.frames rest d);
@@ -46,16 +47,18 @@ events-preserved g c = record {
 
 pub returns-clause-all : goal.returns-clause-all
 returns-clause-all g c =
-    ends (side_of g.K.Kind.CODE) c.events.node c.node-name.result c.events.frames _ _ _ _ _ c.write_line.result c.end_line.ensures.bytes
-    (advances-is (side_of g.K.Kind.CODE) c.events.node c.node-name.result c.events.frames c.events.log.events [] _ _ _
+    ends (IsDue (side_of g.K.Kind.CODE) c.events.node c.node-name.result c.events.frames []) _ _ _ _ _ c.write_line.result
+    (end-is (side_of g.K.Kind.CODE) c.events.node c.node-name.result c.events.frames _ c.end_line.ensures.bytes)
+    (advances-is (IsDue (side_of g.K.Kind.CODE) c.events.node c.node-name.result c.events.frames) c.events.log.events [] _ _ _
     (none-left c.next.result c.events.log.events c.in_default.is c.next.ensures.event)
     c.events.invariant.due)
     c.write_line.ensures.all
 
 pub returns-clause-part : goal.returns-clause-part
 returns-clause-part g c =
-    ends-part (side_of g.K.Kind.CODE) c.events.node c.node-name.result c.events.frames _ _ _ _ _ c.write_line.result c.end_line.ensures.bytes
-    (advances-is (side_of g.K.Kind.CODE) c.events.node c.node-name.result c.events.frames c.events.log.events [] _ _ _
+    ends-part (IsDue (side_of g.K.Kind.CODE) c.events.node c.node-name.result c.events.frames []) _ _ _ _ _ c.write_line.result
+    (end-is (side_of g.K.Kind.CODE) c.events.node c.node-name.result c.events.frames _ c.end_line.ensures.bytes)
+    (advances-is (IsDue (side_of g.K.Kind.CODE) c.events.node c.node-name.result c.events.frames) c.events.log.events [] _ _ _
     (none-left c.next.result c.events.log.events c.in_default.is c.next.ensures.event)
     c.events.invariant.due)
     c.write_line.ensures.part

@@ -20,8 +20,9 @@ use Rattle.rb_listen.specs.Listening as now
 use Rattle.rb_listen.specs.declared.heed.Heed.{Heed}
 use Rattle.rb_listen.specs.declared.lesson.First.{First}
 use Rattle.rb_listen.specs.declared.search.Search.{Search}
-use Rattle.rb_overheard.specs.Dues.{text_after}
-use Rattle.rb_overheard.specs.Overhearing.{begun_in, begun_with, heed_lines}
+use Rattle.rb_replay.specs.ListeningOn.{text_after}
+use Rattle.rb_replay.specs.Overhearing.{begun_in, begun_with, heed_lines}
+use Rattle.rb_replay.proofs.ActsDue.{act-had}
 
 -- The text.
 
@@ -78,14 +79,6 @@ on-had sizes plan s = by (is_deciding s)
 untold-counts : (had : ℕ) (l : Listening) → had ≤ had_by l → had_by l ≤ 2 ^ 31 → Counts had (untold l)
 untold-counts had l le most = record { begun = omega arith; most = most }
 
-act-had : (sizes : Sizes) (plan : Plan) (c : Core) (st kept : NodeState) (m : Option Message) → (act_on sizes plan Biu 16 c st m kept).core.had ≡ c.had + 1
-unfolding act_on
-act-had sizes plan c st kept m = by (is_last sizes plan Biu st c.had) _ _ refl refl
-  where
-    by : (b : Bool) (x y : Act) → x.core.had ≡ c.had + 1 → y.core.had ≡ c.had + 1 → (elim b as (λ _. Act) [ true ↦ x | false ↦ y ]).core.had ≡ c.had + 1
-    by true x y h k = h
-    by false x y h k = k
-
 act-counts : (c : Core) (x : Act) → c.had < 2 ^ 31 → x.core.had ≡ c.had + 1 → Counts c.had (followed x)
 act-counts c x below had = let one : begun_with x.epoch ≤ 1 = one-begins x.epoch in record { begun = omega arith; most = omega arith }
 
@@ -103,7 +96,7 @@ follow-counts sizes plan c most = by (is_spent c) refl
     by true e = record { begun = omega arith; most = most }
     by false e =
         let below : c.had < 2 ^ 31 = grind (arith, nat_tests) in
-        act-counts c (act_on sizes plan Biu 16 c st None st) below (act-had sizes plan c st st None)
+        act-counts c (act_on sizes plan Biu 16 c st None st) below (act-had sizes plan Biu 16 c st st None)
 
 wait-counts : (sizes : Sizes) (plan : Plan) (had : ℕ) (first : First) (b : Bool) → had < 2 ^ 31 → (first.epoch == had) ≡ b → Counts had (wait_on sizes plan had first b)
 wait-counts sizes plan had first true below e =

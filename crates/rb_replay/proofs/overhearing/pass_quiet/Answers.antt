@@ -1,8 +1,8 @@
 use Rattle.std.proofs.Common.{List, arith, subst}
 use Rattle.rb_rules.specs.Core.{CoreEvent}
-use Rattle.rb_overheard.specs.Dues.{IsDue}
-use Rattle.rb_overheard.proofs.Dues.{passes-due}
-use Rattle.rb_overheard.proofs.overhearing.pass_quiet.Goals as goal
+use Rattle.rb_replay.specs.ListeningOn.{IsDue}
+use Rattle.rb_replay.proofs.HeedsDue.{passes-due}
+use Rattle.rb_replay.proofs.overhearing.pass_quiet.Goals as goal
 
 pub returns-clause-due : goal.returns-clause-due
 returns-clause-due c =

@@ -1,7 +1,7 @@
 -- what is left to be dropped of what is left
 use Rattle.std.proofs.Common.{◌≡◌, length}
-use Rattle.rb_overheard.specs.Overhearing.{from_tick}
-use Rattle.rb_overheard.proofs.overhearing.find_tick.Given as goal
+use Rattle.rb_replay.specs.Overhearing.{from_tick}
+use Rattle.rb_replay.proofs.overhearing.find_tick.Given as goal
 
 abbrev pub invariant-events : goal.invariant-events
 invariant-events l = from_tick l.fn.skip l.initial.log.events ≡ from_tick l.left l.log.events

@@ -1,6 +1,8 @@
-use Rattle.rb_overheard.proofs.Dues.{advances-all, advances-failed, ends-at-once, fails-at-once, first-due, from-none}
-use Rattle.rb_overheard.proofs.Written.{on_err}
-use Rattle.rb_overheard.proofs.overhearing.listen.Goals as goal
+use Rattle.rb_replay.specs.ListeningOn.{IsDue}
+use Rattle.rb_replay.proofs.Advanced.{advances-all, advances-failed}
+use Rattle.rb_replay.proofs.HeedsDue.{ends-at-once, fails-at-once, first-due, from-none}
+use Rattle.rb_replay.proofs.Written.{on_err}
+use Rattle.rb_replay.proofs.overhearing.listen.Goals as goal
 
 pub returns-then-not-find_tick-clause-all : goal.returns-then-not-find_tick-clause-all
 returns-then-not-find_tick-clause-all g c =
@@ -33,7 +35,7 @@ returns-clause-all g c =
     let found = c.find_tick.ensures.found c.if-not-find_tick.false in
     let due = first-due c.new-listener.result c.plan.result.now c.args.log.timetable c.node-name.result c.args.log.node c.args.skip c.args.log.events _
     c.new-listener.ensures.sizes c.new-listener.ensures.plan c.plan.ensures c.node-name.ensures.value c.new-listener.ensures.stands found.1 in
-    advances-all c.give_ticks.new.listener c.node-name.result c.in_ok-first.first c.give_ticks.new.log.events _ _ _ _ c.listen_on.result
+    advances-all (IsDue c.give_ticks.new.listener c.node-name.result c.in_ok-first.first c.give_ticks.new.log.events) _ _ _ _ c.listen_on.result
     (from-none c.give_ticks.new.listener c.node-name.result c.in_ok-first.first c.give_ticks.new.log.events _ _ _
     (c.in_ok-first.ensures.advances found.0 0 _ due))
     (λ rest more. c.listen_on.ensures.all rest more)
@@ -43,7 +45,7 @@ returns-clause-part g c =
     let found = c.find_tick.ensures.found c.if-not-find_tick.false in
     let due = first-due c.new-listener.result c.plan.result.now c.args.log.timetable c.node-name.result c.args.log.node c.args.skip c.args.log.events _
     c.new-listener.ensures.sizes c.new-listener.ensures.plan c.plan.ensures c.node-name.ensures.value c.new-listener.ensures.stands found.1 in
-    advances-failed c.give_ticks.new.listener c.node-name.result c.in_ok-first.first c.give_ticks.new.log.events _ _ _ _ c.listen_on.result
+    advances-failed (IsDue c.give_ticks.new.listener c.node-name.result c.in_ok-first.first c.give_ticks.new.log.events) _ _ _ _ c.listen_on.result
     (from-none c.give_ticks.new.listener c.node-name.result c.in_ok-first.first c.give_ticks.new.log.events _ _ _
     (c.in_ok-first.ensures.advances found.0 0 _ due))
     (λ rest more. c.listen_on.ensures.part rest more)

@@ -1,15 +1,17 @@
-use Rattle.std.proofs.Common.{rules, ◌≤◌, ◌^◌, ◌∷◌, [], ap, ◌∙◌, arith}
+use Rattle.std.proofs.Common.{rules, ◌≡◌, ◌-◌, ◌≤◌, ◌^◌, ◌∷◌, ◌∙◌, [], List, ℕ, ap, arith, sym}
 use Rattle.rb_log.specs.Cursor.{shown}
 use Rattle.rb_report.specs.Report.{end_text}
 use Rattle.rb_listen.specs.Listening.{had_by}
-use Rattle.rb_overheard.proofs.Dues.{advances-more, advances-none, advances-is, advances-part, ends, ends-part}
-use Rattle.rb_overheard.proofs.Events.{first-is, none-left}
-use Rattle.rb_overheard.proofs.Written.{on_err}
-use Rattle.rb_overheard.proofs.overhearing.listen_on.Goals as goal
+use Rattle.rb_replay.specs.ListeningOn.{IsDue}
+use Rattle.rb_replay.proofs.Advanced.{advances-is, advances-more, advances-none, advances-part, ends, ends-part}
+use Rattle.rb_replay.proofs.HeedsDue.{end-is}
+use Rattle.rb_replay.proofs.Events.{first-is, none-left}
+use Rattle.rb_replay.proofs.Written.{on_err}
+use Rattle.rb_replay.proofs.overhearing.listen_on.Goals as goal
 
 pub events-init : goal.events-init
 events-init g c = record {
-  due = λ due d. advances-none c.args.listener c.args.name c.args.first c.args.log.events due _ d;
+  due = λ due d. advances-none (IsDue c.args.listener c.args.name c.args.first c.args.log.events) due _ d;
   later = search rules;
 }
 
@@ -17,8 +19,8 @@ pub returns-in_err-begun-clause-part : goal.returns-in_err-begun-clause-part
 returns-in_err-begun-clause-part g c =
     λ due d.
     on_err c.from_residual.result
-    (advances-part c.events.listener c.args.name c.events.begun (shown c.in-Some.event ∷ c.next.new.self.events) due _ _ _
-    (advances-is c.events.listener c.args.name c.events.begun c.events.log.events _ due _ _
+    (advances-part (IsDue c.events.listener c.args.name c.events.begun (shown c.in-Some.event ∷ c.next.new.self.events)) due _ _ _
+    (advances-is (IsDue c.events.listener c.args.name c.events.begun) c.events.log.events _ due _ _
     (first-is (shown c.in-Some.event) c.events.log.events c.next.new.self.events c.in-Some.ensures.event c.in-Some.ensures.rest)
     (c.events.invariant.due due d))
     (λ rest more. c.in_err-begun.ensures.part c.events.begun rest more))
@@ -33,8 +35,9 @@ overflow_add-begun g c =
 pub events-preserved : goal.events-preserved
 events-preserved g c = record {
   due = λ due d.
-      advances-more c.events.listener c.give.new.listener c.args.name c.events.begun _ (shown c.in-Some.event ∷ c.next.new.self.events) c.give.new.log.events due _ _ _
-      (advances-is c.events.listener c.args.name c.events.begun c.events.log.events _ due _ _
+      advances-more (IsDue c.events.listener c.args.name c.events.begun (shown c.in-Some.event ∷ c.next.new.self.events))
+      (IsDue c.give.new.listener c.args.name _ c.give.new.log.events) due _ _ _
+      (advances-is (IsDue c.events.listener c.args.name c.events.begun) c.events.log.events _ due _ _
       (first-is (shown c.in-Some.event) c.events.log.events c.next.new.self.events c.in-Some.ensures.event c.in-Some.ensures.rest)
       (c.events.invariant.due due d))
       (λ rest more. c.in_ok-begun.ensures.advances c.events.begun rest more);
@@ -44,8 +47,9 @@ events-preserved g c = record {
 pub returns-clause-all : goal.returns-clause-all
 returns-clause-all g c =
     λ due d.
-    ends c.events.listener c.args.name c.events.begun due _ _ _ _ c.write_line.result (c.end_line.ensures.bytes ∙ ap end_text c.saturating_sub.ensures)
-    (advances-is c.events.listener c.args.name c.events.begun c.events.log.events [] due _ _
+    ends (IsDue c.events.listener c.args.name c.events.begun []) due _ _ _ _ c.write_line.result
+    (end-is c.events.listener c.args.name c.events.begun _ (c.end_line.ensures.bytes ∙ ap end_text c.saturating_sub.ensures))
+    (advances-is (IsDue c.events.listener c.args.name c.events.begun) c.events.log.events [] due _ _
     (none-left c.next.result c.events.log.events c.in_default.is c.next.ensures.event)
     (c.events.invariant.due due d))
     c.write_line.ensures.all
@@ -53,8 +57,9 @@ returns-clause-all g c =
 pub returns-clause-part : goal.returns-clause-part
 returns-clause-part g c =
     λ due d.
-    ends-part c.events.listener c.args.name c.events.begun due _ _ _ _ c.write_line.result (c.end_line.ensures.bytes ∙ ap end_text c.saturating_sub.ensures)
-    (advances-is c.events.listener c.args.name c.events.begun c.events.log.events [] due _ _
+    ends-part (IsDue c.events.listener c.args.name c.events.begun []) due _ _ _ _ c.write_line.result
+    (end-is c.events.listener c.args.name c.events.begun _ (c.end_line.ensures.bytes ∙ ap end_text c.saturating_sub.ensures))
+    (advances-is (IsDue c.events.listener c.args.name c.events.begun) c.events.log.events [] due _ _
     (none-left c.next.result c.events.log.events c.in_default.is c.next.ensures.event)
     (c.events.invariant.due due d))
     c.write_line.ensures.part

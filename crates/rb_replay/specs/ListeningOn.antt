@@ -1,6 +1,5 @@
 -- A log that is listened to, as that goes on.
-use Rattle.std.specs.Prelude.{ℕ, ◌+◌, ◌-◌, ◌^◌, ◌≡◌, ◌≤◌, Option, List, ◌++◌}
-use Rattle.std.specs.Io.KnownBytes.{Appends}
+use Rattle.std.specs.Prelude.{ℕ, ◌+◌, ◌-◌, ◌^◌, ◌≡◌, ◌≤◌, List, ◌++◌}
 use Rattle.std.specs.List.{flat_map}
 use Rattle.rb_base.specs.declared.node.NodeName.{NodeName}
 use Rattle.rb_rules.specs.Core.{CoreEvent}
@@ -8,7 +7,7 @@ use Rattle.rb_report.specs.Report.{end_text}
 use Rattle.rb_listen.specs.Listeners.{Hearer, IsListening}
 use Rattle.rb_listen.specs.Listening.{Listening, had_by, told_of}
 use Rattle.rb_listen.specs.declared.heed.Heed.{Heed}
-use Rattle.rb_overheard.specs.Overhearing.{begun_in, heed_lines}
+use Rattle.rb_replay.specs.Overhearing.{begun_in, heed_lines}
 
 -- the text of what is still to be told, where so many frames have begun
 abbrev pub text_after : NodeName → ℕ → List Heed → List ℕ
@@ -21,11 +20,3 @@ pub record IsDue (h : Hearer) (name : NodeName) (begun : ℕ) (events : List Cor
   pub few : begun ≤ had_by listening
   pub most : had_by listening ≤ 2 ^ 31
   pub text : due ≡ text_after name begun (told_of h.sizes h.plan listening events)
-
--- a first part of the text that was due was appended, and with so many frames more the rest is due
-pub record Advances (h : Hearer) (name : NodeName) (begun : ℕ) (events : List CoreEvent) (due : List ℕ) (before after : Option (List ℕ)) : Type 0 where
-  pub part : List ℕ
-  pub rest : List ℕ
-  pub whole : due ≡ part ++ rest
-  pub appended : Appends before after part
-  pub goes_on : IsDue h name begun events rest

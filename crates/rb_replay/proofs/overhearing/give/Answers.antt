@@ -1,9 +1,9 @@
 use Rattle.std.proofs.Common.{◌∷◌, ap, subst}
 use Rattle.rb_log.specs.Cursor.{shown}
 use Rattle.rb_rules.specs.Core.{CoreEvent}
-use Rattle.rb_overheard.specs.Dues.{IsDue}
-use Rattle.rb_overheard.proofs.Dues.{arrival-advances}
-use Rattle.rb_overheard.proofs.overhearing.give.Goals as goal
+use Rattle.rb_replay.specs.ListeningOn.{IsDue}
+use Rattle.rb_replay.proofs.HeedsDue.{arrival-advances}
+use Rattle.rb_replay.proofs.overhearing.give.Goals as goal
 
 pub returns-in-Tick-clause-advances : goal.returns-in-Tick-clause-advances
 returns-in-Tick-clause-advances g c =

@@ -3,7 +3,7 @@ use Rattle.std.proofs.Common.{◌≡◌, ℕ, zero, suc, ◌-◌, ◌≤◌, ref
 use Rattle.std.proofs.Math.ListN.{replicate}
 use Rattle.rb_rules.specs.Core.{CoreEvent}
 use Rattle.rb_rules.specs.Core.CoreEvent.{Tick, Arrive}
-use Rattle.rb_overheard.specs.Overhearing.{from_tick}
+use Rattle.rb_replay.specs.Overhearing.{from_tick}
 
 -- ticks are counted
 pub drops-ticks : (n ticks : ℕ) (events : List CoreEvent) → ticks ≤ n → from_tick n (replicate ticks (Tick 0) ++ events) ≡ from_tick (n - ticks) events

@@ -21,8 +21,9 @@ use Rattle.rb_outside.proofs.Known.{appends_join, appends_none, part_join, part_
 use Rattle.rb_report.specs.Report.{end_text}
 use Rattle.rb_laws_logs.specs.Given.{index_of}
 use Rattle.rb_laws_logs.specs.Replays.{act_lines, acts_from, acts_text, frames_in, frames_with, replay_text}
-use Rattle.rb_replay.specs.Replaying.{Advances, IsDue, acts_at, text_after}
-use Rattle.rb_replay.proofs.QuietText.{quiet-before, quiet-text, text-step}
+use Rattle.rb_replay.specs.Advancing.{Advances}
+use Rattle.rb_replay.specs.Replaying.{IsDue, acts_at, text_after}
+use Rattle.rb_replay.proofs.QuietActs.{quiet-before, quiet-text, text-step}
 
 -- Quiet ticks.
 
@@ -67,10 +68,10 @@ one-begins (Some e) = by (nat_lt 0 e.frame)
     by true = lit≤ tt
     by false = lit≤ tt
 
-on-had : (sizes : Sizes) (plan : Plan) (me : Side) (index : ℕ) (c : Core) (st kept : NodeState) (m : Option Message)
+pub act-had : (sizes : Sizes) (plan : Plan) (me : Side) (index : ℕ) (c : Core) (st kept : NodeState) (m : Option Message)
     → (act_on sizes plan me index c st m kept).core.had ≡ c.had + 1
 unfolding act_on
-on-had sizes plan me index c st kept m = by (is_last sizes plan me st c.had) _ _ refl refl
+act-had sizes plan me index c st kept m = by (is_last sizes plan me st c.had) _ _ refl refl
   where
     by : (b : Bool) (x y : Act) → x.core.had ≡ c.had + 1 → y.core.had ≡ c.had + 1
         → (elim b as (λ _. Act) [ true ↦ x | false ↦ y ]).core.had ≡ c.had + 1
@@ -79,7 +80,7 @@ on-had sizes plan me index c st kept m = by (is_last sizes plan me st c.had) _ _
 
 at-had : (sizes : Sizes) (plan : Plan) (me : Side) (index : ℕ) (c : Core) (word : ℕ) → (act_at sizes plan me index c word).core.had ≡ c.had + 1
 unfolding act_at
-at-had sizes plan me index c word = on-had sizes plan me index c _ _ _
+at-had sizes plan me index c word = act-had sizes plan me index c _ _ _
 
 -- no more frames than ticks
 counts : (c : Core) (x : Act) → x.core.had ≡ c.had + 1 → frames_with x.epoch + c.had ≤ x.core.had
@@ -104,7 +105,7 @@ pub tick-advances : (me : Side) (n m : Running) (name : NodeName) (frames begun 
     → ((c : Core) → IsCore n c → IsCore m (tick_of me n c word).core)
     → ((c : Core) → IsCore n c → begun ≡ frames_with (tick_of me n c word).epoch)
     → ((c : Core) → IsCore n c → Appends before after (act_lines name (tick_of me n c word)))
-    → IsDue me n name frames (Tick word ∷ events) due → Advances me m name (frames + begun) events due before after
+    → IsDue me n name frames (Tick word ∷ events) due → Advances (IsDue me m name (frames + begun) events) due before after
 tick-advances me n m name frames begun word events due before after same cores begins written d =
     let x : Act = tick_of me n d.core word in
     let more : frames_with x.epoch + d.core.had ≤ x.core.had = tick-counts n.seat.sizes n.seat.plan me n.seat.index d.core word in
@@ -133,29 +134,12 @@ tick-part me n name frames word events due before after written d =
     subst (AppendsPart before after) (sym (d.text ∙ text-step name frames x (acts_at me n x.core events)))
     (part_widens before after (act_lines name x) (text_after name (frames + frames_with x.epoch) (acts_at me n x.core events)) (written d.core d.stands))
 
--- by what a call that gives a tick answers
-pub tick-told : {E : Type 0} (me : Side) (n m : Running) (name : NodeName) (frames word : ℕ) (events : List CoreEvent) (due : List ℕ) (before after : Option (List ℕ)) (r : Result ℕ E)
-    → IsSameNode n m
-    → ((c : Core) → IsCore n c → IsCore m (tick_of me n c word).core)
-    → ((c : Core) → IsCore n c → IfOk r (λ k. k ≡ frames_with (tick_of me n c word).epoch))
-    → ((c : Core) → IsCore n c → OnOk r (Appends before after (act_lines name (tick_of me n c word))))
-    → IsDue me n name frames (Tick word ∷ events) due → IfOk r (λ k. Advances me m name (frames + k) events due before after)
-tick-told me n m name frames word events due before after (Ok k) same cores begins written d =
-    tick-advances me n m name frames k word events due before after same cores begins written d
-tick-told me n m name frames word events due before after (Err e) same cores begins written d = tt
-
-pub tick-failed : {E : Type 0} (me : Side) (n : Running) (name : NodeName) (frames word : ℕ) (events : List CoreEvent) (due : List ℕ) (before after : Option (List ℕ)) (r : Result ℕ E)
-    → ((c : Core) → IsCore n c → OnErr r (AppendsPart before after (act_lines name (tick_of me n c word))))
-    → IsDue me n name frames (Tick word ∷ events) due → OnErr r (AppendsPart before after due)
-tick-failed me n name frames word events due before after (Ok k) written d = tt
-tick-failed me n name frames word events due before after (Err e) written d = tick-part me n name frames word events due before after written d
-
 -- An arrival, at which nothing is printed.
 
 pub arrival-advances : (me : Side) (n m : Running) (name : NodeName) (frames from : ℕ) (bytes : List ℕ) (events : List CoreEvent) (due : List ℕ) (held : Option (List ℕ))
     → m ≡ record n { inbox = m.inbox }
     → ((c : Core) → IsCore n c → IsCore m (arrive_of me n c from bytes))
-    → IsDue me n name frames (Arrive from bytes ∷ events) due → Advances me m name (frames + 0) events due held held
+    → IsDue me n name frames (Arrive from bytes ∷ events) due → Advances (IsDue me m name (frames + 0) events) due held held
 arrival-advances me n m name frames from bytes events due held rest cores d =
     let had : (arrive_of me n d.core from bytes).had ≡ d.core.had = (arrive-same n.seat.sizes me d.core from bytes).1 in
     let few : frames ≤ d.core.had = d.few in
@@ -175,76 +159,13 @@ arrival-advances me n m name frames from bytes events due held rest cores d =
       };
     }
 
--- One thing after another.
-
--- nothing was written yet
-pub advances-none : (me : Side) (n : Running) (name : NodeName) (frames : ℕ) (events : List CoreEvent) (due : List ℕ) (held : Option (List ℕ))
-    → IsDue me n name frames events due → Advances me n name frames events due held held
-advances-none me n name frames events due held d =
-    record { part = []; rest = due; whole = refl; appended = appends_none held; goes_on = d }
-
--- quiet ticks have passed
-pub advances-so : (me : Side) (n m : Running) (name : NodeName) (frames : ℕ) (events others : List CoreEvent) (due : List ℕ) (before after : Option (List ℕ))
-    → ((rest : List ℕ) → IsDue me n name frames events rest → IsDue me m name frames others rest)
-    → Advances me n name frames events due before after → Advances me m name frames others due before after
-advances-so me n m name frames events others due before after so a = record {
-  part = a.part;
-  rest = a.rest;
-  whole = a.whole;
-  appended = a.appended;
-  goes_on = so a.rest a.goes_on;
-}
-
--- the events that are left are these
-pub advances-is : (me : Side) (n : Running) (name : NodeName) (frames : ℕ) (events left : List CoreEvent) (due : List ℕ) (before after : Option (List ℕ))
-    → events ≡ left → Advances me n name frames events due before after → Advances me n name frames left due before after
-advances-is me n name frames events left due before after is a = subst (λ es. Advances me n name frames es due before after) is a
-
--- more was written
-pub advances-more : (me : Side) (n m : Running) (name : NodeName) (frames more : ℕ) (events others : List CoreEvent) (due : List ℕ) (first before after : Option (List ℕ))
-    → Advances me n name frames events due first before
-    → ((rest : List ℕ) → IsDue me n name frames events rest → Advances me m name more others rest before after)
-    → Advances me m name more others due first after
-advances-more me n m name frames more events others due first before after a then_more =
-    let b : Advances me m name more others a.rest before after = then_more a.rest a.goes_on in
-    record {
-      part = a.part ++ b.part;
-      rest = b.rest;
-      whole = a.whole ∙ ap (λ xs. a.part ++ xs) b.whole ∙ sym (append_assoc a.part b.part b.rest);
-      appended = appends_join first before after a.part b.part a.appended b.appended;
-      goes_on = b.goes_on;
-    }
-
--- a part of it was written
-pub advances-part : (me : Side) (n : Running) (name : NodeName) (frames : ℕ) (events : List CoreEvent) (due : List ℕ) (first before after : Option (List ℕ))
-    → Advances me n name frames events due first before
-    → ((rest : List ℕ) → IsDue me n name frames events rest → AppendsPart before after rest)
-    → AppendsPart first after due
-advances-part me n name frames events due first before after a then_part =
-    subst (AppendsPart first after) (sym a.whole) (part_join first before after a.part a.rest a.appended (then_part a.rest a.goes_on))
-
 -- after the last event the end is due
 end-due : (me : Side) (n : Running) (name : NodeName) (frames : ℕ) (due : List ℕ) → IsDue me n name frames [] due → due ≡ end_text frames
 end-due me n name frames due d = let none : frames + 0 ≡ frames = omega arith in d.text ∙ ap end_text none
 
--- so a call that writes it ends the text
-pub ends : {T E : Type 0} (me : Side) (n : Running) (name : NodeName) (frames : ℕ) (due bytes : List ℕ) (first before after : Option (List ℕ)) (r : Result T E)
-    → bytes ≡ end_text frames → Advances me n name frames [] due first before
-    → OnOk r (Appends before after bytes) → OnOk r (Appends first after due)
-ends me n name frames due bytes first before after (Err e) is a written = tt
-ends me n name frames due bytes first before after (Ok x) is a written =
-    let rest : a.rest ≡ bytes = end-due me n name frames a.rest a.goes_on ∙ sym is in
-    subst (Appends first after) (sym a.whole)
-    (appends_join first before after a.part a.rest a.appended (subst (Appends before after) (sym rest) written))
-
-pub ends-part : {T E : Type 0} (me : Side) (n : Running) (name : NodeName) (frames : ℕ) (due bytes : List ℕ) (first before after : Option (List ℕ)) (r : Result T E)
-    → bytes ≡ end_text frames → Advances me n name frames [] due first before
-    → OnErr r (AppendsPart before after bytes) → OnErr r (AppendsPart first after due)
-ends-part me n name frames due bytes first before after (Ok x) is a written = tt
-ends-part me n name frames due bytes first before after (Err e) is a written =
-    let rest : a.rest ≡ bytes = end-due me n name frames a.rest a.goes_on ∙ sym is in
-    subst (AppendsPart first after) (sym a.whole)
-    (part_join first before after a.part a.rest a.appended (subst (AppendsPart before after) (sym rest) written))
+-- which is what was written
+pub end-is : (me : Side) (n : Running) (name : NodeName) (frames : ℕ) (bytes : List ℕ) → bytes ≡ end_text frames → (rest : List ℕ) → IsDue me n name frames [] rest → rest ≡ bytes
+end-is me n name frames bytes is rest d = end-due me n name frames rest d ∙ sym is
 
 -- At first.
 

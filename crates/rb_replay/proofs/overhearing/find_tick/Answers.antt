@@ -1,8 +1,8 @@
 use Rattle.std.proofs.Common.{◌-◌, ◌≤◌, ap, arith}
 use Rattle.rb_log.specs.Cursor.{shown}
-use Rattle.rb_overheard.proofs.Events.{first-is, none-left}
-use Rattle.rb_overheard.proofs.Skips.{finds, goes-past, is-over, leaves-out, passes-over}
-use Rattle.rb_overheard.proofs.overhearing.find_tick.Goals as goal
+use Rattle.rb_replay.proofs.Events.{first-is, none-left}
+use Rattle.rb_replay.proofs.Skips.{finds, goes-past, is-over, leaves-out, passes-over}
+use Rattle.rb_replay.proofs.overhearing.find_tick.Goals as goal
 
 pub returns-then-left-eq0-clause-found : goal.returns-then-left-eq0-clause-found
 returns-then-left-eq0-clause-found c =

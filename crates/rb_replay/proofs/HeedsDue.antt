@@ -20,9 +20,10 @@ use Rattle.rb_listen.specs.declared.heed.Heed.{Heed}
 use Rattle.rb_listen.specs.declared.listener.Stage.{Stage}
 use Rattle.rb_listen.specs.declared.listener.Stage.TheVariants as stage
 use Rattle.rb_listen.specs.declared.search.Search.{Search}
-use Rattle.rb_overheard.specs.Dues.{Advances, IsDue, text_after}
-use Rattle.rb_overheard.specs.Overhearing.{begun_in, begun_with, from_tick, heed_lines, heeds_text, overheard_text}
-use Rattle.rb_overheard.proofs.Quiet.{Counts, heed-counts, quiet-text, text-step}
+use Rattle.rb_replay.specs.Advancing.{Advances}
+use Rattle.rb_replay.specs.ListeningOn.{IsDue, text_after}
+use Rattle.rb_replay.specs.Overhearing.{begun_in, begun_with, from_tick, heed_lines, heeds_text, overheard_text}
+use Rattle.rb_replay.proofs.QuietHeeds.{Counts, heed-counts, quiet-text, text-step}
 
 -- how many ticks it has had
 had-in : (st : Stage) (s : Search) (n : Running) (l : Listening) → IsListeningIn st s n l → had_by l ≡ had_in st s n
@@ -67,7 +68,7 @@ pub tick-advances : (h k : Hearer) (name : NodeName) (begun more word : ℕ) (ev
     → ((l : Listening) → IsListening h l → IsListening k (heed h.sizes h.plan l).listening)
     → ((l : Listening) → IsListening h l → more ≡ begun_with (heed h.sizes h.plan l).heed.epoch)
     → ((l : Listening) → IsListening h l → Appends before after (heed_lines name (heed h.sizes h.plan l).heed))
-    → IsDue h name begun (Tick word ∷ events) due → Advances k name (begun + more) events due before after
+    → IsDue h name begun (Tick word ∷ events) due → Advances (IsDue k name (begun + more) events) due before after
 tick-advances h k name begun more word events due before after same stands begins written d =
     let x : Heeding = heed h.sizes h.plan d.listening in
     let counts : Counts (had_by d.listening) x = heed-counts h.sizes h.plan d.listening d.most in
@@ -103,7 +104,7 @@ tick-part h name begun word events due before after written d =
 
 pub arrival-advances : (h k : Hearer) (name : NodeName) (begun from : ℕ) (bytes : List ℕ) (events : List CoreEvent) (due : List ℕ) (held : Option (List ℕ))
     → IsSameBus h k → had_at k ≡ had_at h → ((l : Listening) → IsListening h l → IsListening k (hear h.sizes h.plan from bytes l))
-    → IsDue h name begun (Arrive from bytes ∷ events) due → Advances k name (begun + 0) events due held held
+    → IsDue h name begun (Arrive from bytes ∷ events) due → Advances (IsDue k name (begun + 0) events) due held held
 arrival-advances h k name begun from bytes events due held same had stands d =
     let m : Listening = hear h.sizes h.plan from bytes d.listening in
     let after : IsListening k m = stands d.listening d.stands in
@@ -127,82 +128,13 @@ arrival-advances h k name begun from bytes events due held same had stands d =
       };
     }
 
--- One thing after another.
-
-pub advances-none : (h : Hearer) (name : NodeName) (begun : ℕ) (events : List CoreEvent) (due : List ℕ) (held : Option (List ℕ))
-    → IsDue h name begun events due → Advances h name begun events due held held
-advances-none h name begun events due held d = record { part = []; rest = due; whole = refl; appended = appends_none held; goes_on = d }
-
--- quiet ticks have passed
-pub advances-so : (h k : Hearer) (name : NodeName) (begun : ℕ) (events others : List CoreEvent) (due : List ℕ) (before after : Option (List ℕ))
-    → ((rest : List ℕ) → IsDue h name begun events rest → IsDue k name begun others rest)
-    → Advances h name begun events due before after → Advances k name begun others due before after
-advances-so h k name begun events others due before after so a =
-    record { part = a.part; rest = a.rest; whole = a.whole; appended = a.appended; goes_on = so a.rest a.goes_on }
-
--- the events that are left are these
-pub advances-is : (h : Hearer) (name : NodeName) (begun : ℕ) (events left : List CoreEvent) (due : List ℕ) (before after : Option (List ℕ))
-    → events ≡ left → Advances h name begun events due before after → Advances h name begun left due before after
-advances-is h name begun events left due before after is a = subst (λ es. Advances h name begun es due before after) is a
-
--- more was written
-pub advances-more : (h k : Hearer) (name : NodeName) (begun more : ℕ) (events others : List CoreEvent) (due : List ℕ) (first before after : Option (List ℕ))
-    → Advances h name begun events due first before
-    → ((rest : List ℕ) → IsDue h name begun events rest → Advances k name more others rest before after)
-    → Advances k name more others due first after
-advances-more h k name begun more events others due first before after a then_more =
-    let b : Advances k name more others a.rest before after = then_more a.rest a.goes_on in
-    record {
-      part = a.part ++ b.part;
-      rest = b.rest;
-      whole = a.whole ∙ ap (λ xs. a.part ++ xs) b.whole ∙ sym (append_assoc a.part b.part b.rest);
-      appended = appends_join first before after a.part b.part a.appended b.appended;
-      goes_on = b.goes_on;
-    }
-
--- a part of it was written
-pub advances-part : (h : Hearer) (name : NodeName) (begun : ℕ) (events : List CoreEvent) (due : List ℕ) (first before after : Option (List ℕ))
-    → Advances h name begun events due first before
-    → ((rest : List ℕ) → IsDue h name begun events rest → AppendsPart before after rest) → AppendsPart first after due
-advances-part h name begun events due first before after a then_part =
-    subst (AppendsPart first after) (sym a.whole) (part_join first before after a.part a.rest a.appended (then_part a.rest a.goes_on))
-
--- all of it was written
-pub advances-all : {T E : Type 0} (h : Hearer) (name : NodeName) (begun : ℕ) (events : List CoreEvent) (due : List ℕ) (first before after : Option (List ℕ)) (r : Result T E)
-    → Advances h name begun events due first before
-    → ((rest : List ℕ) → IsDue h name begun events rest → OnOk r (Appends before after rest)) → OnOk r (Appends first after due)
-advances-all h name begun events due first before after (Err e) a written = tt
-advances-all h name begun events due first before after (Ok x) a written =
-    subst (Appends first after) (sym a.whole) (appends_join first before after a.part a.rest a.appended (written a.rest a.goes_on))
-
-pub advances-failed : {T E : Type 0} (h : Hearer) (name : NodeName) (begun : ℕ) (events : List CoreEvent) (due : List ℕ) (first before after : Option (List ℕ)) (r : Result T E)
-    → Advances h name begun events due first before
-    → ((rest : List ℕ) → IsDue h name begun events rest → OnErr r (AppendsPart before after rest)) → OnErr r (AppendsPart first after due)
-advances-failed h name begun events due first before after (Ok x) a written = tt
-advances-failed h name begun events due first before after (Err e) a written = advances-part h name begun events due first before after a written
-
 -- after the last event the end is due
-pub end-due : (h : Hearer) (name : NodeName) (begun : ℕ) (due : List ℕ) → IsDue h name begun [] due → due ≡ end_text (begun - 1)
+end-due : (h : Hearer) (name : NodeName) (begun : ℕ) (due : List ℕ) → IsDue h name begun [] due → due ≡ end_text (begun - 1)
 end-due h name begun due d = let none : begun + 0 ≡ begun = omega arith in d.text ∙ ap (λ n. end_text (n - 1)) none
 
--- so a call that writes it ends the text
-pub ends : {T E : Type 0} (h : Hearer) (name : NodeName) (begun : ℕ) (due bytes : List ℕ) (first before after : Option (List ℕ)) (r : Result T E)
-    → bytes ≡ end_text (begun - 1) → Advances h name begun [] due first before
-    → OnOk r (Appends before after bytes) → OnOk r (Appends first after due)
-ends h name begun due bytes first before after (Err e) is a written = tt
-ends h name begun due bytes first before after (Ok x) is a written =
-    let rest : a.rest ≡ bytes = end-due h name begun a.rest a.goes_on ∙ sym is in
-    subst (Appends first after) (sym a.whole)
-    (appends_join first before after a.part a.rest a.appended (subst (Appends before after) (sym rest) written))
-
-pub ends-part : {T E : Type 0} (h : Hearer) (name : NodeName) (begun : ℕ) (due bytes : List ℕ) (first before after : Option (List ℕ)) (r : Result T E)
-    → bytes ≡ end_text (begun - 1) → Advances h name begun [] due first before
-    → OnErr r (AppendsPart before after bytes) → OnErr r (AppendsPart first after due)
-ends-part h name begun due bytes first before after (Ok x) is a written = tt
-ends-part h name begun due bytes first before after (Err e) is a written =
-    let rest : a.rest ≡ bytes = end-due h name begun a.rest a.goes_on ∙ sym is in
-    subst (AppendsPart first after) (sym a.whole)
-    (part_join first before after a.part a.rest a.appended (subst (AppendsPart before after) (sym rest) written))
+-- which is what was written
+pub end-is : (h : Hearer) (name : NodeName) (begun : ℕ) (bytes : List ℕ) → bytes ≡ end_text (begun - 1) → (rest : List ℕ) → IsDue h name begun [] rest → rest ≡ bytes
+end-is h name begun bytes is rest d = end-due h name begun rest d ∙ sym is
 
 -- The begin.
 
@@ -241,9 +173,9 @@ first-due h p t name node skip events left e f same is at found =
 
 -- no frame had begun
 pub from-none : (h : Hearer) (name : NodeName) (n : ℕ) (events : List CoreEvent) (due : List ℕ) (before after : Option (List ℕ))
-    → Advances h name (0 + n) events due before after → Advances h name n events due before after
+    → Advances (IsDue h name (0 + n) events) due before after → Advances (IsDue h name n events) due before after
 from-none h name n events due before after a =
-    let e : 0 + n ≡ n = omega arith in subst (λ k. Advances h name k events due before after) e a
+    let e : 0 + n ≡ n = omega arith in subst (λ k. Advances (IsDue h name k events) due before after) e a
 
 -- the end alone was written
 pub ends-at-once : {T E : Type 0} (sizes : Sizes) (plan : Plan) (name : NodeName) (skip : ℕ) (events : List CoreEvent) (bytes : List ℕ) (before after : Option (List ℕ)) (r : Result T E)

@@ -7,8 +7,9 @@ ghost use Rattle.rb_listen.specs.Listening.{Listening, heed};
 ghost use Rattle.rb_outside.specs.Bytes.{AppendsPart};
 ghost use Rattle.rb_outside.specs.Causes.{HasCause};
 ghost use Rattle.rb_rules.specs.Core.CoreEvent.{Tick};
-ghost use Rattle.rb_overheard.specs.Dues.{Advances, IsDue};
-ghost use Rattle.rb_overheard.specs.Overhearing.{begun_with, from_tick, heed_lines, is_of_biu, overheard_text};
+ghost use Rattle.rb_replay.specs.Advancing.{Advances};
+ghost use Rattle.rb_replay.specs.ListeningOn.{IsDue};
+ghost use Rattle.rb_replay.specs.Overhearing.{begun_with, from_tick, heed_lines, is_of_biu, overheard_text};
 
 use crate::lines::{begun_by, write_heed, write_line};
 use rb_base::NodeName;
@@ -69,7 +70,7 @@ fn give_ticks<S: Sink>(
     output: &mut S,
 ) -> Result<u32, Failed>
     ensures advances { (word begun : ℕ) (due : List ℕ) → IsDue listener.old name begun (Tick word ∷ log.old.events) due
-        → IfOk result (λ n. Advances listener.new name (begun + n) log.new.events due (S.held output.old) (S.held output.new)) }
+        → IfOk result (λ n. Advances (IsDue listener.new name (begun + n) log.new.events) due (S.held output.old) (S.held output.new)) }
     ensures part { (word begun : ℕ) (due : List ℕ) → IsDue listener.old name begun (Tick word ∷ log.old.events) due
         → OnErr result (AppendsPart (S.held output.old) (S.held output.new) due) }
     ensures most { IfOk result (λ n. n ≤ 1) }
@@ -91,7 +92,7 @@ fn give<S: Sink>(
     output: &mut S,
 ) -> Result<u32, Failed>
     ensures advances { (begun : ℕ) (due : List ℕ) → IsDue listener.old name begun (shown event.entry ∷ log.old.events) due
-        → IfOk result (λ n. Advances listener.new name (begun + n) log.new.events due (S.held output.old) (S.held output.new)) }
+        → IfOk result (λ n. Advances (IsDue listener.new name (begun + n) log.new.events) due (S.held output.old) (S.held output.new)) }
     ensures part { (begun : ℕ) (due : List ℕ) → IsDue listener.old name begun (shown event.entry ∷ log.old.events) due
         → OnErr result (AppendsPart (S.held output.old) (S.held output.new) due) }
     ensures most { IfOk result (λ n. n ≤ 1) }

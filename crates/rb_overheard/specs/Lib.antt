@@ -1,2 +1,0 @@
-pub mod Overhearing
-pub mod Dues

@@ -1,0 +1,63 @@
+-- What was written of a text that is due, and what more is.
+use Rattle.std.proofs.Common.{◌≡◌, ℕ, refl, ap, sym, ◌∙◌, subst, Option, Result, Ok, Err, OnOk, OnErr, List, [], ◌++◌, append_assoc}
+use Rattle.std.specs.Io.KnownBytes.{Appends}
+use Rattle.rb_outside.specs.Bytes.{AppendsPart}
+use Rattle.rb_outside.proofs.Known.{appends_join, appends_none, part_join}
+use Rattle.rb_rules.specs.Core.{CoreEvent}
+use Rattle.rb_replay.specs.Advancing.{Advances}
+
+-- nothing was written yet
+pub advances-none : (P : List ℕ → Type 0) (due : List ℕ) (held : Option (List ℕ)) → P due → Advances P due held held
+advances-none P due held d = record { part = []; rest = due; whole = refl; appended = appends_none held; goes_on = d }
+
+-- quiet ticks have passed
+pub advances-so : (P Q : List ℕ → Type 0) (due : List ℕ) (before after : Option (List ℕ)) → ((rest : List ℕ) → P rest → Q rest)
+    → Advances P due before after → Advances Q due before after
+advances-so P Q due before after so a = record { part = a.part; rest = a.rest; whole = a.whole; appended = a.appended; goes_on = so a.rest a.goes_on }
+
+-- the events that are left are these
+pub advances-is : (P : List CoreEvent → List ℕ → Type 0) (events left : List CoreEvent) (due : List ℕ) (before after : Option (List ℕ))
+    → events ≡ left → Advances (P events) due before after → Advances (P left) due before after
+advances-is P events left due before after is a = subst (λ es. Advances (P es) due before after) is a
+
+-- more was written
+pub advances-more : (P Q : List ℕ → Type 0) (due : List ℕ) (first before after : Option (List ℕ)) → Advances P due first before
+    → ((rest : List ℕ) → P rest → Advances Q rest before after) → Advances Q due first after
+advances-more P Q due first before after a then_more =
+    let b : Advances Q a.rest before after = then_more a.rest a.goes_on in
+    record {
+      part = a.part ++ b.part;
+      rest = b.rest;
+      whole = a.whole ∙ ap (λ xs. a.part ++ xs) b.whole ∙ sym (append_assoc a.part b.part b.rest);
+      appended = appends_join first before after a.part b.part a.appended b.appended;
+      goes_on = b.goes_on;
+    }
+
+-- a part of it was written
+pub advances-part : (P : List ℕ → Type 0) (due : List ℕ) (first before after : Option (List ℕ)) → Advances P due first before
+    → ((rest : List ℕ) → P rest → AppendsPart before after rest) → AppendsPart first after due
+advances-part P due first before after a then_part =
+    subst (AppendsPart first after) (sym a.whole) (part_join first before after a.part a.rest a.appended (then_part a.rest a.goes_on))
+
+-- all of it was written, by what a call answers
+pub advances-all : {T E : Type 0} (P : List ℕ → Type 0) (due : List ℕ) (first before after : Option (List ℕ)) (r : Result T E)
+    → Advances P due first before → ((rest : List ℕ) → P rest → OnOk r (Appends before after rest)) → OnOk r (Appends first after due)
+advances-all P due first before after (Err e) a written = tt
+advances-all P due first before after (Ok x) a written =
+    subst (Appends first after) (sym a.whole) (appends_join first before after a.part a.rest a.appended (written a.rest a.goes_on))
+
+pub advances-failed : {T E : Type 0} (P : List ℕ → Type 0) (due : List ℕ) (first before after : Option (List ℕ)) (r : Result T E)
+    → Advances P due first before → ((rest : List ℕ) → P rest → OnErr r (AppendsPart before after rest)) → OnErr r (AppendsPart first after due)
+advances-failed P due first before after (Ok x) a written = tt
+advances-failed P due first before after (Err e) a written = advances-part P due first before after a written
+
+-- a call that writes the end ends the text
+pub ends : {T E : Type 0} (P : List ℕ → Type 0) (due bytes : List ℕ) (first before after : Option (List ℕ)) (r : Result T E)
+    → ((rest : List ℕ) → P rest → rest ≡ bytes) → Advances P due first before → OnOk r (Appends before after bytes) → OnOk r (Appends first after due)
+ends P due bytes first before after r is a written =
+    advances-all P due first before after r a (λ rest d. subst (λ text. OnOk r (Appends before after text)) (sym (is rest d)) written)
+
+pub ends-part : {T E : Type 0} (P : List ℕ → Type 0) (due bytes : List ℕ) (first before after : Option (List ℕ)) (r : Result T E)
+    → ((rest : List ℕ) → P rest → rest ≡ bytes) → Advances P due first before → OnErr r (AppendsPart before after bytes) → OnErr r (AppendsPart first after due)
+ends-part P due bytes first before after r is a written =
+    advances-failed P due first before after r a (λ rest d. subst (λ text. OnErr r (AppendsPart before after text)) (sym (is rest d)) written)
