@@ -1,5 +1,5 @@
 -- What is due of a replay, event by event.
-use Rattle.std.proofs.Common.{◌≡◌, ℕ, ◌+◌, ◌≤◌, ◌^◌, nat_lt, Bool, true, false, cond, refl, ap, sym, ◌∙◌, subst, arith, lit≤, Option, Some, None, Result, Ok, Err, IfOk, OnOk, OnErr, List, [], ◌∷◌, ◌++◌, append_assoc}
+use Rattle.std.proofs.Common.{◌≡◌, ℕ, ◌+◌, ◌≤◌, ◌^◌, nat_lt, Bool, true, false, cond, refl, ap, sym, ◌∙◌, subst, arith, lit≤, Option, Some, None, List, [], ◌∷◌, ◌++◌}
 use Rattle.std.proofs.Math.ListN.{replicate}
 use Rattle.std.specs.List.{flat_map}
 use Rattle.std.specs.Io.KnownBytes.{Appends}
@@ -17,7 +17,7 @@ use Rattle.rb_rules.proofs.QuietTicks.{IsQuiet, arrive-same}
 use Rattle.rb_node.specs.Cores.{IsCore, IsSameNode, Running, arrive_of, passing_end, tick_of, ticks_of}
 use Rattle.rb_slot.specs.Engines.{Seated}
 use Rattle.rb_outside.specs.Bytes.{AppendsPart}
-use Rattle.rb_outside.proofs.Known.{appends_join, appends_none, part_join, part_widens}
+use Rattle.rb_outside.proofs.Known.{appends_none, part_widens}
 use Rattle.rb_report.specs.Report.{end_text}
 use Rattle.rb_laws_logs.specs.Given.{index_of}
 use Rattle.rb_laws_logs.specs.Replays.{act_lines, acts_from, acts_text, frames_in, frames_with, replay_text}

@@ -1,5 +1,5 @@
 -- What is due of a log that is listened to, event by event.
-use Rattle.std.proofs.Common.{◌≡◌, ℕ, ◌+◌, ◌-◌, ◌≤◌, ◌^◌, refl, ap, sym, ◌∙◌, subst, arith, Option, Result, Ok, Err, OnOk, OnErr, List, [], ◌∷◌, ◌++◌, append_assoc}
+use Rattle.std.proofs.Common.{◌≡◌, ℕ, ◌+◌, ◌-◌, ◌≤◌, ◌^◌, refl, ap, sym, ◌∙◌, subst, arith, Option, Result, OnOk, OnErr, List, [], ◌∷◌, ◌++◌}
 use Rattle.std.proofs.Math.ListN.{replicate}
 use Rattle.std.specs.Io.KnownBytes.{Appends}
 use Rattle.std.specs.List.{flat_map}
@@ -11,7 +11,7 @@ use Rattle.rb_rules.specs.Core.CoreEvent.{Tick, Arrive}
 use Rattle.rb_node.specs.Cores.{Running}
 use Rattle.rb_plan.specs.Timetable.{Timetable}
 use Rattle.rb_outside.specs.Bytes.{AppendsPart}
-use Rattle.rb_outside.proofs.Known.{appends_join, appends_none, part_join, part_widens}
+use Rattle.rb_outside.proofs.Known.{appends_none, part_widens}
 use Rattle.rb_report.specs.Report.{end_text}
 use Rattle.rb_listen.specs.Listeners.{Hearer, IsListening, IsListeningIn, IsSameBus, had_at, had_in}
 use Rattle.rb_listen.specs.Listening.{Heeding, Listening, TellNothing, first_search, had_by, hear, heed, heeds, told_of}

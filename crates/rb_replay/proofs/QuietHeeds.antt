@@ -7,9 +7,8 @@ use Rattle.rb_base.specs.Nodes.Side.{Biu}
 use Rattle.rb_base.specs.Sizes.{Sizes}
 use Rattle.rb_base.specs.declared.node.NodeName.{NodeName}
 use Rattle.rb_rules.specs.declared.plan.Plan.{Plan}
-use Rattle.rb_rules.specs.declared.message.Message.{Message}
 use Rattle.rb_rules.specs.declared.record.Epoch.{Epoch}
-use Rattle.rb_rules.specs.Core.{Act, Core, CoreEvent, act_on, is_last, is_spent, state_at}
+use Rattle.rb_rules.specs.Core.{Act, Core, CoreEvent, act_on, is_spent, state_at}
 use Rattle.rb_rules.specs.Core.CoreEvent.{Tick}
 use Rattle.rb_rules.specs.NodeState.{NodeState}
 use Rattle.rb_report.specs.Report.{end_text}

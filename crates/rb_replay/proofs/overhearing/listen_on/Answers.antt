@@ -1,4 +1,4 @@
-use Rattle.std.proofs.Common.{rules, ◌≡◌, ◌-◌, ◌≤◌, ◌^◌, ◌∷◌, ◌∙◌, [], List, ℕ, ap, arith, sym}
+use Rattle.std.proofs.Common.{rules, ◌-◌, ◌≤◌, ◌^◌, ◌∷◌, ◌∙◌, [], ap, arith}
 use Rattle.rb_log.specs.Cursor.{shown}
 use Rattle.rb_report.specs.Report.{end_text}
 use Rattle.rb_listen.specs.Listening.{had_by}
