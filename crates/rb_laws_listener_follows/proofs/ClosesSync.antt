@@ -27,7 +27,7 @@ use Rattle.rb_laws_synchrony.proofs.SyncSteps.{IsPassedStage}
 use Rattle.rb_laws_synchrony.proofs.Times.{lawful_fits, plan_fits}
 use Rattle.rb_laws_events.proofs.PortsKept.{sync-role}
 use Rattle.rb_laws_events.proofs.TurnTicks.{no-next, not-yet}
-use Rattle.rb_follow.specs.Following.{follow}
+use Rattle.rb_listen.specs.Following.{follow}
 use Rattle.rb_laws_listener_near.proofs.Tracking.{Held}
 use Rattle.rb_laws_listener_learns.specs.Ears.{Ear}
 use Rattle.rb_laws_listener_learns.proofs.SyncStages.{StageIs, stage_is}

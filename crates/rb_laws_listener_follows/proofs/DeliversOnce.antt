@@ -28,7 +28,7 @@ use Rattle.rb_rules.proofs.WindowNumbers.{exact-numbered, sync-numbered}
 use Rattle.rb_laws_agreement.proofs.Tests.{equal_from}
 use Rattle.rb_laws_events.specs.Closing.{stages_in}
 use Rattle.rb_laws_events.proofs.TickWindows.{get-window, how-many}
-use Rattle.rb_follow.specs.Following.{follow}
+use Rattle.rb_listen.specs.Following.{follow}
 use Rattle.rb_listen.specs.declared.lesson.First.{First}
 use Rattle.rb_listen.specs.declared.search.Search.{Search}
 use Rattle.rb_laws_listener_learns.specs.Ears.{Ear, told_at}

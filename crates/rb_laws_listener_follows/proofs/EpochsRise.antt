@@ -11,7 +11,7 @@ use Rattle.rb_rules.specs.NodeState.{NodeState}
 use Rattle.rb_rules.specs.SyncStage.{new_epoch_of}
 use Rattle.rb_laws_agreement.proofs.Tests.{equal_from}
 use Rattle.rb_laws_events.proofs.TurnTicks.{no-next}
-use Rattle.rb_follow.specs.Following.{follow}
+use Rattle.rb_listen.specs.Following.{follow}
 use Rattle.rb_listen.specs.Listening.{Heeding, Listening, first_core, followed, heed, is_over, no_heed, search_on, untold, wait_on}
 use Rattle.rb_listen.specs.Listening as now
 use Rattle.rb_listen.specs.declared.lesson.First.{First}

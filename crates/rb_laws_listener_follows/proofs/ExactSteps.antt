@@ -27,7 +27,7 @@ use Rattle.rb_laws_agreement.proofs.Settings.{Setting, stages_with}
 use Rattle.rb_laws_synchrony.proofs.StageCalls.{IsAt, exact_at}
 use Rattle.rb_laws_events.proofs.StageOrder.{last-same, last_of}
 use Rattle.rb_laws_events.proofs.TickWindows.{first-same, first_of}
-use Rattle.rb_follow.specs.Following.{follow}
+use Rattle.rb_listen.specs.Following.{follow}
 use Rattle.rb_listen.specs.Listening as now
 use Rattle.rb_laws_listener_learns.specs.Ears.{Ear, listening_at}
 use Rattle.rb_laws_listener_near.specs.Judged.{verdict_with}

@@ -39,7 +39,7 @@ use Rattle.rb_laws_synchrony.proofs.Times.{lawful_fits, plan_fits}
 use Rattle.rb_laws_events.proofs.StageOrder.{last-same, last_of}
 use Rattle.rb_laws_events.proofs.TickWindows.{first-same, first_of}
 use Rattle.rb_laws_events.proofs.TurnTicks.{no-next}
-use Rattle.rb_follow.specs.Following.{follow}
+use Rattle.rb_listen.specs.Following.{follow}
 use Rattle.rb_listen.specs.Listening.{followed, heed}
 use Rattle.rb_listen.specs.Listening as now
 use Rattle.rb_laws_listener_learns.specs.Ears.{Ear, SendsIn, hears, listening_at}

@@ -11,7 +11,7 @@ use Rattle.rb_rules.specs.Goodness.{Scenario}
 use Rattle.rb_rules.specs.Hearing.{Coming, close_window}
 use Rattle.rb_rules.specs.NodeState.{NodeState}
 use Rattle.rb_rules.specs.Sense.{Arrival}
-use Rattle.rb_follow.specs.Following.{follow}
+use Rattle.rb_listen.specs.Following.{follow}
 use Rattle.rb_listen.specs.Listening.{Listening, followed, hear, heed}
 use Rattle.rb_listen.specs.Listening as now
 use Rattle.rb_laws_listener_learns.specs.Ears.{Ear, hears, listening_at}

@@ -19,7 +19,7 @@ use Rattle.rb_rules.specs.Sense.{sense_of}
 use Rattle.rb_rules.specs.SyncStage.{close_sync, sync_outcome_of}
 use Rattle.rb_rules.specs.Windows.{holds_offset, window_at, windows_of_frame}
 use Rattle.rb_laws_agreement.proofs.Tests.{equal_from, true_or_false}
-use Rattle.rb_follow.specs.Following.{follow}
+use Rattle.rb_listen.specs.Following.{follow}
 use Rattle.rb_listen.specs.Listening as now
 use Rattle.rb_listen.specs.declared.lesson.First.{First}
 use Rattle.rb_listen.specs.declared.search.Search.{Search}

@@ -16,7 +16,7 @@ use Rattle.rb_rules.specs.NodeState.{NodeState, trusted_of}
 use Rattle.rb_rules.specs.NodeSteps.{convicted_of}
 use Rattle.rb_rules.specs.Slots.{count_of}
 use Rattle.rb_laws_agreement.proofs.Exchanges.{trusted-either}
-use Rattle.rb_follow.specs.Following.{follow}
+use Rattle.rb_listen.specs.Following.{follow}
 use Rattle.rb_listen.specs.Listening.{followed, heed}
 use Rattle.rb_listen.specs.Listening as now
 use Rattle.rb_laws_listener_learns.specs.Ears.{Ear, listening_at, told_at}

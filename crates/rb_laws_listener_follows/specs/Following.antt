@@ -26,7 +26,7 @@ use Rattle.rb_rules.specs.Slots.{Sender, role_of}
 use Rattle.rb_rules.specs.Slots.Sender.{Node}
 use Rattle.rb_rules.specs.StandsFor.{HoldsOwners, HoldsTrusted, StandsFor, steps_to, value_on}
 use Rattle.rb_rules.specs.Windows.{windows_of_frame}
-use Rattle.rb_follow.specs.Following.{follow}
+use Rattle.rb_listen.specs.Following.{follow}
 use Rattle.rb_listen.specs.Listening as now
 use Rattle.rb_listen.specs.declared.search.Search.{Search}
 use Rattle.rb_laws_listener_near.specs.Laws.{LieWithin}

@@ -20,7 +20,7 @@ use Rattle.rb_rules.specs.Slots.{Sender, role_of, sender_in}
 use Rattle.rb_rules.specs.Slots.Sender.{Nobody, Node, EachTrusted}
 use Rattle.rb_rules.specs.Spelling.{message_in}
 use Rattle.rb_rules.specs.SyncStage.{see_time}
-use Rattle.rb_follow.specs.Following.{follow}
+use Rattle.rb_listen.specs.Following.{follow}
 use Rattle.rb_listen.specs.Lessons.{record_of, stage_recorded}
 use Rattle.rb_listen.specs.Listening.{Listening}
 use Rattle.rb_listen.specs.Listening as now

@@ -1,7 +1,7 @@
 -- That a listener waits for its first frame, and then follows.
 use Rattle.std.specs.Prelude.{ℕ, ◌≡◌, ◌<◌, ◌≤◌}
 use Rattle.rb_rules.specs.Goodness.{Scenario}
-use Rattle.rb_follow.specs.Following.{follow}
+use Rattle.rb_listen.specs.Following.{follow}
 use Rattle.rb_listen.specs.Listening.{first_core, followed, heed}
 use Rattle.rb_listen.specs.Listening as now
 use Rattle.rb_listen.specs.declared.lesson.First.{First}

@@ -3,3 +3,5 @@ pub mod Passing
 pub mod Searches
 pub mod Listeners
 pub mod Stages
+pub mod Waking
+pub mod Steps

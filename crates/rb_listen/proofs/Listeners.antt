@@ -11,9 +11,9 @@ use Rattle.rb_node.specs.Acts.{IsAct}
 use Rattle.rb_node.specs.Cores.{IsCore, Running}
 use Rattle.rb_node.specs.declared.act.Step.{Step}
 use Rattle.rb_rules.proofs.QuietTicks.{nothing}
-use Rattle.rb_follow.specs.Following.{arrive_at, follow, follow_at, follows, follows_at, wakes}
-use Rattle.rb_follow.specs.Waking.{wakes_at}
-use Rattle.rb_follow.proofs.Waking.{quiet-tick}
+use Rattle.rb_listen.specs.Following.{arrive_at, follow, follow_at, follows, follows_at, wakes}
+use Rattle.rb_listen.specs.Waking.{wakes_at}
+use Rattle.rb_listen.proofs.Waking.{quiet-tick}
 use Rattle.rb_listen.specs.Lessons.{first_of}
 use Rattle.rb_listen.specs.Listeners.{IsListeningIn}
 use Rattle.rb_listen.specs.Listening.{Heeding, Listening, TellNothing, decided, decision_of, first_core, followed, frame_of, had_by, hear, heed, heeds, in_time, is_deciding, is_over, later, next_heed, search_on, searching, told, untold, wait_on}

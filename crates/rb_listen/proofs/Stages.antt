@@ -4,8 +4,8 @@ use Rattle.rb_base.specs.Sizes.{Sizes}
 use Rattle.rb_node.specs.Cores.{IsCore, Running}
 use Rattle.rb_rules.specs.declared.plan.Plan.{Plan}
 use Rattle.rb_rules.specs.Core.{Core}
-use Rattle.rb_follow.specs.Following.{arrive_at, follow_at, follows_at}
-use Rattle.rb_follow.specs.Waking.{wakes_at}
+use Rattle.rb_listen.specs.Following.{arrive_at, follow_at, follows_at}
+use Rattle.rb_listen.specs.Waking.{wakes_at}
 use Rattle.rb_listen.specs.Listeners.{ComesTo, IsAhead, IsInStage, IsListeningIn, IsSound, end_in, had_in}
 use Rattle.rb_listen.specs.Listening.{Heeding, Listening, TellNothing, decision_of, first_core, had_by, hear, heed, heeds, no_heed, search_on, searching, told, untold}
 use Rattle.rb_listen.specs.Listening as now

@@ -3,3 +3,5 @@ pub mod Lessons
 pub mod Stamps
 pub mod Listening
 pub mod Listeners
+pub mod Following
+pub mod Waking

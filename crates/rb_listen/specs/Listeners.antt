@@ -4,7 +4,7 @@ use Rattle.rb_base.specs.Sizes.{Sizes}
 use Rattle.rb_rules.specs.declared.plan.Plan.{Plan}
 use Rattle.rb_rules.specs.Core.{Core}
 use Rattle.rb_node.specs.Cores.{IsCore, Running}
-use Rattle.rb_follow.specs.Following.{passing_end as follows_to}
+use Rattle.rb_listen.specs.Following.{passing_end as follows_to}
 use Rattle.rb_listen.specs.Listening.{Listening, decision_of, in_time}
 use Rattle.rb_listen.specs.Listening as now
 use Rattle.rb_listen.specs.Stamps.{AreSoon}

@@ -9,7 +9,7 @@ use Rattle.rb_rules.specs.declared.plan.Plan.{Plan}
 use Rattle.rb_rules.specs.Core.{Act, Core, CoreEvent, arrive, is_tick}
 use Rattle.rb_rules.specs.Core.CoreEvent.{Tick, Arrive}
 use Rattle.rb_rules.specs.Spelling.{message_in}
-use Rattle.rb_follow.specs.Following.{core_from, follow, next_wake}
+use Rattle.rb_listen.specs.Following.{core_from, follow, next_wake}
 use Rattle.rb_listen.specs.Lessons.{first_of, frame_after, lesson_on, noted}
 use Rattle.rb_listen.specs.Passes.{is_call, pass_of, reach_of}
 use Rattle.rb_listen.specs.declared.heed.Heed.{Heed}

@@ -2,7 +2,7 @@
 ghost use Rattle.std.specs.Prelude.{◌≡◌, ◌+◌, ◌<◌, ◌≤◌, ◌^◌, None, IfSome, unwrap_or, if◌then◌else◌};
 ghost use Rattle.rb_rules.specs.Core.{Core};
 ghost use Rattle.rb_node.specs.Cores.{IsCore, IsSameNode};
-ghost use Rattle.rb_follow.specs.Following.{follow_at};
+ghost use Rattle.rb_listen.specs.Following.{follow_at};
 ghost use Rattle.rb_listen.specs.Listeners.{IsListening, IsSameBus, had_at, passing_end};
 ghost use Rattle.rb_listen.specs.Listening.{Listening, TellNothing, first_search, frame_of, had_by, hear, heed, heeds, next_heed, no_heed, told};
 ghost use Rattle.rb_listen.specs.Listening.Listening.{Searching};
@@ -12,7 +12,7 @@ use crate::heed::Heed;
 use crate::lesson::First;
 use crate::search::{MOST_TICKS, Search, arrive, decision, first_search, in_time, search_on};
 use rb_base::{Delivery, NodeSet};
-use rb_follow::Follower;
+use crate::Follower;
 use rb_plan::Feasible;
 use std::marker::Model;
 

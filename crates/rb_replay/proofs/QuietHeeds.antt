@@ -12,7 +12,7 @@ use Rattle.rb_rules.specs.Core.{Act, Core, CoreEvent, act_on, is_spent, state_at
 use Rattle.rb_rules.specs.Core.CoreEvent.{Tick}
 use Rattle.rb_rules.specs.NodeState.{NodeState}
 use Rattle.rb_report.specs.Report.{end_text}
-use Rattle.rb_follow.specs.Following.{follow}
+use Rattle.rb_listen.specs.Following.{follow}
 use Rattle.rb_listen.specs.Lessons.{first_of}
 use Rattle.rb_listen.specs.Listening.{Heeding, Listening, TellNothing, decided, first_core, followed, had_by, heed, heeds, if_after, is_deciding, is_over, later, no_heed, search_on, told_of, untold, wait_on}
 use Rattle.rb_listen.specs.Listening as now

@@ -1,0 +1,301 @@
+-- Which tick of a follower is the next one that isn't quiet, and what quiet ticks do.
+use Rattle.std.proofs.Common.{◌≡◌, ℕ, zero, suc, ◌+◌, ◌-◌, ◌<◌, ◌≤◌, ◌^◌, ◌⊎◌, ◌==◌, ◌||◌, Bool, true, false, refl, ap, sym, ◌∙◌, subst, arith, inl, inr, Option, Some, None, [], unwrap_or}
+use Rattle.std.proofs.lemmas.Bool.{cases_lt}
+use Rattle.std.proofs.lemmas.Bool.Decides.{nat_tests}
+use Rattle.rb_base.specs.Nodes.Side.{Biu}
+use Rattle.rb_base.specs.Sizes.{Sizes}
+use Rattle.rb_rules.specs.declared.plan.Plan.{Plan}
+use Rattle.rb_rules.specs.declared.plan.Window.{Window}
+use Rattle.rb_rules.specs.declared.record.Epoch.{Epoch}
+use Rattle.rb_rules.specs.Core.{Act, Core, act_on, epoch_at, is_last, is_spent, is_tick, of_source, state_at, window_here}
+use Rattle.rb_rules.specs.ExactStage.{Outcome}
+use Rattle.rb_rules.specs.Hearing.{close_window, epoch_of}
+use Rattle.rb_rules.specs.NodeState.{NodeState}
+use Rattle.rb_rules.specs.SyncStage.{new_epoch_of}
+use Rattle.rb_rules.proofs.QuietTicks.{nothing}
+use Rattle.rb_rules.proofs.RoundStates.{HasTicks}
+use Rattle.rb_slot.specs.Engines.{Seated}
+use Rattle.rb_eligible.specs.Inboxes.{KeptArrivals}
+use Rattle.rb_node.specs.Aheads.{IsSooner, IsWindowOf, window_of_tick}
+use Rattle.rb_node.specs.Cores.{Running}
+use Rattle.rb_node.proofs.Busy.{no-turn, turned-epoch}
+use Rattle.rb_node.proofs.Windows.{goes-on}
+use Rattle.rb_listen.specs.Following.{follow, follows, next_wake, passing_end, wake_among, wakes}
+use Rattle.rb_listen.specs.Waking.{IfKnown, IsFollowing, IsNextWake, LooksAhead, wakes_at}
+use Rattle.rb_listen.specs.declared.ahead.Ahead.{Ahead}
+
+-- What makes a tick busy.
+
+or-first : (a b : Bool) → a ≡ true → (a || b) ≡ true
+or-first true b h = refl
+or-first false b h = cc
+
+or-second : (a b : Bool) → b ≡ true → (a || b) ≡ true
+or-second true b h = refl
+or-second false true h = refl
+or-second false false h = cc
+
+or-none : (a b : Bool) → a ≡ false → b ≡ false → (a || b) ≡ false
+or-none a b h i = rw (h, i) refl
+
+or-false : (a b : Bool) → (a || b) ≡ false → (a ≡ false) × (b ≡ false)
+or-false true b h = cc
+or-false false b h = (refl, h)
+
+eq-self : (k : ℕ) → (k == k) ≡ true
+eq-self k = grind (arith, nat_tests)
+
+flip : (a b : ℕ) (c : Bool) → (a == b) ≡ c → (b == a) ≡ c
+flip a b true h = grind (arith, nat_tests)
+flip a b false h = grind (arith, nat_tests)
+
+abbrev as-it-is : Seated → ℕ → Bool
+as-it-is v k = (v.state.epoch == k) || is_last v.sizes v.plan Biu v.state k
+
+by-state : (v : Seated) (k : ℕ) → is_tick (new_epoch_of v.plan Biu v.state) k ≡ false → wakes_at v k ≡ as-it-is v k
+unfolding wakes
+by-state v k h = ap (λ (st : NodeState). (st.epoch == k) || is_last v.sizes v.plan Biu st k) (no-turn v Biu k h)
+
+wakes-turn : (v : Seated) (k : ℕ) → is_tick (new_epoch_of v.plan Biu v.state) k ≡ true → wakes_at v k ≡ true
+unfolding wakes
+wakes-turn v k h = or-first ((state_at v.sizes v.plan Biu v.state k).epoch == k) _ (ap (λ e. e == k) (turned-epoch v Biu k h) ∙ eq-self k)
+
+wakes-if : (v : Seated) (k : ℕ) → as-it-is v k ≡ true → wakes_at v k ≡ true
+wakes-if v k h = by (is_tick (new_epoch_of v.plan Biu v.state) k) refl
+  where
+    by : (b : Bool) → is_tick (new_epoch_of v.plan Biu v.state) k ≡ b → wakes_at v k ≡ true
+    by true e = wakes-turn v k e
+    by false e = by-state v k e ∙ h
+
+last-by : (v : Seated) (w : Window) (k : ℕ) (b : Bool) → window_of_tick Biu v k ≡ w → (v.state.epoch + w.last == k) ≡ b
+    → is_last v.sizes v.plan Biu v.state k ≡ b
+last-by v w k b here h = ap (λ (x : Window). k == v.state.epoch + x.last) here ∙ flip (v.state.epoch + w.last) k b h
+
+-- The soonest of the ticks that may be so in a window.
+
+-- one of them is tick k
+data OneIs (v : Seated) (w : Window) (k : ℕ) : Type 0 where
+  Begun : is_tick (Some v.state.epoch) k ≡ true → OneIs v w k
+  Closed : is_tick (Some (v.state.epoch + w.last)) k ≡ true → OneIs v w k
+  Turned : is_tick (new_epoch_of v.plan Biu v.state) k ≡ true → OneIs v w k
+
+wakes-one : (v : Seated) (w : Window) (k : ℕ) → window_of_tick Biu v k ≡ w → OneIs v w k → wakes_at v k ≡ true
+wakes-one v w k here (Begun h) = wakes-if v k (or-first (v.state.epoch == k) (is_last v.sizes v.plan Biu v.state k) h)
+wakes-one v w k here (Closed h) =
+    wakes-if v k (or-second (v.state.epoch == k) (is_last v.sizes v.plan Biu v.state k) (last-by v w k true here h))
+wakes-one v w k here (Turned h) = wakes-turn v k h
+
+-- the window's last tick is not passed over
+not-over : (had last before after k : ℕ) → IsSooner had (Some last) before after → k ≤ after → had ≤ last → k ≤ last
+not-over had last before after k s le from =
+    elim (cases_lt last k) [
+      | inl lt ↦ absurd (true-false (sym (eq-self last) ∙ s.not_before last from (omega arith)))
+      | inr ge ↦ ge
+    ]
+  where
+    true-false : true ≡ false → ⊥
+    true-false e = cc
+
+carry : (v : Seated) (w : Window) (a b : ℕ) → (b ≡ a) → (a ≡ 2 ^ 31) ⊎ OneIs v w a → (b ≡ 2 ^ 31) ⊎ OneIs v w b
+carry v w a b e h = subst (λ x. (x ≡ 2 ^ 31) ⊎ OneIs v w x) (sym e) h
+
+pub soonest-is : (v : Seated) (w : Window) (had b1 b2 b3 : ℕ) → HasTicks v.plan → v.state.epoch ≤ had → w ≡ window_of_tick Biu v had
+    → IsSooner had (Some v.state.epoch) (2 ^ 31) b1 → IsSooner had (Some (v.state.epoch + w.last)) b1 b2
+    → IsSooner had (new_epoch_of v.plan Biu v.state) b2 b3 → IsNextWake v had b3
+soonest-is v w had b1 b2 b3 ticks epoch is s1 s2 s3 =
+    let m1 : b1 ≤ 2 ^ 31 = s1.most in
+    let m2 : b2 ≤ b1 = s2.most in
+    let m3 : b3 ≤ b2 = s3.most in
+    let here : (k : ℕ) → had ≤ k → k ≤ b3 → window_of_tick Biu v k ≡ w = λ k lo hi.
+    goes-on v.sizes v.plan Biu v.state had k ticks epoch lo
+    (λ from. subst (λ (x : Window). had ≤ v.state.epoch + x.last → k ≤ v.state.epoch + x.last) is
+    (not-over had (v.state.epoch + w.last) b1 b2 k s2 (omega arith)) from)
+    ∙ sym is in
+    let c1 : (b1 ≡ 2 ^ 31) ⊎ OneIs v w b1 = elim s1.either [ inl same ↦ inl same | inr one ↦ inr (Begun one) ] in
+    let c2 : (b2 ≡ 2 ^ 31) ⊎ OneIs v w b2 = elim s2.either [ inl same ↦ carry v w b1 b2 same c1 | inr one ↦ inr (Closed one) ] in
+    let c3 : (b3 ≡ 2 ^ 31) ⊎ OneIs v w b3 = elim s3.either [ inl same ↦ carry v w b2 b3 same c2 | inr one ↦ inr (Turned one) ] in
+    record {
+      later = s3.later;
+      most = omega arith;
+      quiet = λ k lo hi.
+          by-state v k (s3.not_before k lo (omega arith))
+          ∙ or-none (v.state.epoch == k) (is_last v.sizes v.plan Biu v.state k) (s1.not_before k lo (omega arith))
+          (last-by v w k false (here k lo (omega arith)) (s2.not_before k lo (omega arith)));
+      busy = λ below. elim c3 [
+        | inl end ↦ absurd (omega arith)
+        | inr one ↦ wakes-one v w b3 (here b3 s3.later (omega arith)) one
+      ];
+      here = λ k lo hi. here k lo hi ∙ is;
+    }
+
+-- It is found.
+
+finds : (v : Seated) (others had k : ℕ) → had ≤ k → k < had + others → ((m : ℕ) → had ≤ m → m < k → wakes_at v m ≡ false)
+    → wakes_at v k ≡ true → wake_among v.sizes v.plan v.state others had ≡ Some k
+finds v zero had k lo hi quiet busy = absurd (omega arith)
+finds v (suc others) had k lo hi quiet busy =
+    elim (cases_lt had k) [
+      | inl lt ↦
+          ap (λ b. elim b as (λ _. Option ℕ) [ true ↦ Some had | false ↦ wake_among v.sizes v.plan v.state others (suc had) ]) (quiet had (omega arith) lt)
+          ∙ finds v others (suc had) k (omega arith) (omega arith) (λ m a b. quiet m (omega arith) b) busy
+      | inr ge ↦
+          let same : k ≡ had = omega arith in
+          ap (λ b. elim b as (λ _. Option ℕ) [ true ↦ Some had | false ↦ wake_among v.sizes v.plan v.state others (suc had) ]) (ap (wakes_at v) (sym same) ∙ busy)
+          ∙ ap (λ m. Some m) (sym same)
+    ]
+
+finds-none : (v : Seated) (others had : ℕ) → ((m : ℕ) → had ≤ m → m < had + others → wakes_at v m ≡ false)
+    → wake_among v.sizes v.plan v.state others had ≡ None
+finds-none v zero had quiet = refl
+finds-none v (suc others) had quiet =
+    ap (λ b. elim b as (λ _. Option ℕ) [ true ↦ Some had | false ↦ wake_among v.sizes v.plan v.state others (suc had) ]) (quiet had (omega arith) (omega arith))
+    ∙ finds-none v others (suc had) (λ m a b. quiet m (omega arith) (omega arith))
+
+-- of a core in the follower's state
+next-at : (v : Seated) (c : Core) (had : ℕ) → c.state ≡ v.state → c.had ≡ had
+    → next_wake v.sizes v.plan c ≡ wake_among v.sizes v.plan v.state (2 ^ 31 - had) had
+next-at v c had s h =
+    ap (λ st. wake_among v.sizes v.plan st (2 ^ 31 - c.had) c.had) s
+    ∙ ap (λ n. wake_among v.sizes v.plan v.state (2 ^ 31 - n) n) h
+
+among-is : (v : Seated) (had k : ℕ) → IsNextWake v had k → k < 2 ^ 31 → wake_among v.sizes v.plan v.state (2 ^ 31 - had) had ≡ Some k
+among-is v had k next below =
+    finds v (2 ^ 31 - had) had k next.later (let later : had ≤ k = next.later in omega arith) next.quiet (next.busy below)
+
+among-none : (v : Seated) (had k : ℕ) → IsNextWake v had k → 2 ^ 31 ≤ k → wake_among v.sizes v.plan v.state (2 ^ 31 - had) had ≡ None
+among-none v had k next end =
+    let most : k ≤ 2 ^ 31 = next.most in
+    let later : had ≤ k = next.later in
+    finds-none v (2 ^ 31 - had) had (λ m lo hi. next.quiet m lo (omega arith))
+
+pub next-is : (v : Seated) (c : Core) (had k : ℕ) → c.state ≡ v.state → c.had ≡ had → IsNextWake v had k → k < 2 ^ 31
+    → next_wake v.sizes v.plan c ≡ Some k
+next-is v c had k s h next below = next-at v c had s h ∙ among-is v had k next below
+
+pub next-none : (v : Seated) (c : Core) (had k : ℕ) → c.state ≡ v.state → c.had ≡ had → IsNextWake v had k → 2 ^ 31 ≤ k
+    → next_wake v.sizes v.plan c ≡ None
+next-none v c had k s h next end = next-at v c had s h ∙ among-none v had k next end
+
+-- so it is the end of what may pass
+pub passing-is : (n : Running) (k : ℕ) → IsNextWake n.seat n.had k → passing_end n ≡ k
+passing-is n k next =
+    let most : k ≤ 2 ^ 31 = next.most in
+    elim (cases_lt k (2 ^ 31)) [
+      | inl below ↦ ap (λ o. unwrap_or o (2 ^ 31)) (among-is n.seat n.had k next below)
+      | inr end ↦
+          let e : 2 ^ 31 ≡ k = omega arith in
+          ap (λ o. unwrap_or o (2 ^ 31)) (among-none n.seat n.had k next end) ∙ e
+    ]
+
+-- Up to it what is kept stays what it is.
+
+next-on : (v : Seated) (had m k : ℕ) → IsNextWake v had k → had ≤ m → m ≤ k → IsNextWake v m k
+next-on v had m k n lo hi = record {
+  later = hi;
+  most = n.most;
+  quiet = λ j a b. n.quiet j (omega arith) b;
+  busy = n.busy;
+  here = λ j a b. n.here j (omega arith) b ∙ sym (n.here m lo hi);
+}
+
+window-on : (v : Seated) (had m : ℕ) (a : Ahead) → LooksAhead v had a → had ≤ m → m ≤ a.tick → IsWindowOf Biu v m a.window
+window-on v had m a l lo hi =
+    record { is = l.window.is ∙ sym (l.next.here m lo hi); of_frame = l.window.of_frame; slot = l.window.slot; first = l.window.first; fits = l.window.fits }
+
+known-on : (v : Seated) (had m : ℕ) (o : Option ℕ) → had ≤ m → IfKnown v had o → IfKnown v m o
+known-on v had m None le h = tt
+known-on v had m (Some k) le h = omega arith
+
+pub runs-on : (v : Seated) (had m : ℕ) (inbox : KeptArrivals) (a : Ahead) → IsFollowing v had inbox a → had ≤ m → m ≤ a.tick
+    → IsFollowing v m inbox a
+runs-on v had m inbox a r lo hi =
+    let most : a.tick ≤ 2 ^ 31 = r.ahead.next.most in
+    let epoch : v.state.epoch ≤ had = r.epoch in
+    record {
+      most = omega arith;
+      index = r.index;
+      epoch = omega arith;
+      frame = r.frame;
+      known = known-on v had m v.state.k2 lo r.known;
+      stamps = r.stamps;
+      ahead = record { next = next-on v had m a.tick r.ahead.next lo hi; window = window-on v had m a r.ahead lo hi };
+    }
+
+-- A quiet tick is counted.
+
+pub spent-is : (c : Core) → 2 ^ 31 ≤ c.had → is_spent c ≡ true
+spent-is c h = grind (arith, nat_tests)
+
+not-spent : (c : Core) → c.had < 2 ^ 31 → is_spent c ≡ false
+not-spent c h = grind (arith, nat_tests)
+
+abbrev spent-act : Core → Act
+spent-act c = record { core = c; epoch = None; message = None; closed = None }
+
+pub follow-spent : (sizes : Sizes) (plan : Plan) (c : Core) → 2 ^ 31 ≤ c.had
+    → follow sizes plan c ≡ record { core = c; epoch = None; message = None; closed = None }
+unfolding follow
+follow-spent sizes plan c h =
+    ap (λ b. elim b as (λ _. Act) [ true ↦ spent-act c | false ↦ act_on sizes plan Biu 16 c (state_at sizes plan Biu c.state c.had) None (state_at sizes plan Biu c.state c.had) ])
+    (spent-is c h)
+
+pub follow-now : (sizes : Sizes) (plan : Plan) (c : Core) → c.had < 2 ^ 31
+    → follow sizes plan c ≡ act_on sizes plan Biu 16 c (state_at sizes plan Biu c.state c.had) None (state_at sizes plan Biu c.state c.had)
+unfolding follow
+follow-now sizes plan c h =
+    ap (λ b. elim b as (λ _. Act) [ true ↦ spent-act c | false ↦ act_on sizes plan Biu 16 c (state_at sizes plan Biu c.state c.had) None (state_at sizes plan Biu c.state c.had) ])
+    (not-spent c h)
+
+-- where no frame begins with a tick, it did not turn at it
+turning-same : (v : Seated) (k : ℕ) → ((state_at v.sizes v.plan Biu v.state k).epoch == k) ≡ false → state_at v.sizes v.plan Biu v.state k ≡ v.state
+turning-same v k h = by (is_tick (new_epoch_of v.plan Biu v.state) k) refl
+  where
+    by : (b : Bool) → is_tick (new_epoch_of v.plan Biu v.state) k ≡ b → state_at v.sizes v.plan Biu v.state k ≡ v.state
+    by true e =
+        let now : ((state_at v.sizes v.plan Biu v.state k).epoch == k) ≡ true = ap (λ x. x == k) (turned-epoch v Biu k e) ∙ eq-self k in
+        cc
+    by false e = no-turn v Biu k e
+
+-- an act by whether the window is closed and whether a frame begins
+no-act : (sizes : Sizes) (plan : Plan) (c : Core) → (c.state.epoch == c.had) ≡ false → is_last sizes plan Biu c.state c.had ≡ false
+    → act_on sizes plan Biu 16 c c.state None c.state ≡ nothing c
+unfolding act_on
+no-act sizes plan c begins closes =
+    let x : Outcome = close_window sizes plan Biu 16 c.state (window_here sizes plan Biu c.state c.had) (of_source c.inbox) in
+    let begin : Bool → Option Epoch = λ b. elim b [ true ↦ Some (epoch_of sizes Biu c.state) | false ↦ None ] in
+    let act : Bool → Option Epoch → Act = λ b e. elim b [
+      | true ↦ record { core = record { state = x.state; had = c.had + 1; inbox = [] }; epoch = e; message = None; closed = Some x.closed }
+      | false ↦ record { core = record { state = c.state; had = c.had + 1; inbox = c.inbox }; epoch = e; message = None; closed = None }
+    ] in
+    ap (λ b. act b (epoch_at sizes Biu c.state c.had)) closes ∙ ap (λ b. act false (begin b)) begins
+
+quiet-act : (sizes : Sizes) (plan : Plan) (c : Core) → wakes sizes plan c.state c.had ≡ false
+    → act_on sizes plan Biu 16 c (state_at sizes plan Biu c.state c.had) None (state_at sizes plan Biu c.state c.had) ≡ nothing c
+unfolding wakes
+quiet-act sizes plan c quiet =
+    let now : NodeState = state_at sizes plan Biu c.state c.had in
+    let parts = or-false (now.epoch == c.had) (is_last sizes plan Biu now c.had) quiet in
+    let same : now ≡ c.state = turning-same (record { sizes = sizes; plan = plan; index = 16; state = c.state }) c.had parts.0 in
+    ap (λ st. act_on sizes plan Biu 16 c st None st) same
+    ∙ no-act sizes plan c (ap (λ (s : NodeState). s.epoch == c.had) (sym same) ∙ parts.0) (ap (λ s. is_last sizes plan Biu s c.had) (sym same) ∙ parts.1)
+
+pub quiet-tick : (sizes : Sizes) (plan : Plan) (c : Core) → wakes sizes plan c.state c.had ≡ false → c.had < 2 ^ 31
+    → follow sizes plan c ≡ nothing c
+quiet-tick sizes plan c quiet below = follow-now sizes plan c below ∙ quiet-act sizes plan c quiet
+
+pub quiet-ticks : (sizes : Sizes) (plan : Plan) (n : ℕ) (c : Core) → ((k : ℕ) → c.had ≤ k → k < c.had + n → wakes sizes plan c.state k ≡ false)
+    → c.had + n ≤ 2 ^ 31 → follows sizes plan n c ≡ record c { had = c.had + n }
+quiet-ticks sizes plan zero c q h = let e : c.had + 0 ≡ c.had = omega arith in rw e refl
+quiet-ticks sizes plan (suc n) c q h =
+    let one : follow sizes plan c ≡ nothing c = quiet-tick sizes plan c (q c.had (omega arith) (omega arith)) (omega arith) in
+    let e : c.had + 1 + n ≡ c.had + suc n = omega arith in
+    let rest : follows sizes plan n (nothing c).core ≡ record c { had = c.had + 1 + n } =
+    quiet-ticks sizes plan n (nothing c).core (λ k lo hi. q k (omega arith) (omega arith)) (omega arith) in
+    ap (λ x. follows sizes plan n x.core) one ∙ rest ∙ ap (λ m. record c { had = m }) e
+
+-- so many of them, up to the next busy one
+pub passes : (v : Seated) (c : Core) (had k n : ℕ) → c.state ≡ v.state → c.had ≡ had → IsNextWake v had k → had + n ≤ k
+    → follows v.sizes v.plan n c ≡ record c { had = c.had + n }
+passes v c had k n s h next le =
+    let most : k ≤ 2 ^ 31 = next.most in
+    quiet-ticks v.sizes v.plan n c (λ m lo hi. ap (λ st. wakes v.sizes v.plan st m) s ∙ next.quiet m (omega arith) (omega arith)) (omega arith)
