@@ -7,7 +7,7 @@ ghost use Rattle.rb_group.specs.Groups.{group_value};
 ghost use Rattle.rb_group.specs.declared.voters.Which.TheVariants.{Most};
 ghost use Rattle.rb_outside.specs.Bytes.{AppendsPart};
 ghost use Rattle.rb_outside.specs.Causes.{HasCause};
-ghost use Rattle.rb_group_values.specs.Holding.{HoldPortions, IsScopeOf};
+ghost use Rattle.rb_group_run.specs.Holding.{HoldPortions, IsScopeOf};
 ghost use Rattle.rb_rules.specs.Goodness.{Scenario, is_good};
 ghost use Rattle.rb_rules_bridge.specs.Texts.{cross_text, last_data_slot};
 ghost use Rattle.rb_bridge.specs.Receivers.{receiver_by, receivers_by};
@@ -17,7 +17,7 @@ use crate::lines::cross_line;
 use arrayvec::ArrayString;
 use rb_base::{Heard, NodeName, Shape};
 use rb_group::{Group, most_of};
-use rb_group_values::{Ports, Scope};
+use rb_group_run::{Ports, Scope};
 use rb_outside::{Failed, Sink, write_all};
 
 // Writes the line.

@@ -21,7 +21,7 @@ use Rattle.rb_run.proofs.Plain.{records-back}
 use Rattle.rb_run.proofs.Texts.{records-more}
 use Rattle.rb_world.specs.Nexts.{is_last}
 use Rattle.rb_world.specs.Worlds.{KeptWorld}
-use Rattle.rb_group_values.specs.Replies.{frame_of, reached}
+use Rattle.rb_group_run.specs.Replies.{frame_of, reached}
 use Rattle.rb_rules_bridge.specs.declared.bank.Bank.{Bank}
 use Rattle.rb_rules_bridge.specs.declared.bank.Bank.TheVariants.{Left}
 use Rattle.rb_rules_bridge.specs.Texts.{Break, break_in, break_told}

@@ -13,10 +13,10 @@ use Rattle.rb_run.specs.Turns.{records_in}
 use Rattle.rb_run.proofs.Texts.{records-more}
 use Rattle.rb_world.specs.Nexts.{is_last}
 use Rattle.rb_world.specs.Worlds.{KeptWorld}
-use Rattle.rb_group_values.specs.declared.ports.Ports.{Ports}
-use Rattle.rb_group_values.specs.Holding.{HoldsFrame}
-use Rattle.rb_group_values.specs.Replies.{frame_of, reached}
-use Rattle.rb_group_values.proofs.Held.{reached_more}
+use Rattle.rb_group_run.specs.declared.ports.Ports.{Ports}
+use Rattle.rb_group_run.specs.Holding.{HoldsFrame}
+use Rattle.rb_group_run.specs.Replies.{frame_of, reached}
+use Rattle.rb_group_run.proofs.Held.{reached_more}
 use Rattle.rb_rules_bridge.specs.Crossings.{value_told}
 use Rattle.rb_bridge_words.specs.Holding.{HoldValues}
 use Rattle.rb_bridge_crossing.specs.declared.passing.Passage.{Passage}

@@ -9,8 +9,8 @@ ghost use Rattle.rb_bridge_crossing.specs.Passing.{HoldsPassage, IsOnItsWay, Pas
 ghost use Rattle.rb_bridge_crossing.specs.Running.{IsUnderWay};
 
 use rb_bridge_words::{Values, note};
-use rb_group_values::ports::frame_or;
-use rb_group_values::{Asked, Ports, advance};
+use rb_group_run::ports::frame_or;
+use rb_group_run::{Asked, Ports, advance};
 use rb_port::Apps;
 use rb_world::{Drive, World};
 use rb_world_book::Turn;

@@ -17,10 +17,10 @@ use Rattle.rb_run.specs.Turns.{records_in}
 use Rattle.rb_run.proofs.Texts.{records-more}
 use Rattle.rb_world.specs.Nexts.{is_last}
 use Rattle.rb_world.specs.Worlds.{KeptWorld, Stands}
-use Rattle.rb_group_values.specs.declared.ports.Ports.{Ports}
-use Rattle.rb_group_values.specs.Holding.{HoldsFrame}
-use Rattle.rb_group_values.specs.Replies.{frame_of, frame_or, reached}
-use Rattle.rb_group_values.proofs.Held.{reached_more}
+use Rattle.rb_group_run.specs.declared.ports.Ports.{Ports}
+use Rattle.rb_group_run.specs.Holding.{HoldsFrame}
+use Rattle.rb_group_run.specs.Replies.{frame_of, frame_or, reached}
+use Rattle.rb_group_run.proofs.Held.{reached_more}
 use Rattle.rb_rules_bridge.specs.declared.bank.Bank.{Bank}
 use Rattle.rb_rules_bridge.specs.declared.bank.Pair.{Pair}
 use Rattle.rb_rules_bridge.specs.Bridges.{Bridge, IsBridge, across, biu_on, bus_on, carried_slot}

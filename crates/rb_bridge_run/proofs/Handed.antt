@@ -19,7 +19,7 @@ use Rattle.rb_group.specs.Portions.{port_deliveries}
 use Rattle.rb_run.specs.Turns.{records_in}
 use Rattle.rb_world.specs.Nexts.{is_last}
 use Rattle.rb_world.specs.Worlds.{KeptWorld}
-use Rattle.rb_group_values.specs.Replies.{frame_of, reached}
+use Rattle.rb_group_run.specs.Replies.{frame_of, reached}
 use Rattle.rb_rules_bridge.specs.declared.bank.Bank.{Bank}
 use Rattle.rb_rules_bridge.specs.declared.bank.Bank.TheVariants.{Left, Right}
 use Rattle.rb_rules_bridge.specs.declared.bank.Pair.{Pair}

@@ -8,7 +8,7 @@ use Rattle.rb_world_book.specs.declared.turn.Turn.{Turn}
 use Rattle.rb_run.specs.Turns.{records_in}
 use Rattle.rb_world.specs.Nexts.{is_last}
 use Rattle.rb_world.specs.Worlds.{KeptWorld}
-use Rattle.rb_group_values.specs.Replies.{frame_of}
+use Rattle.rb_group_run.specs.Replies.{frame_of}
 use Rattle.rb_rules_bridge.specs.declared.bank.Bank.{Bank}
 use Rattle.rb_rules_bridge.specs.Bridges.{Bridge, bus_on}
 use Rattle.rb_rules_bridge.specs.Crossings.{hands_of, hands_on, hands_up_to, records_on}

@@ -14,8 +14,8 @@ use Rattle.rb_group.specs.declared.voters.Which.TheVariants.{Most}
 use Rattle.rb_run.specs.Turns.{records_in}
 use Rattle.rb_world.specs.Nexts.{is_last}
 use Rattle.rb_world.specs.Worlds.{KeptWorld}
-use Rattle.rb_group_values.specs.declared.asked.Asked.{Asked}
-use Rattle.rb_group_values.specs.Holding.{HoldPortions}
+use Rattle.rb_group_run.specs.declared.asked.Asked.{Asked}
+use Rattle.rb_group_run.specs.Holding.{HoldPortions}
 use Rattle.rb_rules_bridge.specs.declared.bank.Bank.{Bank}
 use Rattle.rb_rules_bridge.specs.declared.bank.Bank.TheVariants.{Left, Right}
 use Rattle.rb_rules_bridge.specs.Bridges.{Bridge, IsBridge, bus_on, members_on}

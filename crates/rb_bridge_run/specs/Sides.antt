@@ -13,7 +13,7 @@ use Rattle.rb_run.specs.Turns.{TellsAll, records_in, turn_of}
 use Rattle.rb_world.specs.Driving.{bare}
 use Rattle.rb_world.specs.Nexts.{is_last}
 use Rattle.rb_group.specs.declared.voters.Which.TheVariants.{Most}
-use Rattle.rb_group_values.specs.Holding.{IsScopeOf}
+use Rattle.rb_group_run.specs.Holding.{IsScopeOf}
 use Rattle.rb_bridge_crossing.specs.declared.passing.Passage.{Passage}
 use Rattle.rb_bridge_crossing.specs.declared.passing.Terms.{Terms}
 use Rattle.rb_bridge_crossing.specs.Passing.{HoldsPassage, is_over}

@@ -9,7 +9,7 @@ use rb_bridge_crossing::{Passage, Terms};
 use rb_bridge_words::no_values;
 use rb_group::Which;
 use rb_group_run::scope_of;
-use rb_group_values::{Asked, Scope, first_ports};
+use rb_group_run::{Asked, Scope, first_ports};
 use rb_scenario::Scenario;
 use rb_world::World;
 use rb_world_book::Turn;

@@ -1,3 +1,7 @@
 pub mod Written
 pub mod Plain
 pub mod Scopes
+pub mod Beyond
+pub mod Held
+pub mod Texts
+pub mod TurnsWritten

@@ -8,8 +8,8 @@ use Rattle.rb_rules.specs.Rounds.{records_of}
 use Rattle.rb_world_book.specs.declared.turn.Turn.{Turn}
 use Rattle.rb_outside.specs.Bytes.{AppendsPart}
 use Rattle.rb_outside.proofs.Known.{part_widens}
-use Rattle.rb_group_values.specs.declared.asked.Asked.{Asked}
-use Rattle.rb_group_values.specs.Replies.{groups_text, record_text, text_after}
+use Rattle.rb_group_run.specs.declared.asked.Asked.{Asked}
+use Rattle.rb_group_run.specs.Replies.{groups_text, record_text, text_after}
 use Rattle.rb_group_run.specs.Runs.{text_of}
 use Rattle.rb_run.specs.Turns.{AreAll, AreGiven}
 use Rattle.rb_run.proofs.Plain.{plain-records, records-back}

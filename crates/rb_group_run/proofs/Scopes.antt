@@ -1,8 +1,8 @@
 -- The scope of a run that has been opened.
 use Rattle.std.proofs.Common.{◌≡◌, sym, subst}
 use Rattle.rb_rules.specs.Goodness.{Scenario}
-use Rattle.rb_group_values.specs.Holding.{IsScopeOf}
-use Rattle.rb_group_values.specs.declared.asked.Scope.{Scope}
+use Rattle.rb_group_run.specs.Holding.{IsScopeOf}
+use Rattle.rb_group_run.specs.declared.asked.Scope.{Scope}
 
 -- it is that of the scenario with which it was opened
 pub scope_same : (bus sc : Scenario) (scope : Scope) → bus ≡ sc → IsScopeOf sc scope → IsScopeOf bus scope

@@ -15,12 +15,12 @@ use Rattle.rb_run.proofs.Texts.{records-more}
 use Rattle.rb_run.proofs.UnderWay.{IsUnderWay, are-all, are-given, begins, finished, goes-on}
 use Rattle.rb_world.specs.Nexts.{is_last}
 use Rattle.rb_world.specs.Worlds.{KeptWorld}
-use Rattle.rb_group_values.specs.declared.asked.Asked.{Asked}
-use Rattle.rb_group_values.specs.declared.ports.Ports.{Ports}
-use Rattle.rb_group_values.specs.Holding.{HoldsFrame, IsScopeOf}
-use Rattle.rb_group_values.specs.declared.asked.Scope.{Scope}
-use Rattle.rb_group_values.specs.Replies.{text_after, turn_text}
-use Rattle.rb_group_values.proofs.Texts.{text_with}
+use Rattle.rb_group_run.specs.declared.asked.Asked.{Asked}
+use Rattle.rb_group_run.specs.declared.ports.Ports.{Ports}
+use Rattle.rb_group_run.specs.Holding.{HoldsFrame, IsScopeOf}
+use Rattle.rb_group_run.specs.declared.asked.Scope.{Scope}
+use Rattle.rb_group_run.specs.Replies.{text_after, turn_text}
+use Rattle.rb_group_run.proofs.Texts.{text_with}
 use Rattle.rb_group_run.specs.Runs.{WritesAll, WritesPart, text_of}
 
 -- the text of some turns and one more

@@ -5,8 +5,8 @@ use Rattle.rb_rules.specs.Goodness.{Scenario}
 use Rattle.rb_world_book.specs.declared.turn.Turn.{Turn}
 use Rattle.rb_outside.specs.Bytes.{AppendsPart}
 use Rattle.rb_run.specs.Turns.{AreAll, AreGiven, records_in}
-use Rattle.rb_group_values.specs.declared.asked.Asked.{Asked}
-use Rattle.rb_group_values.specs.Replies.{groups_text}
+use Rattle.rb_group_run.specs.declared.asked.Asked.{Asked}
+use Rattle.rb_group_run.specs.Replies.{groups_text}
 
 -- the text of the records that these turns are
 abbrev pub text_of : Scenario → Asked → List Turn → List ℕ

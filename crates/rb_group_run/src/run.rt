@@ -2,12 +2,12 @@
 ghost use Rattle.std.specs.Prelude.{◌≡◌, IfOk, OnErr, OnOk};
 ghost use Rattle.rb_outside.specs.Causes.{HasCause};
 ghost use Rattle.rb_run.specs.Runs.{EndsWith, HasGivenNothing};
-ghost use Rattle.rb_group_values.specs.Holding.{IsScopeOf};
+ghost use Rattle.rb_group_run.specs.Holding.{IsScopeOf};
 ghost use Rattle.rb_group_run.specs.Runs.{WritesAll, WritesPart};
 
 use crate::ending::ending_at;
 use rb_group::Voters;
-use rb_group_values::{Asked, Scope, advance, first_ports, write_turn};
+use crate::{Asked, Scope, advance, first_ports, write_turn};
 use rb_outside::{Failed, Sink};
 use rb_port::Apps;
 use rb_run::Ending;

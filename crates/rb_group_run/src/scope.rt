@@ -1,8 +1,8 @@
 //! What of a scenario tells who is asked.
 ghost use Rattle.rb_scenario.specs.Acceptance.{as_scenario};
-ghost use Rattle.rb_group_values.specs.Holding.{IsScopeOf};
+ghost use Rattle.rb_group_run.specs.Holding.{IsScopeOf};
 
-use rb_group_values::Scope;
+use crate::Scope;
 use rb_scenario::Scenario;
 use rb_world_onset::Onsets;
 

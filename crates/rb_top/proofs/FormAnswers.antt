@@ -14,8 +14,8 @@ use Rattle.arrayvec.specs.ArrayVec.{ArrayVec}
 use Rattle.rb_group.specs.declared.voters.Which.{Which}
 use Rattle.rb_long_text.specs.Texts.{spelling_text}
 use Rattle.rb_long_run.specs.Letters.{WritesSome}
-use Rattle.rb_group_values.specs.Members.{AreMembers}
-use Rattle.rb_group_values.specs.declared.asked.Asked.{Asked}
+use Rattle.rb_group_run.specs.Members.{AreMembers}
+use Rattle.rb_group_run.specs.declared.asked.Asked.{Asked}
 use Rattle.rb_group_run.specs.Runs.{WritesPart as WritesGroupsPart}
 use Rattle.rb_flags.specs.declared.Flag.{Flag}
 use Rattle.rb_rules.specs.Goodness.{Scenario}

@@ -11,7 +11,7 @@ use Rattle.rb_scenario_entries.specs.declared.refusal.Refusal.{Refusal}
 use Rattle.rb_scenario_entries.specs.declared.refusal.Refusal.TheVariants.{NoSuchNode}
 use Rattle.rb_log.specs.LogText.{Log, log_in}
 use Rattle.rb_replay.specs.Overhearing.{is_of_biu}
-use Rattle.rb_group_values.specs.Members.{AreMembers}
+use Rattle.rb_group_run.specs.Members.{AreMembers}
 use Rattle.rb_log.specs.declared.refusal.LogRefusal.{LogRefusal}
 use Rattle.rb_log.specs.declared.refusal.LogRefusal.TheVariants.{BadMagic, BadField, Truncated, AfterEnd}
 use Rattle.rb_scenario.specs.Acceptance.{IsAccepted, IsRefused, as_scenario}

@@ -8,7 +8,7 @@ use Rattle.rb_world_book.specs.declared.turn.Turn.{Turn}
 use Rattle.rb_record.specs.Recording.{WritesAll as WritesAllOf}
 use Rattle.rb_run.specs.Runs.{WritesAll}
 use Rattle.rb_long_run.specs.Letters.{WritesLetters}
-use Rattle.rb_group_values.specs.declared.asked.Asked.{Asked}
+use Rattle.rb_group_run.specs.declared.asked.Asked.{Asked}
 use Rattle.rb_group_run.specs.Runs.{WritesAll as WritesGroups}
 use Rattle.rb_top.specs.declared.form.Form.{Form}
 use Rattle.rb_top.specs.declared.status.Status.{Status}

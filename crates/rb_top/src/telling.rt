@@ -2,7 +2,7 @@
 ghost use Rattle.std.specs.Prelude.{◌≡◌, ◌↔◌, IsTrue};
 ghost use Rattle.rb_long_run.specs.Letters.{WritesSome};
 ghost use Rattle.rb_outside.specs.Causes.{Rose};
-ghost use Rattle.rb_group_values.specs.Members.{AreMembers};
+ghost use Rattle.rb_group_run.specs.Members.{AreMembers};
 ghost use Rattle.rb_group_run.specs.Runs.{WritesPart};
 ghost use Rattle.rb_rules.specs.Lawful.{IsLawful};
 ghost use Rattle.rb_scenario.specs.Acceptance.{as_scenario};
@@ -14,7 +14,7 @@ use crate::status::Status;
 use rb_base::{Biu, NodeSet, OutOfMemory};
 use rb_group::{Voters, Which};
 use rb_group_run::{scope_of, write_groups};
-use rb_group_values::{Asked, has_members};
+use rb_group_run::{Asked, has_members};
 use rb_long_run::write_letters;
 use rb_outside::{Failed, Sink};
 use rb_port::Apps;

@@ -7,7 +7,7 @@ use Rattle.rb_base.specs.declared.values.Delivery.{Delivery}
 use Rattle.rb_rules.specs.Goodness.{Scenario}
 use Rattle.rb_group.specs.Groups.{group_value}
 use Rattle.rb_group.specs.declared.voters.Which.TheVariants.{Most}
-use Rattle.rb_group_values.specs.Holding.{HoldPortions, IsScopeOf}
+use Rattle.rb_group_run.specs.Holding.{HoldPortions, IsScopeOf}
 use Rattle.rb_bridge.specs.Receivers.{receiver_by}
 use Rattle.rb_bridge.specs.Refusals.{bank_of}
 use Rattle.rb_bridge.proofs.receivers.write_receivers.Given as goal

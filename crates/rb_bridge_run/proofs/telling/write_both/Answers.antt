@@ -4,7 +4,7 @@ use Rattle.rb_outside.specs.Bytes.{AppendsPart}
 use Rattle.rb_outside.proofs.Known.{appends_join, part_join, part_widens}
 use Rattle.rb_rules_bridge.specs.declared.bank.Bank.TheVariants.{Left, Right}
 use Rattle.rb_rules_bridge.specs.Texts.{receivers_text}
-use Rattle.rb_group_values.proofs.Written.{on_err, on_err_by, on_ok_by}
+use Rattle.rb_group_run.proofs.TurnsWritten.{on_err, on_err_by, on_ok_by}
 use Rattle.rb_bridge_run.proofs.Found.{finds-own}
 use Rattle.rb_bridge_run.proofs.telling.write_both.Goals as goal
 

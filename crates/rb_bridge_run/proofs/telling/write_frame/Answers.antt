@@ -1,7 +1,7 @@
 use Rattle.std.proofs.Common.{subst}
 use Rattle.std.specs.Io.KnownBytes.{Appends}
 use Rattle.rb_outside.specs.Bytes.{AppendsPart}
-use Rattle.rb_group_values.proofs.Written.{on_err_by, on_ok_by}
+use Rattle.rb_group_run.proofs.TurnsWritten.{on_err_by, on_ok_by}
 use Rattle.rb_bridge_run.proofs.Found.{first-lines, frame-lines}
 use Rattle.rb_bridge_run.proofs.telling.write_frame.Goals as goal
 

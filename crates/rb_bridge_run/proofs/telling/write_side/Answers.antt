@@ -3,7 +3,7 @@ use Rattle.std.specs.Io.KnownBytes.{Appends}
 use Rattle.rb_outside.specs.Bytes.{AppendsPart}
 use Rattle.rb_rules_bridge.specs.Bridges.{bus_on, members_on}
 use Rattle.rb_bridge.specs.Refusals.{bank_of}
-use Rattle.rb_group_values.proofs.Written.{on_err_by, on_ok_by}
+use Rattle.rb_group_run.proofs.TurnsWritten.{on_err_by, on_ok_by}
 use Rattle.rb_bridge_run.proofs.Found.{found-lines}
 use Rattle.rb_bridge_run.proofs.telling.write_side.Goals as goal
 

@@ -1,0 +1,12 @@
+use Rattle.std.proofs.Common.{get_or, refl, ◌∙◌, ap, arith}
+use Rattle.rb_group.specs.Groups.{group_value, values_of, voted_by}
+use Rattle.rb_group_run.proofs.Held.{portion_at}
+use Rattle.rb_group_run.proofs.ports.find.Goals as goal
+
+pub returns : goal.returns
+returns g c = λ told hold.
+    let at = c.from.result in
+    let portion = portion_at c.args.asked.now.members told c.args.groups.now at (get_or c.args.groups.now at c.index-groups-from.result) c.index-groups-from.result (omega arith) refl hold in
+    c.pick.ensures
+    ∙ ap (voted_by c.args.asked.now.which) (c.values.ensures (told at) portion.heard ∙ ap (λ m. values_of m (told at)) portion.members_are)
+    ∙ ap (λ i. group_value c.args.asked.now.which c.args.asked.now.members (told i)) c.from.ensures

@@ -1,0 +1,166 @@
+//! What turns say of a group, written a line at a time.
+ghost use Rattle.std.specs.Prelude.{◌≡◌, ℕ, ◌<◌, List, [], Bool, if◌then◌else◌, OnErr, OnOk};
+ghost use Rattle.std.specs.Io.KnownBytes.{Appends};
+ghost use Rattle.rb_base.specs.Nodes.Side.{Biu};
+ghost use Rattle.rb_base.specs.declared.values.Delivery.{Delivery};
+ghost use Rattle.rb_world_book.specs.Records.{record_of};
+ghost use Rattle.rb_group.specs.Groups.{group_value};
+ghost use Rattle.rb_outside.specs.Bytes.{AppendsPart};
+ghost use Rattle.rb_outside.specs.Causes.{HasCause};
+ghost use Rattle.rb_report.specs.Report.{group_text};
+ghost use Rattle.rb_rules.specs.Book.{Record};
+ghost use Rattle.rb_rules.specs.Goodness.{Scenario, is_good};
+ghost use Rattle.rb_group_run.specs.Holding.{HoldPortions, HoldsFrame, IsScopeOf};
+ghost use Rattle.rb_group_run.specs.Replies.{ending_in, frame_text, last_data_slot, port_text, turn_text};
+
+use crate::asked::{Asked, Scope};
+use crate::ports::{Ports, find, frame_or};
+use arrayvec::ArrayString;
+use rb_base::{NodeName, Shape};
+use rb_group::Voters;
+use rb_outside::{Failed, Sink, write_all};
+use rb_report::{breach_line, end_line, group_line};
+use rb_world_book::Turn;
+
+// Writes the line.
+fn write_line<K: Sink>(output: &mut K, line: &ArrayString<96>) -> Result<(), Failed>
+    ensures all { OnOk result (Appends (K.held output.old) (K.held output.new) (line.now.bytes)) }
+    ensures part { OnErr result (AppendsPart (K.held output.old) (K.held output.new) (line.now.bytes)) }
+    ensures cause { HasCause (K.faults output.old) (K.faults output.new) result }
+{
+    write_all(output, line.as_str().as_bytes())
+}
+
+// The number of the last data slot.
+fn last_data_slot(shape: &Shape) -> u16
+    ensures { result ≡ last_data_slot shape.now }
+{
+    u16::from(shape.biu()) + shape.slots() - 1
+}
+
+// Whether the BIU is good in the last data slot of a frame.
+fn is_good_at_last(scope: &Scope, frame: u32, port: u8) -> bool
+    ensures { (sc : Scenario) → IsScopeOf sc scope.now → result ≡ is_good sc Biu port frame (last_data_slot sc.sizes) }
+{
+    let slot = last_data_slot(&scope.shape);
+    scope.onsets.is_good(NodeName::Biu(port), frame, slot)
+}
+
+// Writes the value that a port finds.
+fn write_value<K: Sink>(
+    ports: &Ports,
+    port: u8,
+    voters: &Voters,
+    asked: &Asked,
+    output: &mut K,
+) -> Result<(), Failed>
+    requires { port < 16 }
+    ensures all { (told : ℕ → List Delivery) → HoldPortions asked.now.members told ports.now.groups
+        → OnOk result (Appends (K.held output.old) (K.held output.new) (group_text ports.now.frame port (group_value asked.now.which asked.now.members (told port)))) }
+    ensures part { (told : ℕ → List Delivery) → HoldPortions asked.now.members told ports.now.groups
+        → OnErr result (AppendsPart (K.held output.old) (K.held output.new) (group_text ports.now.frame port (group_value asked.now.which asked.now.members (told port)))) }
+    ensures cause { HasCause (K.faults output.old) (K.faults output.new) result }
+{
+    let value = find(&ports.groups, port, voters, asked);
+    write_line(output, &group_line(ports.frame, port, value))
+}
+
+// Writes it, if the BIU is good in the last data slot of the frame.
+fn write_port<K: Sink>(
+    ports: &Ports,
+    port: u8,
+    scope: &Scope,
+    voters: &Voters,
+    asked: &Asked,
+    output: &mut K,
+) -> Result<(), Failed>
+    requires { port < 16 }
+    ensures all { (sc : Scenario) (told : ℕ → List Delivery) → IsScopeOf sc scope.now → HoldPortions asked.now.members told ports.now.groups
+        → OnOk result (Appends (K.held output.old) (K.held output.new) (port_text sc ports.now.frame (λ i. group_value asked.now.which asked.now.members (told i)) port)) }
+    ensures part { (sc : Scenario) (told : ℕ → List Delivery) → IsScopeOf sc scope.now → HoldPortions asked.now.members told ports.now.groups
+        → OnErr result (AppendsPart (K.held output.old) (K.held output.new) (port_text sc ports.now.frame (λ i. group_value asked.now.which asked.now.members (told i)) port)) }
+    ensures cause { HasCause (K.faults output.old) (K.faults output.new) result }
+{
+    if is_good_at_last(scope, ports.frame, port) {
+        write_value(ports, port, voters, asked, output)
+    } else {
+        Ok(())
+    }
+}
+
+// Writes the values of the frame that is over.
+fn write_frame<K: Sink>(
+    ports: &Ports,
+    scope: &Scope,
+    voters: &Voters,
+    asked: &Asked,
+    output: &mut K,
+) -> Result<(), Failed>
+    ensures all { (sc : Scenario) (told : ℕ → List Delivery) → IsScopeOf sc scope.now → HoldPortions asked.now.members told ports.now.groups
+        → OnOk result (Appends (K.held output.old) (K.held output.new) (frame_text sc ports.now.frame (λ i. group_value asked.now.which asked.now.members (told i)))) }
+    ensures part { (sc : Scenario) (told : ℕ → List Delivery) → IsScopeOf sc scope.now → HoldPortions asked.now.members told ports.now.groups
+        → OnErr result (AppendsPart (K.held output.old) (K.held output.new) (frame_text sc ports.now.frame (λ i. group_value asked.now.which asked.now.members (told i)))) }
+    ensures cause { HasCause (K.faults output.old) (K.faults output.new) result }
+{
+    for port in 0..scope.shape.biu() {
+        write_port(ports, port, scope, voters, asked, output)?;
+    }
+    Ok(())
+}
+
+// Writes them, if the frame is over.
+fn write_if_over<K: Sink>(
+    over: bool,
+    ports: &Ports,
+    scope: &Scope,
+    voters: &Voters,
+    asked: &Asked,
+    output: &mut K,
+) -> Result<(), Failed>
+    ensures all { (sc : Scenario) (told : ℕ → List Delivery) → IsScopeOf sc scope.now → HoldPortions asked.now.members told ports.now.groups
+        → OnOk result (Appends (K.held output.old) (K.held output.new) (if over then frame_text sc ports.now.frame (λ i. group_value asked.now.which asked.now.members (told i)) else [])) }
+    ensures part { (sc : Scenario) (told : ℕ → List Delivery) → IsScopeOf sc scope.now → HoldPortions asked.now.members told ports.now.groups
+        → OnErr result (AppendsPart (K.held output.old) (K.held output.new) (if over then frame_text sc ports.now.frame (λ i. group_value asked.now.which asked.now.members (told i)) else [])) }
+    ensures cause { HasCause (K.faults output.old) (K.faults output.new) result }
+{
+    if over {
+        write_frame(ports, scope, voters, asked, output)
+    } else {
+        Ok(())
+    }
+}
+
+// Writes the last line, if the turn is the end of the run.
+fn write_ending<K: Sink>(turn: &Turn, frames: u32, output: &mut K) -> Result<(), Failed>
+    ensures all { OnOk result (Appends (K.held output.old) (K.held output.new) (ending_in frames (record_of turn.now))) }
+    ensures part { OnErr result (AppendsPart (K.held output.old) (K.held output.new) (ending_in frames (record_of turn.now))) }
+    ensures cause { HasCause (K.faults output.old) (K.faults output.new) result }
+{
+    match turn {
+        Turn::Ended => write_line(output, &end_line(frames)),
+        Turn::Breach(place, cause) => write_line(output, &breach_line(*place, *cause)),
+        _ => Ok(()),
+    }
+}
+
+/// Writes what a turn says, where the ports are as all turns before it left them: with the first turn of a later frame, for each BIU that is
+/// good in the last data slot of this frame, the value that it finds; and `end` or `breach`. So a breach leaves the values of its frame out.
+/// Each write asks for the rest of one line. `Failed` comes only where a write failed; a first part of the text has then been written.
+pub fn write_turn<K: Sink>(
+    turn: &Turn,
+    ports: &Ports,
+    scope: &Scope,
+    voters: &Voters,
+    asked: &Asked,
+    output: &mut K,
+) -> Result<(), Failed>
+    ensures all { (sc : Scenario) (records : List Record) → IsScopeOf sc scope.now → HoldsFrame sc.frames asked.now records ports.now
+        → OnOk result (Appends (K.held output.old) (K.held output.new) (turn_text sc asked.now records (record_of turn.now))) }
+    ensures part { (sc : Scenario) (records : List Record) → IsScopeOf sc scope.now → HoldsFrame sc.frames asked.now records ports.now
+        → OnErr result (AppendsPart (K.held output.old) (K.held output.new) (turn_text sc asked.now records (record_of turn.now))) }
+    ensures cause { HasCause (K.faults output.old) (K.faults output.new) result }
+{
+    let over = ports.frame < frame_or(turn, scope.frames, ports.frame);
+    write_if_over(over, ports, scope, voters, asked, output)?;
+    write_ending(turn, scope.frames, output)
+}

@@ -1,4 +1,0 @@
-pub mod Beyond
-pub mod Held
-pub mod Texts
-pub mod Written
