@@ -3,7 +3,7 @@ use Rattle.std.proofs.Common.{◌≡◌, ℕ, true, Option, List, [], ◌++◌, 
 use Rattle.rb_rules.specs.Goodness.{Scenario}
 use Rattle.rb_rules.specs.Rounds.{records_of}
 use Rattle.rb_world_book.specs.declared.turn.Turn.{Turn}
-use Rattle.rb_long_text.specs.Texts.{letters_after, letters_report}
+use Rattle.rb_long_run.specs.Reports.{letters_after, letters_report}
 use Rattle.rb_long_run.specs.Texts.{letters_text}
 use Rattle.rb_long_run.proofs.Texts.{text-of-parts}
 use Rattle.rb_long.specs.Delivered.{deliveries_in}

@@ -7,9 +7,9 @@ use Rattle.rb_rules.specs.Book.{Record}
 use Rattle.rb_rules.specs.Book.Record.{Frame, Slot, Ended, Breach}
 use Rattle.rb_world_book.specs.Records.{record_of}
 use Rattle.rb_world_book.specs.declared.turn.Turn.{Turn}
-use Rattle.rb_long_text.specs.Hearing.{Open}
-use Rattle.rb_long_text.specs.Texts.{letters_after, slot_text}
-use Rattle.rb_long_text.proofs.Histories.{Hears, hears-all, slot-same}
+use Rattle.rb_long_run.specs.Hearing.{Open}
+use Rattle.rb_long_run.specs.Reports.{letters_after, slot_text}
+use Rattle.rb_long_run.proofs.Histories.{Hears, hears-all, slot-same}
 use Rattle.rb_long_run.specs.Texts.{letters_text, open_with, turn_text}
 use Rattle.rb_long.specs.Delivered.{deliveries_in, lines_in}
 use Rattle.rb_report.specs.Report.{breach_text, end_text}

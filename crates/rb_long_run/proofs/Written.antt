@@ -7,8 +7,8 @@ use Rattle.rb_world_book.specs.declared.turn.Turn.{Turn}
 use Rattle.rb_outside.specs.Bytes.{AppendsPart}
 use Rattle.rb_outside.proofs.Known.{appends_join, appends_none, part_join}
 use Rattle.rb_run.specs.declared.ending.Ending.{Ending}
-use Rattle.rb_long_text.specs.Hearing.{Open}
-use Rattle.rb_long_text.proofs.Histories.{Hears, none-heard}
+use Rattle.rb_long_run.specs.Hearing.{Open}
+use Rattle.rb_long_run.proofs.Histories.{Hears, none-heard}
 use Rattle.rb_long_run.specs.Letters.{WritesLetters, WritesSome}
 use Rattle.rb_long_run.specs.Texts.{letters_text, open_with, turn_text}
 use Rattle.rb_long_run.proofs.Texts.{hears-more, text-more}

@@ -1,2 +1,4 @@
 pub mod Texts
 pub mod Letters
+pub mod Reports
+pub mod Hearing

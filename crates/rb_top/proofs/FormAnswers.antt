@@ -12,7 +12,7 @@ use Rattle.rb_scenario.specs.declared.scenario.Scenario.{Scenario as Accepted}
 use Rattle.rb_world_book.specs.declared.turn.Turn.{Turn}
 use Rattle.arrayvec.specs.ArrayVec.{ArrayVec}
 use Rattle.rb_group.specs.declared.voters.Which.{Which}
-use Rattle.rb_long_text.specs.Texts.{spelling_text}
+use Rattle.rb_long_run.specs.Reports.{spelling_text}
 use Rattle.rb_long_run.specs.Letters.{WritesSome}
 use Rattle.rb_group_run.specs.Members.{AreMembers}
 use Rattle.rb_group_run.specs.declared.asked.Asked.{Asked}

@@ -16,7 +16,7 @@ use Rattle.rb_log.specs.LogText.{Log, log_in}
 use Rattle.rb_replay.specs.Overhearing.{is_of_biu, overheard_text}
 use Rattle.rb_record.specs.Recording.{log_text}
 use Rattle.rb_group.specs.declared.voters.Which.{Which}
-use Rattle.rb_long_text.specs.Texts.{spelling_text}
+use Rattle.rb_long_run.specs.Reports.{spelling_text}
 use Rattle.rb_group_run.specs.Members.{AreMembers}
 use Rattle.rb_run.specs.Runs.{EndsWith}
 use Rattle.rb_run.specs.Turns.{AreAll, AreGiven, records_in}

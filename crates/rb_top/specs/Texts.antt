@@ -6,7 +6,7 @@ use Rattle.rb_rules.specs.Goodness.{Scenario}
 use Rattle.rb_report.specs.Report.{summary_text}
 use Rattle.rb_report.specs.Texts.{report_of}
 use Rattle.rb_group.specs.declared.voters.Which.{Which}
-use Rattle.rb_long_text.specs.Texts.{letters_report}
+use Rattle.rb_long_run.specs.Reports.{letters_report}
 use Rattle.rb_group_run.specs.Replies.{groups_text}
 use Rattle.rb_gen.specs.Generated.{generated}
 use Rattle.rb_gen.specs.Text.{lines_of}

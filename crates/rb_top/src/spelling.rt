@@ -1,14 +1,14 @@
 //! The words of a letter.
 ghost use Rattle.std.specs.Prelude.{◌≡◌, ◌⊎◌};
 ghost use Rattle.std.specs.Io.KnownBytes.{Appends};
-ghost use Rattle.rb_long_text.specs.Texts.{spelling_text};
+ghost use Rattle.rb_long_run.specs.Reports.{spelling_text};
 ghost use Rattle.rb_outside.specs.Bytes.{AppendsPart};
 ghost use Rattle.rb_outside.specs.Causes.{Rose};
 ghost use Rattle.rb_top.specs.Words.{IsLetter};
 
 use crate::status::Status;
 use arrayvec::ArrayVec;
-use rb_long_text::write_spelling;
+use rb_long_run::write_spelling;
 use rb_outside::{Failed, Sink};
 
 /// Writes the words that spell a letter, a line each.

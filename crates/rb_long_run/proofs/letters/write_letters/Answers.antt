@@ -2,7 +2,7 @@ use Rattle.std.proofs.Common.{◌≡◌, None, Some, refl, sym, ◌∙◌, rules
 use Rattle.rb_world_book.specs.Records.{record_of}
 use Rattle.rb_run.specs.Runs.{end_at}
 use Rattle.rb_long_run.proofs.Written.{all-written, none-written, one-written, part-written}
-use Rattle.rb_long_text.proofs.Lines.{on-err}
+use Rattle.rb_long_run.proofs.Lines.{on-err}
 use Rattle.rb_run.proofs.UnderWay.{ends-so, few-turns, goes}
 use Rattle.rb_long_run.proofs.letters.write_letters.Goals as goal
 

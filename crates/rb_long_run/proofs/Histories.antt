@@ -6,8 +6,8 @@ use Rattle.rb_base.specs.declared.values.Heard.{Heard}
 use Rattle.rb_rules.specs.declared.record.SlotLine.{SlotLine}
 use Rattle.rb_long.specs.Delivered.{is_from, is_named, letter_with, open_at, values_of}
 use Rattle.rb_long.specs.Reading.{OpenLetter, open_after, with_value}
-use Rattle.rb_long_text.specs.Hearing.{Open, letter_of, lines_text, read_of, with_line, with_lines}
-use Rattle.rb_long_text.specs.Texts.{given_text, slot_text}
+use Rattle.rb_long_run.specs.Hearing.{Open, letter_of, lines_text, read_of, with_line, with_lines}
+use Rattle.rb_long_run.specs.Reports.{given_text, slot_text}
 
 -- each receiver holds of each sender the letter that is open after these deliveries
 pub record Hears (all : Open) (past : List SlotLine) : Type 0 where

@@ -5,8 +5,8 @@ use Rattle.std.specs.Io.KnownBytes.{Appends}
 use Rattle.rb_rules.specs.declared.record.SlotLine.{SlotLine}
 use Rattle.rb_outside.specs.Bytes.{AppendsPart}
 use Rattle.rb_outside.proofs.Known.{appends_join, part_join, part_widens}
-use Rattle.rb_long_text.specs.Hearing.{Open, letter_of, lines_text, with_line, with_lines}
-use Rattle.rb_long_text.specs.Texts.{given_text}
+use Rattle.rb_long_run.specs.Hearing.{Open, letter_of, lines_text, with_line, with_lines}
+use Rattle.rb_long_run.specs.Reports.{given_text}
 
 -- of some and those after them
 pub text-split : (frame slot : ℕ) (all : Open) (xs ys : List SlotLine) → lines_text frame slot all (xs ++ ys) ≡ lines_text frame slot all xs ++ lines_text frame slot (with_lines all xs) ys

@@ -1,8 +1,8 @@
 -- The lines before this one are heard, and what they give is written.
 use Rattle.std.proofs.Common.{◌≡◌, ◌≤◌, take}
 use Rattle.std.specs.Io.KnownBytes.{Appends}
-use Rattle.rb_long_text.specs.Hearing.{lines_text, with_lines}
-use Rattle.rb_long_text.proofs.hearing.write_given.Given as goal
+use Rattle.rb_long_run.specs.Hearing.{lines_text, with_lines}
+use Rattle.rb_long_run.proofs.hearing.write_given.Given as goal
 
 abbrev pub invariant-loop-line : goal.invariant-loop-line
 invariant-loop-line g l = record {

@@ -4,8 +4,8 @@ use Rattle.std.specs.Io.KnownBytes.{Appends}
 use Rattle.std.specs.List.{flat_map}
 use Rattle.rb_long.specs.Spelling.{spelling_of}
 use Rattle.rb_report.specs.Report.{word_text}
-use Rattle.rb_long_text.proofs.Words.{left_of}
-use Rattle.rb_long_text.proofs.spelling.write_spelling.Given as goal
+use Rattle.rb_long_run.proofs.Words.{left_of}
+use Rattle.rb_long_run.proofs.spelling.write_spelling.Given as goal
 
 abbrev pub invariant-loop-sent : goal.invariant-loop-sent
 invariant-loop-sent g l = record {

@@ -1,7 +1,7 @@
 //! The words of a letter, written.
 ghost use Rattle.std.specs.Prelude.{◌≡◌, true, length, OnErr, OnOk};
 ghost use Rattle.std.specs.Io.KnownBytes.{Appends};
-ghost use Rattle.rb_long_text.specs.Texts.{spelling_text};
+ghost use Rattle.rb_long_run.specs.Reports.{spelling_text};
 ghost use Rattle.rb_long.specs.Spelling.{is_length};
 ghost use Rattle.rb_outside.specs.Bytes.{AppendsPart};
 ghost use Rattle.rb_outside.specs.Causes.{HasCause};

@@ -1,7 +1,7 @@
 use Rattle.std.proofs.Common.{rules, arith}
-use Rattle.rb_long_text.proofs.Heard.{heard-more, heard-part, open-more}
-use Rattle.rb_long_text.proofs.Lines.{on-err}
-use Rattle.rb_long_text.proofs.hearing.write_given.Goals as goal
+use Rattle.rb_long_run.proofs.Heard.{heard-more, heard-part, open-more}
+use Rattle.rb_long_run.proofs.Lines.{on-err}
+use Rattle.rb_long_run.proofs.hearing.write_given.Goals as goal
 
 pub loop-line-preserved : goal.loop-line-preserved
 loop-line-preserved g c = record {

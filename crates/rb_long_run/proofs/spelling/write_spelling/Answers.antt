@@ -1,9 +1,9 @@
 use Rattle.std.proofs.Common.{◌≡◌, length, rules, arith, ◌∙◌}
 use Rattle.rb_long.specs.Spelling.{parts_in, spelling_of}
 use Rattle.rb_report.specs.Report.{word_text}
-use Rattle.rb_long_text.proofs.Lines.{lines-all, lines-more, lines-part, on-err}
-use Rattle.rb_long_text.proofs.Words.{below-all, line-shows, part-shows, past-all, word-gone, word-is}
-use Rattle.rb_long_text.proofs.spelling.write_spelling.Goals as goal
+use Rattle.rb_long_run.proofs.Lines.{lines-all, lines-more, lines-part, on-err}
+use Rattle.rb_long_run.proofs.Words.{below-all, line-shows, part-shows, past-all, word-gone, word-is}
+use Rattle.rb_long_run.proofs.spelling.write_spelling.Goals as goal
 
 pub loop-sent-preserved : goal.loop-sent-preserved
 loop-sent-preserved g c =

@@ -2,8 +2,8 @@
 ghost use Rattle.std.specs.Prelude.{◌≡◌, ◌≤◌, ℕ, IfSome, None, length, replicate, OnErr, OnOk};
 ghost use Rattle.std.specs.Io.KnownBytes.{Appends};
 ghost use Rattle.arrayvec.specs.ArrayVec.{ArrayVec as Letter};
-ghost use Rattle.rb_long_text.specs.Hearing.{letter_of, lines_text, with_line, with_lines};
-ghost use Rattle.rb_long_text.specs.Texts.{given_text};
+ghost use Rattle.rb_long_run.specs.Hearing.{letter_of, lines_text, with_line, with_lines};
+ghost use Rattle.rb_long_run.specs.Reports.{given_text};
 ghost use Rattle.rb_long.specs.Delivered.{is_named};
 ghost use Rattle.rb_long.specs.Readers.{letter_in};
 ghost use Rattle.rb_outside.specs.Bytes.{AppendsPart};
@@ -85,7 +85,7 @@ pub struct Receivers {
 }
 
 impl Model for Receivers {
-    ghost use Rattle.rb_long_text.specs.Hearing.{Open};
+    ghost use Rattle.rb_long_run.specs.Hearing.{Open};
 
     ghost Value = { Open };
 

@@ -3,7 +3,7 @@ use Rattle.std.specs.Prelude.{ℕ, Option, None, List, [], ◌∷◌, ◌++◌, 
 use Rattle.rb_rules.specs.declared.record.SlotLine.{SlotLine}
 use Rattle.rb_long.specs.Delivered.{is_named}
 use Rattle.rb_long.specs.Reading.{OpenLetter, Read, with_value}
-use Rattle.rb_long_text.specs.Texts.{given_text}
+use Rattle.rb_long_run.specs.Reports.{given_text}
 
 -- the letters that are open, by receiver and sender
 abbrev pub Open : Type 0
