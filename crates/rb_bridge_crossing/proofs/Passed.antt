@@ -18,7 +18,7 @@ use Rattle.rb_group_run.specs.Holding.{HoldsFrame}
 use Rattle.rb_group_run.specs.Replies.{frame_of, reached}
 use Rattle.rb_group_run.proofs.Held.{reached_more}
 use Rattle.rb_rules_bridge.specs.Crossings.{value_told}
-use Rattle.rb_bridge_words.specs.Holding.{HoldValues}
+use Rattle.rb_bridge.specs.Holding.{HoldValues}
 use Rattle.rb_bridge_crossing.specs.declared.passing.Passage.{Passage}
 use Rattle.rb_bridge_crossing.specs.declared.passing.Terms.{Terms}
 use Rattle.rb_bridge_crossing.specs.Passing.{HoldsPassage, PassesFrame, is_over}

@@ -11,7 +11,7 @@ use Rattle.rb_world.specs.Worlds.{KeptWorld}
 use Rattle.rb_group_run.specs.Holding.{HoldsFrame}
 use Rattle.rb_group_run.specs.Replies.{frame_of}
 use Rattle.rb_rules_bridge.specs.Crossings.{value_told}
-use Rattle.rb_bridge_words.specs.Holding.{HoldValues}
+use Rattle.rb_bridge.specs.Holding.{HoldValues}
 use Rattle.rb_bridge_crossing.specs.declared.passing.Passage.{Passage}
 use Rattle.rb_bridge_crossing.specs.declared.passing.Terms.{Terms}
 use Rattle.rb_bridge_crossing.specs.Running.{AreNotLast, IsUnderWay}

@@ -8,7 +8,7 @@ ghost use Rattle.rb_world.specs.Nexts.{is_last};
 ghost use Rattle.rb_bridge_crossing.specs.Passing.{HoldsPassage, IsOnItsWay, PassesFrame, is_over};
 ghost use Rattle.rb_bridge_crossing.specs.Running.{IsUnderWay};
 
-use rb_bridge_words::{Values, note};
+use rb_bridge::{Values, note};
 use rb_group_run::ports::frame_or;
 use rb_group_run::{Asked, Ports, advance};
 use rb_port::Apps;

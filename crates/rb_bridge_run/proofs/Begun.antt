@@ -11,7 +11,7 @@ use Rattle.rb_group.specs.declared.voters.Which.TheVariants.{Most}
 use Rattle.rb_group_run.specs.declared.asked.Scope.{Scope}
 use Rattle.rb_group_run.specs.declared.ports.Ports.{Ports}
 use Rattle.rb_group_run.specs.Holding.{HoldsFrame, IsScopeOf}
-use Rattle.rb_bridge_words.specs.Holding.{HoldValues}
+use Rattle.rb_bridge.specs.Holding.{HoldValues}
 use Rattle.rb_bridge_crossing.specs.declared.passing.Terms.{Terms}
 use Rattle.rb_bridge_run.specs.Sides.{HasOpened}
 

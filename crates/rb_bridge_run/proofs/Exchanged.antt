@@ -27,7 +27,7 @@ use Rattle.rb_rules_bridge.specs.Bridges.{Bridge, IsBridge, across, biu_on, bus_
 use Rattle.rb_rules_bridge.specs.Crossings.{hands_up_to, records_on, value_in, value_told}
 use Rattle.rb_rules_bridge.specs.Texts.{Break, break_told}
 use Rattle.rb_laws_bridge.specs.Laws.{BeginsOrEnds, ends_run, frame_told}
-use Rattle.rb_bridge_words.specs.Holding.{HoldValues}
+use Rattle.rb_bridge.specs.Holding.{HoldValues}
 use Rattle.rb_bridge_crossing.specs.declared.passing.Passage.{Passage}
 use Rattle.rb_bridge_crossing.specs.declared.passing.Terms.{Terms}
 use Rattle.rb_bridge_crossing.specs.Handing.{with_words}

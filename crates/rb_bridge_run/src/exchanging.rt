@@ -12,7 +12,7 @@ ghost use Rattle.rb_bridge_run.specs.Sides.{AfterFrame, AreUnbroken, BeforeFrame
 use crate::passing::is_last;
 use crate::side::Side;
 use rb_bridge_crossing::{Passage, Terms, hand_over};
-use rb_bridge_words::{no_values, note};
+use rb_bridge::{no_values, note};
 use rb_group_run::advance;
 use rb_rules_bridge::{Bank, Pair};
 use rb_world_book::Turn;

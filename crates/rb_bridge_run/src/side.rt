@@ -6,7 +6,7 @@ ghost use Rattle.rb_bridge_run.specs.Sides.{HasOpened};
 
 use rb_base::{Biu, NodeSet, OutOfMemory};
 use rb_bridge_crossing::{Passage, Terms};
-use rb_bridge_words::no_values;
+use rb_bridge::no_values;
 use rb_group::Which;
 use rb_group_run::scope_of;
 use rb_group_run::{Asked, Scope, first_ports};

@@ -3,7 +3,7 @@ use Rattle.std.proofs.Common.{◌≡◌, ℕ, Option, take}
 use Rattle.rb_base.specs.declared.values.Heard.{Heard}
 use Rattle.rb_rules.specs.WorldStep.{World}
 use Rattle.rb_world.specs.Worlds.{Stands}
-use Rattle.rb_bridge_words.specs.Holding.{HoldValues}
+use Rattle.rb_bridge.specs.Holding.{HoldValues}
 use Rattle.rb_bridge_crossing.specs.Handing.{with_words}
 use Rattle.rb_bridge_crossing.proofs.handing.hand_over.Given as goal
 

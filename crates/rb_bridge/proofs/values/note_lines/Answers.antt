@@ -1,9 +1,9 @@
 use Rattle.std.proofs.Common.{ap, arith}
 use Rattle.std.specs.Option.{option_or}
 use Rattle.std.proofs.lemmas.List.{take_all}
-use Rattle.rb_bridge_words.specs.Holding.{value_by}
-use Rattle.rb_bridge_words.proofs.Noted.{hold-same, lines-more, nothing-more}
-use Rattle.rb_bridge_words.proofs.note_lines.Goals as goal
+use Rattle.rb_bridge.specs.Holding.{value_by}
+use Rattle.rb_bridge.proofs.Noted.{hold-same, lines-more, nothing-more}
+use Rattle.rb_bridge.proofs.values.note_lines.Goals as goal
 
 pub loop-line-init : goal.loop-line-init
 loop-line-init c = λ told hold. nothing-more told c.args.kept.now hold

@@ -11,7 +11,7 @@ use Rattle.rb_rules.specs.Book.{Record}
 use Rattle.rb_rules.specs.Book.Record.{Frame, Slot, Ended, Breach}
 use Rattle.rb_group.specs.Portions.{deliveries_in, line_told, port_deliveries, told_of}
 use Rattle.rb_rules_bridge.specs.Crossings.{value_in, value_told}
-use Rattle.rb_bridge_words.specs.Holding.{HoldValues, value_by, value_with}
+use Rattle.rb_bridge.specs.Holding.{HoldValues, value_by, value_with}
 
 -- the same told in other words
 pub hold-same : (told also : ℕ → Option Heard) (kept : List (Option Heard)) → ((i : ℕ) → told i ≡ also i) → HoldValues told kept → HoldValues also kept

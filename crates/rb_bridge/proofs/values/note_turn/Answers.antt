@@ -1,9 +1,9 @@
 use Rattle.std.proofs.Common.{ap, sym}
 use Rattle.std.specs.Option.{option_or}
 use Rattle.rb_world_book.specs.Records.{record_of}
-use Rattle.rb_bridge_words.specs.Holding.{value_with}
-use Rattle.rb_bridge_words.proofs.Noted.{hold-same}
-use Rattle.rb_bridge_words.proofs.note_turn.Goals as goal
+use Rattle.rb_bridge.specs.Holding.{value_with}
+use Rattle.rb_bridge.proofs.Noted.{hold-same}
+use Rattle.rb_bridge.proofs.values.note_turn.Goals as goal
 
 pub returns-in-Slot : goal.returns-in-Slot
 returns-in-Slot c = λ told hold.

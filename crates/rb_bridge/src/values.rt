@@ -1,5 +1,4 @@
 //! What of a bus is carried over a bridge: the values that its BIUs deliver in one slot of a frame, kept turn by turn.
-#![tactic(auto)]
 
 ghost use Rattle.std.specs.Prelude.{◌≡◌, ◌<◌, ◌==◌, if◌then◌else◌, ◌++◌, ◌∷◌, [], ℕ, List, Some, None, Option, get_or};
 ghost use Rattle.std.specs.Option.{option_or, option_to_list};
@@ -7,7 +6,7 @@ ghost use Rattle.rb_base.specs.declared.values.Heard.{Heard};
 ghost use Rattle.rb_world_book.specs.Records.{record_of};
 ghost use Rattle.rb_rules_bridge.specs.Crossings.{value_told, word_of};
 ghost use Rattle.rb_rules.specs.Book.{Record};
-ghost use Rattle.rb_bridge_words.specs.Holding.{HoldValues, value_by, value_with};
+ghost use Rattle.rb_bridge.specs.Holding.{HoldValues, value_by, value_with};
 
 use rb_base::Heard;
 use rb_world_book::{SlotLine, SlotRecord, Turn};

@@ -1,6 +1,6 @@
 use Rattle.rb_world_book.specs.Records.{record_of}
-use Rattle.rb_bridge_words.proofs.Noted.{hold-same, value-more}
-use Rattle.rb_bridge_words.proofs.note.Goals as goal
+use Rattle.rb_bridge.proofs.Noted.{hold-same, value-more}
+use Rattle.rb_bridge.proofs.values.note.Goals as goal
 
 pub returns : goal.returns
 returns c = λ records hold.

@@ -1,8 +1,8 @@
 use Rattle.std.proofs.Common.{ap, ◌∙◌}
 use Rattle.std.specs.Option.{option_or}
-use Rattle.rb_bridge_words.specs.Holding.{value_by}
-use Rattle.rb_bridge_words.proofs.Noted.{here-told, hold-same}
-use Rattle.rb_bridge_words.proofs.note_slot.Goals as goal
+use Rattle.rb_bridge.specs.Holding.{value_by}
+use Rattle.rb_bridge.proofs.Noted.{here-told, hold-same}
+use Rattle.rb_bridge.proofs.values.note_slot.Goals as goal
 
 pub returns-then-record-slot : goal.returns-then-record-slot
 returns-then-record-slot c = λ told hold.
