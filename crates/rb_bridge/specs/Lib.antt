@@ -1,3 +1,6 @@
 pub mod Refusals
 pub mod Receivers
 pub mod Holding
+pub mod Handing
+pub mod Running
+pub mod Passing

@@ -12,7 +12,7 @@ use Rattle.rb_group_run.specs.declared.asked.Scope.{Scope}
 use Rattle.rb_group_run.specs.declared.ports.Ports.{Ports}
 use Rattle.rb_group_run.specs.Holding.{HoldsFrame, IsScopeOf}
 use Rattle.rb_bridge.specs.Holding.{HoldValues}
-use Rattle.rb_bridge_crossing.specs.declared.passing.Terms.{Terms}
+use Rattle.rb_bridge.specs.declared.passing.Terms.{Terms}
 use Rattle.rb_bridge_run.specs.Sides.{HasOpened}
 
 pub has-opened : (sc : Scenario) (members slot : ℕ) (world : KeptWorld) (ports : Ports) (values : List (Option Heard)) (scope : Scope) (terms : Terms) → Stands world (first_world sc) → world.bus ≡ sc

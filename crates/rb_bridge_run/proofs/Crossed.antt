@@ -11,7 +11,7 @@ use Rattle.rb_outside.proofs.Known.{appends_join, appends_none, part_join, part_
 use Rattle.rb_report.specs.Report.{end_text}
 use Rattle.rb_run.specs.declared.ending.Ending.TheVariants as ending
 use Rattle.rb_world.specs.Nexts.{is_last}
-use Rattle.rb_bridge_crossing.specs.Running.{IsUnderWay}
+use Rattle.rb_bridge.specs.Running.{IsUnderWay}
 use Rattle.rb_rules_bridge.specs.declared.bank.Bank.{Bank}
 use Rattle.rb_rules_bridge.specs.declared.bank.Bank.TheVariants.{Left, Right}
 use Rattle.rb_rules_bridge.specs.declared.bank.Pair.{Pair}

@@ -28,14 +28,14 @@ use Rattle.rb_rules_bridge.specs.Crossings.{hands_up_to, records_on, value_in, v
 use Rattle.rb_rules_bridge.specs.Texts.{Break, break_told}
 use Rattle.rb_laws_bridge.specs.Laws.{BeginsOrEnds, ends_run, frame_told}
 use Rattle.rb_bridge.specs.Holding.{HoldValues}
-use Rattle.rb_bridge_crossing.specs.declared.passing.Passage.{Passage}
-use Rattle.rb_bridge_crossing.specs.declared.passing.Terms.{Terms}
-use Rattle.rb_bridge_crossing.specs.Handing.{with_words}
-use Rattle.rb_bridge_crossing.specs.Passing.{HoldsPassage, is_over}
-use Rattle.rb_bridge_crossing.specs.Running.{IsUnderWay}
-use Rattle.rb_bridge_crossing.proofs.FramesTold.{passed-tells}
-use Rattle.rb_bridge_crossing.proofs.Handed.{handed_for}
-use Rattle.rb_bridge_crossing.proofs.UnderWay.{handed-over, latest-more}
+use Rattle.rb_bridge.specs.declared.passing.Passage.{Passage}
+use Rattle.rb_bridge.specs.declared.passing.Terms.{Terms}
+use Rattle.rb_bridge.specs.Handing.{with_words}
+use Rattle.rb_bridge.specs.Passing.{HoldsPassage, is_over}
+use Rattle.rb_bridge.specs.Running.{IsUnderWay}
+use Rattle.rb_bridge.proofs.FramesTold.{passed-tells}
+use Rattle.rb_bridge.proofs.Handed.{handed_for}
+use Rattle.rb_bridge.proofs.UnderWay.{handed-over, latest-more}
 use Rattle.rb_bridge_run.specs.declared.side.Side.{Side}
 use Rattle.rb_bridge_run.specs.Sides.{AfterFrame, BeforeFrame, IsInStep, TurnsOver, break_by}
 use Rattle.rb_bridge_run.proofs.Handed.{AreHanded, are-handed, begins-next, frames-on, handed-next}

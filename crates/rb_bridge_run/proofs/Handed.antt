@@ -28,12 +28,12 @@ use Rattle.rb_rules_bridge.specs.Crossings.{carried_to, hand_in_of, hands_on, ha
 use Rattle.rb_rules_bridge.specs.Texts.{Break, break_told}
 use Rattle.rb_laws_bridge.specs.Laws.{AreUpTo, BeginsOrEnds, ends_run, frame_told}
 use Rattle.rb_laws_bridge.proofs.Beginnings.{begins-or-ends}
-use Rattle.rb_bridge_crossing.specs.Handing.{with_words}
-use Rattle.rb_bridge_crossing.specs.Passing.{is_over}
-use Rattle.rb_bridge_crossing.specs.Running.{AreNotLast, IsUnderWay}
-use Rattle.rb_bridge_crossing.proofs.Carried.{carries-over}
-use Rattle.rb_bridge_crossing.proofs.FramesTold.{breaks-late, no-break, one-frame, records-are-first}
-use Rattle.rb_bridge_crossing.proofs.Handed.{IsHanded, handed_for, words-handed}
+use Rattle.rb_bridge.specs.Handing.{with_words}
+use Rattle.rb_bridge.specs.Passing.{is_over}
+use Rattle.rb_bridge.specs.Running.{AreNotLast, IsUnderWay}
+use Rattle.rb_bridge.proofs.Carried.{carries-over}
+use Rattle.rb_bridge.proofs.FramesTold.{breaks-late, no-break, one-frame, records-are-first}
+use Rattle.rb_bridge.proofs.Handed.{IsHanded, handed_for, words-handed}
 use Rattle.rb_bridge_run.specs.Sides.{break_by}
 
 -- Whatever the last turn was.

@@ -15,9 +15,9 @@ use Rattle.rb_rules_bridge.specs.declared.bank.Bank.{Bank}
 use Rattle.rb_rules_bridge.specs.declared.bank.Bank.TheVariants.{Left, Right}
 use Rattle.rb_rules_bridge.specs.Bridges.{Bridge, bus_on, members_on, slot_on}
 use Rattle.rb_rules_bridge.specs.Crossings.{hands_on, hands_up_to}
-use Rattle.rb_bridge_crossing.specs.Passing.{HoldsPassage}
-use Rattle.rb_bridge_crossing.specs.Running.{IsUnderWay}
-use Rattle.rb_bridge_crossing.proofs.UnderWay.{begins, few-turns, goes}
+use Rattle.rb_bridge.specs.Passing.{HoldsPassage}
+use Rattle.rb_bridge.specs.Running.{IsUnderWay}
+use Rattle.rb_bridge.proofs.UnderWay.{begins, few-turns, goes}
 use Rattle.rb_bridge_run.specs.declared.side.Side.{Side}
 use Rattle.rb_bridge_run.specs.Sides.{BeforeFrame, GivesAll, GivesSome, HasOpened, RunsOut}
 use Rattle.rb_bridge_run.proofs.Told.{all-given-of}

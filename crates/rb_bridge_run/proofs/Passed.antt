@@ -14,11 +14,11 @@ use Rattle.rb_rules_bridge.specs.Bridges.{Bridge, bus_on}
 use Rattle.rb_rules_bridge.specs.Crossings.{hands_of, hands_on, hands_up_to, records_on}
 use Rattle.rb_rules_bridge.specs.Texts.{break_in}
 use Rattle.rb_laws_bridge.proofs.Handed.{frames-go-by-the-earlier}
-use Rattle.rb_bridge_crossing.specs.declared.passing.Passage.{Passage}
-use Rattle.rb_bridge_crossing.specs.declared.passing.Terms.{Terms}
-use Rattle.rb_bridge_crossing.specs.Passing.{HoldsPassage, IsOnItsWay, PassesFrame, is_over}
-use Rattle.rb_bridge_crossing.specs.Running.{AreNotLast, IsUnderWay}
-use Rattle.rb_bridge_crossing.proofs.FramesTold.{passed-tells}
+use Rattle.rb_bridge.specs.declared.passing.Passage.{Passage}
+use Rattle.rb_bridge.specs.declared.passing.Terms.{Terms}
+use Rattle.rb_bridge.specs.Passing.{HoldsPassage, IsOnItsWay, PassesFrame, is_over}
+use Rattle.rb_bridge.specs.Running.{AreNotLast, IsUnderWay}
+use Rattle.rb_bridge.proofs.FramesTold.{passed-tells}
 use Rattle.rb_bridge_run.specs.declared.side.Side.{Side}
 use Rattle.rb_bridge_run.specs.Sides.{AfterFrame, BeforeFrame, HasStopped, IsInStep, IsUp, break_by}
 

@@ -22,11 +22,11 @@ use Rattle.rb_rules_bridge.specs.Bridges.{Bridge, IsBridge, bus_on, members_on}
 use Rattle.rb_rules_bridge.specs.Crossings.{hands_of, hands_up_to, records_on}
 use Rattle.rb_rules_bridge.specs.Texts.{Break, break_in}
 use Rattle.rb_laws_bridge.proofs.Handed.{frames-go-by-the-earlier}
-use Rattle.rb_bridge_crossing.specs.declared.passing.Terms.{Terms}
-use Rattle.rb_bridge_crossing.specs.Passing.{is_over}
-use Rattle.rb_bridge_crossing.specs.Running.{IsUnderWay}
-use Rattle.rb_bridge_crossing.proofs.FramesTold.{passed-tells}
-use Rattle.rb_bridge_crossing.proofs.UnderWay.{first-given, whole-given}
+use Rattle.rb_bridge.specs.declared.passing.Terms.{Terms}
+use Rattle.rb_bridge.specs.Passing.{is_over}
+use Rattle.rb_bridge.specs.Running.{IsUnderWay}
+use Rattle.rb_bridge.proofs.FramesTold.{passed-tells}
+use Rattle.rb_bridge.proofs.UnderWay.{first-given, whole-given}
 use Rattle.rb_bridge_run.specs.declared.side.Side.{Side}
 use Rattle.rb_bridge_run.specs.declared.telling.Breach.{Breach as Found}
 use Rattle.rb_bridge_run.specs.Sides.{AfterFrame, AreGivenOf, BeforeFrame, GivesAll, GivesSome, break_by}

@@ -32,12 +32,12 @@ use Rattle.rb_rules_bridge.specs.Crossings.{hands_of, hands_on, hands_up_to, rec
 use Rattle.rb_rules_bridge.specs.Texts.{Break, break_told}
 use Rattle.rb_laws_bridge.specs.Laws.{AreFirstOf, AreUpTo, BeginsOrEnds, ends_run, frame_told}
 use Rattle.rb_laws_bridge.proofs.Stayed.{first-crossed}
-use Rattle.rb_bridge_crossing.specs.declared.passing.Terms.{Terms}
-use Rattle.rb_bridge_crossing.specs.Handing.{with_words}
-use Rattle.rb_bridge_crossing.specs.Passing.{is_over}
-use Rattle.rb_bridge_crossing.specs.Running.{AreNotLast, IsUnderWay}
-use Rattle.rb_bridge_crossing.proofs.FramesTold.{breaks-late, no-break, one-frame}
-use Rattle.rb_bridge_crossing.proofs.UnderWay.{first-given, latest-more, whole-given}
+use Rattle.rb_bridge.specs.declared.passing.Terms.{Terms}
+use Rattle.rb_bridge.specs.Handing.{with_words}
+use Rattle.rb_bridge.specs.Passing.{is_over}
+use Rattle.rb_bridge.specs.Running.{AreNotLast, IsUnderWay}
+use Rattle.rb_bridge.proofs.FramesTold.{breaks-late, no-break, one-frame}
+use Rattle.rb_bridge.proofs.UnderWay.{first-given, latest-more, whole-given}
 use Rattle.rb_bridge_run.specs.declared.side.Side.{Side}
 use Rattle.rb_bridge_run.specs.Sides.{AfterFrame, BeforeFrame, HasStopped, IsInStep, break_by}
 use Rattle.rb_bridge_run.proofs.Handed.{AreHanded, are-handed, begins-next, handed-next, reached-there}

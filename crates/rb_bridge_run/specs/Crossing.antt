@@ -11,7 +11,7 @@ use Rattle.rb_world.specs.Nexts.{is_last}
 use Rattle.rb_group.specs.Groups.{group_value}
 use Rattle.rb_group.specs.declared.voters.Which.TheVariants.{Most}
 use Rattle.rb_group_run.specs.Holding.{HoldPortions, IsScopeOf}
-use Rattle.rb_bridge_crossing.specs.Passing.{IsOnItsWay}
+use Rattle.rb_bridge.specs.Passing.{IsOnItsWay}
 use Rattle.rb_rules_bridge.specs.declared.bank.Bank.{Bank}
 use Rattle.rb_rules_bridge.specs.declared.bank.Bank.TheVariants.{Left, Right}
 use Rattle.rb_rules_bridge.specs.declared.bank.Pair.{Pair}

@@ -14,10 +14,10 @@ use Rattle.rb_world.specs.Driving.{bare}
 use Rattle.rb_world.specs.Nexts.{is_last}
 use Rattle.rb_group.specs.declared.voters.Which.TheVariants.{Most}
 use Rattle.rb_group_run.specs.Holding.{IsScopeOf}
-use Rattle.rb_bridge_crossing.specs.declared.passing.Passage.{Passage}
-use Rattle.rb_bridge_crossing.specs.declared.passing.Terms.{Terms}
-use Rattle.rb_bridge_crossing.specs.Passing.{HoldsPassage, is_over}
-use Rattle.rb_bridge_crossing.specs.Running.{AreNotLast, IsUnderWay}
+use Rattle.rb_bridge.specs.declared.passing.Passage.{Passage}
+use Rattle.rb_bridge.specs.declared.passing.Terms.{Terms}
+use Rattle.rb_bridge.specs.Passing.{HoldsPassage, is_over}
+use Rattle.rb_bridge.specs.Running.{AreNotLast, IsUnderWay}
 use Rattle.rb_rules_bridge.specs.declared.bank.Bank.{Bank}
 use Rattle.rb_rules_bridge.specs.declared.bank.Bank.TheVariants.{Left, Right}
 use Rattle.rb_rules_bridge.specs.Bridges.{Bridge, bus_on, carried_slot, members_on}

@@ -4,14 +4,14 @@ ghost use Rattle.rb_world_book.specs.Records.{record_of};
 ghost use Rattle.rb_world_book.specs.declared.turn.Turn.{Turn};
 ghost use Rattle.rb_run.specs.Turns.{records_in};
 ghost use Rattle.rb_world.specs.Nexts.{is_last};
-ghost use Rattle.rb_bridge_crossing.specs.Passing.{HoldsPassage, is_over};
+ghost use Rattle.rb_bridge.specs.Passing.{HoldsPassage, is_over};
 ghost use Rattle.rb_rules_bridge.specs.Bridges.{Bridge, IsBridge, biu_on};
 ghost use Rattle.rb_rules_bridge.specs.declared.bank.Bank.TheVariants.{Left, Right};
 ghost use Rattle.rb_bridge_run.specs.Sides.{AfterFrame, AreUnbroken, BeforeFrame, TurnsOver};
 
 use crate::passing::is_last;
 use crate::side::Side;
-use rb_bridge_crossing::{Passage, Terms, hand_over};
+use rb_bridge::{Passage, Terms, hand_over};
 use rb_bridge::{no_values, note};
 use rb_group_run::advance;
 use rb_rules_bridge::{Bank, Pair};

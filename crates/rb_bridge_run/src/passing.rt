@@ -5,14 +5,14 @@ ghost use Rattle.rb_rules.specs.Ports.{HandIn};
 ghost use Rattle.rb_world_book.specs.Records.{record_of};
 ghost use Rattle.rb_world_book.specs.declared.turn.Turn.{Turn};
 ghost use Rattle.rb_world.specs.Nexts.{is_last};
-ghost use Rattle.rb_bridge_crossing.specs.Passing.{IsOnItsWay};
-ghost use Rattle.rb_bridge_crossing.specs.Running.{IsUnderWay};
+ghost use Rattle.rb_bridge.specs.Passing.{IsOnItsWay};
+ghost use Rattle.rb_bridge.specs.Running.{IsUnderWay};
 ghost use Rattle.rb_rules_bridge.specs.Bridges.{Bridge};
 ghost use Rattle.rb_rules_bridge.specs.declared.bank.Bank.{Bank};
 ghost use Rattle.rb_bridge_run.specs.Sides.{AfterFrame, BeforeFrame, IsUp, RunsOut};
 
 use crate::side::Side;
-use rb_bridge_crossing::pass_frame;
+use rb_bridge::pass_frame;
 use rb_port::Apps;
 use rb_world::Drive;
 use rb_world_book::Turn;

@@ -5,7 +5,7 @@ ghost use Rattle.rb_scenario.specs.Acceptance.{as_scenario};
 ghost use Rattle.rb_bridge_run.specs.Sides.{HasOpened};
 
 use rb_base::{Biu, NodeSet, OutOfMemory};
-use rb_bridge_crossing::{Passage, Terms};
+use rb_bridge::{Passage, Terms};
 use rb_bridge::no_values;
 use rb_group::Which;
 use rb_group_run::scope_of;

@@ -5,7 +5,7 @@ use Rattle.rb_rules.specs.Ports.{HandIn}
 use Rattle.rb_world_book.specs.Records.{record_of}
 use Rattle.rb_world_book.specs.declared.turn.Turn.{Turn}
 use Rattle.rb_world.specs.Nexts.{is_last}
-use Rattle.rb_bridge_crossing.specs.Running.{IsUnderWay}
+use Rattle.rb_bridge.specs.Running.{IsUnderWay}
 use Rattle.rb_bridge_run.proofs.Opened.{IsFinishing}
 use Rattle.rb_bridge_run.proofs.passing.finish.Given as goal
 

@@ -5,8 +5,8 @@ ghost use Rattle.rb_world_book.specs.Records.{record_of};
 ghost use Rattle.rb_world_book.specs.declared.turn.Turn.{Turn};
 ghost use Rattle.rb_run.specs.Turns.{records_in};
 ghost use Rattle.rb_world.specs.Nexts.{is_last};
-ghost use Rattle.rb_bridge_crossing.specs.Passing.{HoldsPassage, IsOnItsWay, PassesFrame, is_over};
-ghost use Rattle.rb_bridge_crossing.specs.Running.{IsUnderWay};
+ghost use Rattle.rb_bridge.specs.Passing.{HoldsPassage, IsOnItsWay, PassesFrame, is_over};
+ghost use Rattle.rb_bridge.specs.Running.{IsUnderWay};
 
 use rb_bridge::{Values, note};
 use rb_group_run::ports::frame_or;

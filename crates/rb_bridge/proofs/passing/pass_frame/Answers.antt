@@ -1,9 +1,9 @@
 use Rattle.std.proofs.Common.{◌≡◌, ◌++◌, false, refl, sym, ◌∙◌, ap, arith}
 use Rattle.rb_world_book.specs.Records.{record_of}
-use Rattle.rb_bridge_crossing.specs.Passing.{is_over}
-use Rattle.rb_bridge_crossing.proofs.Passed.{all-passed, few-passed, none-passed, one-passed}
-use Rattle.rb_bridge_crossing.proofs.UnderWay.{goes}
-use Rattle.rb_bridge_crossing.proofs.passing.pass_frame.Goals as goal
+use Rattle.rb_bridge.specs.Passing.{is_over}
+use Rattle.rb_bridge.proofs.Passed.{all-passed, few-passed, none-passed, one-passed}
+use Rattle.rb_bridge.proofs.UnderWay.{goes}
+use Rattle.rb_bridge.proofs.passing.pass_frame.Goals as goal
 
 pub loop-passed-init : goal.loop-passed-init
 loop-passed-init g c = record {

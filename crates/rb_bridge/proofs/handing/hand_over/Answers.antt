@@ -1,9 +1,9 @@
 use Rattle.std.proofs.Common.{◌∙◌, subst, arith}
 use Rattle.std.proofs.lemmas.List.{take_all}
 use Rattle.rb_world.specs.Worlds.{Stands}
-use Rattle.rb_bridge_crossing.specs.Handing.{with_words}
-use Rattle.rb_bridge_crossing.proofs.Handed.{next-handed}
-use Rattle.rb_bridge_crossing.proofs.handing.hand_over.Goals as goal
+use Rattle.rb_bridge.specs.Handing.{with_words}
+use Rattle.rb_bridge.proofs.Handed.{next-handed}
+use Rattle.rb_bridge.proofs.handing.hand_over.Goals as goal
 
 pub loop-pair-preserved : goal.loop-pair-preserved
 loop-pair-preserved c = record {

@@ -27,9 +27,9 @@ use Rattle.rb_rules_bridge.specs.declared.bank.Bank.TheVariants.{Left}
 use Rattle.rb_rules_bridge.specs.Texts.{Break, break_in, break_told}
 use Rattle.rb_laws_bridge.specs.Laws.{TellAll, frame_told}
 use Rattle.rb_laws_bridge.proofs.Ordered.{told-in-order}
-use Rattle.rb_bridge_crossing.specs.Passing.{is_over}
-use Rattle.rb_bridge_crossing.specs.Running.{AreNotLast, IsUnderWay}
-use Rattle.rb_bridge_crossing.proofs.UnderWay.{first-given, whole-given}
+use Rattle.rb_bridge.specs.Passing.{is_over}
+use Rattle.rb_bridge.specs.Running.{AreNotLast, IsUnderWay}
+use Rattle.rb_bridge.proofs.UnderWay.{first-given, whole-given}
 
 -- turns that end nothing tell no breach
 pub no-break : (bank : Bank) (frame : ℕ) (turns : List Turn) → AreNotLast turns → break_in bank frame (records_in turns) ≡ None

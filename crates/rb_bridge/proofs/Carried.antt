@@ -10,7 +10,7 @@ use Rattle.rb_rules_bridge.specs.declared.bank.Bank.{Bank}
 use Rattle.rb_rules_bridge.specs.declared.bank.Pair.{Pair}
 use Rattle.rb_rules_bridge.specs.Bridges.{Bridge, across, biu_on, bus_on, carried_slot}
 use Rattle.rb_rules_bridge.specs.Crossings.{Hands, carried_to, hand_in_of, records_on, value_in, value_told, word_of}
-use Rattle.rb_bridge_crossing.proofs.Handed.{handed_for}
+use Rattle.rb_bridge.proofs.Handed.{handed_for}
 
 pub carries-over : (b : Bridge) (hands : Hands) (bank : Bank) (frame : ℕ) (records : List Record)
     → ((receiver : ℕ) → port_deliveries frame receiver records ≡ port_deliveries frame receiver (records_on b hands (across bank)))

@@ -25,8 +25,8 @@ use Rattle.rb_world.specs.declared.last.Last.TheVariants as last
 use Rattle.rb_world.specs.Worlds.{KeptWorld, Stands, last_of}
 use Rattle.rb_world.proofs.LastTurn.{reached-ended, reached-gave}
 use Rattle.rb_world.proofs.Numbered.{alike-in-rounds, alike-last, next-in-rounds}
-use Rattle.rb_bridge_crossing.specs.Running.{AreNotLast, IsUnderWay, latest}
-use Rattle.rb_bridge_crossing.proofs.Handed.{IsHanded}
+use Rattle.rb_bridge.specs.Running.{AreNotLast, IsUnderWay, latest}
+use Rattle.rb_bridge.proofs.Handed.{IsHanded}
 
 -- Turns and records.
 

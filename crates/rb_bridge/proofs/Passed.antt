@@ -19,11 +19,11 @@ use Rattle.rb_group_run.specs.Replies.{frame_of, reached}
 use Rattle.rb_group_run.proofs.Held.{reached_more}
 use Rattle.rb_rules_bridge.specs.Crossings.{value_told}
 use Rattle.rb_bridge.specs.Holding.{HoldValues}
-use Rattle.rb_bridge_crossing.specs.declared.passing.Passage.{Passage}
-use Rattle.rb_bridge_crossing.specs.declared.passing.Terms.{Terms}
-use Rattle.rb_bridge_crossing.specs.Passing.{HoldsPassage, PassesFrame, is_over}
-use Rattle.rb_bridge_crossing.specs.Running.{IsUnderWay}
-use Rattle.rb_bridge_crossing.proofs.UnderWay.{few-turns}
+use Rattle.rb_bridge.specs.declared.passing.Passage.{Passage}
+use Rattle.rb_bridge.specs.declared.passing.Terms.{Terms}
+use Rattle.rb_bridge.specs.Passing.{HoldsPassage, PassesFrame, is_over}
+use Rattle.rb_bridge.specs.Running.{IsUnderWay}
+use Rattle.rb_bridge.proofs.UnderWay.{few-turns}
 
 -- What is kept.
 

@@ -5,7 +5,7 @@ ghost use Rattle.rb_rules.specs.WorldStep.{World as RunWorld};
 ghost use Rattle.rb_world.specs.Worlds.{Stands};
 ghost use Rattle.rb_rules_bridge.specs.Bridges.{across, biu_on};
 ghost use Rattle.rb_bridge.specs.Holding.{HoldValues};
-ghost use Rattle.rb_bridge_crossing.specs.Handing.{with_words};
+ghost use Rattle.rb_bridge.specs.Handing.{with_words};
 
 use rb_bridge::{Values, word_at};
 use rb_rules_bridge::{Bank, Pair};

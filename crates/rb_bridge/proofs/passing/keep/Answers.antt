@@ -1,5 +1,5 @@
-use Rattle.rb_bridge_crossing.proofs.Passed.{kept-more}
-use Rattle.rb_bridge_crossing.proofs.passing.keep.Goals as goal
+use Rattle.rb_bridge.proofs.Passed.{kept-more}
+use Rattle.rb_bridge.proofs.passing.keep.Goals as goal
 
 pub returns : goal.returns
 returns c = λ frame turns within hold.

@@ -3,10 +3,10 @@ use Rattle.std.proofs.Common.{◌≡◌, Option, List, false}
 use Rattle.rb_rules.specs.Ports.{HandIn}
 use Rattle.rb_world_book.specs.declared.turn.Turn.{Turn}
 use Rattle.rb_run.specs.Turns.{records_in}
-use Rattle.rb_bridge_crossing.specs.Passing.{HoldsPassage}
-use Rattle.rb_bridge_crossing.specs.Running.{IsUnderWay}
-use Rattle.rb_bridge_crossing.proofs.Passed.{IsPassing}
-use Rattle.rb_bridge_crossing.proofs.passing.pass_frame.Given as goal
+use Rattle.rb_bridge.specs.Passing.{HoldsPassage}
+use Rattle.rb_bridge.specs.Running.{IsUnderWay}
+use Rattle.rb_bridge.proofs.Passed.{IsPassing}
+use Rattle.rb_bridge.proofs.passing.pass_frame.Given as goal
 
 abbrev pub invariant-loop-passed : goal.invariant-loop-passed
 invariant-loop-passed g l = record {

@@ -12,9 +12,9 @@ use Rattle.rb_group_run.specs.Holding.{HoldsFrame}
 use Rattle.rb_group_run.specs.Replies.{frame_of}
 use Rattle.rb_rules_bridge.specs.Crossings.{value_told}
 use Rattle.rb_bridge.specs.Holding.{HoldValues}
-use Rattle.rb_bridge_crossing.specs.declared.passing.Passage.{Passage}
-use Rattle.rb_bridge_crossing.specs.declared.passing.Terms.{Terms}
-use Rattle.rb_bridge_crossing.specs.Running.{AreNotLast, IsUnderWay}
+use Rattle.rb_bridge.specs.declared.passing.Passage.{Passage}
+use Rattle.rb_bridge.specs.declared.passing.Terms.{Terms}
+use Rattle.rb_bridge.specs.Running.{AreNotLast, IsUnderWay}
 
 -- what is kept of a frame is what these records tell of it
 pub record HoldsPassage (terms : Terms) (frame : ℕ) (records : List Record) (p : Passage) : Type 0 where

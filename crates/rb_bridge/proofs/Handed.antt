@@ -11,7 +11,7 @@ use Rattle.rb_rules_bridge.specs.declared.bank.Bank.{Bank}
 use Rattle.rb_rules_bridge.specs.declared.bank.Pair.{Pair}
 use Rattle.rb_rules_bridge.specs.Bridges.{across, biu_on}
 use Rattle.rb_rules_bridge.specs.Crossings.{word_of}
-use Rattle.rb_bridge_crossing.specs.Handing.{with_words}
+use Rattle.rb_bridge.specs.Handing.{with_words}
 
 pub words-append : (sc : Scenario) (bank : Bank) (told : ℕ → Option Heard) (ps qs : List Pair) (w : World)
     → with_words sc bank told (ps ++ qs) w ≡ with_words sc bank told qs (with_words sc bank told ps w)

@@ -1,5 +1,0 @@
-pub mod Handed
-pub mod UnderWay
-pub mod Passed
-pub mod FramesTold
-pub mod Carried
