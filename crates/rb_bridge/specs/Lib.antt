@@ -4,3 +4,5 @@ pub mod Holding
 pub mod Handing
 pub mod Running
 pub mod Passing
+pub mod Sides
+pub mod Crossing

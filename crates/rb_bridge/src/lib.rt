@@ -1,15 +1,25 @@
 //! A bridge of two buses: some processors are attached to a BIU of each, and carry one word a frame. Here is what is written of it.
 #![tactic(auto)]
 
+pub use crossing::cross;
 pub use handing::hand_over;
 pub use lines::{bridge_refused_line, cross_line, side_breach_line};
+pub use members::members_on;
 pub use passing::{Passage, Terms, pass_frame};
 pub use receivers::write_receivers;
+pub use side::{Side, open_side};
+pub use telling::Breach;
 pub use values::{Values, no_values, note, word_at};
 
+mod crossing;
+mod exchanging;
 mod fields;
 mod handing;
 mod lines;
+mod members;
+mod passing;
 pub mod passing;
 mod receivers;
+pub mod side;
+pub mod telling;
 mod values;

@@ -4,7 +4,7 @@ use Rattle.rb_outside.specs.Causes.{Rose}
 use Rattle.rb_world_book.specs.declared.turn.Turn.{Turn}
 use Rattle.rb_bridge_document.specs.declared.bridge.Bridge.{Bridge as Kept}
 use Rattle.rb_bridge_document.specs.Acceptance.{as_bridge}
-use Rattle.rb_bridge_run.specs.Crossing.{WritesPart}
+use Rattle.rb_bridge.specs.Crossing.{WritesPart}
 use Rattle.rb_bridge_top.specs.declared.status.Status.{Status}
 use Rattle.rb_bridge_top.specs.declared.status.Status.TheVariants.{Done, Breach, Usage, Refused, TooLong, ReadFault, WriteFault, OutOfMemory}
 use Rattle.rb_bridge_top.specs.Answers.{Answers, IsCrossed}

@@ -8,7 +8,7 @@ use Rattle.rb_laws_bridge.proofs.Crossed.{words-cross}
 use Rattle.rb_bridge_document.specs.Acceptance.{IsBridgeAccepted}
 use Rattle.rb_run.specs.declared.ending.Ending.{Ending}
 use Rattle.rb_run.specs.declared.ending.Ending.TheVariants as ending
-use Rattle.rb_bridge_run.specs.Crossing.{EndsAs}
+use Rattle.rb_bridge.specs.Crossing.{EndsAs}
 use Rattle.rb_bridge_top.specs.declared.status.Status.{Status}
 use Rattle.rb_bridge_top.specs.declared.status.Status.TheVariants.{Done, Breach, Usage, Refused, TooLong, ReadFault, WriteFault, OutOfMemory}
 use Rattle.rb_bridge_top.specs.Answers.{Answers, Completes, Ends, FailsToWrite, NothingFails, Refuses}

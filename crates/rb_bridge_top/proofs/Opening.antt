@@ -10,9 +10,9 @@ use Rattle.rb_rules_bridge.specs.Bridges.{biu_on}
 use Rattle.rb_run.specs.declared.ending.Ending.{Ending}
 use Rattle.rb_run.specs.declared.ending.Ending.TheVariants as ending
 use Rattle.rb_scenario.specs.Acceptance.{as_scenario}
-use Rattle.rb_bridge_run.specs.declared.side.Side.{Side}
-use Rattle.rb_bridge_run.specs.Crossing.{HaveOpened}
-use Rattle.rb_bridge_run.specs.Sides.{HasOpened}
+use Rattle.rb_bridge.specs.declared.side.Side.{Side}
+use Rattle.rb_bridge.specs.Crossing.{HaveOpened}
+use Rattle.rb_bridge.specs.Sides.{HasOpened}
 use Rattle.rb_bridge_top.specs.declared.status.Status.{Status}
 use Rattle.rb_bridge_top.specs.declared.status.Status.TheVariants.{WriteFault, OutOfMemory}
 use Rattle.rb_bridge_top.specs.Statuses.{HasEnded, IsOfRun, status_of}

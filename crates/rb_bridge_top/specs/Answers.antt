@@ -7,7 +7,7 @@ use Rattle.rb_world_book.specs.declared.turn.Turn.{Turn}
 use Rattle.rb_run.specs.declared.ending.Ending.{Ending}
 use Rattle.rb_rules_bridge.specs.Bridges.{Bridge, IsBridge}
 use Rattle.rb_bridge_document.specs.Acceptance.{IsBridgeAccepted}
-use Rattle.rb_bridge_run.specs.Crossing.{WritesAll, WritesPart}
+use Rattle.rb_bridge.specs.Crossing.{WritesAll, WritesPart}
 use Rattle.rb_bridge_top.specs.declared.form.Form.{Form}
 use Rattle.rb_bridge_top.specs.declared.form.Form.TheVariants.{Run}
 use Rattle.rb_bridge_top.specs.declared.status.Status.{Status}

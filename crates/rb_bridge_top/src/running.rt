@@ -3,14 +3,14 @@ ghost use Rattle.std.specs.Prelude.{◌≡◌, Bool};
 ghost use Rattle.rb_outside.specs.Causes.{Rose};
 ghost use Rattle.rb_rules_bridge.specs.Bridges.{IsBridge};
 ghost use Rattle.rb_bridge_document.specs.Acceptance.{as_bridge};
-ghost use Rattle.rb_bridge_run.specs.Crossing.{ArePlain, WritesPart};
+ghost use Rattle.rb_bridge.specs.Crossing.{ArePlain, WritesPart};
 ghost use Rattle.rb_bridge_top.specs.Answers.{IsCrossed};
 ghost use Rattle.rb_bridge_top.specs.Statuses.{HasEnded, IsOfRun, status_of};
 
 use crate::status::Status;
 use rb_base::OutOfMemory;
 use rb_bridge_document::Bridge;
-use rb_bridge_run::{cross, members_on, open_side};
+use rb_bridge::{cross, members_on, open_side};
 use rb_outside::{Failed, Sink};
 use rb_port::Apps;
 use rb_rules_bridge::Bank;

@@ -1,7 +1,7 @@
 //! The top call of a bridge.
 ghost use Rattle.std.specs.Prelude.{◌≡◌, Bool, IsTrue};
 ghost use Rattle.rb_flags.specs.declared.Flag.{Flag};
-ghost use Rattle.rb_bridge_run.specs.Crossing.{ArePlain};
+ghost use Rattle.rb_bridge.specs.Crossing.{ArePlain};
 ghost use Rattle.rb_bridge_top.specs.declared.form.Form.TheVariants.{Run, Show};
 ghost use Rattle.rb_bridge_top.specs.Answers.{Answers, Completes, Ends, FailsToWrite, Refuses, Untouched, UsageExactly};
 ghost use Rattle.rb_bridge_top.specs.Inputs.{IsUnread};

@@ -8,7 +8,7 @@ use Rattle.rb_library.specs.Held.{Held, faults_of}
 use Rattle.rb_library.proofs.OverBytes.{fresh, given_over, never_rose, no_fault, read_is, written_is}
 use Rattle.rb_rules_bridge.specs.Bridges.{Bridge}
 use Rattle.rb_bridge_document.specs.Acceptance.{IsBridgeAccepted}
-use Rattle.rb_bridge_run.specs.Crossing.{ArePlain}
+use Rattle.rb_bridge.specs.Crossing.{ArePlain}
 use Rattle.rb_bridge_top.specs.declared.form.Form.{Form}
 use Rattle.rb_bridge_top.specs.declared.form.Form.TheVariants.{Run, Show}
 use Rattle.rb_bridge_top.specs.declared.status.Status.{Status}

@@ -1,7 +1,7 @@
 use Rattle.std.proofs.Common.{refl, sym}
 use Rattle.rb_rules_bridge.specs.declared.bank.Bank.TheVariants.{Left, Right}
 use Rattle.rb_bridge_document.specs.Acceptance.{as_bridge}
-use Rattle.rb_bridge_run.proofs.Crossed.{pairs-small}
+use Rattle.rb_bridge.proofs.Crossed.{pairs-small}
 use Rattle.rb_bridge_top.proofs.Opening.{both-opened, end-opened, end-runs, end-written}
 use Rattle.rb_bridge_top.proofs.running.report.Goals as goal
 

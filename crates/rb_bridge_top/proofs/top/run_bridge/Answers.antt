@@ -1,6 +1,6 @@
 use Rattle.std.proofs.Common.{true, false, refl, subst, sym}
 use Rattle.rb_flags.specs.declared.Flag.{Flag}
-use Rattle.rb_bridge_run.proofs.Crossed.{never-plain}
+use Rattle.rb_bridge.proofs.Crossed.{never-plain}
 use Rattle.rb_bridge_top.specs.declared.form.Form.TheVariants.{Run, Show}
 use Rattle.rb_bridge_top.specs.Pages.{Shows}
 use Rattle.rb_bridge_top.specs.Statuses.{IsOfRun}

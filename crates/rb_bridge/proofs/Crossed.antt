@@ -1,0 +1,285 @@
+-- Both sides, and what is said of them, from frame to frame.
+use Rattle.std.proofs.Common.{◌≡◌, ℕ, suc, ◌+◌, ◌-◌, ◌<◌, ◌≤◌, All, Bool, true, false, is_some, get_or, Option, Some, None, option_map, List, [], ◌++◌, append_assoc, refl, sym, ◌∙◌, ap, subst, arith}
+use Rattle.std.specs.Io.KnownBytes.{Appends}
+use Rattle.std.specs.Option.{option_or}
+use Rattle.rb_rules.specs.Goodness.{Scenario}
+use Rattle.rb_rules.specs.Ports.{HandIn}
+use Rattle.rb_world_book.specs.Records.{record_of}
+use Rattle.rb_world_book.specs.declared.turn.Turn.{Turn}
+use Rattle.rb_outside.specs.Bytes.{AppendsPart}
+use Rattle.rb_outside.proofs.Known.{appends_join, appends_none, part_join, part_widens}
+use Rattle.rb_report.specs.Report.{end_text}
+use Rattle.rb_run.specs.declared.ending.Ending.TheVariants as ending
+use Rattle.rb_world.specs.Nexts.{is_last}
+use Rattle.rb_bridge.specs.Running.{IsUnderWay}
+use Rattle.rb_rules_bridge.specs.declared.bank.Bank.{Bank}
+use Rattle.rb_rules_bridge.specs.declared.bank.Bank.TheVariants.{Left, Right}
+use Rattle.rb_rules_bridge.specs.declared.bank.Pair.{Pair}
+use Rattle.rb_rules_bridge.specs.Bridges.{Bridge, IsBridge, IsHead, biu_on, bus_on}
+use Rattle.rb_rules_bridge.specs.Texts.{Break, break_at, break_from, break_of, bridge_text, frame_text, text_from, text_with}
+use Rattle.rb_bridge.specs.declared.side.Side.{Side}
+use Rattle.rb_bridge.specs.declared.telling.Breach.{Breach}
+use Rattle.rb_bridge.specs.Sides.{BeforeFrame, GivesAll, RunsOut}
+use Rattle.rb_bridge.specs.Crossing.{ArePlain, AreReady, AreThrough, BreaksOff, Crosses, CrossesPart, FindBoth, GiveAll, GiveSome, GoThrough, WritesAll, WritesPart, shown, told_text}
+use Rattle.rb_bridge.proofs.Opened.{all-are-some, gives-all}
+use Rattle.rb_bridge.proofs.Told.{finds}
+
+-- What is known of a bridge.
+
+-- its BIUs are numbers below 16
+pub heads-small : (b : Bridge) (bank : Bank) → IsBridge b → All (λ pair. biu_on bank pair < 16) b.pairs
+heads-small b bank bridge k d lt =
+    let head : IsHead (bus_on b bank) (biu_on bank (get_or b.pairs k d)) = bridge.heads bank k d lt in
+    let inside : biu_on bank (get_or b.pairs k d) < (bus_on b bank).sizes.bius = head.inside in
+    let most : (bus_on b bank).sizes.bius ≤ 16 = (bridge.lawful bank).sizes.most_bius in
+    omega (arith, inside, most)
+
+pub pairs-small : (b : Bridge) (bank : Bank) (pairs : List Pair) → IsBridge b → b.pairs ≡ pairs → All (λ pair. biu_on bank pair < 16) pairs
+pairs-small b bank pairs bridge same = subst (λ ps. All (λ pair. biu_on bank pair < 16) ps) same (heads-small b bank bridge)
+
+false-true : false ≡ true → ⊥
+false-true e = cc
+
+-- no claim is made of the text
+pub never-plain : (lp rp : Bool) → ArePlain false lp rp
+never-plain lp rp = record { left = λ e. absurd (false-true e); right = λ e. absurd (false-true e) }
+
+-- what is known of two drives is known of them later
+pub restated : (P : Bool → Bool → Type 0) (a b c d : Bool) → a ≡ c → b ≡ d → P a b → P c d
+restated P a b c d e f p = subst (λ x. P x d) e (subst (λ y. P a y) f p)
+
+-- One frame.
+
+pub some-found : (o : Option Breach) → is_some o ≡ true → (x : Breach) × (o ≡ Some x)
+some-found None e = cc
+some-found (Some x) e = (x, refl)
+
+pub none-found : (o : Option Breach) → is_some o ≡ false → o ≡ None
+none-found None e = refl
+none-found (Some x) e = cc
+
+find-both : (b : Bridge) (frame : ℕ) (both lp : Bool) (ltold lsince : Option (List Turn)) (rp : Bool) (rtold rsince : Option (List Turn)) (l r : Side) → frame < b.left.frames
+    → ArePlain both lp rp → both ≡ true → AreThrough b frame both lp ltold lsince rp rtold rsince l r → FindBoth b frame l r
+find-both b frame both lp ltold lsince rp rtold rsince l r below plain sure is = record {
+  left = finds b Left frame both lp ltold lsince l (omega (arith, below)) sure (plain.left sure) is.left is.unbroken.left;
+  right = finds b Right frame both rp rtold rsince r (omega (arith, below)) sure (plain.right sure) is.right is.unbroken.right;
+}
+
+-- what is written of a frame is what is said of it
+pub told-all : (b : Bridge) (frame : ℕ) (both lp : Bool) (ltold lsince : Option (List Turn)) (rp : Bool) (rtold rsince : Option (List Turn)) (l r : Side) (o : Option Breach) (P : List ℕ → Type 0)
+    → frame < b.left.frames → ArePlain both lp rp → GoThrough b frame both lp ltold lsince rp rtold rsince l r (option_map shown o)
+    → ((o ≡ None → FindBoth b frame l r) → P (told_text b frame (option_map shown o))) → both ≡ true → P (told_text b frame (break_at b frame))
+told-all b frame both lp ltold lsince rp rtold rsince l r o P below plain is writes sure =
+    subst (λ k. P (told_text b frame k)) (sym (is.breach_is sure))
+    (writes (λ none. find-both b frame both lp ltold lsince rp rtold rsince l r below plain sure (is.through (ap (option_map shown) none))))
+
+pub breaks-off : (b : Bridge) (frame : ℕ) (both lp : Bool) (ltold lsince : Option (List Turn)) (rp : Bool) (rtold rsince : Option (List Turn)) (l r m n : Side) (o : Option Breach) (x : Breach)
+    (held after : Option (List ℕ)) → GoThrough b frame both lp ltold lsince rp rtold rsince l r (option_map shown o) → o ≡ Some x
+    → (both ≡ true → Appends held after (told_text b frame (break_at b frame))) → Crosses b frame both lp ltold lsince rp rtold rsince m n held after false
+breaks-off b frame both lp ltold lsince rp rtold rsince l r m n o x held after is found text = record {
+  some = is.some;
+  text = text;
+  ready = λ e. absurd (false-true e);
+  unbroken = λ e sure. absurd (false-true e);
+  broken = λ e. record { break = shown x; break_is = λ sure. is.breach_is sure ∙ here; all = is.broken (shown x) here };
+}
+  where
+    here : option_map shown o ≡ Some (shown x)
+    here = ap (option_map shown) found
+
+pub goes-on : (b : Bridge) (frame : ℕ) (both lp : Bool) (ltold lsince : Option (List Turn)) (rp : Bool) (rtold rsince : Option (List Turn)) (l r m n : Side) (o : Option Breach)
+    (held after : Option (List ℕ)) → GoThrough b frame both lp ltold lsince rp rtold rsince l r (option_map shown o) → o ≡ None
+    → (both ≡ true → Appends held after (told_text b frame (break_at b frame))) → AreReady b (frame + 1) both lp ltold lsince rp rtold rsince m n
+    → Crosses b frame both lp ltold lsince rp rtold rsince m n held after true
+goes-on b frame both lp ltold lsince rp rtold rsince l r m n o held after is none text ready = record {
+  some = is.some;
+  text = text;
+  ready = λ e. ready;
+  unbroken = λ e sure. is.breach_is sure ∙ ap (option_map shown) none;
+  broken = λ e. absurd (never e);
+}
+  where
+    never : true ≡ false → ⊥
+    never e = cc
+
+-- or it was written in part
+pub crosses-part : (b : Bridge) (frame : ℕ) (both lp : Bool) (ltold lsince : Option (List Turn)) (rp : Bool) (rtold rsince : Option (List Turn)) (l r : Side) (o : Option Breach)
+    (held after : Option (List ℕ)) → GoThrough b frame both lp ltold lsince rp rtold rsince l r (option_map shown o)
+    → (both ≡ true → AppendsPart held after (told_text b frame (break_at b frame))) → CrossesPart b frame both lp ltold lsince rp rtold rsince held after
+crosses-part b frame both lp ltold lsince rp rtold rsince l r o held after is text = record { some = is.some; text = text }
+
+-- The text.
+
+-- what is written is the text of the frames before this one, none of which has a breach
+pub record IsWritten (b : Bridge) (frame : ℕ) (held after : Option (List ℕ)) : Type 0 where
+  pub lines : List ℕ
+  pub written : Appends held after lines
+  pub text : bridge_text b ≡ lines ++ text_from b frame (b.left.frames - frame)
+  pub breaks : break_of b ≡ break_from b frame (b.left.frames - frame)
+
+pub first-written : (b : Bridge) (held : Option (List ℕ)) → IsWritten b 0 held held
+first-written b held = record {
+  lines = [];
+  written = appends_none held;
+  text = ap (text_from b 0) (sym (all b.left.frames));
+  breaks = ap (break_from b 0) (sym (all b.left.frames));
+}
+  where
+    all : (n : ℕ) → n - 0 ≡ n
+    all n = omega arith
+
+left-over : (frames frame : ℕ) → frame < frames → frames - frame ≡ suc (frames - (frame + 1))
+left-over frames frame below = omega (arith, below)
+
+pub next-written : (b : Bridge) (frame : ℕ) (held mid after : Option (List ℕ)) → IsWritten b frame held mid → frame < b.left.frames → break_at b frame ≡ None
+    → Appends mid after (told_text b frame (break_at b frame)) → IsWritten b (frame + 1) held after
+next-written b frame held mid after is below none now =
+    let n : ℕ = b.left.frames - (frame + 1) in
+    let more : b.left.frames - frame ≡ suc n = left-over b.left.frames frame below in
+    let rest : List ℕ = text_from b (frame + 1) n in
+    record {
+      lines = is.lines ++ frame_text b frame;
+      written = appends_join held mid after is.lines (frame_text b frame) is.written (subst (λ k. Appends mid after (told_text b frame k)) none now);
+      text =
+          is.text ∙ ap (λ m. is.lines ++ text_from b frame m) more ∙ ap (λ k. is.lines ++ text_with (frame_text b frame) rest k) none
+          ∙ sym (append_assoc is.lines (frame_text b frame) rest);
+      breaks = is.breaks ∙ ap (break_from b frame) more ∙ ap (λ k. option_or k (break_from b (frame + 1) n)) none;
+    }
+
+-- it ends with a breach
+pub break-written : (b : Bridge) (frame : ℕ) (held mid after : Option (List ℕ)) (k : Break) → IsWritten b frame held mid → frame < b.left.frames → break_at b frame ≡ Some k
+    → Appends mid after (told_text b frame (break_at b frame)) → Appends held after (bridge_text b) × (break_of b ≡ Some k)
+break-written b frame held mid after k is below some now =
+    let n : ℕ = b.left.frames - (frame + 1) in
+    let more : b.left.frames - frame ≡ suc n = left-over b.left.frames frame below in (
+      subst (λ t. Appends held after t)
+          (sym (is.text ∙ ap (λ m. is.lines ++ text_from b frame m) more ∙ ap (λ k. is.lines ++ text_with (frame_text b frame) (text_from b (frame + 1) n) k) some))
+          (appends_join held mid after is.lines (told_text b frame (Some k)) is.written (subst (λ k. Appends mid after (told_text b frame k)) some now)),
+      is.breaks ∙ ap (break_from b frame) more ∙ ap (λ k. option_or k (break_from b (frame + 1) n)) some,
+    )
+
+-- or a first part of a frame's text is written
+pub part-written : (b : Bridge) (frame : ℕ) (held mid after : Option (List ℕ)) → IsWritten b frame held mid → frame < b.left.frames
+    → AppendsPart mid after (told_text b frame (break_at b frame)) → AppendsPart held after (bridge_text b)
+part-written b frame held mid after is below now =
+    subst (λ t. AppendsPart held after t) (sym (is.text ∙ ap (λ m. is.lines ++ text_from b frame m) (left-over b.left.frames frame below)))
+    (part_join held mid after is.lines (text_with (frame_text b frame) rest (break_at b frame)) is.written (by (break_at b frame) now))
+  where
+    rest : List ℕ
+    rest = text_from b (frame + 1) (b.left.frames - (frame + 1))
+
+    by : (k : Option Break) → AppendsPart mid after (told_text b frame k) → AppendsPart mid after (text_with (frame_text b frame) rest k)
+    by None part = part_widens mid after (frame_text b frame) rest part
+    by (Some k) part = part
+
+-- after the last frame its end is left
+ends-with : (b : Bridge) (frame : ℕ) (held mid : Option (List ℕ)) → (is : IsWritten b frame held mid) → frame ≡ b.left.frames
+    → (bridge_text b ≡ is.lines ++ end_text frame) × (break_of b ≡ None)
+ends-with b frame held mid is all =
+    let none : b.left.frames - frame ≡ 0 = omega (arith, all) in
+    (is.text ∙ ap (λ m. is.lines ++ text_from b frame m) none, is.breaks ∙ ap (break_from b frame) none)
+
+pub end-written : (b : Bridge) (frame : ℕ) (held mid after : Option (List ℕ)) → IsWritten b frame held mid → frame ≡ b.left.frames → Appends mid after (end_text frame)
+    → Appends held after (bridge_text b) × (break_of b ≡ None)
+end-written b frame held mid after is all now =
+    let ends = ends-with b frame held mid is all in
+    (subst (λ t. Appends held after t) (sym ends.0) (appends_join held mid after is.lines (end_text frame) is.written now), ends.1)
+
+pub end-part : (b : Bridge) (frame : ℕ) (held mid after : Option (List ℕ)) → IsWritten b frame held mid → frame ≡ b.left.frames → AppendsPart mid after (end_text frame)
+    → AppendsPart held after (bridge_text b)
+end-part b frame held mid after is all now =
+    subst (λ t. AppendsPart held after t) (sym (ends-with b frame held mid is all).0) (part_join held mid after is.lines (end_text frame) is.written now)
+
+-- All frames.
+
+-- both go into a frame, and what was said before it is written
+pub record IsCrossing (b : Bridge) (frame : ℕ) (both lp : Bool) (ltold lsince : Option (List Turn)) (rp : Bool) (rtold rsince : Option (List Turn)) (l r : Side) (held after : Option (List ℕ)) : Type 0 where
+  pub ready : AreReady b frame both lp ltold lsince rp rtold rsince l r
+  pub text : both ≡ true → IsWritten b frame held after
+
+-- what a frame makes of them, where the drives are as plain as they were
+now-crosses : (b : Bridge) (frame : ℕ) (both now_lp now_rp lp rp : Bool) (ltold lmid lsince rtold rmid rsince : Option (List Turn)) (l r : Side) (P : Bool → Bool → Type 0) → now_lp ≡ lp → now_rp ≡ rp
+    → AreReady b frame both lp ltold lmid rp rtold rmid l r → ArePlain both lp rp
+    → (ArePlain both now_lp now_rp → AreReady b frame both now_lp ltold lmid now_rp rtold rmid l r → P now_lp now_rp) → P lp rp
+now-crosses b frame both now_lp now_rp lp rp ltold lmid lsince rtold rmid rsince l r P e f ready plain crosses =
+    restated (λ lp rp. ArePlain both lp rp → AreReady b frame both lp ltold lmid rp rtold rmid l r → P lp rp) now_lp now_rp lp rp e f crosses plain ready
+
+pub next-crossing : (b : Bridge) (frame : ℕ) (both now_lp now_rp lp rp : Bool) (ltold lmid lsince rtold rmid rsince : Option (List Turn)) (l r m n : Side) (held mid after : Option (List ℕ)) (on : Bool)
+    → now_lp ≡ lp → now_rp ≡ rp → IsCrossing b frame both lp ltold lmid rp rtold rmid l r held mid → frame < b.left.frames → ArePlain both lp rp
+    → (ArePlain both now_lp now_rp → AreReady b frame both now_lp ltold lmid now_rp rtold rmid l r → Crosses b frame both now_lp ltold lsince now_rp rtold rsince m n mid after on)
+    → on ≡ true → IsCrossing b (frame + 1) both lp ltold lsince rp rtold rsince m n held after
+next-crossing b frame both now_lp now_rp lp rp ltold lmid lsince rtold rmid rsince l r m n held mid after on e f is below plain crosses goes =
+    let now : Crosses b frame both lp ltold lsince rp rtold rsince m n mid after on =
+    now-crosses b frame both now_lp now_rp lp rp ltold lmid lsince rtold rmid rsince l r (λ lp rp. Crosses b frame both lp ltold lsince rp rtold rsince m n mid after on) e f is.ready plain crosses in
+    record { ready = now.ready goes; text = λ sure. next-written b frame held mid after (is.text sure) below (now.unbroken goes sure) (now.text sure) }
+
+pub broken-crossing : (b : Bridge) (frame : ℕ) (both now_lp now_rp lp rp : Bool) (ltold lmid lsince rtold rmid rsince : Option (List Turn)) (l r m n : Side) (held mid after : Option (List ℕ)) (on : Bool)
+    → now_lp ≡ lp → now_rp ≡ rp → IsCrossing b frame both lp ltold lmid rp rtold rmid l r held mid → frame < b.left.frames → ArePlain both lp rp
+    → (ArePlain both now_lp now_rp → AreReady b frame both now_lp ltold lmid now_rp rtold rmid l r → Crosses b frame both now_lp ltold lsince now_rp rtold rsince m n mid after on)
+    → on ≡ false → WritesAll b both lp ltold lsince rp rtold rsince held after ending.Breach
+broken-crossing b frame both now_lp now_rp lp rp ltold lmid lsince rtold rmid rsince l r m n held mid after on e f is below plain crosses stops =
+    let now : Crosses b frame both lp ltold lsince rp rtold rsince m n mid after on =
+    now-crosses b frame both now_lp now_rp lp rp ltold lmid lsince rtold rmid rsince l r (λ lp rp. Crosses b frame both lp ltold lsince rp rtold rsince m n mid after on) e f is.ready plain crosses in
+    let off : BreaksOff b frame both lp ltold lsince rp rtold rsince = now.broken stops in
+    record {
+      some = now.some;
+      text = λ sure. (break-written b frame held mid after off.break (is.text sure) below (off.break_is sure) (now.text sure)).0;
+      ends = (off.break, (λ sure. (break-written b frame held mid after off.break (is.text sure) below (off.break_is sure) (now.text sure)).1, (frame, off.all)));
+    }
+
+pub part-crossing : (b : Bridge) (frame : ℕ) (both now_lp now_rp lp rp : Bool) (ltold lmid lsince rtold rmid rsince : Option (List Turn)) (l r : Side) (held mid after : Option (List ℕ))
+    → now_lp ≡ lp → now_rp ≡ rp → IsCrossing b frame both lp ltold lmid rp rtold rmid l r held mid → frame < b.left.frames → ArePlain both lp rp
+    → (ArePlain both now_lp now_rp → AreReady b frame both now_lp ltold lmid now_rp rtold rmid l r → CrossesPart b frame both now_lp ltold lsince now_rp rtold rsince mid after)
+    → WritesPart b both lp ltold lsince rp rtold rsince held after
+part-crossing b frame both now_lp now_rp lp rp ltold lmid lsince rtold rmid rsince l r held mid after e f is below plain crosses =
+    let now : CrossesPart b frame both lp ltold lsince rp rtold rsince mid after =
+    now-crosses b frame both now_lp now_rp lp rp ltold lmid lsince rtold rmid rsince l r (λ lp rp. CrossesPart b frame both lp ltold lsince rp rtold rsince mid after) e f is.ready plain crosses in
+    record { some = now.some; text = λ sure. part-written b frame held mid after (is.text sure) below (now.text sure) }
+
+-- After the last frame.
+
+-- a drive was asked for all turns that were left
+all-given : (b : Bridge) (bank : Bank) (frame : ℕ) (both now_plain is_plain : Bool) (told mid since : Option (List Turn)) (s : Side) → frame ≡ b.left.frames → now_plain ≡ is_plain → BeforeFrame b bank frame both is_plain told mid s
+    → ((sc : Scenario) (handed : List HandIn) (told : Option (List Turn)) (turns : List Turn) → IsUnderWay sc handed now_plain told mid s.world turns (is_last (record_of s.turn)) → RunsOut sc handed now_plain told since)
+    → GivesAll b bank frame both is_plain told since
+all-given b bank frame both now_plain is_plain told mid since s all e is finish =
+    gives-all b bank frame both is_plain told mid since s all is
+    (subst (λ p. (sc : Scenario) (handed : List HandIn) (told : Option (List Turn)) (turns : List Turn) → IsUnderWay sc handed p told mid s.world turns (is_last (record_of s.turn)) → RunsOut sc handed p told since) e finish
+    (bus_on b bank) is.handed told is.turns is.ready.given)
+
+-- what is asked of a drive that gives all turns that are left
+abbrev pub Finishes : Bool → Option (List Turn) → Option (List Turn) → Side → Type 0
+Finishes is_plain mid since s =
+    (sc : Scenario) (handed : List HandIn) (told : Option (List Turn)) (turns : List Turn)
+    → IsUnderWay sc handed is_plain told mid s.world turns (is_last (record_of s.turn)) → RunsOut sc handed is_plain told since
+
+both-given : (b : Bridge) (frame : ℕ) (both now_lp now_rp lp rp : Bool) (ltold lmid lsince rtold rmid rsince : Option (List Turn)) (l r : Side) → frame ≡ b.left.frames → now_lp ≡ lp → now_rp ≡ rp
+    → AreReady b frame both lp ltold lmid rp rtold rmid l r → Finishes now_lp lmid lsince l → Finishes now_rp rmid rsince r → GiveAll b frame both lp ltold lsince rp rtold rsince
+both-given b frame both now_lp now_rp lp rp ltold lmid lsince rtold rmid rsince l r all e f ready left right = record {
+  left = all-given b Left frame both now_lp lp ltold lmid lsince l all e ready.left left;
+  right = all-given b Right frame both now_rp rp rtold rmid rsince r all f ready.right right;
+}
+
+both-some : (b : Bridge) (frame : ℕ) (both lp : Bool) (ltold lsince : Option (List Turn)) (rp : Bool) (rtold rsince : Option (List Turn)) → GiveAll b frame both lp ltold lsince rp rtold rsince
+    → GiveSome b both lp ltold lsince rp rtold rsince
+both-some b frame both lp ltold lsince rp rtold rsince is =
+    record { left = all-are-some b Left frame both lp ltold lsince is.left; right = all-are-some b Right frame both rp rtold rsince is.right }
+
+pub ended-crossing : (b : Bridge) (frame : ℕ) (both now_lp now_rp lp rp : Bool) (ltold lmid lsince rtold rmid rsince : Option (List Turn)) (l r : Side) (held mid after : Option (List ℕ))
+    → now_lp ≡ lp → now_rp ≡ rp → IsCrossing b frame both lp ltold lmid rp rtold rmid l r held mid → frame ≡ b.left.frames
+    → Finishes now_lp lmid lsince l → Finishes now_rp rmid rsince r → Appends mid after (end_text frame) → WritesAll b both lp ltold lsince rp rtold rsince held after ending.Ended
+ended-crossing b frame both now_lp now_rp lp rp ltold lmid lsince rtold rmid rsince l r held mid after e f is all left right now =
+    let given : GiveAll b frame both lp ltold lsince rp rtold rsince = both-given b frame both now_lp now_rp lp rp ltold lmid lsince rtold rmid rsince l r all e f is.ready left right in
+    record {
+      some = both-some b frame both lp ltold lsince rp rtold rsince given;
+      text = λ sure. (end-written b frame held mid after (is.text sure) all now).0;
+      ends = (λ sure. (end-written b frame held mid after (is.text sure) all now).1, subst (λ f. GiveAll b f both lp ltold lsince rp rtold rsince) all given);
+    }
+
+pub end-crossing : (b : Bridge) (frame : ℕ) (both now_lp now_rp lp rp : Bool) (ltold lmid lsince rtold rmid rsince : Option (List Turn)) (l r : Side) (held mid after : Option (List ℕ))
+    → now_lp ≡ lp → now_rp ≡ rp → IsCrossing b frame both lp ltold lmid rp rtold rmid l r held mid → frame ≡ b.left.frames
+    → Finishes now_lp lmid lsince l → Finishes now_rp rmid rsince r → AppendsPart mid after (end_text frame) → WritesPart b both lp ltold lsince rp rtold rsince held after
+end-crossing b frame both now_lp now_rp lp rp ltold lmid lsince rtold rmid rsince l r held mid after e f is all left right now = record {
+  some = both-some b frame both lp ltold lsince rp rtold rsince (both-given b frame both now_lp now_rp lp rp ltold lmid lsince rtold rmid rsince l r all e f is.ready left right);
+  text = λ sure. end-part b frame held mid after (is.text sure) all now;
+}
