@@ -1,4 +1,5 @@
-//! A bridge of two buses: some processors are attached to a BIU of each, and carry one word a frame. Here is what is written of it.
+//! A bridge of two buses: some processors are attached to a BIU of each, and carry one word a frame. Both buses are taken frame by frame to
+//! their end, with what is handed over and what is written.
 #![tactic(auto)]
 
 pub use crossing::cross;
@@ -14,10 +15,10 @@ pub use values::{Values, no_values, note, word_at};
 mod crossing;
 mod exchanging;
 mod fields;
+mod frame;
 mod handing;
 mod lines;
 mod members;
-mod passing;
 pub mod passing;
 mod receivers;
 pub mod side;
