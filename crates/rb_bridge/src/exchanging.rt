@@ -11,8 +11,9 @@ ghost use Rattle.rb_bridge.specs.Sides.{AfterFrame, AreUnbroken, BeforeFrame, Tu
 
 use crate::frame::is_last;
 use crate::side::Side;
-use rb_bridge::{Passage, Terms, hand_over};
-use rb_bridge::{no_values, note};
+use crate::handing::hand_over;
+use crate::passing::{Passage, Terms};
+use crate::values::{no_values, note};
 use rb_group_run::advance;
 use rb_rules_bridge::{Bank, Pair};
 use rb_world_book::Turn;

@@ -11,8 +11,8 @@ ghost use Rattle.rb_rules_bridge.specs.Bridges.{Bridge};
 ghost use Rattle.rb_rules_bridge.specs.declared.bank.Bank.{Bank};
 ghost use Rattle.rb_bridge.specs.Sides.{AfterFrame, BeforeFrame, IsUp, RunsOut};
 
+use crate::passing::pass_frame;
 use crate::side::Side;
-use rb_bridge::pass_frame;
 use rb_port::Apps;
 use rb_world::Drive;
 use rb_world_book::Turn;

@@ -7,7 +7,7 @@ ghost use Rattle.rb_rules_bridge.specs.Bridges.{across, biu_on};
 ghost use Rattle.rb_bridge.specs.Holding.{HoldValues};
 ghost use Rattle.rb_bridge.specs.Handing.{with_words};
 
-use rb_bridge::{Values, word_at};
+use crate::values::{Values, word_at};
 use rb_rules_bridge::{Bank, Pair};
 use rb_world::World;
 
@@ -36,7 +36,7 @@ fn hand_word(world: &mut World, bank: Bank, pair: &Pair, values: &Values)
 
 /// Hands to the BIU of each pair on a bank the word that its BIU across the bridge carries, by the values of that bus's carried slot. The
 /// last turn of this bus must be the record of a frame; a BIU that is not good at its begin is handed nothing.
-pub fn hand_over(world: &mut World, bank: Bank, pairs: &[Pair], values: &Values)
+pub(crate) fn hand_over(world: &mut World, bank: Bank, pairs: &[Pair], values: &Values)
     requires { All (λ pair. biu_on (across bank) pair < 16) pairs.now }
     ensures world { (told : ℕ → Option Heard) (w : RunWorld) → HoldValues told values.now → Stands world.old w
         → Stands world.new (with_words world.old.bus bank told pairs.now w) }

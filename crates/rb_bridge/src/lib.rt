@@ -3,14 +3,10 @@
 #![tactic(auto)]
 
 pub use crossing::cross;
-pub use handing::hand_over;
 pub use lines::{bridge_refused_line, cross_line, side_breach_line};
 pub use members::members_on;
-pub use passing::{Passage, Terms, pass_frame};
-pub use receivers::write_receivers;
 pub use side::{Side, open_side};
 pub use telling::Breach;
-pub use values::{Values, no_values, note, word_at};
 
 mod crossing;
 mod exchanging;

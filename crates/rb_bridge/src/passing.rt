@@ -8,7 +8,7 @@ ghost use Rattle.rb_world.specs.Nexts.{is_last};
 ghost use Rattle.rb_bridge.specs.Passing.{HoldsPassage, IsOnItsWay, PassesFrame, is_over};
 ghost use Rattle.rb_bridge.specs.Running.{IsUnderWay};
 
-use rb_bridge::{Values, note};
+use crate::values::{Values, note};
 use rb_group_run::ports::frame_or;
 use rb_group_run::{Asked, Ports, advance};
 use rb_port::Apps;
@@ -60,7 +60,7 @@ fn keep(passage: &mut Passage, terms: &Terms, turn: &Turn)
 
 /// Takes a run on to the first turn of a later frame, or to its end, and gives that turn. What is kept of the frame is then all that the turns
 /// before it tell. The run must not have ended.
-pub fn pass_frame<D: Drive>(
+pub(crate) fn pass_frame<D: Drive>(
     world: &mut World,
     apps: &Apps,
     drive: &mut D,

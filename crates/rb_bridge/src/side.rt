@@ -5,11 +5,10 @@ ghost use Rattle.rb_scenario.specs.Acceptance.{as_scenario};
 ghost use Rattle.rb_bridge.specs.Sides.{HasOpened};
 
 use rb_base::{Biu, NodeSet, OutOfMemory};
-use rb_bridge::{Passage, Terms};
-use rb_bridge::no_values;
+use crate::passing::{Passage, Terms};
+use crate::values::no_values;
 use rb_group::Which;
-use rb_group_run::scope_of;
-use rb_group_run::{Asked, Scope, first_ports};
+use rb_group_run::{Asked, Scope, first_ports, scope_of};
 use rb_scenario::Scenario;
 use rb_world::World;
 use rb_world_book::Turn;

@@ -12,10 +12,10 @@ use rb_base::Heard;
 use rb_world_book::{SlotLine, SlotRecord, Turn};
 
 /// The values that BIUs deliver in one slot of a frame: of each of the 16 that there may be, the first.
-pub type Values = [Option<Heard>; 16];
+pub(crate) type Values = [Option<Heard>; 16];
 
 /// No values.
-pub fn no_values() -> Values
+pub(crate) fn no_values() -> Values
     ensures { HoldValues (λ i. None) result }
 {
     [None; 16]
@@ -76,7 +76,7 @@ fn note_turn(kept: &mut Values, frame: u32, slot: u16, turn: &Turn)
 }
 
 /// Keeps what a turn tells of a slot of a frame: of each BIU the first value that it delivered there.
-pub fn note(kept: &mut Values, frame: u32, slot: u16, turn: &Turn)
+pub(crate) fn note(kept: &mut Values, frame: u32, slot: u16, turn: &Turn)
     ensures { (records : List Record) → HoldValues (value_told frame slot records) kept.old
         → HoldValues (value_told frame slot (records ++ option_to_list (record_of turn.now))) kept.new }
 {
@@ -84,7 +84,7 @@ pub fn note(kept: &mut Values, frame: u32, slot: u16, turn: &Turn)
 }
 
 /// The word that a BIU, below 16, carries over: 0 where it delivered none, or Fault.
-pub fn word_at(kept: &Values, biu: u8) -> u32
+pub(crate) fn word_at(kept: &Values, biu: u8) -> u32
     requires { biu < 16 }
     ensures { (told : ℕ → Option Heard) → HoldValues told kept.now → result ≡ word_of (told biu) }
 {
