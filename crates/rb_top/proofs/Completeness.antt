@@ -1,11 +1,13 @@
--- The answers that must come, from all that is said of an answer.
+-- The answers that must come of a command, from all that is said of an answer.
 use Rattle.std.proofs.Common.{◌≡◌, ℕ, ◌<◌, ◌⊎◌, true, false, Bool, List, length, Option, Some, None, Result, Ok, Err, arith, inl, inr, refl, subst, sym, ◌∙◌, ap}
+use Rattle.rb_base.specs.declared.node.NodeName.{NodeName}
 use Rattle.rb_outside.specs.Bytes.{Gave, ReadsToEnd}
 use Rattle.rb_outside.proofs.Known.{gave_within, read_bytes}
 use Rattle.rb_rules.specs.Goodness.{Scenario}
 use Rattle.rb_rules.specs.Lawful.{IsNodeOf}
 use Rattle.rb_log.specs.LogText.{Log, log_in}
 use Rattle.rb_replay.specs.Overhearing.{is_of_biu}
+use Rattle.rb_group.specs.declared.voters.Which.{Which}
 use Rattle.rb_group_run.specs.Members.{AreMembers}
 use Rattle.rb_gen.specs.Generated.{generated}
 use Rattle.rb_scenario.specs.Acceptance.{IsAccepted, IsRefused}
@@ -19,10 +21,11 @@ use Rattle.rb_top.specs.declared.form.Form.{Form}
 use Rattle.rb_top.specs.declared.form.Form.TheVariants.{Run, Check, Gen, Stress, Record, Replay, Spell, Letters, Group, Listen, Show}
 use Rattle.rb_top.specs.declared.status.Status.{Status}
 use Rattle.rb_top.specs.declared.status.Status.TheVariants.{Done, Breach, Usage, Refused, TooLong, ReadFault, WriteFault, OutOfMemory}
-use Rattle.rb_top.specs.Answers.{Completes, Ends, EndsAs, IsDue, IsEnd, IsLeft, NothingFails, Refuses, status_of}
-use Rattle.rb_top.specs.Inputs.{BreaksRule, HasCode, IsRead, IsRefusedWith, IsTextOf, IsUnread, limit_of, log_limit, scenario_limit}
-use Rattle.rb_top.specs.Serving.{Answers}
+use Rattle.rb_top.specs.Answers.{CommandAnswers, CommandCompletes, CommandEnds, CommandRefuses, IsLeft, NothingFails, command_of}
+use Rattle.rb_top.specs.Commands.{Command, EndsAs, IsNotForListeners, IsOverheard, IsReplay, IsSides, alone_command, check_command, group_command, listen_command, record_command, replay_command, status_of, stress_command, telling_command, text_command}
+use Rattle.rb_top.specs.Inputs.{BreaksLog, BreaksRule, HasCode, IsReadBy, IsTextOf, IsUnreadBy}
 use Rattle.rb_top.specs.Statuses.{MayRefuse}
+use Rattle.rb_top.specs.Texts.{Telling}
 
 -- What excludes what.
 
@@ -72,210 +75,195 @@ not_of_both r a b is_a is_b biu rmu =
     let both : true ≡ false = sym biu ∙ ap (λ (x : Log). is_of_biu x.node) same ∙ rmu in
     cc
 
--- an input that is refused doesn't end
-not_both : (form : Form) (input line : List ℕ) (end : Status) → IsEnd form input end → ¬ IsRefusedWith form input line
-not_both Run input line end e refused = breaks_none input line e.0 e.1 refused
-not_both Check input line end e refused = breaks_none input line e.0 e.1 refused
-not_both (Gen seed frames) input line end e refused = refused
-not_both (Stress seed frames) input line end e refused = refused
-not_both (Record node) input line end e (inl breaks) = breaks_none input line e.0 e.1 breaks
-not_both (Record node) input line end e (inr lacks) =
-    let P : Scenario → Type 0 = λ sc. IsNodeOf sc.sizes node in
-    lacks.none (subst P (same_scenario input e.0 lacks.scenario e.1 lacks.says) e.2)
-not_both Replay input line end e breaks = ok_or_err (log_in input) e.0 breaks.fault e.1 breaks.spells
-not_both (Listen skip) input line end e (inl breaks) = ok_or_err (log_in input) e.0 breaks.fault e.1 breaks.spells
-not_both (Listen skip) input line end e (inr rmu) = not_of_both (log_in input) e.0 rmu.log e.1 rmu.spells e.2 rmu.rmu
-not_both (Spell letter) input line end e refused = refused
-not_both (Show flag) input line end e refused = refused
-not_both Letters input line end e refused = breaks_none input line e.0 e.1 refused
-not_both (Group which members) input line end e (inl breaks) = breaks_none input line e.0 e.1 breaks
-not_both (Group which members) input line end e (inr lacks) =
+-- Commands that end in one way.
+
+-- what is due of a command ends so, in one way, and of no input that is refused
+pub record IsSound (command : Command) : Type 0 where
+  pub ends_so : (input : List ℕ) (is_plain : Bool) (told told' : Option (List Turn)) (status : Status) (text : List ℕ)
+      → command.is_due input is_plain told told' status text → command.is_end input status
+  pub one_end : (input : List ℕ) (a b : Status) → command.is_end input a → command.is_end input b → a ≡ b
+  pub not_both : (input line : List ℕ) (end : Status) → command.is_end input end → ¬ command.is_refused input line
+
+text_sound : (text : List ℕ) → IsSound (text_command text)
+text_sound text = record {
+  ends_so = λ input is_plain told told' status due is. is.1.done;
+  one_end = λ input a b is_a is_b. is_a ∙ sym is_b;
+  not_both = λ input line end e refused. refused;
+}
+
+pub telling_sound : (tells : Telling) → IsSound (telling_command tells)
+telling_sound tells = record {
+  ends_so = λ input is_plain told told' status text due. (due.scenario, due.says, due.ends);
+  one_end = λ input a b is_a is_b.
+      let P : Scenario → Type 0 = λ sc. EndsAs sc a in
+      same_end is_b.0 a b (subst P (same_scenario input is_a.0 is_b.0 is_a.1 is_b.1) is_a.2) is_b.2;
+  not_both = λ input line end e refused. breaks_none input line e.0 e.1 refused;
+}
+
+lacks_none : (which : Which) (members : ℕ) (input line : List ℕ) (end : Status) → (group_command which members).is_end input end
+    → ¬ (group_command which members).is_refused input line
+lacks_none which members input line end e (inl breaks) = breaks_none input line e.0 e.1 breaks
+lacks_none which members input line end e (inr lacks) =
     let P : Scenario → Type 0 = λ sc. AreMembers sc.sizes members in
     lacks.none (subst P (same_scenario input e.0 lacks.scenario e.1 lacks.says) e.2)
+
+pub group_sound : (which : Which) (members : ℕ) → IsSound (group_command which members)
+group_sound which members = record {
+  ends_so = λ input is_plain told told' status text due. (due.report.scenario, due.report.says, due.there, due.report.ends);
+  one_end = λ input a b is_a is_b.
+      let P : Scenario → Type 0 = λ sc. EndsAs sc a in
+      same_end is_b.0 a b (subst P (same_scenario input is_a.0 is_b.0 is_a.1 is_b.1) is_a.3) is_b.3;
+  not_both = lacks_none which members;
+}
+
+stress_sound : (seed frames : ℕ) → IsSound (stress_command seed frames)
+stress_sound seed frames = record {
+  ends_so = λ input is_plain told told' status text due. due.ends;
+  one_end = λ input a b is_a is_b. same_end (generated seed frames) a b is_a is_b;
+  not_both = λ input line end e refused. refused;
+}
+
+no_node_none : (node : NodeName) (input line : List ℕ) (end : Status) → (record_command node).is_end input end → ¬ (record_command node).is_refused input line
+no_node_none node input line end e (inl breaks) = breaks_none input line e.0 e.1 breaks
+no_node_none node input line end e (inr lacks) =
+    let P : Scenario → Type 0 = λ sc. IsNodeOf sc.sizes node in
+    lacks.none (subst P (same_scenario input e.0 lacks.scenario e.1 lacks.says) e.2)
+
+pub record_sound : (node : NodeName) → IsSound (record_command node)
+record_sound node = record {
+  ends_so = λ input is_plain told told' status text due. (due.log.scenario, due.log.says, due.log.there, due.ends);
+  one_end = λ input a b is_a is_b.
+      let P : Scenario → Type 0 = λ sc. EndsAs sc a in
+      same_end is_b.0 a b (subst P (same_scenario input is_a.0 is_b.0 is_a.1 is_b.1) is_a.3) is_b.3;
+  not_both = no_node_none node;
+}
+
+alone_sound : (limit : ℕ) (IsText IsLine : List ℕ → List ℕ → Type 0) → ((input text line : List ℕ) → IsText input text → ¬ IsLine input line)
+    → IsSound (alone_command limit IsText IsLine)
+alone_sound limit IsText IsLine apart = record {
+  ends_so = λ input is_plain told told' status text due. (text, due.0, due.1.done);
+  one_end = λ input a b is_a is_b. is_a.2 ∙ sym is_b.2;
+  not_both = λ input line end e refused. apart input e.0 line e.1 refused;
+}
+
+pub check_sound : IsSound check_command
+check_sound = alone_sound _ IsSides BreaksRule (λ input text line due breaks. breaks_none input line due.scenario due.says breaks)
+
+pub replay_sound : IsSound replay_command
+replay_sound = alone_sound _ IsReplay BreaksLog (λ input text line due breaks. ok_or_err (log_in input) due.log breaks.fault due.spells breaks.spells)
+
+of_no_biu : (skip : ℕ) (input text line : List ℕ) → IsOverheard skip input text → ¬ IsNotForListeners input line
+of_no_biu skip input text line due (inl breaks) = ok_or_err (log_in input) due.log breaks.fault due.spells breaks.spells
+of_no_biu skip input text line due (inr rmu) = not_of_both (log_in input) due.log rmu.log due.spells rmu.spells due.biu rmu.rmu
+
+pub listen_sound : (skip : ℕ) → IsSound (listen_command skip)
+listen_sound skip = alone_sound _ (IsOverheard skip) IsNotForListeners (of_no_biu skip)
+
+-- so is each command of the program
+pub is_sound : (form : Form) → IsSound (command_of form)
+is_sound Run = telling_sound _
+is_sound Check = check_sound
+is_sound (Gen seed frames) = text_sound _
+is_sound (Stress seed frames) = stress_sound seed frames
+is_sound (Record node) = record_sound node
+is_sound Replay = replay_sound
+is_sound (Spell letter) = text_sound _
+is_sound Letters = telling_sound _
+is_sound (Group which members) = group_sound which members
+is_sound (Listen skip) = listen_sound skip
+is_sound (Show flag) = text_sound _
 
 -- What is known of an answer.
 
 -- the input that was read is the one that was left
-read_is_left : (form : Form) (left left' : Option (List ℕ)) (input read : List ℕ) → IsLeft (limit_of form) left input → IsRead form left left' read → read ≡ input
-read_is_left Run left left' input read is r =
+read_is_left : (limit : Option ℕ) (left left' : Option (List ℕ)) (input read : List ℕ) → IsLeft limit left input → IsReadBy limit left left' read → read ≡ input
+read_is_left None left left' input read is r = r ∙ sym is
+read_is_left (Some limit) left left' input read is r =
     let P : Option (List ℕ) → Type 0 = λ l. ReadsToEnd l left' read in read_bytes input left' read (subst P is r)
-read_is_left Check left left' input read is r =
-    let P : Option (List ℕ) → Type 0 = λ l. ReadsToEnd l left' read in read_bytes input left' read (subst P is r)
-read_is_left (Gen seed frames) left left' input read is r = r ∙ sym is
-read_is_left (Stress seed frames) left left' input read is r = r ∙ sym is
-read_is_left (Record node) left left' input read is r =
-    let P : Option (List ℕ) → Type 0 = λ l. ReadsToEnd l left' read in read_bytes input left' read (subst P is r)
-read_is_left Replay left left' input read is r =
-    let P : Option (List ℕ) → Type 0 = λ l. ReadsToEnd l left' read in read_bytes input left' read (subst P is r)
-read_is_left (Listen skip) left left' input read is r =
-    let P : Option (List ℕ) → Type 0 = λ l. ReadsToEnd l left' read in read_bytes input left' read (subst P is r)
-read_is_left (Spell letter) left left' input read is r = r ∙ sym is
-read_is_left (Show flag) left left' input read is r = r ∙ sym is
-read_is_left Letters left left' input read is r =
-    let P : Option (List ℕ) → Type 0 = λ l. ReadsToEnd l left' read in read_bytes input left' read (subst P is r)
-read_is_left (Group which members) left left' input read is r =
-    let P : Option (List ℕ) → Type 0 = λ l. ReadsToEnd l left' read in read_bytes input left' read (subst P is r)
-
--- what is due ends so
-ends_so : (form : Form) (input : List ℕ) (is_plain : Bool) (told told' : Option (List Turn)) (status : Status) (text : List ℕ)
-    → IsDue form input is_plain told told' status text → IsEnd form input status
-ends_so Run input is_plain told told' status text due = (due.scenario, due.says, due.ends)
-ends_so Check input is_plain told told' status text due = (due.0.scenario, due.0.says, due.1.done)
-ends_so (Gen seed frames) input is_plain told told' status text due = due.1.done
-ends_so (Stress seed frames) input is_plain told told' status text due = due.ends
-ends_so (Record node) input is_plain told told' status text due = (due.log.scenario, due.log.says, due.log.there, due.ends)
-ends_so Replay input is_plain told told' status text due = (due.0.log, due.0.spells, due.1.done)
-ends_so (Listen skip) input is_plain told told' status text due = (due.0.log, due.0.spells, due.0.biu, due.1.done)
-ends_so (Spell letter) input is_plain told told' status text due = due.1.done
-ends_so (Show flag) input is_plain told told' status text due = due.1.done
-ends_so Letters input is_plain told told' status text due = (due.scenario, due.says, due.ends)
-ends_so (Group which members) input is_plain told told' status text due = (due.report.scenario, due.report.says, due.there, due.report.ends)
-
-one_end : (form : Form) (input : List ℕ) (a b : Status) → IsEnd form input a → IsEnd form input b → a ≡ b
-one_end Run input a b is_a is_b =
-    let P : Scenario → Type 0 = λ sc. EndsAs sc a in
-    same_end is_b.0 a b (subst P (same_scenario input is_a.0 is_b.0 is_a.1 is_b.1) is_a.2) is_b.2
-one_end Check input a b is_a is_b = is_a.2 ∙ sym is_b.2
-one_end (Gen seed frames) input a b is_a is_b = is_a ∙ sym is_b
-one_end (Stress seed frames) input a b is_a is_b = same_end (generated seed frames) a b is_a is_b
-one_end (Record node) input a b is_a is_b =
-    let P : Scenario → Type 0 = λ sc. EndsAs sc a in
-    same_end is_b.0 a b (subst P (same_scenario input is_a.0 is_b.0 is_a.1 is_b.1) is_a.3) is_b.3
-one_end Replay input a b is_a is_b = is_a.2 ∙ sym is_b.2
-one_end (Listen skip) input a b is_a is_b = is_a.3 ∙ sym is_b.3
-one_end (Spell letter) input a b is_a is_b = is_a ∙ sym is_b
-one_end (Show flag) input a b is_a is_b = is_a ∙ sym is_b
-one_end Letters input a b is_a is_b =
-    let P : Scenario → Type 0 = λ sc. EndsAs sc a in
-    same_end is_b.0 a b (subst P (same_scenario input is_a.0 is_b.0 is_a.1 is_b.1) is_a.2) is_b.2
-one_end (Group which members) input a b is_a is_b =
-    let P : Scenario → Type 0 = λ sc. EndsAs sc a in
-    same_end is_b.0 a b (subst P (same_scenario input is_a.0 is_b.0 is_a.1 is_b.1) is_a.3) is_b.3
 
 -- too long an input is not within the limit
-never_long : (form : Form) (left left' : Option (List ℕ)) (reads reads' writes writes' : ℕ) (input : List ℕ) → IsLeft (limit_of form) left input
-    → NothingFails form input reads reads' writes writes' → ¬ IsUnread form TooLong left left' reads reads'
-never_long Run left left' reads reads' writes writes' input is fine unread =
-    let P : Option (List ℕ) → Type 0 = λ l. Gave l left' (λ n. scenario_limit < n) in
-    let long : scenario_limit < length input = gave_within input left' scenario_limit (subst P is (unread.too_long refl)) in
-    absurd (omega (arith, long, fine.within))
-never_long Check left left' reads reads' writes writes' input is fine unread =
-    let P : Option (List ℕ) → Type 0 = λ l. Gave l left' (λ n. scenario_limit < n) in
-    let long : scenario_limit < length input = gave_within input left' scenario_limit (subst P is (unread.too_long refl)) in
-    absurd (omega (arith, long, fine.within))
-never_long (Gen seed frames) left left' reads reads' writes writes' input is fine unread = unread.not_long refl
-never_long (Stress seed frames) left left' reads reads' writes writes' input is fine unread = unread.not_long refl
-never_long (Record node) left left' reads reads' writes writes' input is fine unread =
-    let P : Option (List ℕ) → Type 0 = λ l. Gave l left' (λ n. scenario_limit < n) in
-    let long : scenario_limit < length input = gave_within input left' scenario_limit (subst P is (unread.too_long refl)) in
-    absurd (omega (arith, long, fine.within))
-never_long Replay left left' reads reads' writes writes' input is fine unread =
-    let P : Option (List ℕ) → Type 0 = λ l. Gave l left' (λ n. log_limit < n) in
-    let long : log_limit < length input = gave_within input left' log_limit (subst P is (unread.too_long refl)) in
-    absurd (omega (arith, long, fine.within))
-never_long (Listen skip) left left' reads reads' writes writes' input is fine unread =
-    let P : Option (List ℕ) → Type 0 = λ l. Gave l left' (λ n. log_limit < n) in
-    let long : log_limit < length input = gave_within input left' log_limit (subst P is (unread.too_long refl)) in
-    absurd (omega (arith, long, fine.within))
-never_long (Spell letter) left left' reads reads' writes writes' input is fine unread = unread.not_long refl
-never_long (Show flag) left left' reads reads' writes writes' input is fine unread = unread.not_long refl
-never_long Letters left left' reads reads' writes writes' input is fine unread =
-    let P : Option (List ℕ) → Type 0 = λ l. Gave l left' (λ n. scenario_limit < n) in
-    let long : scenario_limit < length input = gave_within input left' scenario_limit (subst P is (unread.too_long refl)) in
-    absurd (omega (arith, long, fine.within))
-never_long (Group which members) left left' reads reads' writes writes' input is fine unread =
-    let P : Option (List ℕ) → Type 0 = λ l. Gave l left' (λ n. scenario_limit < n) in
-    let long : scenario_limit < length input = gave_within input left' scenario_limit (subst P is (unread.too_long refl)) in
+never_long : (limit : Option ℕ) (left left' : Option (List ℕ)) (reads reads' writes writes' : ℕ) (input : List ℕ) → IsLeft limit left input
+    → NothingFails limit input reads reads' writes writes' → ¬ IsUnreadBy limit TooLong left left' reads reads'
+never_long None left left' reads reads' writes writes' input is fine unread = unread.not_long refl
+never_long (Some limit) left left' reads reads' writes writes' input is fine unread =
+    let P : Option (List ℕ) → Type 0 = λ l. Gave l left' (λ n. limit < n) in
+    let long : limit < length input = gave_within input left' limit (subst P is (unread.too_long refl)) in
     absurd (omega (arith, long, fine.within))
 
-never_faulty : (form : Form) (left left' : Option (List ℕ)) (reads reads' writes writes' : ℕ) (input : List ℕ)
-    → NothingFails form input reads reads' writes writes' → ¬ IsUnread form ReadFault left left' reads reads'
-never_faulty Run left left' reads reads' writes writes' input fine unread = fine.no_read (unread.fault refl)
-never_faulty Check left left' reads reads' writes writes' input fine unread = fine.no_read (unread.fault refl)
-never_faulty (Gen seed frames) left left' reads reads' writes writes' input fine unread = unread.no_fault refl
-never_faulty (Stress seed frames) left left' reads reads' writes writes' input fine unread = unread.no_fault refl
-never_faulty (Record node) left left' reads reads' writes writes' input fine unread = fine.no_read (unread.fault refl)
-never_faulty Replay left left' reads reads' writes writes' input fine unread = fine.no_read (unread.fault refl)
-never_faulty (Listen skip) left left' reads reads' writes writes' input fine unread = fine.no_read (unread.fault refl)
-never_faulty (Spell letter) left left' reads reads' writes writes' input fine unread = unread.no_fault refl
-never_faulty (Show flag) left left' reads reads' writes writes' input fine unread = unread.no_fault refl
-never_faulty Letters left left' reads reads' writes writes' input fine unread = fine.no_read (unread.fault refl)
-never_faulty (Group which members) left left' reads reads' writes writes' input fine unread = fine.no_read (unread.fault refl)
+never_faulty : (limit : Option ℕ) (left left' : Option (List ℕ)) (reads reads' writes writes' : ℕ) (input : List ℕ)
+    → NothingFails limit input reads reads' writes writes' → ¬ IsUnreadBy limit ReadFault left left' reads reads'
+never_faulty None left left' reads reads' writes writes' input fine unread = unread.no_fault refl
+never_faulty (Some limit) left left' reads reads' writes writes' input fine unread = fine.no_read (unread.fault refl)
 
 -- Completeness.
 
--- all that is said of an answer
-abbrev Said : Form → Status → Option (List ℕ) → Option (List ℕ) → ℕ → ℕ → Option (List ℕ) → Option (List ℕ) → ℕ → ℕ → Bool → Option (List Turn) → Option (List Turn) → Type 0
-Said form status left left' reads reads' held held' writes writes' is_plain told told' =
-    Answers form status left left' reads reads' held held' writes writes' is_plain told told'
-
--- where the form has ended
-has_ended : (form : Form) (status : Status) (left left' held held' : Option (List ℕ)) (is_plain : Bool) (told told' : Option (List Turn)) (input : List ℕ)
-    → IsLeft (limit_of form) left input → Ends form status left left' held held' is_plain told told' → IsEnd form input status
-has_ended form status left left' held held' is_plain told told' input is e =
-    let P : List ℕ → Type 0 = λ xs. IsEnd form xs status in
-    subst P (read_is_left form left left' input e.input is e.read) (ends_so form e.input is_plain told told' status e.text e.due)
+-- where the command has ended
+has_ended : (command : Command) → IsSound command → (status : Status) (left left' held held' : Option (List ℕ)) (is_plain : Bool) (told told' : Option (List Turn)) (input : List ℕ)
+    → IsLeft command.limit left input → CommandEnds command status left left' held held' is_plain told told' → command.is_end input status
+has_ended command s status left left' held held' is_plain told told' input is e =
+    let P : List ℕ → Type 0 = λ xs. command.is_end xs status in
+    subst P (read_is_left command.limit left left' input e.input is e.read) (s.ends_so e.input is_plain told told' status e.text e.due)
 
 -- where it is refused
-has_refused : (form : Form) (left left' held held' : Option (List ℕ)) (input : List ℕ) → IsLeft (limit_of form) left input → (r : Refuses form left left' held held')
-    → IsRefusedWith form input r.line
-has_refused form left left' held held' input is r =
-    let P : List ℕ → Type 0 = λ xs. IsRefusedWith form xs r.line in subst P (read_is_left form left left' input r.input is r.read) r.refused
+has_refused : (command : Command) (left left' held held' : Option (List ℕ)) (input : List ℕ) → IsLeft command.limit left input → (r : CommandRefuses command left left' held held')
+    → command.is_refused input r.line
+has_refused command left left' held held' input is r =
+    let P : List ℕ → Type 0 = λ xs. command.is_refused xs r.line in subst P (read_is_left command.limit left left' input r.input is r.read) r.refused
 
-ended : (form : Form) (status : Status) (left left' : Option (List ℕ)) (reads reads' : ℕ) (held held' : Option (List ℕ)) (writes writes' : ℕ) (is_plain : Bool)
-    (told told' : Option (List Turn)) (input : List ℕ) (end : Status) → Said form status left left' reads reads' held held' writes writes' is_plain told told'
-    → IsLeft (limit_of form) left input → IsEnd form input end → NothingFails form input reads reads' writes writes' → (status ≡ end) ⊎ (status ≡ OutOfMemory)
-ended form Done left left' reads reads' held held' writes writes' is_plain told told' input end x is e fine =
-    inl (one_end form input Done end (has_ended form Done left left' held held' is_plain told told' input is (x.ended tt)) e)
-ended form Breach left left' reads reads' held held' writes writes' is_plain told told' input end x is e fine =
-    inl (one_end form input Breach end (has_ended form Breach left left' held held' is_plain told told' input is (x.ended tt)) e)
-ended form Usage left left' reads reads' held held' writes writes' is_plain told told' input end x is e fine = absurd (x.known refl)
-ended form Refused left left' reads reads' held held' writes writes' is_plain told told' input end x is e fine =
-    absurd (not_both form input (x.refused refl).line end e (has_refused form left left' held held' input is (x.refused refl)))
-ended form TooLong left left' reads reads' held held' writes writes' is_plain told told' input end x is e fine =
-    absurd (never_long form left left' reads reads' writes writes' input is fine x.unread)
-ended form ReadFault left left' reads reads' held held' writes writes' is_plain told told' input end x is e fine =
-    absurd (never_faulty form left left' reads reads' writes writes' input fine x.unread)
-ended form WriteFault left left' reads reads' held held' writes writes' is_plain told told' input end x is e fine = absurd (fine.no_write (x.failed refl).rose)
-ended form OutOfMemory left left' reads reads' held held' writes writes' is_plain told told' input end x is e fine = inr refl
+ended : (command : Command) → IsSound command → (status : Status) (left left' : Option (List ℕ)) (reads reads' : ℕ) (held held' : Option (List ℕ)) (writes writes' : ℕ) (is_plain : Bool)
+    (told told' : Option (List Turn)) (input : List ℕ) (end : Status) → CommandAnswers command status left left' reads reads' held held' writes writes' is_plain told told'
+    → IsLeft command.limit left input → command.is_end input end → NothingFails command.limit input reads reads' writes writes' → (status ≡ end) ⊎ (status ≡ OutOfMemory)
+ended command s Done left left' reads reads' held held' writes writes' is_plain told told' input end x is e fine =
+    inl (s.one_end input Done end (has_ended command s Done left left' held held' is_plain told told' input is (x.ended tt)) e)
+ended command s Breach left left' reads reads' held held' writes writes' is_plain told told' input end x is e fine =
+    inl (s.one_end input Breach end (has_ended command s Breach left left' held held' is_plain told told' input is (x.ended tt)) e)
+ended command s Usage left left' reads reads' held held' writes writes' is_plain told told' input end x is e fine = absurd (x.known refl)
+ended command s Refused left left' reads reads' held held' writes writes' is_plain told told' input end x is e fine =
+    absurd (s.not_both input (x.refused refl).line end e (has_refused command left left' held held' input is (x.refused refl)))
+ended command s TooLong left left' reads reads' held held' writes writes' is_plain told told' input end x is e fine =
+    absurd (never_long command.limit left left' reads reads' writes writes' input is fine x.unread)
+ended command s ReadFault left left' reads reads' held held' writes writes' is_plain told told' input end x is e fine =
+    absurd (never_faulty command.limit left left' reads reads' writes writes' input fine x.unread)
+ended command s WriteFault left left' reads reads' held held' writes writes' is_plain told told' input end x is e fine = absurd (fine.no_write (x.failed refl).rose)
+ended command s OutOfMemory left left' reads reads' held held' writes writes' is_plain told told' input end x is e fine = inr refl
 
-refused : (form : Form) (status : Status) (left left' : Option (List ℕ)) (reads reads' : ℕ) (held held' : Option (List ℕ)) (writes writes' : ℕ) (is_plain : Bool)
-    (told told' : Option (List Turn)) (input line : List ℕ) → Said form status left left' reads reads' held held' writes writes' is_plain told told'
-    → IsLeft (limit_of form) left input → IsRefusedWith form input line → MayRefuse status
-refused form Done left left' reads reads' held held' writes writes' is_plain told told' input line x is r =
-    absurd (not_both form input line Done (has_ended form Done left left' held held' is_plain told told' input is (x.ended tt)) r)
-refused form Breach left left' reads reads' held held' writes writes' is_plain told told' input line x is r =
-    absurd (not_both form input line Breach (has_ended form Breach left left' held held' is_plain told told' input is (x.ended tt)) r)
-refused form Usage left left' reads reads' held held' writes writes' is_plain told told' input line x is r = absurd (x.known refl)
-refused form Refused left left' reads reads' held held' writes writes' is_plain told told' input line x is r = tt
-refused form TooLong left left' reads reads' held held' writes writes' is_plain told told' input line x is r = tt
-refused form ReadFault left left' reads reads' held held' writes writes' is_plain told told' input line x is r = tt
-refused form WriteFault left left' reads reads' held held' writes writes' is_plain told told' input line x is r = tt
-refused form OutOfMemory left left' reads reads' held held' writes writes' is_plain told told' input line x is r = tt
+refused : (command : Command) → IsSound command → (status : Status) (left left' : Option (List ℕ)) (reads reads' : ℕ) (held held' : Option (List ℕ)) (writes writes' : ℕ) (is_plain : Bool)
+    (told told' : Option (List Turn)) (input line : List ℕ) → CommandAnswers command status left left' reads reads' held held' writes writes' is_plain told told'
+    → IsLeft command.limit left input → command.is_refused input line → MayRefuse status
+refused command s Done left left' reads reads' held held' writes writes' is_plain told told' input line x is r =
+    absurd (s.not_both input line Done (has_ended command s Done left left' held held' is_plain told told' input is (x.ended tt)) r)
+refused command s Breach left left' reads reads' held held' writes writes' is_plain told told' input line x is r =
+    absurd (s.not_both input line Breach (has_ended command s Breach left left' held held' is_plain told told' input is (x.ended tt)) r)
+refused command s Usage left left' reads reads' held held' writes writes' is_plain told told' input line x is r = absurd (x.known refl)
+refused command s Refused left left' reads reads' held held' writes writes' is_plain told told' input line x is r = tt
+refused command s TooLong left left' reads reads' held held' writes writes' is_plain told told' input line x is r = tt
+refused command s ReadFault left left' reads reads' held held' writes writes' is_plain told told' input line x is r = tt
+refused command s WriteFault left left' reads reads' held held' writes writes' is_plain told told' input line x is r = tt
+refused command s OutOfMemory left left' reads reads' held held' writes writes' is_plain told told' input line x is r = tt
 
-refused_at_once : (form : Form) (status : Status) (left left' : Option (List ℕ)) (reads reads' : ℕ) (held held' : Option (List ℕ)) (writes writes' : ℕ) (is_plain : Bool)
-    (told told' : Option (List Turn)) (input line : List ℕ) → Said form status left left' reads reads' held held' writes writes' is_plain told told'
-    → IsLeft (limit_of form) left input → IsRefusedWith form input line → NothingFails form input reads reads' writes writes'
+refused_at_once : (command : Command) → IsSound command → (status : Status) (left left' : Option (List ℕ)) (reads reads' : ℕ) (held held' : Option (List ℕ)) (writes writes' : ℕ) (is_plain : Bool)
+    (told told' : Option (List Turn)) (input line : List ℕ) → CommandAnswers command status left left' reads reads' held held' writes writes' is_plain told told'
+    → IsLeft command.limit left input → command.is_refused input line → NothingFails command.limit input reads reads' writes writes'
     → (status ≡ Refused) ⊎ (status ≡ OutOfMemory)
-refused_at_once form Done left left' reads reads' held held' writes writes' is_plain told told' input line x is r fine =
-    absurd (not_both form input line Done (has_ended form Done left left' held held' is_plain told told' input is (x.ended tt)) r)
-refused_at_once form Breach left left' reads reads' held held' writes writes' is_plain told told' input line x is r fine =
-    absurd (not_both form input line Breach (has_ended form Breach left left' held held' is_plain told told' input is (x.ended tt)) r)
-refused_at_once form Usage left left' reads reads' held held' writes writes' is_plain told told' input line x is r fine = absurd (x.known refl)
-refused_at_once form Refused left left' reads reads' held held' writes writes' is_plain told told' input line x is r fine = inl refl
-refused_at_once form TooLong left left' reads reads' held held' writes writes' is_plain told told' input line x is r fine =
-    absurd (never_long form left left' reads reads' writes writes' input is fine x.unread)
-refused_at_once form ReadFault left left' reads reads' held held' writes writes' is_plain told told' input line x is r fine =
-    absurd (never_faulty form left left' reads reads' writes writes' input fine x.unread)
-refused_at_once form WriteFault left left' reads reads' held held' writes writes' is_plain told told' input line x is r fine =
+refused_at_once command s Done left left' reads reads' held held' writes writes' is_plain told told' input line x is r fine =
+    absurd (s.not_both input line Done (has_ended command s Done left left' held held' is_plain told told' input is (x.ended tt)) r)
+refused_at_once command s Breach left left' reads reads' held held' writes writes' is_plain told told' input line x is r fine =
+    absurd (s.not_both input line Breach (has_ended command s Breach left left' held held' is_plain told told' input is (x.ended tt)) r)
+refused_at_once command s Usage left left' reads reads' held held' writes writes' is_plain told told' input line x is r fine = absurd (x.known refl)
+refused_at_once command s Refused left left' reads reads' held held' writes writes' is_plain told told' input line x is r fine = inl refl
+refused_at_once command s TooLong left left' reads reads' held held' writes writes' is_plain told told' input line x is r fine =
+    absurd (never_long command.limit left left' reads reads' writes writes' input is fine x.unread)
+refused_at_once command s ReadFault left left' reads reads' held held' writes writes' is_plain told told' input line x is r fine =
+    absurd (never_faulty command.limit left left' reads reads' writes writes' input fine x.unread)
+refused_at_once command s WriteFault left left' reads reads' held held' writes writes' is_plain told told' input line x is r fine =
     absurd (fine.no_write (x.failed refl).rose)
-refused_at_once form OutOfMemory left left' reads reads' held held' writes writes' is_plain told told' input line x is r fine = inr refl
+refused_at_once command s OutOfMemory left left' reads reads' held held' writes writes' is_plain told told' input line x is r fine = inr refl
 
-pub completes : (form : Form) (status : Status) (left left' : Option (List ℕ)) (reads reads' : ℕ) (held held' : Option (List ℕ)) (writes writes' : ℕ) (is_plain : Bool)
-    (told told' : Option (List Turn)) → Said form status left left' reads reads' held held' writes writes' is_plain told told'
-    → Completes form status left reads reads' writes writes'
-completes form status left left' reads reads' held held' writes writes' is_plain told told' x = record {
-  ended = λ input end is e fine. ended form status left left' reads reads' held held' writes writes' is_plain told told' input end x is e fine;
-  refused = λ input line is r. refused form status left left' reads reads' held held' writes writes' is_plain told told' input line x is r;
-  refused_at_once = λ input line is r fine. refused_at_once form status left left' reads reads' held held' writes writes' is_plain told told' input line x is r fine;
+pub completes : (command : Command) → IsSound command → (status : Status) (left left' : Option (List ℕ)) (reads reads' : ℕ) (held held' : Option (List ℕ)) (writes writes' : ℕ) (is_plain : Bool)
+    (told told' : Option (List Turn)) → CommandAnswers command status left left' reads reads' held held' writes writes' is_plain told told'
+    → CommandCompletes command status left reads reads' writes writes'
+completes command s status left left' reads reads' held held' writes writes' is_plain told told' x = record {
+  ended = λ input end is e fine. ended command s status left left' reads reads' held held' writes writes' is_plain told told' input end x is e fine;
+  refused = λ input line is r. refused command s status left left' reads reads' held held' writes writes' is_plain told told' input line x is r;
+  refused_at_once = λ input line is r fine. refused_at_once command s status left left' reads reads' held held' writes writes' is_plain told told' input line x is r fine;
 }

@@ -1,6 +1,6 @@
 pub mod Writing
 pub mod Rest
-pub mod FormAnswers
+pub mod CommandAnswers
 pub mod Summing
 pub mod OneForm
 pub mod Spelled

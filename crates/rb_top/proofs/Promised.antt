@@ -1,5 +1,5 @@
 -- What a plain drive's run promises.
-use Rattle.std.proofs.Common.{ℕ, true, List, [], Option, ap, ◌∙◌, subst}
+use Rattle.std.proofs.Common.{◌≡◌, ℕ, Bool, true, List, [], Option, ap, ◌∙◌, subst}
 use Rattle.std.specs.Io.KnownBytes.{Appends}
 use Rattle.rb_gen.specs.Generated.{generated}
 use Rattle.rb_laws_promise.proofs.Promise.{promise, stands}
@@ -10,8 +10,10 @@ use Rattle.rb_run.proofs.Plain.{plain-records}
 use Rattle.rb_top.specs.declared.form.Form.{Form}
 use Rattle.rb_top.specs.declared.form.Form.TheVariants.{Run, Check, Gen, Stress, Record, Replay, Spell, Letters, Group, Listen, Show}
 use Rattle.rb_top.specs.declared.status.Status.{Status}
-use Rattle.rb_top.specs.Answers.{Ends, IsReport}
-use Rattle.rb_top.specs.Promise.{KeepsItsPromise, KeepsTheHeadline}
+use Rattle.rb_group.specs.declared.voters.Which.{Which}
+use Rattle.rb_top.specs.Answers.{CommandEnds, Ends}
+use Rattle.rb_top.specs.Commands.{IsReport, IsSummary, group_command, telling_command}
+use Rattle.rb_top.specs.Promise.{KeepsItsPromise, KeepsTheHeadline, SumsTheHeadline}
 use Rattle.rb_top.specs.Texts.{Telling, summary_with, told_by_group, told_by_letters, told_by_run}
 
 -- a drive told all of a run that is lawful
@@ -31,30 +33,48 @@ told_headline tells status left left' held held' told told' input text read due 
       nodes = keep-the-promise due.scenario due.lawful;
     }
 
-pub promised : (form : Form) (status : Status) (left left' held held' : Option (List ℕ)) (told told' : Option (List Turn))
-    → Ends form status left left' held held' true told told' → KeepsItsPromise form status left left' held held'
-promised Run status left left' held held' told told' e = told_headline told_by_run status left left' held held' told told' e.input e.text e.read e.due e.written
-promised Check status left left' held held' told told' e = tt
-promised (Gen seed frames) status left left' held held' told told' e = tt
-promised (Stress seed frames) status left left' held held' told told' e =
-    let due = e.due in
-    let P : List ℕ → Type 0 = λ text. Appends held held' text in
+-- so of a command that tells of a run
+pub telling_promised : (tells : Telling) (status : Status) (left left' held held' : Option (List ℕ)) (is_plain : Bool) (told told' : Option (List Turn)) → is_plain ≡ true
+    → CommandEnds (telling_command tells) status left left' held held' is_plain told told' → KeepsTheHeadline tells status left left' held held'
+telling_promised tells status left left' held held' is_plain told told' plain e =
+    let P : Bool → Type 0 = λ b. IsReport tells e.input b told told' status e.text in
+    told_headline tells status left left' held held' told told' e.input e.text e.read (subst P plain e.due) e.written
+
+pub group_promised : (which : Which) (members : ℕ) (status : Status) (left left' held held' : Option (List ℕ)) (is_plain : Bool) (told told' : Option (List Turn)) → is_plain ≡ true
+    → CommandEnds (group_command which members) status left left' held held' is_plain told told'
+    → KeepsTheHeadline (told_by_group which members) status left left' held held'
+group_promised which members status left left' held held' is_plain told told' plain e =
+    let P : Bool → Type 0 = λ b. IsReport (told_by_group which members) e.input b told told' status e.text in
+    told_headline (told_by_group which members) status left left' held held' told told' e.input e.text e.read (subst P plain e.due.report) e.written
+
+-- and of the numbers of a generated run
+pub summed_headline : (seed frames : ℕ) (status : Status) (held held' : Option (List ℕ)) (is_plain : Bool) (told told' : Option (List Turn)) (text : List ℕ) → is_plain ≡ true
+    → IsSummary seed frames is_plain told told' status text → Appends held held' text → SumsTheHeadline seed frames status held held'
+summed_headline seed frames status held held' is_plain told told' text plain summary written =
+    let Q : Bool → Type 0 = λ b. IsSummary seed frames b told told' status text in
+    let due = subst Q plain summary in
+    let P : List ℕ → Type 0 = λ xs. Appends held held' xs in
     record {
       ends = due.ends;
       written = subst P
           (due.text_is ∙ ap (λ records. summary_with due.ends.ending records) (plain-records (generated seed frames) told told' due.turns due.given due.all))
-          e.written;
+          written;
       promise = promise (generated seed frames) [] due.lawful;
       machine = stands (generated seed frames) [] due.lawful;
       nodes = keep-the-promise (generated seed frames) due.lawful;
     }
-promised (Record node) status left left' held held' told told' e = tt
-promised Replay status left left' held held' told told' e = tt
-promised (Spell letter) status left left' held held' told told' e = tt
-promised Letters status left left' held held' told told' e =
-    told_headline told_by_letters status left left' held held' told told' e.input e.text e.read e.due e.written
-promised (Group which members) status left left' held held' told told' e =
-    let group = e.due in
-    told_headline (told_by_group which members) status left left' held held' told told' e.input e.text e.read group.report e.written
-promised (Listen skip) status left left' held held' told told' e = tt
-promised (Show flag) status left left' held held' told told' e = tt
+
+pub promised : (form : Form) (status : Status) (left left' held held' : Option (List ℕ)) (is_plain : Bool) (told told' : Option (List Turn)) → is_plain ≡ true
+    → Ends form status left left' held held' is_plain told told' → KeepsItsPromise form status left left' held held'
+promised Run status left left' held held' is_plain told told' plain e = telling_promised told_by_run status left left' held held' is_plain told told' plain e
+promised Check status left left' held held' is_plain told told' plain e = tt
+promised (Gen seed frames) status left left' held held' is_plain told told' plain e = tt
+promised (Stress seed frames) status left left' held held' is_plain told told' plain e =
+    summed_headline seed frames status held held' is_plain told told' e.text plain e.due e.written
+promised (Record node) status left left' held held' is_plain told told' plain e = tt
+promised Replay status left left' held held' is_plain told told' plain e = tt
+promised (Spell letter) status left left' held held' is_plain told told' plain e = tt
+promised Letters status left left' held held' is_plain told told' plain e = telling_promised told_by_letters status left left' held held' is_plain told told' plain e
+promised (Group which members) status left left' held held' is_plain told told' plain e = group_promised which members status left left' held held' is_plain told told' plain e
+promised (Listen skip) status left left' held held' is_plain told told' plain e = tt
+promised (Show flag) status left left' held held' is_plain told told' plain e = tt

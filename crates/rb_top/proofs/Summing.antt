@@ -12,7 +12,7 @@ use Rattle.rb_run.specs.declared.ending.Ending.{Ending}
 use Rattle.rb_run.specs.declared.ending.Ending.TheVariants as ending
 use Rattle.rb_run.specs.declared.totals.Totals.{Totals}
 use Rattle.rb_top.specs.declared.status.Status.TheVariants.{Done, Breach}
-use Rattle.rb_top.specs.Answers.{IsSummary}
+use Rattle.rb_top.specs.Commands.{IsSummary}
 use Rattle.rb_top.specs.Serving.{FailsToSum, IsSummed}
 use Rattle.rb_top.specs.Texts.{summary_of}
 

@@ -1,4 +1,4 @@
--- What a form reads, and how its input is refused or not read to its end.
+-- What a command reads, and how its input is refused or not read to its end.
 use Rattle.std.specs.Prelude.{ℕ, ◌≡◌, ◌≤◌, ◌<◌, ◌⊎◌, List, [], Option, Some, None, IsSome, unwrap_or, Ok, Err, false, true}
 use Rattle.rb_outside.specs.Bytes.{Gave, ReadsToEnd}
 use Rattle.rb_outside.specs.Causes.{Rose}
@@ -16,8 +16,6 @@ use Rattle.rb_log.specs.declared.refusal.LogRefusal.{LogRefusal}
 use Rattle.rb_log.specs.declared.refusal.LogRefusal.TheVariants.{BadMagic, BadField, Truncated, AfterEnd}
 use Rattle.rb_scenario.specs.Acceptance.{IsAccepted, IsRefused, as_scenario}
 use Rattle.rb_scenario.specs.declared.scenario.Scenario.{Scenario as Accepted}
-use Rattle.rb_top.specs.declared.form.Form.{Form}
-use Rattle.rb_top.specs.declared.form.Form.TheVariants.{Run, Check, Gen, Stress, Record, Replay, Spell, Letters, Group, Listen, Show}
 use Rattle.rb_top.specs.declared.status.Status.{Status}
 use Rattle.rb_top.specs.declared.status.Status.TheVariants as answer
 
@@ -31,28 +29,10 @@ scenario_limit = 4194304
 abbrev pub log_limit : ℕ
 log_limit = 67108864
 
--- the most bytes of a form's input. A form without an input reads nothing
-abbrev pub limit_of : Form → Option ℕ
-limit_of Run = Some scenario_limit
-limit_of Check = Some scenario_limit
-limit_of (Gen seed frames) = None
-limit_of (Stress seed frames) = None
-limit_of (Record node) = Some scenario_limit
-limit_of Replay = Some log_limit
-limit_of (Spell letter) = None
-limit_of Letters = Some scenario_limit
-limit_of (Group which members) = Some scenario_limit
-limit_of (Listen skip) = Some log_limit
-limit_of (Show flag) = None
-
--- by that limit: this is all that the source had left, and nothing where nothing is read
+-- within a limit this is all that the source had left, and without one nothing, since nothing is read
 abbrev pub IsReadBy : Option ℕ → Option (List ℕ) → Option (List ℕ) → List ℕ → Type 0
 IsReadBy None left left' input = input ≡ []
 IsReadBy (Some limit) left left' input = ReadsToEnd left left' input
-
--- the form's input, read to its end
-abbrev pub IsRead : Form → Option (List ℕ) → Option (List ℕ) → List ℕ → Type 0
-IsRead form left left' input = IsReadBy (limit_of form) left left' input
 
 -- the input is the text of an accepted scenario, this one
 pub record IsTextOf (input : List ℕ) (sc : Scenario) : Type 0 where
@@ -129,20 +109,6 @@ pub record IsOfRmu (input line : List ℕ) : Type 0 where
   pub rmu : is_of_biu log.node ≡ false
   pub line_is : line ≡ rmu_text
 
--- the form's input is refused with this line
-abbrev pub IsRefusedWith : Form → List ℕ → List ℕ → Type 0
-IsRefusedWith Run input line = BreaksRule input line
-IsRefusedWith Check input line = BreaksRule input line
-IsRefusedWith (Gen seed frames) input line = ⊥
-IsRefusedWith (Stress seed frames) input line = ⊥
-IsRefusedWith (Record node) input line = BreaksRule input line ⊎ LacksNode node input line
-IsRefusedWith Replay input line = BreaksLog input line
-IsRefusedWith (Spell letter) input line = ⊥
-IsRefusedWith Letters input line = BreaksRule input line
-IsRefusedWith (Group which members) input line = BreaksRule input line ⊎ LacksMember members input line
-IsRefusedWith (Listen skip) input line = BreaksLog input line ⊎ IsOfRmu input line
-IsRefusedWith (Show flag) input line = ⊥
-
 -- Reading that doesn't come to the end.
 
 -- TooLong comes exactly where the source gave more bytes than the limit, and ReadFault only where the count of its faults rose
@@ -151,7 +117,7 @@ pub record IsUnreadOver (limit : ℕ) (status : Status) (left left' : Option (Li
   pub short_enough : ¬ (status ≡ answer.TooLong) → Gave left left' (λ n. n ≤ limit)
   pub fault : status ≡ answer.ReadFault → Rose faults faults'
 
--- neither comes of a form without an input
+-- neither comes where nothing is read
 pub record IsNeverUnread (status : Status) : Type 0 where
   pub not_long : ¬ (status ≡ answer.TooLong)
   pub no_fault : ¬ (status ≡ answer.ReadFault)
@@ -159,7 +125,3 @@ pub record IsNeverUnread (status : Status) : Type 0 where
 abbrev pub IsUnreadBy : Option ℕ → Status → Option (List ℕ) → Option (List ℕ) → ℕ → ℕ → Type 0
 IsUnreadBy None status left left' faults faults' = IsNeverUnread status
 IsUnreadBy (Some limit) status left left' faults faults' = IsUnreadOver limit status left left' faults faults'
-
--- so of a form
-abbrev pub IsUnread : Form → Status → Option (List ℕ) → Option (List ℕ) → ℕ → ℕ → Type 0
-IsUnread form status left left' faults faults' = IsUnreadBy (limit_of form) status left left' faults faults'

@@ -4,6 +4,7 @@ pub mod Statuses
 pub mod Inputs
 pub mod CheckText
 pub mod Texts
+pub mod Commands
 pub mod Answers
 pub mod Promise
 pub mod Reading

@@ -11,7 +11,7 @@ use Rattle.rb_gen.specs.Generated.{generated}
 use Rattle.rb_top.specs.declared.form.Form.{Form}
 use Rattle.rb_top.specs.declared.form.Form.TheVariants.{Run, Check, Gen, Stress, Record, Replay, Spell, Letters, Group, Listen, Show}
 use Rattle.rb_top.specs.declared.status.Status.{Status}
-use Rattle.rb_top.specs.Answers.{EndsAs}
+use Rattle.rb_top.specs.Commands.{EndsAs}
 use Rattle.rb_top.specs.Inputs.{IsTextOf}
 use Rattle.rb_top.specs.Texts.{Telling, summary_with, told_by_group, told_by_letters, told_by_run}
 

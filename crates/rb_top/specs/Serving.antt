@@ -1,4 +1,4 @@
--- What comes of serving a form, and of a run that is opened for one.
+-- What comes of a run that is opened for a command, and of a log that is given to one.
 use Rattle.std.specs.Prelude.{⊤, ℕ, ◌≡◌, ◌⊎◌, Bool, List, Option}
 use Rattle.std.specs.Io.KnownBytes.{Appends}
 use Rattle.rb_outside.specs.Bytes.{AppendsPart}
@@ -10,20 +10,9 @@ use Rattle.rb_run.specs.Runs.{WritesAll}
 use Rattle.rb_long_run.specs.Letters.{WritesLetters}
 use Rattle.rb_group_run.specs.declared.asked.Asked.{Asked}
 use Rattle.rb_group_run.specs.Runs.{WritesAll as WritesGroups}
-use Rattle.rb_top.specs.declared.form.Form.{Form}
 use Rattle.rb_top.specs.declared.status.Status.{Status}
 use Rattle.rb_top.specs.declared.status.Status.TheVariants as answer
-use Rattle.rb_top.specs.Answers.{Ends, EndsAs, FailsToWrite, IsOverheard, IsReplay, IsSummary, Refuses}
-use Rattle.rb_top.specs.Inputs.{BreaksLog, IsOfRmu, IsUnread}
-use Rattle.rb_top.specs.Statuses.{HasEnded}
-
--- all that is said of the answer for a form
-pub record Answers (form : Form) (status : Status) (left left' : Option (List ℕ)) (reads reads' : ℕ) (held held' : Option (List ℕ)) (writes writes' : ℕ) (is_plain : Bool) (told told' : Option (List Turn)) : Type 0 where
-  pub known : ¬ (status ≡ answer.Usage)
-  pub ended : HasEnded status → Ends form status left left' held held' is_plain told told'
-  pub refused : status ≡ answer.Refused → Refuses form left left' held held'
-  pub unread : IsUnread form status left left' reads reads'
-  pub failed : status ≡ answer.WriteFault → FailsToWrite form left left' held held' writes writes' is_plain told told'
+use Rattle.rb_top.specs.Commands.{EndsAs, IsSummary}
 
 -- a run was opened, the drive gave all its turns, and their report was written
 pub record IsReported (sc : Scenario) (status : Status) (is_plain : Bool) (told told' : Option (List Turn)) (held held' : Option (List ℕ)) : Type 0 where
@@ -101,38 +90,18 @@ IsNotRead answer.Usage = ⊥
 IsNotRead answer.Refused = ⊥
 IsNotRead answer.WriteFault = ⊥
 
--- the log that the bytes spell was replayed
-pub record IsReplayed (bytes : List ℕ) (held held' : Option (List ℕ)) : Type 0 where
+-- of the bytes such a text is due, and it was written
+pub record WritesOf (IsText : List ℕ → List ℕ → Type 0) (bytes : List ℕ) (held held' : Option (List ℕ)) : Type 0 where
   pub text : List ℕ
-  pub replay : IsReplay bytes text
+  pub due : IsText bytes text
   pub written : Appends held held' text
 
--- or they spell none, and the line that says why was written
-pub record RefusesLog (bytes : List ℕ) (held held' : Option (List ℕ)) : Type 0 where
-  pub line : List ℕ
-  pub breaks : BreaksLog bytes line
-  pub written : Appends held held' line
-
--- or the first bytes of what was due were
-pub record FailsToReplay (bytes : List ℕ) (held held' : Option (List ℕ)) : Type 0 where
+-- or its first bytes were
+pub record WritesPartOf (IsText : List ℕ → List ℕ → Type 0) (bytes : List ℕ) (held held' : Option (List ℕ)) : Type 0 where
   pub text : List ℕ
-  pub due : BreaksLog bytes text ⊎ IsReplay bytes text
+  pub due : IsText bytes text
   pub written : AppendsPart held held' text
 
--- the log of a BIU that the bytes spell was given to a listener
-pub record IsListened (skip : ℕ) (bytes : List ℕ) (held held' : Option (List ℕ)) : Type 0 where
-  pub text : List ℕ
-  pub overheard : IsOverheard skip bytes text
-  pub written : Appends held held' text
-
--- or they spell none, or that of an RMU, and the line that says so was written
-pub record RefusesToListen (bytes : List ℕ) (held held' : Option (List ℕ)) : Type 0 where
-  pub line : List ℕ
-  pub refused : BreaksLog bytes line ⊎ IsOfRmu bytes line
-  pub written : Appends held held' line
-
--- or the first bytes of what was due were
-pub record FailsToListen (skip : ℕ) (bytes : List ℕ) (held held' : Option (List ℕ)) : Type 0 where
-  pub text : List ℕ
-  pub due : (BreaksLog bytes text ⊎ IsOfRmu bytes text) ⊎ IsOverheard skip bytes text
-  pub written : AppendsPart held held' text
+-- a text of either kind
+abbrev pub Either : (List ℕ → List ℕ → Type 0) → (List ℕ → List ℕ → Type 0) → List ℕ → List ℕ → Type 0
+Either IsLine IsText bytes text = IsLine bytes text ⊎ IsText bytes text

@@ -14,7 +14,7 @@ ghost use Rattle.rb_top.specs.Words.{AreNumbers};
 use crate::lines::write_line;
 use crate::status::Status;
 use rb_base::OutOfMemory;
-use rb_gen::{generate, line};
+use rb_gen::line;
 use rb_outside::{Failed, Sink};
 use rb_scenario::Scenario;
 use std::alloc::Global;
@@ -34,13 +34,11 @@ pub(crate) fn write_generated<K: Sink>(scenario: &Scenario, output: &mut K) -> R
     Ok(())
 }
 
-/// Writes the text of the scenario of a seed and a number of frames.
-pub(crate) fn generate_text<K: Sink>(
-    alloc: Global,
-    seed: u64,
-    frames: u32,
-    output: &mut K,
-) -> Status
+/// `gen SEED FRAMES`: writes the text of the scenario that a seed fixes, of 1 to 4096 frames, a line at a time.
+///
+/// `Done`: all is written. `WriteFault`: the sink failed; what it took is a first part of the text. `OutOfMemory`: an allocation failed, and
+/// nothing was written.
+pub fn generate<K: Sink>(alloc: Global, seed: u64, frames: u32, output: &mut K) -> Status
     requires { AreNumbers seed frames }
     ensures done { result ≡ Status.Done → Appends (K.held output.old) (K.held output.new) (generated_text seed frames) }
     ensures part { result ≡ Status.WriteFault → AppendsPart (K.held output.old) (K.held output.new) (generated_text seed frames) }
@@ -48,7 +46,7 @@ pub(crate) fn generate_text<K: Sink>(
     ensures unwritten { result ≡ Status.OutOfMemory → output.new ≡ output.old }
     ensures one_of { IsOfText result }
 {
-    let scenario = match generate(alloc, seed, frames) {
+    let scenario = match rb_gen::generate(alloc, seed, frames) {
         Ok(scenario) => scenario,
         Err(OutOfMemory) => return Status::OutOfMemory,
     };

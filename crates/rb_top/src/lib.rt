@@ -1,21 +1,26 @@
-//! The top call: words, input and output of the program as values.
+//! The top call: words, input and output of the program as values; and each of its commands as a call of its own.
 #![tactic(auto)]
 
-mod check;
+mod checking;
+pub mod commands;
 pub mod form;
-mod generating;
+pub mod generating;
 mod lines;
 mod listening;
 mod pages;
 mod reading;
 mod recording;
 mod replaying;
-mod running;
+pub mod running;
 mod serving;
-mod spelling;
+pub mod spelling;
 pub mod status;
 mod telling;
 pub mod top;
 
+pub use commands::{check, group, letters, listen, record, replay, run};
+pub use generating::generate;
+pub use running::stress;
+pub use spelling::spell;
 pub use status::Status;
 pub use top::run_robus;

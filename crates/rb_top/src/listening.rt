@@ -3,8 +3,9 @@ ghost use Rattle.std.specs.Prelude.{◌≡◌, ◌⊎◌};
 ghost use Rattle.std.specs.Io.KnownBytes.{Appends};
 ghost use Rattle.rb_outside.specs.Bytes.{AppendsPart};
 ghost use Rattle.rb_outside.specs.Causes.{Rose};
+ghost use Rattle.rb_top.specs.Commands.{IsNotForListeners, IsOverheard};
 ghost use Rattle.rb_top.specs.Inputs.{rmu_text};
-ghost use Rattle.rb_top.specs.Serving.{FailsToListen, IsListened, IsOfLog, RefusesToListen};
+ghost use Rattle.rb_top.specs.Serving.{Either, IsOfLog, WritesOf, WritesPartOf};
 
 use crate::reading::refuse_with;
 use crate::replaying::refuse_log;
@@ -28,9 +29,9 @@ fn refuse_rmu<K: Sink>(output: &mut K) -> Status
 /// Gives the log that the bytes spell to a passive listener, from the tick of this number on, and writes what that tells, or the
 /// line that says why they spell no log of a BIU.
 pub(crate) fn listen_to<K: Sink>(bytes: &[u8], skip: u32, output: &mut K) -> Status
-    ensures done { result ≡ Status.Done → IsListened skip bytes.now (K.held output.old) (K.held output.new) }
-    ensures refused { result ≡ Status.Refused → RefusesToListen bytes.now (K.held output.old) (K.held output.new) }
-    ensures part { result ≡ Status.WriteFault → FailsToListen skip bytes.now (K.held output.old) (K.held output.new) }
+    ensures done { result ≡ Status.Done → WritesOf (IsOverheard skip) bytes.now (K.held output.old) (K.held output.new) }
+    ensures refused { result ≡ Status.Refused → WritesOf IsNotForListeners bytes.now (K.held output.old) (K.held output.new) }
+    ensures part { result ≡ Status.WriteFault → WritesPartOf (Either IsNotForListeners (IsOverheard skip)) bytes.now (K.held output.old) (K.held output.new) }
     ensures cause { result ≡ Status.WriteFault → Rose (K.faults output.old) (K.faults output.new) }
     ensures one_of { IsOfLog result }
 {

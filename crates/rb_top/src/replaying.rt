@@ -3,8 +3,9 @@ ghost use Rattle.std.specs.Prelude.{◌≡◌, ◌⊎◌};
 ghost use Rattle.std.specs.Io.KnownBytes.{Appends};
 ghost use Rattle.rb_outside.specs.Bytes.{AppendsPart};
 ghost use Rattle.rb_outside.specs.Causes.{Rose};
-ghost use Rattle.rb_top.specs.Inputs.{fault_text, log_code, log_place};
-ghost use Rattle.rb_top.specs.Serving.{FailsToReplay, IsOfLog, IsReplayed, RefusesLog};
+ghost use Rattle.rb_top.specs.Commands.{IsReplay};
+ghost use Rattle.rb_top.specs.Inputs.{BreaksLog, fault_text, log_code, log_place};
+ghost use Rattle.rb_top.specs.Serving.{Either, IsOfLog, WritesOf, WritesPartOf};
 
 use crate::reading::refuse_with;
 use crate::status::Status;
@@ -49,9 +50,9 @@ pub(crate) fn refuse_log<K: Sink>(fault: LogRefusal, output: &mut K) -> Status
 
 /// Gives the log that the bytes spell to its node and writes what it tells, or the line that says why they spell none.
 pub(crate) fn replay_bytes<K: Sink>(bytes: &[u8], output: &mut K) -> Status
-    ensures done { result ≡ Status.Done → IsReplayed bytes.now (K.held output.old) (K.held output.new) }
-    ensures refused { result ≡ Status.Refused → RefusesLog bytes.now (K.held output.old) (K.held output.new) }
-    ensures part { result ≡ Status.WriteFault → FailsToReplay bytes.now (K.held output.old) (K.held output.new) }
+    ensures done { result ≡ Status.Done → WritesOf IsReplay bytes.now (K.held output.old) (K.held output.new) }
+    ensures refused { result ≡ Status.Refused → WritesOf BreaksLog bytes.now (K.held output.old) (K.held output.new) }
+    ensures part { result ≡ Status.WriteFault → WritesPartOf (Either BreaksLog IsReplay) bytes.now (K.held output.old) (K.held output.new) }
     ensures cause { result ≡ Status.WriteFault → Rose (K.faults output.old) (K.faults output.new) }
     ensures one_of { IsOfLog result }
 {

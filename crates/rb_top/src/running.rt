@@ -1,5 +1,5 @@
 //! Runs that are told to their end: as a report, or as four numbers.
-ghost use Rattle.std.specs.Prelude.{◌≡◌, ◌≤◌, OnOk, OnErr};
+ghost use Rattle.std.specs.Prelude.{◌≡◌, ◌≤◌, IsTrue, OnOk, OnErr};
 ghost use Rattle.std.specs.Io.KnownBytes.{Appends};
 ghost use Rattle.rb_outside.specs.Bytes.{AppendsPart};
 ghost use Rattle.rb_outside.specs.Causes.{HasCause, Rose};
@@ -7,7 +7,8 @@ ghost use Rattle.rb_rules.specs.Lawful.{IsLawful};
 ghost use Rattle.rb_report.specs.Report.{summary_text};
 ghost use Rattle.rb_scenario.specs.Acceptance.{as_scenario};
 ghost use Rattle.rb_run.specs.Runs.{WritesPart};
-ghost use Rattle.rb_top.specs.Answers.{status_of};
+ghost use Rattle.rb_top.specs.Commands.{status_of};
+ghost use Rattle.rb_top.specs.Promise.{SumsTheHeadline};
 ghost use Rattle.rb_top.specs.Serving.{FailsToSum, IsOfRun, IsReported, IsSummed};
 ghost use Rattle.rb_top.specs.Statuses.{HasEnded};
 ghost use Rattle.rb_top.specs.Texts.{summary_of};
@@ -84,8 +85,12 @@ fn write_summary<K: Sink>(totals: &Totals, output: &mut K) -> Result<(), Failed>
     write_number(3, totals.spread, output)
 }
 
-/// Opens the generated run of a seed and a number of frames, and writes its four numbers, or nothing where it ends with a breach.
-pub(crate) fn stress<K: Sink, D: Drive>(
+/// `stress SEED FRAMES`: runs the scenario that a seed fixes, of 1 to 4096 frames, and writes four numbers of the drive's turns, a line each: frames,
+/// deliveries, convictions and the greatest spread, in units.
+///
+/// `Done`: all is written. `Breach`: the run ended with a breach of the fault premise, and nothing was written. `WriteFault`: the sink failed.
+/// `OutOfMemory`: an allocation failed before the run.
+pub fn stress<K: Sink, D: Drive>(
     alloc: Global,
     seed: u64,
     frames: u32,
@@ -94,6 +99,8 @@ pub(crate) fn stress<K: Sink, D: Drive>(
     drive: &mut D,
 ) -> Status
     requires { AreNumbers seed frames }
+    ensures promise { IsTrue (D.is_plain drive.old) → HasEnded result
+        → SumsTheHeadline seed frames result (K.held output.old) (K.held output.new) }
     ensures ended { HasEnded result
         → IsSummed seed frames result (D.is_plain drive.old) (D.told drive.old) (D.told drive.new) (K.held output.old) (K.held output.new) }
     ensures part { result ≡ Status.WriteFault

@@ -11,8 +11,10 @@ use arrayvec::ArrayVec;
 use rb_long_run::write_spelling;
 use rb_outside::{Failed, Sink};
 
-/// Writes the words that spell a letter, a line each.
-pub(crate) fn spell<K: Sink>(letter: &ArrayVec<u8, 255>, output: &mut K) -> Status
+/// `spell HEX`: writes the words that spell a letter of 1 to 255 bytes, a line each.
+///
+/// `Done`: all is written. `WriteFault`: the sink failed; what it took is a first part of the text.
+pub fn spell<K: Sink>(letter: &ArrayVec<u8, 255>, output: &mut K) -> Status
     requires { IsLetter letter.now.items }
     ensures done { result ≡ Status.Done → Appends (K.held output.old) (K.held output.new) (spelling_text letter.now.items) }
     ensures part { result ≡ Status.WriteFault → AppendsPart (K.held output.old) (K.held output.new) (spelling_text letter.now.items) }

@@ -11,10 +11,9 @@ ghost use Rattle.rb_top.specs.Statuses.{HasEnded};
 
 use crate::running::status_of;
 use crate::status::Status;
-use rb_base::{Biu, NodeSet, OutOfMemory};
-use rb_group::{Voters, Which};
-use rb_group_run::{scope_of, write_groups};
-use rb_group_run::{Asked, has_members};
+use rb_base::OutOfMemory;
+use rb_group::Voters;
+use rb_group_run::{Asked, has_members, scope_of, write_groups};
 use rb_long_run::write_letters;
 use rb_outside::{Failed, Sink};
 use rb_port::Apps;
@@ -46,16 +45,6 @@ pub(crate) fn tell_letters<K: Sink, D: Drive>(
     match write_letters(&mut world, apps, drive, output) {
         Ok(ending) => status_of(ending),
         Err(Failed) => Status::WriteFault,
-    }
-}
-
-/// The group of these members, and its voter.
-pub(crate) fn asked_of(which: Which, members: u16) -> Asked
-    ensures { result ≡ record { which = which; members = members } }
-{
-    Asked {
-        which,
-        members: NodeSet::<Biu>::from_bits(members),
     }
 }
 

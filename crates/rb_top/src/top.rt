@@ -1,8 +1,7 @@
 //! The top call.
 ghost use Rattle.std.specs.Prelude.{◌≡◌, IsTrue};
 ghost use Rattle.rb_top.specs.declared.form.Form.{Form};
-ghost use Rattle.rb_top.specs.Answers.{Completes, Ends, FailsToWrite, Refuses, Untouched, UsageExactly};
-ghost use Rattle.rb_top.specs.Inputs.{IsUnread};
+ghost use Rattle.rb_top.specs.Answers.{Completes, Ends, FailsToWrite, IsUnread, Refuses, Untouched, UsageExactly};
 ghost use Rattle.rb_top.specs.Promise.{KeepsItsPromise};
 ghost use Rattle.rb_top.specs.Statuses.{HasEnded};
 ghost use Rattle.rb_top.specs.Words.{AskFor};

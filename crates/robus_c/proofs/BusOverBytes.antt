@@ -9,8 +9,8 @@ use Rattle.rb_top.specs.declared.form.Form.{Form}
 use Rattle.rb_top.specs.declared.form.Form.TheVariants.{Run, Check, Gen, Stress, Record, Replay, Spell, Letters, Group, Listen, Show}
 use Rattle.rb_top.specs.declared.status.Status.{Status}
 use Rattle.rb_top.specs.declared.status.Status.TheVariants as code
-use Rattle.rb_top.specs.Answers.{Completes, Ends, FailsToWrite, IsDue, IsEnd, IsLeft, IsWithin, NothingFails, Refuses, Untouched, UsageExactly}
-use Rattle.rb_top.specs.Inputs.{IsReadBy, IsRefusedWith, IsTextOf, IsUnread, IsUnreadBy, limit_of}
+use Rattle.rb_top.specs.Answers.{Completes, Ends, FailsToWrite, IsDue, IsLeft, IsRefusedWith, IsUnread, Refuses, Untouched, UsageExactly, limit_of}
+use Rattle.rb_top.specs.Inputs.{IsReadBy, IsTextOf, IsUnreadBy}
 use Rattle.rb_top.specs.Promise as outside
 use Rattle.rb_top.specs.Statuses.{HasEnded, MayRefuse}
 use Rattle.rb_top.specs.Texts.{Telling}

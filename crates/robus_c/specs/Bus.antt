@@ -11,8 +11,9 @@ use Rattle.rb_top.specs.declared.form.Form.{Form}
 use Rattle.rb_top.specs.declared.form.Form.TheVariants.{Run, Check, Gen, Stress, Record, Replay, Spell, Letters, Group, Listen, Show}
 use Rattle.rb_top.specs.declared.status.Status.{Status}
 use Rattle.rb_top.specs.declared.status.Status.TheVariants as code
-use Rattle.rb_top.specs.Answers.{EndsAs, IsDue, IsEnd, IsWithin}
-use Rattle.rb_top.specs.Inputs.{IsRefusedWith, IsTextOf, limit_of}
+use Rattle.rb_top.specs.Answers.{IsDue, IsEnd, IsRefusedWith, IsWithin, limit_of}
+use Rattle.rb_top.specs.Commands.{EndsAs}
+use Rattle.rb_top.specs.Inputs.{IsTextOf}
 use Rattle.rb_top.specs.Statuses.{HasEnded, WritesNothing}
 use Rattle.rb_top.specs.Texts.{Telling, summary_with, told_by_group, told_by_letters, told_by_run}
 use Rattle.rb_top.specs.Words.{IsInRange, words_of}

@@ -5,7 +5,7 @@ use Rattle.rb_rules.specs.WorldStep.{first_world}
 use Rattle.rb_run.specs.declared.ending.Ending.{Ending}
 use Rattle.rb_run.specs.declared.ending.Ending.TheVariants as ending
 use Rattle.rb_world.specs.Worlds.{Stands}
-use Rattle.rb_top.specs.Answers.{status_of}
+use Rattle.rb_top.specs.Commands.{status_of}
 use Rattle.rb_top.specs.Serving.{IsOfRun}
 use Rattle.rb_top.proofs.recording.write_log.Goals as goal
 

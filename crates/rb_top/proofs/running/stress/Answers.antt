@@ -2,6 +2,7 @@ use Rattle.std.proofs.Common.{◌∙◌, subst, sym}
 use Rattle.rb_rules.specs.Lawful.{IsLawful}
 use Rattle.rb_scenario.specs.Acceptance.{as_scenario}
 use Rattle.rb_run.proofs.Opened.{just-opened}
+use Rattle.rb_top.proofs.Promised.{summed_headline}
 use Rattle.rb_top.proofs.Summing.{not_summed, summed, summed_in_part}
 use Rattle.rb_top.proofs.running.stress.Goals as goal
 
@@ -39,3 +40,13 @@ returns-clause-ended g c h =
       tallies = c.tally-ending.ensures.totals;
       ends = c.tally-ending.ensures.ending;
     })
+
+pub returns-in-Ok-write_summary-clause-promise : goal.returns-in-Ok-write_summary-clause-promise
+returns-in-Ok-write_summary-clause-promise g c plain h =
+    let all = returns-in-Ok-write_summary-clause-ended g c h in
+    summed_headline c.args.seed c.args.frames _ _ _ _ _ _ all.text plain all.due all.written
+
+pub returns-clause-promise : goal.returns-clause-promise
+returns-clause-promise g c plain h =
+    let all = returns-clause-ended g c h in
+    summed_headline c.args.seed c.args.frames _ _ _ _ _ _ all.text plain all.due all.written

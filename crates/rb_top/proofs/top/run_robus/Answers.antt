@@ -1,9 +1,8 @@
-use Rattle.std.proofs.Common.{◌≡◌, Bool, true, subst}
+use Rattle.std.proofs.Common.{◌≡◌, true, subst}
 use Rattle.rb_top.specs.declared.form.Form.{Form}
-use Rattle.rb_top.specs.Answers.{Completes, Ends, FailsToWrite, Refuses}
-use Rattle.rb_top.specs.Inputs.{IsUnread}
+use Rattle.rb_top.specs.Answers.{Completes, Ends, FailsToWrite, IsUnread, Refuses, command_of}
 use Rattle.rb_top.specs.Promise.{KeepsItsPromise}
-use Rattle.rb_top.proofs.Completeness.{completes}
+use Rattle.rb_top.proofs.Completeness.{completes, is_sound}
 use Rattle.rb_top.proofs.OneForm.{one_form}
 use Rattle.rb_top.proofs.Promised.{promised}
 use Rattle.rb_top.proofs.top.run_robus.Goals as goal
@@ -30,10 +29,8 @@ returns-in-Some-clause-promise g c plain h form asked =
     let is : g.D.Drive.is_plain c.args.drive.now ≡ true = plain in
     let P : Form → Type 0 = λ f. KeepsItsPromise f c.serve.result (g.S.Source.left c.args.input.now) (g.S.Source.left c.serve.new.input)
     (g.K.Sink.held c.args.output.now) (g.K.Sink.held c.serve.new.output) in
-    let Q : Bool → Type 0 = λ b. Ends c.in-Some.form c.serve.result (g.S.Source.left c.args.input.now) (g.S.Source.left c.serve.new.input)
-    (g.K.Sink.held c.args.output.now) (g.K.Sink.held c.serve.new.output) b (g.D.Drive.told c.args.drive.now) (g.D.Drive.told c.serve.new.drive) in
     subst P (one_form c.args.words.now c.in-Some.form form c.in-Some.ensures.some asked)
-    (promised c.in-Some.form c.serve.result _ _ _ _ _ _ (subst Q is (c.serve.ensures.answers.ended h)))
+    (promised c.in-Some.form c.serve.result _ _ _ _ _ _ _ is (c.serve.ensures.answers.ended h))
 
 pub returns-in-Some-clause-refused : goal.returns-in-Some-clause-refused
 returns-in-Some-clause-refused g c e form asked =
@@ -58,4 +55,4 @@ returns-in-Some-clause-complete g c form asked =
     let P : Form → Type 0 = λ f. Completes f c.serve.result (g.S.Source.left c.args.input.now) (g.S.Source.faults c.args.input.now)
     (g.S.Source.faults c.serve.new.input) (g.K.Sink.faults c.args.output.now) (g.K.Sink.faults c.serve.new.output) in
     subst P (one_form c.args.words.now c.in-Some.form form c.in-Some.ensures.some asked)
-    (completes c.in-Some.form c.serve.result _ _ _ _ _ _ _ _ _ _ _ c.serve.ensures.answers)
+    (completes (command_of c.in-Some.form) (is_sound c.in-Some.form) c.serve.result _ _ _ _ _ _ _ _ _ _ _ c.serve.ensures.answers)

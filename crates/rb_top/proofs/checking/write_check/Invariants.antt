@@ -1,7 +1,7 @@
 use Rattle.std.proofs.Common.{◌≤◌, ◌++◌, []}
 use Rattle.rb_top.specs.CheckText.{check_text, text_after}
 use Rattle.rb_top.proofs.Writing.{Owes, pieces}
-use Rattle.rb_top.proofs.check.write_check.Given as goal
+use Rattle.rb_top.proofs.checking.write_check.Given as goal
 
 abbrev pub invariant-loop-before : goal.invariant-loop-before
 invariant-loop-before g l = record {

@@ -1,4 +1,4 @@
--- The answers for a form, from what came of its input and of its run.
+-- The answers of a command, from what came of its input and of its run.
 use Rattle.std.proofs.Common.{◌≡◌, ◌∙◌, ◌≤◌, ℕ, ◌⊎◌, Bool, List, [], Option, inl, inr, refl, sym, subst}
 use Rattle.std.specs.Io.KnownBytes.{Appends}
 use Rattle.rb_outside.specs.Bytes.{AppendsPart, Gave, ReadsToEnd}
@@ -10,96 +10,61 @@ use Rattle.rb_record.specs.Recording.{WritesPart as WritesPartOf, log_text}
 use Rattle.rb_scenario.specs.Acceptance.{as_scenario}
 use Rattle.rb_scenario.specs.declared.scenario.Scenario.{Scenario as Accepted}
 use Rattle.rb_world_book.specs.declared.turn.Turn.{Turn}
-use Rattle.arrayvec.specs.ArrayVec.{ArrayVec}
 use Rattle.rb_group.specs.declared.voters.Which.{Which}
-use Rattle.rb_long_run.specs.Reports.{spelling_text}
 use Rattle.rb_long_run.specs.Letters.{WritesSome}
 use Rattle.rb_group_run.specs.Members.{AreMembers}
 use Rattle.rb_group_run.specs.declared.asked.Asked.{Asked}
 use Rattle.rb_group_run.specs.Runs.{WritesPart as WritesGroupsPart}
-use Rattle.rb_flags.specs.declared.Flag.{Flag}
 use Rattle.rb_rules.specs.Goodness.{Scenario}
 use Rattle.rb_run.specs.Runs.{WritesPart}
 use Rattle.rb_run.specs.Turns.{AreAll, AreGiven, records_in}
-use Rattle.rb_top.specs.declared.form.Form.{Form}
-use Rattle.rb_top.specs.declared.form.Form.TheVariants.{Run, Check, Gen, Stress, Record, Replay, Spell, Letters, Group, Listen, Show}
 use Rattle.rb_top.specs.declared.status.Status.{Status}
 use Rattle.rb_top.specs.declared.status.Status.TheVariants.{Done, Breach, Usage, Refused, TooLong, ReadFault, WriteFault, OutOfMemory}
-use Rattle.rb_top.specs.Answers.{EndsAs, IsDue, IsDueSoFar, IsOverheard, IsRefusedAlone, IsReplay, IsReport, IsReportSoFar}
+use Rattle.rb_top.specs.Answers.{CommandAnswers, IsRefusedAlone}
 use Rattle.rb_top.specs.CheckText.{check_text}
-use Rattle.rb_top.specs.Inputs.{BreaksLog, BreaksRule, IsOfRmu, IsRead, IsRefusedWith, IsTextOf, IsUnread, IsUnreadOver, LacksMember, LacksNode, log_limit, member_text, rule_text, scenario_limit}
-use Rattle.rb_top.specs.Pages.{page_text}
+use Rattle.rb_top.specs.Commands.{Command, EndsAs, IsReport, IsReportSoFar, alone_command, check_command, group_command, record_command, stress_command, telling_command, text_command}
+use Rattle.rb_top.specs.Inputs.{BreaksRule, IsReadBy, IsTextOf, IsUnreadBy, IsUnreadOver, LacksMember, LacksNode, member_text, rule_text, scenario_limit}
 use Rattle.rb_top.specs.Reading.{ReadsNone, ReadsScenario}
-use Rattle.rb_top.specs.Serving.{Answers, FailsToListen, FailsToReplay, FailsToSum, IsGrouped, IsLettered, IsListened, IsLogged, IsNotRead, IsOfLog, IsOfRun, IsOfText, IsReplayed, IsReported, IsSummed, RefusesLog, RefusesToListen}
+use Rattle.rb_top.specs.Serving.{Either, FailsToSum, IsGrouped, IsLettered, IsLogged, IsNotRead, IsOfLog, IsOfRun, IsOfText, IsReported, IsSummed, WritesOf, WritesPartOf}
 use Rattle.rb_top.specs.Statuses.{HasEnded, MayRefuse, RunsNothing, WritesNothing}
-use Rattle.rb_top.specs.Texts.{Telling, generated_text, told_by_group, told_by_letters, told_by_run}
+use Rattle.rb_top.specs.Texts.{Telling, told_by_group, told_by_letters, told_by_run}
 
--- a form that reads a scenario
-pub record ReadsAScenario (form : Form) : Type 0 where
-  pub read : (left left' : Option (List ℕ)) (input : List ℕ) → ReadsToEnd left left' input → IsRead form left left' input
-  pub refuse : (input line : List ℕ) → BreaksRule input line → IsRefusedWith form input line
+-- a command that reads a scenario
+pub record ReadsAScenario (command : Command) : Type 0 where
+  pub read : (left left' : Option (List ℕ)) (input : List ℕ) → ReadsToEnd left left' input → IsReadBy command.limit left left' input
+  pub refuse : (input line : List ℕ) → BreaksRule input line → command.is_refused input line
   pub unread : (status : Status) (left left' : Option (List ℕ)) (faults faults' : ℕ) → IsUnreadOver scenario_limit status left left' faults faults'
-      → IsUnread form status left left' faults faults'
+      → IsUnreadBy command.limit status left left' faults faults'
 
-pub run_reads : ReadsAScenario Run
-run_reads = record {
-  read = λ left left' input h. h;
-  refuse = λ input line h. h;
-  unread = λ status left left' faults faults' h. h;
-}
+pub telling_reads : (tells : Telling) → ReadsAScenario (telling_command tells)
+telling_reads tells = record { read = λ left left' input h. h; refuse = λ input line h. h; unread = λ status left left' faults faults' h. h }
 
-pub check_reads : ReadsAScenario Check
-check_reads = record {
-  read = λ left left' input h. h;
-  refuse = λ input line h. h;
-  unread = λ status left left' faults faults' h. h;
-}
+pub check_reads : ReadsAScenario check_command
+check_reads = record { read = λ left left' input h. h; refuse = λ input line h. h; unread = λ status left left' faults faults' h. h }
 
-pub record_reads : (node : NodeName) → ReadsAScenario (Record node)
-record_reads node = record {
-  read = λ left left' input h. h;
-  refuse = λ input line h. inl h;
-  unread = λ status left left' faults faults' h. h;
-}
+pub record_reads : (node : NodeName) → ReadsAScenario (record_command node)
+record_reads node = record { read = λ left left' input h. h; refuse = λ input line h. inl h; unread = λ status left left' faults faults' h. h }
 
-pub letters_read : ReadsAScenario Letters
-letters_read = record {
-  read = λ left left' input h. h;
-  refuse = λ input line h. h;
-  unread = λ status left left' faults faults' h. h;
-}
+pub group_reads : (which : Which) (members : ℕ) → ReadsAScenario (group_command which members)
+group_reads which members = record { read = λ left left' input h. h; refuse = λ input line h. inl h; unread = λ status left left' faults faults' h. h }
 
-pub group_reads : (which : Which) (members : ℕ) → ReadsAScenario (Group which members)
-group_reads which members = record {
-  read = λ left left' input h. h;
-  refuse = λ input line h. inl h;
-  unread = λ status left left' faults faults' h. h;
-}
-
--- a form that tells of the run of this scenario, once it has been read
-pub record TellsOf (form : Form) (accepted : Accepted) (tells : Telling) : Type 0 where
-  pub reads : ReadsAScenario form
+-- a command that tells of the run of this scenario, once it has been read
+pub record TellsOf (command : Command) (accepted : Accepted) (tells : Telling) : Type 0 where
+  pub reads : ReadsAScenario command
   pub due : (input : List ℕ) (is_plain : Bool) (told told' : Option (List Turn)) (status : Status) (text : List ℕ)
-      → (r : IsReport tells input is_plain told told' status text) → r.scenario ≡ as_scenario accepted → IsDue form input is_plain told told' status text
+      → (r : IsReport tells input is_plain told told' status text) → r.scenario ≡ as_scenario accepted → command.is_due input is_plain told told' status text
   pub so_far : (input : List ℕ) (is_plain : Bool) (told told' : Option (List Turn)) (text : List ℕ)
-      → (r : IsReportSoFar tells input is_plain told told' text) → r.scenario ≡ as_scenario accepted → IsDueSoFar form input is_plain told told' text
+      → (r : IsReportSoFar tells input is_plain told told' text) → r.scenario ≡ as_scenario accepted → command.is_due_so_far input is_plain told told' text
 
-pub run_tells : (accepted : Accepted) → TellsOf Run accepted told_by_run
-run_tells accepted = record {
-  reads = run_reads;
-  due = λ input is_plain told told' status text r is. r;
-  so_far = λ input is_plain told told' text r is. r;
-}
-
-pub letters_tell : (accepted : Accepted) → TellsOf Letters accepted told_by_letters
-letters_tell accepted = record {
-  reads = letters_read;
+pub telling_tells : (accepted : Accepted) (tells : Telling) → TellsOf (telling_command tells) accepted tells
+telling_tells accepted tells = record {
+  reads = telling_reads tells;
   due = λ input is_plain told told' status text r is. r;
   so_far = λ input is_plain told told' text r is. r;
 }
 
 pub group_tells : (accepted : Accepted) (which : Which) (members : ℕ) → AreMembers accepted.plan.sizes members
-    → TellsOf (Group which members) accepted (told_by_group which members)
+    → TellsOf (group_command which members) accepted (told_by_group which members)
 group_tells accepted which members there =
     let P : Scenario → Type 0 = λ sc. AreMembers sc.sizes members in
     record {
@@ -119,10 +84,10 @@ never_both WriteFault may ended = ended
 never_both OutOfMemory may ended = ended
 
 -- no scenario has been read
-pub none_answers : (form : Form) → ReadsAScenario form → (status : Status) (left left' : Option (List ℕ)) (reads reads' : ℕ) (held held' : Option (List ℕ))
+pub none_answers : (command : Command) → ReadsAScenario command → (status : Status) (left left' : Option (List ℕ)) (reads reads' : ℕ) (held held' : Option (List ℕ))
     (writes writes' : ℕ) (is_plain : Bool) (told : Option (List Turn)) → ReadsNone status left left' reads reads' held held' writes writes'
-    → Answers form status left left' reads reads' held held' writes writes' is_plain told told
-none_answers form f status left left' reads reads' held held' writes writes' is_plain told n = record {
+    → CommandAnswers command status left left' reads reads' held held' writes writes' is_plain told told
+none_answers command f status left left' reads reads' held held' writes writes' is_plain told n = record {
   known = λ e. let P : Status → Type 0 = λ s. MayRefuse s in subst P e n.one_of;
   ended = λ h. absurd (never_both status n.one_of h);
   refused = λ e. let r = n.refused e in record {
@@ -167,7 +132,7 @@ pub record Reports (tells : Telling) (accepted : Accepted) (status : Status) (he
   pub cause : status ≡ WriteFault → Rose writes writes'
   pub one_of : IsOfRun status
 
--- so of each form
+-- so of each command
 pub run_reports : (accepted : Accepted) (status : Status) (held held' : Option (List ℕ)) (writes writes' : ℕ) (is_plain : Bool) (told told' : Option (List Turn))
     → (HasEnded status → IsReported (as_scenario accepted) status is_plain told told' held held')
     → (status ≡ WriteFault → WritesPart (as_scenario accepted) is_plain told told' held held')
@@ -192,26 +157,18 @@ letters_report_so accepted status held held' writes writes' is_plain told told' 
   one_of = one_of;
 }
 
--- of the group that was asked for
-pub record Groups (accepted : Accepted) (asked : Asked) (status : Status) (held held' : Option (List ℕ)) (writes writes' : ℕ) (is_plain : Bool) (told told' : Option (List Turn)) : Type 0 where
-  pub ended : HasEnded status → IsGrouped (as_scenario accepted) asked status is_plain told told' held held'
-  pub part : status ≡ WriteFault → WritesGroupsPart (as_scenario accepted) asked is_plain told told' held held'
-  pub cause : status ≡ WriteFault → Rose writes writes'
-  pub one_of : IsOfRun status
-
-pub group_reports : (accepted : Accepted) (which : Which) (members : ℕ) (asked : Asked) (status : Status) (held held' : Option (List ℕ)) (writes writes' : ℕ) (is_plain : Bool)
-    (told told' : Option (List Turn)) → asked ≡ record { which = which; members = members } → Groups accepted asked status held held' writes writes' is_plain told told'
-    → Reports (told_by_group which members) accepted status held held' writes writes' is_plain told told'
-group_reports accepted which members asked status held held' writes writes' is_plain told told' is g =
-    let P : Asked → Type 0 = λ a. Groups accepted a status held held' writes writes' is_plain told told' in
-    let x = subst P is g in
-    record {
-      ended = λ h. let all = x.ended h in
-          record { ends = all.ends; written = record { turns = all.written.turns; given = all.written.given; all = all.written.all; text = all.written.text } };
-      part = λ e. let some = x.part e in record { turns = some.turns; given = some.given; text = some.text };
-      cause = x.cause;
-      one_of = x.one_of;
-    }
+pub group_reports : (accepted : Accepted) (asked : Asked) (status : Status) (held held' : Option (List ℕ)) (writes writes' : ℕ) (is_plain : Bool) (told told' : Option (List Turn))
+    → (HasEnded status → IsGrouped (as_scenario accepted) asked status is_plain told told' held held')
+    → (status ≡ WriteFault → WritesGroupsPart (as_scenario accepted) asked is_plain told told' held held')
+    → (status ≡ WriteFault → Rose writes writes') → IsOfRun status
+    → Reports (told_by_group asked.which asked.members) accepted status held held' writes writes' is_plain told told'
+group_reports accepted asked status held held' writes writes' is_plain told told' ended part cause one_of = record {
+  ended = λ h. let all = ended h in
+      record { ends = all.ends; written = record { turns = all.written.turns; given = all.written.given; all = all.written.all; text = all.written.text } };
+  part = λ e. let some = part e in record { turns = some.turns; given = some.given; text = some.text };
+  cause = cause;
+  one_of = one_of;
+}
 
 -- where such a run wrote nothing it was not opened
 pub is_memory : (status : Status) → IsOfRun status → WritesNothing status → status ≡ OutOfMemory
@@ -241,11 +198,11 @@ no_run status s never one_of e = let P : Status → Type 0 = λ x. IsOfRun x in 
 no_text : (status : Status) (s : Status) → (IsOfText s → ⊥) → IsOfText status → ¬ (status ≡ s)
 no_text status s never one_of e = let P : Status → Type 0 = λ x. IsOfText x in never (subst P e one_of)
 
-pub report_answers : (form : Form) (tells : Telling) (accepted : Accepted) (status : Status) (left left' : Option (List ℕ)) (reads reads' : ℕ) (held held' : Option (List ℕ))
-    (writes writes' : ℕ) (is_plain : Bool) (told told' : Option (List Turn)) → TellsOf form accepted tells → ReadsScenario left left' accepted
+pub report_answers : (command : Command) (tells : Telling) (accepted : Accepted) (status : Status) (left left' : Option (List ℕ)) (reads reads' : ℕ) (held held' : Option (List ℕ))
+    (writes writes' : ℕ) (is_plain : Bool) (told told' : Option (List Turn)) → TellsOf command accepted tells → ReadsScenario left left' accepted
     → Reports tells accepted status held held' writes writes' is_plain told told'
-    → Answers form status left left' reads reads' held held' writes writes' is_plain told told'
-report_answers form tells accepted status left left' reads reads' held held' writes writes' is_plain told told' f r x =
+    → CommandAnswers command status left left' reads reads' held held' writes writes' is_plain told told'
+report_answers command tells accepted status left left' reads reads' held held' writes writes' is_plain told told' f r x =
     let says : IsTextOf r.input (as_scenario accepted) = record { accepted = accepted; is = r.is; shows = refl } in
     record {
       known = no_run status Usage (λ h. h) x.one_of;
@@ -317,7 +274,7 @@ only_done OutOfMemory one_of h = absurd h
 pub sides_answer : (accepted : Accepted) (status : Status) (left left' : Option (List ℕ)) (reads reads' : ℕ) (held held' : Option (List ℕ))
     (writes writes' : ℕ) (is_plain : Bool) (told : Option (List Turn)) → ReadsScenario left left' accepted
     → Writes (check_text accepted.plan.sizes accepted.plan.plan) status held held' writes writes'
-    → Answers Check status left left' reads reads' held held' writes writes' is_plain told told
+    → CommandAnswers check_command status left left' reads reads' held held' writes writes' is_plain told told
 sides_answer accepted status left left' reads reads' held held' writes writes' is_plain told r x =
     let says : IsTextOf r.input (as_scenario accepted) = record { accepted = accepted; is = r.is; shows = refl } in
     let text = check_text accepted.plan.sizes accepted.plan.plan in
@@ -346,72 +303,19 @@ sides_answer accepted status left left' reads reads' held held' writes writes' i
       };
     }
 
-pub generated_answers : (seed frames : ℕ) (status : Status) (left : Option (List ℕ)) (reads : ℕ) (held held' : Option (List ℕ))
-    (writes writes' : ℕ) (is_plain : Bool) (told : Option (List Turn)) → Writes (generated_text seed frames) status held held' writes writes'
-    → Answers (Gen seed frames) status left left reads reads held held' writes writes' is_plain told told
-generated_answers seed frames status left reads held held' writes writes' is_plain told x = record {
+pub text_answers : (text : List ℕ) (status : Status) (left : Option (List ℕ)) (reads : ℕ) (held held' : Option (List ℕ))
+    (writes writes' : ℕ) (is_plain : Bool) (told : Option (List Turn)) → Writes text status held held' writes writes'
+    → CommandAnswers (text_command text) status left left reads reads held held' writes writes' is_plain told told
+text_answers text status left reads held held' writes writes' is_plain told x = record {
   known = no_text status Usage (λ h. h) x.one_of;
-  ended = λ h. let done = only_done status x.one_of h in record {
-    input = [];
-    text = generated_text seed frames;
-    read = refl;
-    written = x.done done;
-    due = (refl, record { done = done; silent = refl });
-  };
+  ended = λ h. let done = only_done status x.one_of h in
+      record { input = []; text = text; read = refl; written = x.done done; due = (refl, record { done = done; silent = refl }) };
   refused = λ e. absurd (no_text status Refused (λ h. h) x.one_of e);
   unread = record { not_long = no_text status TooLong (λ h. h) x.one_of; no_fault = no_text status ReadFault (λ h. h) x.one_of };
   failed = λ e. record {
     rose = x.cause e;
     input = [];
-    text = generated_text seed frames;
-    read = refl;
-    written = x.part e;
-    due = inr (refl, record { done = refl; silent = refl });
-  };
-}
-
-pub spell_answers : (letter : ArrayVec ℕ) (status : Status) (left : Option (List ℕ)) (reads : ℕ) (held held' : Option (List ℕ))
-    (writes writes' : ℕ) (is_plain : Bool) (told : Option (List Turn)) → Writes (spelling_text letter.items) status held held' writes writes'
-    → Answers (Spell letter) status left left reads reads held held' writes writes' is_plain told told
-spell_answers letter status left reads held held' writes writes' is_plain told x = record {
-  known = no_text status Usage (λ h. h) x.one_of;
-  ended = λ h. let done = only_done status x.one_of h in record {
-    input = [];
-    text = spelling_text letter.items;
-    read = refl;
-    written = x.done done;
-    due = (refl, record { done = done; silent = refl });
-  };
-  refused = λ e. absurd (no_text status Refused (λ h. h) x.one_of e);
-  unread = record { not_long = no_text status TooLong (λ h. h) x.one_of; no_fault = no_text status ReadFault (λ h. h) x.one_of };
-  failed = λ e. record {
-    rose = x.cause e;
-    input = [];
-    text = spelling_text letter.items;
-    read = refl;
-    written = x.part e;
-    due = inr (refl, record { done = refl; silent = refl });
-  };
-}
-
-pub page_answers : (flag : Flag) (status : Status) (left : Option (List ℕ)) (reads : ℕ) (held held' : Option (List ℕ))
-    (writes writes' : ℕ) (is_plain : Bool) (told : Option (List Turn)) → Writes (page_text flag) status held held' writes writes'
-    → Answers (Show flag) status left left reads reads held held' writes writes' is_plain told told
-page_answers flag status left reads held held' writes writes' is_plain told x = record {
-  known = no_text status Usage (λ h. h) x.one_of;
-  ended = λ h. let done = only_done status x.one_of h in record {
-    input = [];
-    text = page_text flag;
-    read = refl;
-    written = x.done done;
-    due = (refl, record { done = done; silent = refl });
-  };
-  refused = λ e. absurd (no_text status Refused (λ h. h) x.one_of e);
-  unread = record { not_long = no_text status TooLong (λ h. h) x.one_of; no_fault = no_text status ReadFault (λ h. h) x.one_of };
-  failed = λ e. record {
-    rose = x.cause e;
-    input = [];
-    text = page_text flag;
+    text = text;
     read = refl;
     written = x.part e;
     due = inr (refl, record { done = refl; silent = refl });
@@ -427,7 +331,7 @@ pub record Sums (seed frames : ℕ) (status : Status) (held held' : Option (List
 
 pub sum_answers : (seed frames : ℕ) (status : Status) (left : Option (List ℕ)) (reads : ℕ) (held held' : Option (List ℕ))
     (writes writes' : ℕ) (is_plain : Bool) (told told' : Option (List Turn)) → Sums seed frames status held held' writes writes' is_plain told told'
-    → Answers (Stress seed frames) status left left reads reads held held' writes writes' is_plain told told'
+    → CommandAnswers (stress_command seed frames) status left left reads reads held held' writes writes' is_plain told told'
 sum_answers seed frames status left reads held held' writes writes' is_plain told told' x = record {
   known = no_run status Usage (λ h. h) x.one_of;
   ended = λ h. let all = x.ended h in record { input = []; text = all.text; read = refl; written = all.written; due = all.due };
@@ -453,7 +357,7 @@ pub record Logs (accepted : Accepted) (node : NodeName) (status : Status) (held 
 pub log_answers : (accepted : Accepted) (node : NodeName) (status : Status) (left left' : Option (List ℕ)) (reads reads' : ℕ) (held held' : Option (List ℕ))
     (writes writes' : ℕ) (is_plain : Bool) (told : Option (List Turn)) → IsNodeOf accepted.plan.sizes node → ReadsScenario left left' accepted
     → Logs accepted node status held held' writes writes'
-    → Answers (Record node) status left left' reads reads' held held' writes writes' is_plain told told
+    → CommandAnswers (record_command node) status left left' reads reads' held held' writes writes' is_plain told told
 log_answers accepted node status left left' reads reads' held held' writes writes' is_plain told there r x =
     let says : IsTextOf r.input (as_scenario accepted) = record { accepted = accepted; is = r.is; shows = refl } in
     record {
@@ -493,13 +397,13 @@ pub record Lacks (line : List ℕ) (status : Status) (held held' : Option (List 
   pub one_of : (status ≡ Refused) ⊎ (status ≡ WriteFault)
 
 pub lacks_node : (accepted : Accepted) (node : NodeName) → ¬ IsNodeOf accepted.plan.sizes node → (input : List ℕ) → IsTextOf input (as_scenario accepted)
-    → IsRefusedWith (Record node) input (rule_text NoSuchNode)
+    → (record_command node).is_refused input (rule_text NoSuchNode)
 lacks_node accepted node none input says =
     let lacks : LacksNode node input (rule_text NoSuchNode) = record { scenario = as_scenario accepted; says = says; none = none; line_is = refl } in
     inr lacks
 
-pub lacks_member : (accepted : Accepted) (which : Which) (members : ℕ) → ¬ AreMembers accepted.plan.sizes members → (input : List ℕ) → IsTextOf input (as_scenario accepted)
-    → IsRefusedWith (Group which members) input member_text
+pub lacks_member : (accepted : Accepted) (which : Which) (members : ℕ) → ¬ AreMembers accepted.plan.sizes members → (input : List ℕ)
+    → IsTextOf input (as_scenario accepted) → (group_command which members).is_refused input member_text
 lacks_member accepted which members none input says =
     let lacks : LacksMember members input member_text = record { scenario = as_scenario accepted; says = says; none = none; line_is = refl } in
     inr lacks
@@ -516,12 +420,12 @@ pub neither_is_silent : (status : Status) → (status ≡ Refused) ⊎ (status �
 neither_is_silent status (inl e) h = let P : Status → Type 0 = λ s. WritesNothing s in subst P e h
 neither_is_silent status (inr e) h = let P : Status → Type 0 = λ s. WritesNothing s in subst P e h
 
-pub lack_answers : (form : Form) (accepted : Accepted) (line : List ℕ) (status : Status) (left left' : Option (List ℕ)) (reads reads' : ℕ) (held held' : Option (List ℕ))
-    (writes writes' : ℕ) (is_plain : Bool) (told : Option (List Turn)) → ReadsAScenario form
-    → ((input : List ℕ) → IsTextOf input (as_scenario accepted) → IsRefusedWith form input line) → ReadsScenario left left' accepted
+pub lack_answers : (command : Command) (accepted : Accepted) (line : List ℕ) (status : Status) (left left' : Option (List ℕ)) (reads reads' : ℕ) (held held' : Option (List ℕ))
+    (writes writes' : ℕ) (is_plain : Bool) (told : Option (List Turn)) → ReadsAScenario command
+    → ((input : List ℕ) → IsTextOf input (as_scenario accepted) → command.is_refused input line) → ReadsScenario left left' accepted
     → Lacks line status held held' writes writes'
-    → Answers form status left left' reads reads' held held' writes writes' is_plain told told
-lack_answers form accepted line status left left' reads reads' held held' writes writes' is_plain told f lacks r x =
+    → CommandAnswers command status left left' reads reads' held held' writes writes' is_plain told told
+lack_answers command accepted line status left left' reads reads' held held' writes writes' is_plain told f lacks r x =
     let says : IsTextOf r.input (as_scenario accepted) = record { accepted = accepted; is = r.is; shows = refl } in
     record {
       known = other_than status Refused WriteFault Usage (λ e. cc) (λ e. cc) x.one_of;
@@ -542,26 +446,26 @@ lack_answers form accepted line status left left' reads reads' held held' writes
       };
     }
 
--- a log, or what is none, has been read
-pub record Replays (bytes : List ℕ) (status : Status) (held held' : Option (List ℕ)) (writes writes' : ℕ) : Type 0 where
-  pub done : status ≡ Done → IsReplayed bytes held held'
-  pub refused : status ≡ Refused → RefusesLog bytes held held'
-  pub part : status ≡ WriteFault → FailsToReplay bytes held held'
+-- a text of the bytes was due, or the line that refuses them
+pub record Tells (IsText IsLine : List ℕ → List ℕ → Type 0) (bytes : List ℕ) (status : Status) (held held' : Option (List ℕ)) (writes writes' : ℕ) : Type 0 where
+  pub done : status ≡ Done → WritesOf IsText bytes held held'
+  pub refused : status ≡ Refused → WritesOf IsLine bytes held held'
+  pub part : status ≡ WriteFault → WritesPartOf (Either IsLine IsText) bytes held held'
   pub cause : status ≡ WriteFault → Rose writes writes'
   pub one_of : IsOfLog status
 
 no_log : (status : Status) (s : Status) → (IsOfLog s → ⊥) → IsOfLog status → ¬ (status ≡ s)
 no_log status s never one_of e = let P : Status → Type 0 = λ x. IsOfLog x in never (subst P e one_of)
 
-only_replayed : (status : Status) → IsOfLog status → HasEnded status → status ≡ Done
-only_replayed Done one_of h = refl
-only_replayed Breach one_of h = absurd one_of
-only_replayed Usage one_of h = absurd h
-only_replayed Refused one_of h = absurd h
-only_replayed TooLong one_of h = absurd h
-only_replayed ReadFault one_of h = absurd h
-only_replayed WriteFault one_of h = absurd h
-only_replayed OutOfMemory one_of h = absurd h
+only_told : (status : Status) → IsOfLog status → HasEnded status → status ≡ Done
+only_told Done one_of h = refl
+only_told Breach one_of h = absurd one_of
+only_told Usage one_of h = absurd h
+only_told Refused one_of h = absurd h
+only_told TooLong one_of h = absurd h
+only_told ReadFault one_of h = absurd h
+only_told WriteFault one_of h = absurd h
+only_told OutOfMemory one_of h = absurd h
 
 pub logs_write : (status : Status) → IsOfLog status → ¬ WritesNothing status
 logs_write Done one_of h = h
@@ -573,59 +477,33 @@ logs_write ReadFault one_of h = one_of
 logs_write WriteFault one_of h = h
 logs_write OutOfMemory one_of h = one_of
 
-due_of_replay : (bytes text : List ℕ) (is_plain : Bool) (told : Option (List Turn)) → BreaksLog bytes text ⊎ IsReplay bytes text
-    → IsRefusedAlone Replay bytes told told text ⊎ IsDueSoFar Replay bytes is_plain told told text
-due_of_replay bytes text is_plain told (inl breaks) = inl (record { refused = breaks; silent = refl })
-due_of_replay bytes text is_plain told (inr replay) = inr (replay, record { done = refl; silent = refl })
+due_of_either : (limit : ℕ) (IsText IsLine : List ℕ → List ℕ → Type 0) (bytes text : List ℕ) (is_plain : Bool) (told : Option (List Turn)) → Either IsLine IsText bytes text
+    → IsRefusedAlone (alone_command limit IsText IsLine) bytes told told text ⊎ (alone_command limit IsText IsLine).is_due_so_far bytes is_plain told told text
+due_of_either limit IsText IsLine bytes text is_plain told (inl line) = inl (record { refused = line; silent = refl })
+due_of_either limit IsText IsLine bytes text is_plain told (inr due) = inr (due, record { done = refl; silent = refl })
 
-pub replay_answers : (bytes : List ℕ) (status : Status) (left left' : Option (List ℕ)) (reads reads' : ℕ) (held held' : Option (List ℕ))
-    (writes writes' : ℕ) (is_plain : Bool) (told : Option (List Turn)) → ReadsToEnd left left' bytes → Gave left left' (λ n. n ≤ log_limit)
-    → Replays bytes status held held' writes writes'
-    → Answers Replay status left left' reads reads' held held' writes writes' is_plain told told
-replay_answers bytes status left left' reads reads' held held' writes writes' is_plain told read short x = record {
+pub alone_answers : (limit : ℕ) (IsText IsLine : List ℕ → List ℕ → Type 0) (bytes : List ℕ) (status : Status) (left left' : Option (List ℕ)) (reads reads' : ℕ)
+    (held held' : Option (List ℕ)) (writes writes' : ℕ) (is_plain : Bool) (told : Option (List Turn)) → ReadsToEnd left left' bytes → Gave left left' (λ n. n ≤ limit)
+    → Tells IsText IsLine bytes status held held' writes writes'
+    → CommandAnswers (alone_command limit IsText IsLine) status left left' reads reads' held held' writes writes' is_plain told told
+alone_answers limit IsText IsLine bytes status left left' reads reads' held held' writes writes' is_plain told read short x = record {
   known = no_log status Usage (λ h. h) x.one_of;
-  ended = λ h. let done = only_replayed status x.one_of h in let all = x.done done in
-      record { input = bytes; text = all.text; read = read; written = all.written; due = (all.replay, record { done = done; silent = refl }) };
-  refused = λ e. let r = x.refused e in record { input = bytes; line = r.line; read = read; refused = r.breaks; written = r.written };
+  ended = λ h. let done = only_told status x.one_of h in let all = x.done done in
+      record { input = bytes; text = all.text; read = read; written = all.written; due = (all.due, record { done = done; silent = refl }) };
+  refused = λ e. let r = x.refused e in record { input = bytes; line = r.text; read = read; refused = r.due; written = r.written };
   unread = record {
     too_long = λ e. absurd (no_log status TooLong (λ h. h) x.one_of e);
     short_enough = λ e. short;
     fault = λ e. absurd (no_log status ReadFault (λ h. h) x.one_of e);
   };
-  failed = λ e. let part = x.part e in
-      record { rose = x.cause e; input = bytes; text = part.text; read = read; due = due_of_replay bytes part.text is_plain told part.due; written = part.written };
-}
-
--- a log, or what is none of a BIU, has been read to be listened to
-pub record Listens (skip : ℕ) (bytes : List ℕ) (status : Status) (held held' : Option (List ℕ)) (writes writes' : ℕ) : Type 0 where
-  pub done : status ≡ Done → IsListened skip bytes held held'
-  pub refused : status ≡ Refused → RefusesToListen bytes held held'
-  pub part : status ≡ WriteFault → FailsToListen skip bytes held held'
-  pub cause : status ≡ WriteFault → Rose writes writes'
-  pub one_of : IsOfLog status
-
-due_of_listening : (skip : ℕ) (bytes text : List ℕ) (is_plain : Bool) (told : Option (List Turn))
-    → (BreaksLog bytes text ⊎ IsOfRmu bytes text) ⊎ IsOverheard skip bytes text
-    → IsRefusedAlone (Listen skip) bytes told told text ⊎ IsDueSoFar (Listen skip) bytes is_plain told told text
-due_of_listening skip bytes text is_plain told (inl refused) = inl (record { refused = refused; silent = refl })
-due_of_listening skip bytes text is_plain told (inr overheard) = inr (overheard, record { done = refl; silent = refl })
-
-pub listen_answers : (skip : ℕ) (bytes : List ℕ) (status : Status) (left left' : Option (List ℕ)) (reads reads' : ℕ) (held held' : Option (List ℕ))
-    (writes writes' : ℕ) (is_plain : Bool) (told : Option (List Turn)) → ReadsToEnd left left' bytes → Gave left left' (λ n. n ≤ log_limit)
-    → Listens skip bytes status held held' writes writes'
-    → Answers (Listen skip) status left left' reads reads' held held' writes writes' is_plain told told
-listen_answers skip bytes status left left' reads reads' held held' writes writes' is_plain told read short x = record {
-  known = no_log status Usage (λ h. h) x.one_of;
-  ended = λ h. let done = only_replayed status x.one_of h in let all = x.done done in
-      record { input = bytes; text = all.text; read = read; written = all.written; due = (all.overheard, record { done = done; silent = refl }) };
-  refused = λ e. let r = x.refused e in record { input = bytes; line = r.line; read = read; refused = r.refused; written = r.written };
-  unread = record {
-    too_long = λ e. absurd (no_log status TooLong (λ h. h) x.one_of e);
-    short_enough = λ e. short;
-    fault = λ e. absurd (no_log status ReadFault (λ h. h) x.one_of e);
+  failed = λ e. let part = x.part e in record {
+    rose = x.cause e;
+    input = bytes;
+    text = part.text;
+    read = read;
+    due = due_of_either limit IsText IsLine bytes part.text is_plain told part.due;
+    written = part.written;
   };
-  failed = λ e. let part = x.part e in
-      record { rose = x.cause e; input = bytes; text = part.text; read = read; due = due_of_listening skip bytes part.text is_plain told part.due; written = part.written };
 }
 
 unread_is_no_end : (status : Status) → IsNotRead status → ¬ HasEnded status
@@ -638,21 +516,10 @@ unread_is_no_end ReadFault one_of h = h
 unread_is_no_end WriteFault one_of h = one_of
 unread_is_no_end OutOfMemory one_of h = h
 
-pub unread_answers : (status : Status) (left left' : Option (List ℕ)) (reads reads' : ℕ) (held : Option (List ℕ)) (writes : ℕ) (is_plain : Bool) (told : Option (List Turn))
-    → IsNotRead status → IsUnreadOver log_limit status left left' reads reads'
-    → Answers Replay status left left' reads reads' held held writes writes is_plain told told
-unread_answers status left left' reads reads' held writes is_plain told one_of unread = record {
-  known = λ e. let P : Status → Type 0 = λ s. IsNotRead s in subst P e one_of;
-  ended = λ h. absurd (unread_is_no_end status one_of h);
-  refused = λ e. let P : Status → Type 0 = λ s. IsNotRead s in absurd (subst P e one_of);
-  unread = unread;
-  failed = λ e. let P : Status → Type 0 = λ s. IsNotRead s in absurd (subst P e one_of);
-}
-
-pub unread_to_listen : (skip : ℕ) (status : Status) (left left' : Option (List ℕ)) (reads reads' : ℕ) (held : Option (List ℕ)) (writes : ℕ) (is_plain : Bool) (told : Option (List Turn))
-    → IsNotRead status → IsUnreadOver log_limit status left left' reads reads'
-    → Answers (Listen skip) status left left' reads reads' held held writes writes is_plain told told
-unread_to_listen skip status left left' reads reads' held writes is_plain told one_of unread = record {
+pub unread_answers : (command : Command) (status : Status) (left left' : Option (List ℕ)) (reads reads' : ℕ) (held : Option (List ℕ)) (writes : ℕ) (is_plain : Bool)
+    (told : Option (List Turn)) → IsNotRead status → IsUnreadBy command.limit status left left' reads reads'
+    → CommandAnswers command status left left' reads reads' held held writes writes is_plain told told
+unread_answers command status left left' reads reads' held writes is_plain told one_of unread = record {
   known = λ e. let P : Status → Type 0 = λ s. IsNotRead s in subst P e one_of;
   ended = λ h. absurd (unread_is_no_end status one_of h);
   refused = λ e. let P : Status → Type 0 = λ s. IsNotRead s in absurd (subst P e one_of);

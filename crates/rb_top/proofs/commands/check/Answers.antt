@@ -1,8 +1,9 @@
-use Rattle.std.proofs.Common.{subst}
+use Rattle.std.proofs.Common.{None, subst, true}
 use Rattle.rb_top.specs.CheckText.{check_text}
-use Rattle.rb_top.proofs.FormAnswers.{Writes, check_reads, none_answers, not_two, of_two, sides_answer}
-use Rattle.rb_top.specs.declared.form.Form.TheVariants.{Check}
-use Rattle.rb_top.proofs.serving.check.Goals as goal
+use Rattle.rb_top.proofs.CommandAnswers.{Writes, check_reads, none_answers, not_two, of_two, sides_answer}
+use Rattle.rb_top.specs.Commands.{check_command}
+use Rattle.rb_top.proofs.Completeness.{check_sound, completes}
+use Rattle.rb_top.proofs.commands.check.Goals as goal
 
 pub returns-in-Ok-clause-answers : goal.returns-in-Ok-clause-answers
 returns-in-Ok-clause-answers g c is_plain told =
@@ -17,7 +18,13 @@ returns-in-Ok-clause-answers g c is_plain told =
     }))
 
 pub returns-in-Err-clause-answers : goal.returns-in-Err-clause-answers
-returns-in-Err-clause-answers g c is_plain told = none_answers Check check_reads c.in-Err.status _ _ _ _ _ _ _ _ is_plain told c.in-Err.ensures.none
+returns-in-Err-clause-answers g c is_plain told = none_answers check_command check_reads c.in-Err.status _ _ _ _ _ _ _ _ is_plain told c.in-Err.ensures.none
 
 pub returns-in-Ok-clause-unwritten : goal.returns-in-Ok-clause-unwritten
 returns-in-Ok-clause-unwritten g c h = absurd (not_two c.show_sides.result c.show_sides.ensures.one_of h)
+
+pub returns-in-Ok-clause-complete : goal.returns-in-Ok-clause-complete
+returns-in-Ok-clause-complete g c = completes check_command check_sound _ _ _ _ _ _ _ _ _ _ _ _ (returns-in-Ok-clause-answers g c true None)
+
+pub returns-in-Err-clause-complete : goal.returns-in-Err-clause-complete
+returns-in-Err-clause-complete g c = completes check_command check_sound _ _ _ _ _ _ _ _ _ _ _ _ (returns-in-Err-clause-answers g c true None)

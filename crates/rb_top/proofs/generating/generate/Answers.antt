@@ -5,7 +5,7 @@ use Rattle.rb_outside.specs.Bytes.{AppendsPart}
 use Rattle.rb_rules.specs.Goodness.{Scenario}
 use Rattle.rb_gen.specs.Text.{lines_of}
 use Rattle.rb_top.specs.Texts.{generated_text}
-use Rattle.rb_top.proofs.generating.generate_text.Goals as goal
+use Rattle.rb_top.proofs.generating.generate.Goals as goal
 
 pub returns-in-Ok-write_generated-clause-done : goal.returns-in-Ok-write_generated-clause-done
 unfolding generated_text

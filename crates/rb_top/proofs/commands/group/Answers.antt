@@ -1,0 +1,62 @@
+use Rattle.std.proofs.Common.{◌∙◌, subst, sym}
+use Rattle.std.proofs.lemmas.Bool.{false≢true}
+use Rattle.rb_top.proofs.CommandAnswers.{Lacks, Reports, group_reads, group_reports, group_tells, is_memory, is_memory_only, lack_answers, lacks_member, neither_is_silent, none_answers, report_answers}
+use Rattle.rb_top.specs.Inputs.{member_text}
+use Rattle.rb_top.specs.Texts.{told_by_group}
+use Rattle.rb_top.specs.Commands.{group_command}
+use Rattle.rb_top.proofs.Completeness.{completes, group_sound}
+use Rattle.rb_top.proofs.Promised.{group_promised}
+use Rattle.rb_top.proofs.commands.group.Goals as goal
+
+pub returns-in-Err-clause-answers : goal.returns-in-Err-clause-answers
+returns-in-Err-clause-answers g c =
+    none_answers (group_command c.args.asked.now.which c.args.asked.now.members) (group_reads c.args.asked.now.which c.args.asked.now.members) c.in-Err.status _ _ _ _ _ _ _ _ _ _ c.in-Err.ensures.none
+
+pub returns-then-not-has_all-clause-answers : goal.returns-then-not-has_all-clause-answers
+returns-then-not-has_all-clause-answers g c =
+    let P : g.row.K.Denot → Type 0 = λ k. Lacks member_text c.refuse_member.result (g.K.Sink.held k) (g.K.Sink.held c.refuse_member.new.output) (g.K.Sink.faults k) (g.K.Sink.faults c.refuse_member.new.output) in
+    lack_answers (group_command c.args.asked.now.which c.args.asked.now.members) c.in-Ok.scenario member_text c.refuse_member.result _ _ _ _ _ _ _ _ _ _ (group_reads c.args.asked.now.which c.args.asked.now.members)
+    (lacks_member c.in-Ok.scenario c.args.asked.now.which c.args.asked.now.members (λ there. false≢true (sym c.if-not-has_all.true ∙ c.has_all.ensures.1 there))) c.in-Ok.ensures.scenario
+    (subst P c.in-Ok.ensures.unwritten (record {
+      refused = c.refuse_member.ensures.refused;
+      part = c.refuse_member.ensures.part;
+      cause = c.refuse_member.ensures.cause;
+      one_of = c.refuse_member.ensures.either;
+    }))
+
+pub returns-clause-answers : goal.returns-clause-answers
+returns-clause-answers g c =
+    let asked = c.args.asked.now in
+    let P : g.row.K.Denot → Type 0 = λ k. Reports (told_by_group asked.which asked.members) c.in-Ok.scenario c.tell_group.result (g.K.Sink.held k) (g.K.Sink.held c.tell_group.new.output)
+    (g.K.Sink.faults k) (g.K.Sink.faults c.tell_group.new.output) (g.D.Drive.is_plain c.args.drive.now) (g.D.Drive.told c.args.drive.now) (g.D.Drive.told c.tell_group.new.drive) in
+    report_answers (group_command asked.which asked.members) (told_by_group asked.which asked.members) c.in-Ok.scenario c.tell_group.result _ _ _ _ _ _ _ _ _ _ _
+    (group_tells c.in-Ok.scenario asked.which asked.members (c.has_all.ensures.0 c.if-not-has_all.false)) c.in-Ok.ensures.scenario
+    (subst P c.in-Ok.ensures.unwritten
+    (group_reports c.in-Ok.scenario asked c.tell_group.result _ _ _ _ _ _ _ c.tell_group.ensures.ended c.tell_group.ensures.part c.tell_group.ensures.cause c.tell_group.ensures.one_of))
+
+pub returns-then-not-has_all-clause-unwritten : goal.returns-then-not-has_all-clause-unwritten
+returns-then-not-has_all-clause-unwritten g c h = absurd (neither_is_silent c.refuse_member.result c.refuse_member.ensures.either h)
+
+pub returns-clause-unwritten : goal.returns-clause-unwritten
+returns-clause-unwritten g c h = (c.tell_group.ensures.unopened (is_memory c.tell_group.result c.tell_group.ensures.one_of h)).0 ∙ c.in-Ok.ensures.unwritten
+
+pub returns-clause-not_driven : goal.returns-clause-not_driven
+returns-clause-not_driven g c h = (c.tell_group.ensures.unopened (is_memory_only c.tell_group.result c.tell_group.ensures.one_of h)).1
+
+pub returns-in-Err-clause-promise : goal.returns-in-Err-clause-promise
+returns-in-Err-clause-promise g c plain h = group_promised _ _ _ _ _ _ _ _ _ _ plain ((returns-in-Err-clause-answers g c).ended h)
+
+pub returns-in-Err-clause-complete : goal.returns-in-Err-clause-complete
+returns-in-Err-clause-complete g c = completes (group_command c.args.asked.now.which c.args.asked.now.members) (group_sound _ _) _ _ _ _ _ _ _ _ _ _ _ _ (returns-in-Err-clause-answers g c)
+
+pub returns-then-not-has_all-clause-promise : goal.returns-then-not-has_all-clause-promise
+returns-then-not-has_all-clause-promise g c plain h = group_promised _ _ _ _ _ _ _ _ _ _ plain ((returns-then-not-has_all-clause-answers g c).ended h)
+
+pub returns-then-not-has_all-clause-complete : goal.returns-then-not-has_all-clause-complete
+returns-then-not-has_all-clause-complete g c = completes (group_command c.args.asked.now.which c.args.asked.now.members) (group_sound _ _) _ _ _ _ _ _ _ _ _ _ _ _ (returns-then-not-has_all-clause-answers g c)
+
+pub returns-clause-promise : goal.returns-clause-promise
+returns-clause-promise g c plain h = group_promised _ _ _ _ _ _ _ _ _ _ plain ((returns-clause-answers g c).ended h)
+
+pub returns-clause-complete : goal.returns-clause-complete
+returns-clause-complete g c = completes (group_command c.args.asked.now.which c.args.asked.now.members) (group_sound _ _) _ _ _ _ _ _ _ _ _ _ _ _ (returns-clause-answers g c)

@@ -1,0 +1,193 @@
+//! Commands that read a source: each is a word of the program as a call of its own.
+ghost use Rattle.std.specs.Prelude.{◌≡◌, Bool, IsTrue, List, Option};
+ghost use Rattle.rb_world_book.specs.declared.turn.Turn.{Turn};
+ghost use Rattle.rb_top.specs.Answers.{CommandAnswers, CommandCompletes};
+ghost use Rattle.rb_top.specs.Commands.{check_command, group_command, letters_command, listen_command, record_command, replay_command, run_command};
+ghost use Rattle.rb_top.specs.Promise.{KeepsTheHeadline};
+ghost use Rattle.rb_top.specs.Statuses.{HasEnded, RunsNothing, WritesNothing};
+ghost use Rattle.rb_top.specs.Texts.{told_by_group, told_by_letters, told_by_run};
+
+use crate::checking::show_sides;
+use crate::listening::listen_to;
+use crate::reading::{read_log, read_scenario, refuse, refuse_member};
+use crate::recording::{has_node, write_log};
+use crate::replaying::replay_bytes;
+use crate::running::report;
+use crate::status::Status;
+use crate::telling::{has_all, tell_group, tell_letters};
+use rb_base::NodeName;
+use rb_group::Voters;
+use rb_group_run::Asked;
+use rb_outside::{Sink, Source};
+use rb_port::Apps;
+use rb_scenario::Refusal;
+use rb_world::Drive;
+use std::alloc::Global;
+
+/// `run`: reads a scenario, runs it and writes the report of the drive's turns, a line at a time.
+///
+/// Times in the report are in units, ticks are of a node's own clock. `Done`, and `Breach` where the run ends with a breach of the fault premise:
+/// all is written. `Refused`: the input breaks a rule of scenarios, and one line says which. `TooLong`: the source gave more than 4,194,304 bytes.
+/// `ReadFault`, `WriteFault`: the source or the sink failed. `OutOfMemory`: an allocation failed before anything was written. `Usage` never comes.
+pub fn run<S: Source, K: Sink, D: Drive>(
+    alloc: Global,
+    input: &mut S,
+    output: &mut K,
+    apps: &Apps,
+    drive: &mut D,
+) -> Status
+    ensures promise { IsTrue (D.is_plain drive.old) → HasEnded result
+        → KeepsTheHeadline told_by_run result (S.left input.old) (S.left input.new) (K.held output.old) (K.held output.new) }
+    ensures answers { CommandAnswers run_command result (S.left input.old) (S.left input.new) (S.faults input.old) (S.faults input.new)
+        (K.held output.old) (K.held output.new) (K.faults output.old) (K.faults output.new)
+        (D.is_plain drive.old) (D.told drive.old) (D.told drive.new) }
+    ensures complete { CommandCompletes run_command result (S.left input.old) (S.faults input.old) (S.faults input.new)
+        (K.faults output.old) (K.faults output.new) }
+    ensures unwritten { WritesNothing result → output.new ≡ output.old }
+    ensures not_driven { RunsNothing result → drive.new ≡ drive.old }
+{
+    match read_scenario(alloc, input, output) {
+        Ok(scenario) => report(alloc, scenario, output, apps, drive),
+        Err(status) => status,
+    }
+}
+
+/// `check`: reads a scenario and writes both sides of the seven inequalities of its timing plan, in units, a line each.
+///
+/// Answers come as those of `run`; `Breach` and `Usage` never come.
+pub fn check<S: Source, K: Sink>(alloc: Global, input: &mut S, output: &mut K) -> Status
+    ensures answers { (is_plain : Bool) (told : Option (List Turn))
+        → CommandAnswers check_command result (S.left input.old) (S.left input.new) (S.faults input.old) (S.faults input.new)
+        (K.held output.old) (K.held output.new) (K.faults output.old) (K.faults output.new) is_plain told told }
+    ensures complete { CommandCompletes check_command result (S.left input.old) (S.faults input.old) (S.faults input.new)
+        (K.faults output.old) (K.faults output.new) }
+    ensures unwritten { WritesNothing result → output.new ≡ output.old }
+{
+    match read_scenario(alloc, input, output) {
+        Ok(scenario) => show_sides(&scenario, output),
+        Err(status) => status,
+    }
+}
+
+/// `record NODE`: reads a scenario, runs it by first choices and writes the log of all that the node is given.
+///
+/// `Done` and `Breach`: the log is written whole. `Refused`: the input breaks a rule of scenarios, or its bus has no such node. Other answers come
+/// as those of `run`.
+pub fn record<S: Source, K: Sink>(
+    alloc: Global,
+    node: NodeName,
+    input: &mut S,
+    output: &mut K,
+    apps: &Apps,
+) -> Status
+    ensures answers { (is_plain : Bool) (told : Option (List Turn))
+        → CommandAnswers (record_command node) result (S.left input.old) (S.left input.new) (S.faults input.old) (S.faults input.new)
+        (K.held output.old) (K.held output.new) (K.faults output.old) (K.faults output.new) is_plain told told }
+    ensures complete { CommandCompletes (record_command node) result (S.left input.old) (S.faults input.old) (S.faults input.new)
+        (K.faults output.old) (K.faults output.new) }
+    ensures unwritten { WritesNothing result → output.new ≡ output.old }
+{
+    let scenario = match read_scenario(alloc, input, output) {
+        Ok(scenario) => scenario,
+        Err(status) => return status,
+    };
+    if !has_node(&scenario, node) {
+        return refuse(Refusal::NoSuchNode, output);
+    }
+    write_log(alloc, scenario, node, output, apps)
+}
+
+/// `replay`: reads a log, gives it to its node and writes what that tells.
+///
+/// `Done`: all is written. `Refused`: the input spells no log, and one line says why and at which byte. `TooLong`: the source gave more than
+/// 67,108,864 bytes. Other answers come as those of `run`; `Breach` and `Usage` never come.
+pub fn replay<S: Source, K: Sink>(alloc: Global, input: &mut S, output: &mut K) -> Status
+    ensures answers { (is_plain : Bool) (told : Option (List Turn))
+        → CommandAnswers replay_command result (S.left input.old) (S.left input.new) (S.faults input.old) (S.faults input.new)
+        (K.held output.old) (K.held output.new) (K.faults output.old) (K.faults output.new) is_plain told told }
+    ensures complete { CommandCompletes replay_command result (S.left input.old) (S.faults input.old) (S.faults input.new)
+        (K.faults output.old) (K.faults output.new) }
+    ensures unwritten { WritesNothing result → output.new ≡ output.old }
+{
+    match read_log(alloc, input) {
+        Ok(bytes) => replay_bytes(&bytes, output),
+        Err(status) => status,
+    }
+}
+
+/// `listen SKIP`: reads the log of a BIU, gives it to a passive listener from this tick of the BIU's clock on and writes what that tells.
+///
+/// Answers come as those of `replay`; `Refused` comes of the log of an RMU, too.
+pub fn listen<S: Source, K: Sink>(alloc: Global, skip: u32, input: &mut S, output: &mut K) -> Status
+    ensures answers { (is_plain : Bool) (told : Option (List Turn))
+        → CommandAnswers (listen_command skip) result (S.left input.old) (S.left input.new) (S.faults input.old) (S.faults input.new)
+        (K.held output.old) (K.held output.new) (K.faults output.old) (K.faults output.new) is_plain told told }
+    ensures complete { CommandCompletes (listen_command skip) result (S.left input.old) (S.faults input.old) (S.faults input.new)
+        (K.faults output.old) (K.faults output.new) }
+    ensures unwritten { WritesNothing result → output.new ≡ output.old }
+{
+    match read_log(alloc, input) {
+        Ok(bytes) => listen_to(&bytes, skip, output),
+        Err(status) => status,
+    }
+}
+
+/// `letters`: reads a scenario, runs it and writes each letter that a port receives whole in the drive's turns, a line each.
+///
+/// Answers come as those of `run`.
+pub fn letters<S: Source, K: Sink, D: Drive>(
+    alloc: Global,
+    input: &mut S,
+    output: &mut K,
+    apps: &Apps,
+    drive: &mut D,
+) -> Status
+    ensures promise { IsTrue (D.is_plain drive.old) → HasEnded result
+        → KeepsTheHeadline told_by_letters result (S.left input.old) (S.left input.new) (K.held output.old) (K.held output.new) }
+    ensures answers { CommandAnswers letters_command result (S.left input.old) (S.left input.new) (S.faults input.old) (S.faults input.new)
+        (K.held output.old) (K.held output.new) (K.faults output.old) (K.faults output.new)
+        (D.is_plain drive.old) (D.told drive.old) (D.told drive.new) }
+    ensures complete { CommandCompletes letters_command result (S.left input.old) (S.faults input.old) (S.faults input.new)
+        (K.faults output.old) (K.faults output.new) }
+    ensures unwritten { WritesNothing result → output.new ≡ output.old }
+    ensures not_driven { RunsNothing result → drive.new ≡ drive.old }
+{
+    match read_scenario(alloc, input, output) {
+        Ok(scenario) => tell_letters(alloc, scenario, output, apps, drive),
+        Err(status) => status,
+    }
+}
+
+/// `group most MASK`, `group mid MASK`: reads a scenario, runs it and writes what the good BIUs find for a group of replicas, by its voter, in each
+/// complete frame of the drive's turns.
+///
+/// `Refused`: the input breaks a rule of scenarios, or its bus lacks a member. Other answers come as those of `run`.
+pub fn group<S: Source, K: Sink, D: Drive>(
+    alloc: Global,
+    asked: &Asked,
+    input: &mut S,
+    output: &mut K,
+    apps: &Apps,
+    drive: &mut D,
+    voters: &Voters,
+) -> Status
+    ensures promise { IsTrue (D.is_plain drive.old) → HasEnded result
+        → KeepsTheHeadline (told_by_group asked.now.which asked.now.members) result (S.left input.old) (S.left input.new) (K.held output.old) (K.held output.new) }
+    ensures answers { CommandAnswers (group_command asked.now.which asked.now.members) result
+        (S.left input.old) (S.left input.new) (S.faults input.old) (S.faults input.new)
+        (K.held output.old) (K.held output.new) (K.faults output.old) (K.faults output.new)
+        (D.is_plain drive.old) (D.told drive.old) (D.told drive.new) }
+    ensures complete { CommandCompletes (group_command asked.now.which asked.now.members) result (S.left input.old) (S.faults input.old) (S.faults input.new)
+        (K.faults output.old) (K.faults output.new) }
+    ensures unwritten { WritesNothing result → output.new ≡ output.old }
+    ensures not_driven { RunsNothing result → drive.new ≡ drive.old }
+{
+    let scenario = match read_scenario(alloc, input, output) {
+        Ok(scenario) => scenario,
+        Err(status) => return status,
+    };
+    if !has_all(&scenario, asked.members.bits()) {
+        return refuse_member(output);
+    }
+    tell_group(alloc, scenario, asked, output, apps, drive, voters)
+}
