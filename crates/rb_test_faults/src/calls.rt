@@ -6,24 +6,28 @@ use rb_top::{Status, run_robus};
 use rb_world::{Drive, FirstDrive};
 use std::alloc::{AllocError, Global};
 
-/// How a run ends with this source, this sink and this drive.
-pub(crate) fn run<S: Source, K: Sink, D: Drive>(
+/// How the call with these words ends, with this source, this sink and this drive.
+pub(crate) fn call<S: Source, K: Sink, D: Drive>(
     alloc: Global,
+    words: &str,
     source: &mut S,
     sink: &mut K,
     drive: &mut D,
 ) -> Result<Status, AllocError> {
-    let words = vec![in alloc; String::from_str(alloc, "run")?]?;
+    let mut list = Vec::new(alloc);
+    for word in words.split_whitespace() {
+        list.push(String::from_str(alloc, word)?)?;
+    }
     let apps = applications!(alloc);
     let voters = voters!(alloc);
-    Ok(run_robus(alloc, &words, source, sink, &apps, drive, &voters))
+    Ok(run_robus(alloc, &list, source, sink, &apps, drive, &voters))
 }
 
-/// The same with the drive that takes the first event that is due.
+/// How a run ends with the drive that takes the first event that is due.
 pub(crate) fn run_first<S: Source, K: Sink>(
     alloc: Global,
     source: &mut S,
     sink: &mut K,
 ) -> Result<Status, AllocError> {
-    run(alloc, source, sink, &mut FirstDrive::new())
+    call(alloc, "run", source, sink, &mut FirstDrive::new())
 }

@@ -1,5 +1,5 @@
 //! Runs whose records are taken from a drive that keeps them, and that may hide what was delivered.
-use crate::calls::run;
+use crate::calls::call;
 use crate::texts::{ORDINARY, ORDINARY_TEXT, SMALLEST, bytes_of};
 use rb_outside::{MemSink, MemSource};
 use rb_top::Status;
@@ -28,7 +28,7 @@ fn outcome_of(alloc: Global, document: &str, room: usize, mask: bool) -> Result<
     let Ok(mut drive) = MemDrive::new(alloc, room, mask) else {
         return Err("no memory".into());
     };
-    let status = run(alloc, &mut source, &mut sink, &mut drive)?;
+    let status = call(alloc, "run", &mut source, &mut sink, &mut drive)?;
     Ok(Outcome {
         status,
         held: sink.bytes().to_vec(alloc)?,

@@ -1,7 +1,9 @@
-//! Edges of the outside: sources and sinks that fail, that give and take a few bytes at a time, and inputs that are too long; and drives
-//! that keep what they gave.
+//! Edges of the outside: sources and sinks that fail, that give and take a few bytes at a time, readers and writers of std behind them, and
+//! inputs that are too long; and drives that keep what they gave.
 #![tactic(auto)]
 
+#[cfg(test)]
+mod adapters;
 #[cfg(test)]
 mod calls;
 #[cfg(test)]

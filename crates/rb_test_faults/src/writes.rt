@@ -1,12 +1,13 @@
 //! Sinks that fail: what they were given before stays, and no call follows the one that fails.
-use crate::calls::run_first;
-use crate::texts::{ORDINARY, SMALLEST, SMALLEST_LINES, bytes_of};
+use crate::calls::call;
+use crate::texts::{ORDINARY, SMALLEST, SMALLEST_LINES};
 use rb_outside::{MemSink, MemSource};
 use rb_top::Status;
+use rb_world::FirstDrive;
 use std::alloc::{AllocError, Global};
 use std::test::Fail;
 
-/// What came of a run: how it ended, the bytes that were written, and the calls that the sink had.
+/// What came of a call: how it ended, the bytes that were written, and the calls that the sink had.
 #[derive(Drop)]
 struct Outcome {
     status: Status,
@@ -14,13 +15,13 @@ struct Outcome {
     calls: u64,
 }
 
-// What comes of a document's run where this write fails, counted from 1.
-fn outcome_of(alloc: Global, document: &str, failing: u64) -> Result<Outcome, Fail> {
-    let mut source = MemSource::new(bytes_of(alloc, document)?, Vec::new(alloc));
+// What comes of a call with these words where this write fails, counted from 1.
+fn outcome_of(alloc: Global, words: &str, input: &[u8], failing: u64) -> Result<Outcome, Fail> {
+    let mut source = MemSource::new(input.to_vec(alloc)?, Vec::new(alloc));
     let Ok(mut sink) = MemSink::new(alloc, 1000, vec![in alloc; failing]?) else {
         return Err("no memory".into());
     };
-    let status = run_first(alloc, &mut source, &mut sink)?;
+    let status = call(alloc, words, &mut source, &mut sink, &mut FirstDrive::new())?;
     Ok(Outcome {
         status,
         held: sink.bytes().to_vec(alloc)?,
@@ -45,7 +46,7 @@ fn lines_before(alloc: Global, failing: u64) -> Result<Vec<u8>, AllocError> {
 fn each_write_fails(rt: HostRuntime) -> Result<(), Fail> {
     let alloc = rt.alloc();
     for failing in 1..=12u64 {
-        let found = outcome_of(alloc, SMALLEST, failing)?;
+        let found = outcome_of(alloc, "run", SMALLEST.as_bytes(), failing)?;
         assert_eq!(rt; found.status, Status::WriteFault, "write {failing}");
         assert_eq!(rt; found.calls, failing, "write {failing}");
         assert_eq!(rt;
@@ -55,7 +56,7 @@ fn each_write_fails(rt: HostRuntime) -> Result<(), Fail> {
         );
     }
     // There are no more than twelve.
-    let found = outcome_of(alloc, SMALLEST, 13)?;
+    let found = outcome_of(alloc, "run", SMALLEST.as_bytes(), 13)?;
     assert_eq!(rt; found.status, Status::Done);
     assert_eq!(rt; found.calls, 12);
     assert_eq!(rt; found.held, lines_before(alloc, 13)?);
@@ -64,7 +65,7 @@ fn each_write_fails(rt: HostRuntime) -> Result<(), Fail> {
 
 #[test]
 fn the_third_write_fails(rt: HostRuntime) -> Result<(), Fail> {
-    let found = outcome_of(rt.alloc(), ORDINARY, 3)?;
+    let found = outcome_of(rt.alloc(), "run", ORDINARY.as_bytes(), 3)?;
     assert_eq!(rt; found.status, Status::WriteFault);
     assert_eq!(rt; found.calls, 3);
     assert_eq!(rt;
@@ -77,8 +78,33 @@ fn the_third_write_fails(rt: HostRuntime) -> Result<(), Fail> {
 // The line of a refusal is written, too.
 #[test]
 fn a_refusal_is_not_taken(rt: HostRuntime) -> Result<(), Fail> {
-    let found = outcome_of(rt.alloc(), "", 1)?;
+    let found = outcome_of(rt.alloc(), "run", b"", 1)?;
     assert_eq!(rt; found.status, Status::WriteFault);
     assert_eq!(rt; found.calls, 1);
+    Ok(())
+}
+
+// Which write of R0's log fails, and how many bytes are held then: none, the header, all but the end.
+const HELD_OF_A_LOG: [(u64, usize); 3] = [(1, 0), (2, 50), (3, 202)];
+
+#[test]
+fn a_write_of_a_log_fails(rt: HostRuntime) -> Result<(), Fail> {
+    let alloc = rt.alloc();
+    let whole = outcome_of(alloc, "record R0", SMALLEST.as_bytes(), 4)?;
+    assert_eq!(rt; whole.status, Status::Done);
+    assert_eq!(rt; whole.held.len(), 208);
+    for (failing, held) in HELD_OF_A_LOG {
+        let found = outcome_of(alloc, "record R0", SMALLEST.as_bytes(), failing)?;
+        let mut log = whole.held.to_vec(alloc)?;
+        log.truncate(held);
+        assert_eq!(rt; found.status, Status::WriteFault, "write {failing}");
+        assert_eq!(rt; found.calls, failing, "write {failing}");
+        assert_eq!(rt; found.held, log, "write {failing}");
+    }
+    // What the log tells is written line by line.
+    let told = outcome_of(alloc, "replay", &whole.held, 3)?;
+    assert_eq!(rt; told.status, Status::WriteFault);
+    assert_eq!(rt; told.calls, 3);
+    assert_eq!(rt; told.held.as_slice(), b"e 0 R0 0\nc 0 R0 0 0\n".as_slice());
     Ok(())
 }
