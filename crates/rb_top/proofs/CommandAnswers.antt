@@ -6,7 +6,7 @@ use Rattle.rb_outside.specs.Causes.{Rose}
 use Rattle.rb_base.specs.declared.node.NodeName.{NodeName}
 use Rattle.rb_rules.specs.Lawful.{IsNodeOf}
 use Rattle.rb_scenario_entries.specs.declared.refusal.Refusal.TheVariants.{NoSuchNode}
-use Rattle.rb_record.specs.Recording.{WritesPart as WritesPartOf, log_text}
+use Rattle.rb_record.specs.Recording.{WritesPart as WritesLogPart, log_text}
 use Rattle.rb_scenario.specs.Acceptance.{as_scenario}
 use Rattle.rb_scenario.specs.declared.scenario.Scenario.{Scenario as Accepted}
 use Rattle.rb_world_book.specs.declared.turn.Turn.{Turn}
@@ -350,7 +350,7 @@ sum_answers seed frames status left reads held held' writes writes' is_plain tol
 -- a scenario has been read, and the log of a node of its bus was due
 pub record Logs (accepted : Accepted) (node : NodeName) (status : Status) (held held' : Option (List ℕ)) (writes writes' : ℕ) : Type 0 where
   pub ended : HasEnded status → IsLogged (as_scenario accepted) node status held held'
-  pub part : status ≡ WriteFault → WritesPartOf (as_scenario accepted) node held held'
+  pub part : status ≡ WriteFault → WritesLogPart (as_scenario accepted) node held held'
   pub cause : status ≡ WriteFault → Rose writes writes'
   pub one_of : IsOfRun status
 

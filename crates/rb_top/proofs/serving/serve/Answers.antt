@@ -1,7 +1,9 @@
 use Rattle.std.proofs.Common.{subst, sym}
 use Rattle.rb_top.specs.declared.form.Form.{Form}
 use Rattle.rb_long_run.specs.Reports.{spelling_text}
+use Rattle.rb_group_run.specs.declared.asked.Asked.{Asked}
 use Rattle.rb_top.specs.Answers.{CommandAnswers, command_of}
+use Rattle.rb_top.specs.Commands.{group_command}
 use Rattle.rb_top.specs.Pages.{page_text}
 use Rattle.rb_top.specs.Texts.{generated_text}
 use Rattle.rb_top.proofs.CommandAnswers.{not_two, of_two, sum_answers, text_answers}
@@ -112,4 +114,7 @@ returns-in-Group-clause-answers g c =
     let P : Form → Type 0 = λ f. CommandAnswers (command_of f) c.group.result (g.S.Source.left c.args.input.now) (g.S.Source.left c.group.new.input) (g.S.Source.faults c.args.input.now) (g.S.Source.faults c.group.new.input)
     (g.K.Sink.held c.args.output.now) (g.K.Sink.held c.group.new.output) (g.K.Sink.faults c.args.output.now) (g.K.Sink.faults c.group.new.output)
     (g.D.Drive.is_plain c.args.drive.now) (g.D.Drive.told c.args.drive.now) (g.D.Drive.told c.group.new.drive) in
-    subst P (sym c.in-Group.is) c.group.ensures.answers
+    let Q : Asked → Type 0 = λ a. CommandAnswers (group_command a.which a.members) c.group.result (g.S.Source.left c.args.input.now) (g.S.Source.left c.group.new.input)
+    (g.S.Source.faults c.args.input.now) (g.S.Source.faults c.group.new.input) (g.K.Sink.held c.args.output.now) (g.K.Sink.held c.group.new.output)
+    (g.K.Sink.faults c.args.output.now) (g.K.Sink.faults c.group.new.output) (g.D.Drive.is_plain c.args.drive.now) (g.D.Drive.told c.args.drive.now) (g.D.Drive.told c.group.new.drive) in
+    subst P (sym c.in-Group.is) (subst Q c.asked_of.ensures c.group.ensures.answers)
