@@ -10,9 +10,9 @@ ghost use Rattle.rb_rules_bridge.specs.declared.bank.Bank.TheVariants.{Left, Rig
 ghost use Rattle.rb_bridge.specs.Sides.{AfterFrame, AreUnbroken, BeforeFrame, TurnsOver};
 
 use crate::frame::is_last;
-use crate::side::Side;
 use crate::handing::hand_over;
 use crate::passing::{Passage, Terms};
+use crate::side::Side;
 use crate::values::{no_values, note};
 use rb_group_run::advance;
 use rb_rules_bridge::{Bank, Pair};

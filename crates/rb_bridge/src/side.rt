@@ -4,9 +4,9 @@ ghost use Rattle.rb_rules.specs.Lawful.{IsLawful};
 ghost use Rattle.rb_scenario.specs.Acceptance.{as_scenario};
 ghost use Rattle.rb_bridge.specs.Sides.{HasOpened};
 
-use rb_base::{Biu, NodeSet, OutOfMemory};
 use crate::passing::{Passage, Terms};
 use crate::values::no_values;
+use rb_base::{Biu, NodeSet, OutOfMemory};
 use rb_group::Which;
 use rb_group_run::{Asked, Scope, first_ports, scope_of};
 use rb_scenario::Scenario;

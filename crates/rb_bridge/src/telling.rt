@@ -12,11 +12,11 @@ ghost use Rattle.rb_bridge.specs.Refusals.{bank_of};
 ghost use Rattle.rb_bridge.specs.Sides.{break_by};
 ghost use Rattle.rb_bridge.specs.Crossing.{Finds, FindBoth, shown, told_text};
 
+use crate::lines::side_breach_line;
+use crate::receivers::write_receivers;
 use crate::side::Side;
 use arrayvec::ArrayString;
 use rb_base::Place;
-use crate::lines::side_breach_line;
-use crate::receivers::write_receivers;
 use rb_outside::{Failed, Sink, write_all};
 use rb_report::end_line;
 use rb_rules::Cause;

@@ -9,8 +9,8 @@ ghost use Rattle.rb_bridge_top.specs.Statuses.{HasEnded, IsOfRun, status_of};
 
 use crate::status::Status;
 use rb_base::OutOfMemory;
-use rb_bridge_document::Bridge;
 use rb_bridge::{cross, members_on, open_side};
+use rb_bridge_document::Bridge;
 use rb_outside::{Failed, Sink};
 use rb_port::Apps;
 use rb_rules_bridge::Bank;

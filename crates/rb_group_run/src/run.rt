@@ -6,8 +6,8 @@ ghost use Rattle.rb_group_run.specs.Holding.{IsScopeOf};
 ghost use Rattle.rb_group_run.specs.Runs.{WritesAll, WritesPart};
 
 use crate::ending::ending_at;
-use rb_group::Voters;
 use crate::{Asked, Scope, advance, first_ports, write_turn};
+use rb_group::Voters;
 use rb_outside::{Failed, Sink};
 use rb_port::Apps;
 use rb_run::Ending;

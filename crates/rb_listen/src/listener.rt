@@ -8,11 +8,11 @@ ghost use Rattle.rb_listen.specs.Listening.{Listening, TellNothing, first_search
 ghost use Rattle.rb_listen.specs.Listening.Listening.{Searching};
 ghost use Rattle.rb_listen.specs.declared.listener.Stage.TheVariants as stage;
 
+use crate::Follower;
 use crate::heed::Heed;
 use crate::lesson::First;
 use crate::search::{MOST_TICKS, Search, arrive, decision, first_search, in_time, search_on};
 use rb_base::{Delivery, NodeSet};
-use crate::Follower;
 use rb_plan::Feasible;
 use std::marker::Model;
 

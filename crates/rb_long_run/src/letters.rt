@@ -8,9 +8,9 @@ ghost use Rattle.rb_outside.specs.Bytes.{AppendsPart};
 ghost use Rattle.rb_outside.specs.Causes.{HasCause};
 ghost use Rattle.rb_run.specs.Runs.{EndsWith, HasGivenNothing};
 
+use crate::Receivers;
 use crate::ending::{ending_at, newest_block};
 use crate::writing::write_line;
-use crate::Receivers;
 use rb_outside::{Failed, Sink};
 use rb_port::Apps;
 use rb_report::{breach_line, end_line};
