@@ -1,0 +1,50 @@
+-- What a host sees of what a node gives at a tick, and of what it wants.
+use Rattle.std.specs.Prelude.{ℕ, ◌≡◌, Bool, true, false, Option, Some, None, is_some, option_and_then, List, [], length, take}
+use Rattle.rb_base.specs.declared.values.Delivery.{Delivery}
+use Rattle.rb_base.specs.declared.values.Heard.{Heard}
+use Rattle.rb_base.specs.declared.values.Heard.TheVariants.{Word, Fault}
+use Rattle.rb_node.specs.declared.act.Want.{Want}
+use Rattle.rb_node.specs.declared.act.Want.TheVariants as want
+use Rattle.rb_rules.specs.declared.closing.Closed.{Closed}
+use Rattle.rb_rules.specs.declared.message.Message.{Message}
+use Rattle.rb_rules.specs.declared.message.Version.{Version}
+use Rattle.rb_rules.specs.declared.record.Epoch.{Epoch}
+use Rattle.rb_rules.specs.Core.{Act}
+use Rattle.rb_rules.specs.Spelling.{spelling_of}
+use Rattle.rb_host.specs.declared.act.HostAct.{HostAct}
+use Rattle.rb_host.specs.declared.act.HostDelivery.{HostDelivery}
+use Rattle.rb_host.specs.declared.act.HostEpoch.{HostEpoch}
+use Rattle.rb_host.specs.declared.act.HostWant.{HostWant}
+
+-- the begin of a frame
+abbrev pub epoch_shown : Option Epoch → HostEpoch
+epoch_shown None = record { begins = false; frame = 0; tick = 0; biu = 0; rmu = 0 }
+epoch_shown (Some e) = record { begins = true; frame = e.frame; tick = e.tick; biu = e.biu; rmu = e.rmu }
+
+-- a delivery of this value
+abbrev pub value_shown : Delivery → Heard → HostDelivery
+value_shown d (Word word) = record { delivers = true; none = false; sender = d.sender; slot = d.slot; frame = d.frame; word = word }
+value_shown d Fault = record { delivers = true; none = true; sender = d.sender; slot = d.slot; frame = d.frame; word = 0 }
+
+abbrev pub delivery_shown : Option Delivery → HostDelivery
+delivery_shown None = record { delivers = false; none = false; sender = 0; slot = 0; frame = 0; word = 0 }
+delivery_shown (Some d) = value_shown d d.value
+
+-- the bytes that are sent
+abbrev pub bytes_sent : Version → Option Message → List ℕ
+bytes_sent version None = []
+bytes_sent version (Some m) = spelling_of version m
+
+-- the act in plain numbers, its message as bytes of this version
+pub record IsHostAct (version : Version) (a : HostAct) (x : Act) : Type 0 where
+  pub length : a.length ≡ length (bytes_sent version x.message)
+  pub message : take a.length a.message ≡ bytes_sent version x.message
+  pub closes : a.closes ≡ is_some x.closed
+  pub epoch : a.epoch ≡ epoch_shown x.epoch
+  pub delivery : a.delivery ≡ delivery_shown (option_and_then (λ (c : Closed). c.delivered) x.closed)
+
+-- what is wanted
+abbrev pub want_shown : Want → HostWant
+want_shown want.Nothing = record { what = 0; slot = 0 }
+want_shown want.Request = record { what = 1; slot = 0 }
+want_shown (want.Data slot) = record { what = 2; slot = slot }

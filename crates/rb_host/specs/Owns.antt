@@ -1,0 +1,20 @@
+-- What a handle owns: the memory of its node.
+use Rattle.std.specs.Prelude.{Option, Some, None}
+use Rattle.std.specs.Coded.{Coded, coded_option}
+use base.Fml.{Fml, ftrue}
+use denote.RawPtr.{Ptr}
+use Rattle.std_alloc.specs.Box.Ownership.{box_owns}
+use Rattle.libc.specs.Heap.{chunk}
+use Rattle.rb_host.specs.contracts.any_node.AnyNode.{the_row}
+
+-- the node, if there is one
+abbrev pub Kept : Type 0
+Kept = Option the_row.Denot
+
+-- the node lies at the pointer, in a block that may be freed
+abbrev pub held_owns : Ptr → Kept → Fml
+held_owns p None = ftrue
+held_owns p (Some n) = box_owns chunk the_row p n
+
+abbrev pub kept_coded : Coded Kept
+kept_coded = coded_option the_row.coded
