@@ -3,18 +3,23 @@ use Rattle.std.specs.Prelude.{Option, Some, None}
 use Rattle.std.specs.Coded.{Coded, coded_option}
 use base.Fml.{Fml, ftrue}
 use denote.RawPtr.{Ptr}
-use Rattle.std_alloc.specs.Box.Ownership.{box_owns}
-use Rattle.libc.specs.Heap.{chunk}
+use Rattle.std.specs.Box.Ownership.{box_owns}
+use Rattle.std.specs.Global.{Global}
+use Rattle.std_heap.specs.contracts.GlobalAllocator.TheImpl.{ghosts}
 use Rattle.rb_host.specs.contracts.any_node.AnyNode.{the_row}
 
 -- the node, if there is one
 abbrev pub Kept : Type 0
 Kept = Option the_row.Denot
 
--- the node lies at the pointer, in a block that may be freed
+-- the allocator. There is one
+abbrev heap : Global
+heap = record { memory = record { seal = tt } }
+
+-- the node lies at the pointer, in a block of the allocator's
 abbrev pub held_owns : Ptr → Kept → Fml
 held_owns p None = ftrue
-held_owns p (Some n) = box_owns chunk the_row p n
+held_owns p (Some n) = box_owns (ghosts.dealloc_token heap) the_row p n
 
 abbrev pub kept_coded : Coded Kept
 kept_coded = coded_option the_row.coded
