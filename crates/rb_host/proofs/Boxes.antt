@@ -1,12 +1,12 @@
 -- A boxed node at a call of a box's functions, and a handle's machine value.
-use Rattle.std.proofs.Common.{◌≡◌, ℕ, List, [], ◌∷◌, refl, Some}
+use Rattle.std.proofs.Common.{ℕ, List, [], ◌∷◌, refl, Some}
 use seplogic.Ra.Ura.{Ura}
 use lib.Dec.{T as Holds}
 use mir.Syntax.{Ty, Dict, impl, tnil, tcons, dnil}
 use mir.Raw.{raw as bare}
 use mir.Val.{has_ty, WT, Val, vptr, vstruct, vcons, vnil}
 use types.Logic.{Logic}
-use types.Kit.{Item, Goal, Step, step, ‵, ◌$◌, move, fjoin, fpack, feq_i}
+use types.Kit.{Item, Goal, Step, step, ‵, ◌$◌, fjoin, fpack, feq_i}
 use denote.Exit.{no}
 use denote.RattleType.{RattleType, Valss}
 use denote.RawPtr.{RawPtr, block_ptr}

@@ -1,5 +1,5 @@
 -- What the calls over a handle promise.
-use Rattle.std.specs.Prelude.{⊤, ℕ, ◌≡◌, ◌+◌, Option, Some, None, IfErr, IsSomeAnd, OnErr, OnOk, Result, Ok, Err}
+use Rattle.std.specs.Prelude.{ℕ, ◌≡◌, ◌+◌, Option, Some, None, IfErr, IsSomeAnd, OnErr, OnOk, Result, Ok, Err}
 use Rattle.rb_node.specs.Cores.{tick_of}
 use Rattle.rb_node.specs.Wants.{want_of}
 use Rattle.rb_rules.specs.Core.{Core}

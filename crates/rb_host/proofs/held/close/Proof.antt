@@ -1,10 +1,10 @@
 -- `close` takes the box apart.
 use Rattle.std.proofs.Common.{◌≡◌, List, [], ◌∷◌, ◌++◌, refl, sym, ap, ◌∙◌, subst, Some}
 use mir.Raw.{raw as bare}
-use mir.Val.{Val, vptr, vstruct, of_list}
+use mir.Val.{Val, vstruct, of_list}
 use base.Fraction.{full_share}
 use base.Logic.{SProp, ent, emp, never, id⊢, fst∗}
-use base.Fml.{ftrue, fsep, flft}
+use base.Fml.{ftrue, flft}
 use prog.Wp.{WpFn}
 use types.Logic.{sem}
 use types.Kit.{‵, raw, ◌⊛◌, some, later, ◌$◌, ◌∵◌, !, qed, by, move, keep, drop, split, split3, join, fsplit, fjoin, fpick, pick, suffices, use0, use1, await, rewrite, feq_l}
@@ -41,7 +41,7 @@ use Rattle.rb_host.specs.contracts.held.close as f
 use Rattle.rb_host.specs.contracts.held.close.Key.{name as #self}
 use Rattle.rb_host.proofs.held.close.Statement.{statement}
 use Rattle.rb_host.proofs.held.close.Code as code
-use Rattle.rb_host.proofs.Boxes.{Good, T, LT, A, LA, drop_of, E, Whole, word, held_in}
+use Rattle.rb_host.proofs.Boxes.{T, LT, A, LA, drop_of, E, Whole, word, held_in}
 
 pub close_spec : {M : Type 1} → statement M
 unfolding Rattle.rb_host.proofs.Destruct++none.drop.Code.code

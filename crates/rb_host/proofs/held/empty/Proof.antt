@@ -2,8 +2,7 @@
 use Rattle.std.proofs.Common.{◌≡◌, List, [], ◌∷◌, refl, None, w64, lit<}
 use mir.Val.{Val, vint, vstruct, vcons, vnil}
 use base.Logic.{SProp, emp}
-use prog.Wp.{WpFn}
-use types.Kit.{‵, raw, ◌$◌, ◌∵◌, !, qed, by, keep, fjoin, fpack, use0, feq_i}
+use types.Kit.{raw, ◌$◌, ◌∵◌, !, qed, by, keep, fjoin, fpack, use0, feq_i}
 use types.Run.{lit, no_more, and_then, returns, enter}
 use types.ByLocal.{alloc_all, pass_all, free_all, look_at, sets}
 use types.Part.{agg}

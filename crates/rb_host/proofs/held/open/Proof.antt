@@ -4,7 +4,7 @@ use mir.Raw.{raw as bare}
 use mir.Val.{Val, vptr, vstruct, of_list}
 use base.Fraction.{full_share}
 use base.Logic.{SProp, ent, emp, never, id⊢, fst∗}
-use base.Fml.{ftrue, fsep, flft}
+use base.Fml.{ftrue, flft}
 use prog.Wp.{WpFn}
 use types.Logic.{sem}
 use types.Kit.{‵, raw, ◌⊛◌, some, later, at_ret, ◌$◌, ◌∵◌, !, qed, by, move, keep, drop, split, split3, join, fsplit, fsplit3, fjoin, fpick, pick, suffices, use0, use1, await, rewrite, feq_l, feq_i}
@@ -44,7 +44,7 @@ use Rattle.rb_host.specs.contracts.held.open as f
 use Rattle.rb_host.specs.contracts.held.open.Key.{name as #self}
 use Rattle.rb_host.proofs.held.open.Statement.{statement}
 use Rattle.rb_host.proofs.held.open.Code as code
-use Rattle.rb_host.proofs.Boxes.{Good, T, LT, A, LA, drop_of, E, Whole, word}
+use Rattle.rb_host.proofs.Boxes.{Good, T, LT, A, LA, drop_of, E, word}
 
 -- what is there
 there : {X : Type 0} (o : Option X) → IsSome o → (x : X) × (o ≡ Some x)
