@@ -9,6 +9,7 @@ ghost use Rattle.robus_c.specs.Picture.{IsPictureAnswer};
 pub mod answer;
 mod bridge;
 mod bus;
+mod node;
 mod picture;
 
 use answer::Answer;
