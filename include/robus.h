@@ -1,4 +1,4 @@
-/* ROBUS as a library: the three programs as calls over bytes in memory.
+/* ROBUS as a library: the three programs as calls over bytes in memory, and one node of a bus as a core that a host drives.
  *
  *   cc -I include report.c crates/robus_c/out/librobus.a -o report
  *
@@ -20,6 +20,9 @@
 
 #include <stddef.h>
 #include <stdint.h>
+#ifndef __cplusplus
+#include <stdbool.h>
+#endif
 
 #ifdef __cplusplus
 extern "C" {
@@ -72,6 +75,144 @@ robus_answer robus_bridge_call(const uint8_t *words, size_t words_length, const 
  * the page of a flag (done); at 3 it is the line that says where and why the input is no report (refused). */
 robus_answer robus_picture_call(const uint8_t *words, size_t words_length, const uint8_t *input, size_t input_length, uint8_t *output,
                                 size_t output_length);
+
+/* A NODE CORE
+ *
+ * One node of a bus, a BIU or an RMU, without a clock and a link of its own: the host gives it the ticks of its clock and what comes on its
+ * links, and sends what it says. Ticks are counted from 0 by the node's own clock; nothing here knows what time a tick takes. At each tick
+ * the host asks what the node wants, then ticks it. What comes on a link before a tick is handed over by robus_node_arrive before that tick,
+ * in the order in which it came. Any number of any bytes may come, at any tick, from any number. Ticks at which nothing happens need no call
+ * each: robus_node_pass has them all at once. A node has at most 2^31 ticks; one that has had them gives nothing and does not change.
+ *
+ * The handle is the caller's: a struct that begins as zeros, `robus_node node = {0};`, and may be moved. Each call takes the handle of its
+ * node and keeps no other state, so threads may call at once, each with nodes of its own. A node stays on the thread that made it; one handle
+ * is in one call at a time, and is never copied: the copy would have the same node. The fields are for these calls alone. The node itself, some
+ * 3 KB, is in memory that robus_node_new takes by malloc; robus_node_free gives it back. No other call takes memory. On a handle without a
+ * node each call says so and does nothing.
+ *
+ * What is proved is of the core of rb_rules (specs/Core.antt) that the node stands for, whatever came: a clause says it for every core c for
+ * which IsCore of the node and c holds, and each node has one. The clauses are in crates/rb_host/specs, those of the call before them in
+ * crates/rb_node.
+ */
+typedef struct robus_node {
+    bool there;    /* whether there is a node */
+    uint8_t *core; /* where it lies */
+} robus_node;
+
+/* A node, its bus and the bus's plan. Times are in reference units, lengths of windows in ticks, as in docs/SCENARIOS.md. */
+typedef struct robus_seat {
+    uint8_t kind;       /* 0 a BIU, 1 an RMU */
+    uint8_t index;      /* the number of the node among those of its kind, from 0 */
+    uint8_t biu;        /* 1 to 16 BIUs */
+    uint8_t rmu;        /* 1 to 16 RMUs */
+    uint16_t slots;     /* 1 to 64 data slots of a frame */
+    uint8_t version;    /* 1 or 2: how messages are spelled */
+    uint8_t bus;        /* the number of the bus, which messages of version 2 carry; not read in version 1 */
+    uint16_t probation; /* 0 to 4096: after how many frames without new evidence a direct accusation lapses; 0 for never */
+    uint32_t u;         /* 2 to 1000000 units of a tick */
+    uint32_t r;         /* below u: by how many units a tick may be longer or shorter */
+    uint32_t dmin;      /* 1 to dmax: the least delay of a message */
+    uint32_t dmax;      /* up to 1000000000: the greatest */
+    uint32_t l;         /* 1 to 1000 ticks of a window below the sync slot */
+    uint32_t h;         /* 1 to 1000: the tick of a window at which its message is sent */
+    uint32_t v;         /* 1 to 1000 ticks of the sync slot's stage 2 */
+    uint32_t z;         /* 1 to 1000 ticks of its stage 3 */
+    uint32_t c;         /* 0 to 1000: by how many ticks a BIU's next frame begins later */
+    uint32_t p;         /* 0 to 1000000000 units: the bound on the skew of the nodes' first ticks of a frame */
+} robus_seat;
+
+enum {
+    ROBUS_BIU = 0,
+    ROBUS_RMU = 1,
+    ROBUS_NODE_SIZES = 11,     /* biu, rmu or slots is out of its range */
+    ROBUS_NODE_INDEX = 12,     /* the bus has no such node */
+    ROBUS_NODE_PLAN = 13,      /* the version or a number of the plan is out of its range */
+    ROBUS_NODE_INFEASIBLE = 20 /* this and a number from 1 to 7: that inequality of the plan fails first (docs/RULES.md) */
+};
+
+/* A frame that begins: in that case `begins`, its number, its first tick, and whom the node holds convicted, BIUs and RMUs as masks (bit i
+ * is the node with number i). Else all is 0. */
+typedef struct robus_epoch {
+    bool begins;
+    uint32_t frame;
+    uint64_t tick;
+    uint16_t biu;
+    uint16_t rmu;
+} robus_epoch;
+
+/* A delivery, at BIUs alone: in that case `delivers`, the slot and the frame, the BIU whose slot it is, and the word; where that is none,
+ * `none`, and the word is 0. Else all is 0. */
+typedef struct robus_delivery {
+    bool delivers;
+    bool none;
+    uint8_t sender;
+    uint16_t slot;
+    uint32_t frame;
+    uint32_t word;
+} robus_delivery;
+
+/* What a node gives at a tick. */
+typedef struct robus_act {
+    uint8_t message[12];     /* what it sends to all nodes of the other kind: the first `length` bytes */
+    uint8_t length;          /* 11 or 12; 0 where it sends nothing */
+    bool closes;             /* whether a window ended with this tick */
+    robus_epoch epoch;
+    robus_delivery delivery; /* of the window that ended */
+} robus_act;
+
+enum { ROBUS_WANTS_NOTHING = 0, ROBUS_WANTS_REQUEST = 1, ROBUS_WANTS_WORD = 2 };
+
+/* What a node wants for its next tick: nothing; its request, for how many data slots it asks in the next frame; or the word that it says in
+ * the data slot with this number. */
+typedef struct robus_want {
+    uint8_t what;
+    uint16_t slot;
+} robus_want;
+
+#define ROBUS_NO_TICK UINT64_C(2147483648)
+
+/* Frees the node of the handle, if it has one, and puts the node of this seat into it, before its first tick. 0, or why there is none:
+ * ROBUS_NO_MEMORY, or one of the reasons above, the first that applies.
+ *
+ * IsAnswered (specs/Calls.antt):
+ *   node, accepted   at 0 the numbers are within their ranges, the plan is feasible, and the node stands for the first core of its kind
+ *   refused          at another number but 7 they are not, and the number says which
+ *   none             then the handle has no node */
+uint32_t robus_node_new(robus_node *node, const robus_seat *seat);
+
+/* A message comes, or other bytes, from the node of the other kind with this number; one that no node has changes nothing. It is stamped with
+ * the number of the next tick. Whether there is a node.
+ *
+ * Arrives: the node then stands for what `arrive` makes of the core that it stood for. */
+bool robus_node_arrive(robus_node *node, uint8_t from, const uint8_t *bytes, size_t length);
+
+/* What the node wants to be handed for its next tick; nothing where there is no node.
+ *
+ * IsHostWant: that is what the core wants (wants of Core.antt), and the node stays as it is. */
+robus_want robus_node_wants(robus_node *node);
+
+/* A tick, with the request or the word that the node wants for it; if it wants none, `word` counts for nothing. At the tick of its next epoch
+ * the node begins the next frame; then it says its message, if this is the tick of one; then it closes the window, if this is its last tick,
+ * on what came since the last close. Whether there is a node; where there is none, `act` is as it was.
+ *
+ * Ticks: the node then stands for the core after `tick`, and `act` is what that gives: the message spelled in the plan's version, the frame,
+ * and the delivery of the window that it closed (IsHostAct, specs/Acts.antt). */
+bool robus_node_tick(robus_node *node, uint32_t word, robus_act *act);
+
+/* The number of the first tick from the next on at which something happens: a frame begins, the node speaks, or a window ends.
+ * ROBUS_NO_TICK where the node comes to its last tick before that, and where there is no node. It does not depend on what comes.
+ *
+ * IsNextTick: it is `next_tick` of the core, and the node stays as it is. */
+uint64_t robus_node_next_tick(robus_node *node);
+
+/* Has ticks at which nothing happens: at most `ticks`, and no more than there are before the tick that robus_node_next_tick gives. How many it
+ * has had; 0 where there is no node.
+ *
+ * Passes: the node then stands for the core after so many ticks with word 0. */
+uint64_t robus_node_pass(robus_node *node, uint64_t ticks);
+
+/* Gives the node's memory back; the handle then has no node. Whether it had one. */
+bool robus_node_free(robus_node *node);
 
 #ifdef __cplusplus
 }
