@@ -30,6 +30,21 @@ class Failed(RobusError):
         super().__init__("robus %s: status %d, %s" % (" ".join(words), status, meaning))
 
 
+NO_NODE = {7: "no memory was left", 11: "the numbers of BIUs, RMUs or data slots are out of range",
+           12: "the bus has no such node", 13: "a number of the plan or the version is out of range"}
+
+
+class NoNode(RobusError):
+    """There is no such node core. `number` is that of robus.h; `inequality`, 1 to 7, is the first
+    one of the plan that fails, or None."""
+
+    def __init__(self, name: str, number: int):
+        self.number = number
+        self.inequality = number - 20 if number > 20 else None
+        why = NO_NODE.get(number) or "inequality %d of the plan fails" % (number - 20)
+        super().__init__("%s: %s" % (name, why))
+
+
 class Refused(RobusError):
     """The input is refused. Code, name and number are those of the line `refused CODE NAME NUMBER`.
 
