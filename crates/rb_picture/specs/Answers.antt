@@ -3,6 +3,7 @@ use Rattle.std.specs.Prelude.{⊤, ℕ, ◌≡◌, ◌⊎◌, List, ◌++◌, co
 use Rattle.std.specs.Fmt.{decimal}
 use Rattle.std.specs.Io.KnownBytes.{Appends}
 use Rattle.std.specs.declared.alloc.Global.{Global}
+use Rattle.rb_flags.specs.declared.Flag.{Flag}
 use Rattle.rb_outside.specs.Bytes.{AppendsPart, ReadsToEnd}
 use Rattle.rb_picture.specs.declared.form.Form.{Form}
 use Rattle.rb_picture.specs.declared.form.Form.TheVariants.{Draw, Show}
@@ -12,6 +13,7 @@ use Rattle.rb_picture.specs.declared.reading.Fault.{Fault}
 use Rattle.rb_picture.specs.declared.reading.Fault.TheVariants as fault
 use Rattle.rb_picture.specs.declared.status.Status.{Status}
 use Rattle.rb_picture.specs.declared.status.Status.TheVariants.{Done, Usage, Refused, TooLong, ReadFault, WriteFault, OutOfMemory}
+use Rattle.rb_picture.specs.declared.style.TheConstants.{STYLE}
 use Rattle.rb_picture.specs.Lines.{FailsAt, IsReport}
 use Rattle.rb_picture.specs.Forms.{AskFor, first_of, last_of}
 use Rattle.rb_picture.specs.Pages.{page_text}
@@ -33,14 +35,14 @@ abbrev pub fault_text : Fault → ℕ → List ℕ
 fault_text f number = (((codes "refused " ++ fault_name f) ++ codes " ") ++ decimal number) ++ codes "\n"
 
 -- the picture of lines, which are those of these frames
-abbrev pub picture_of : List ℕ → Frames → List Line → List ℕ
-picture_of style frames lines = picture_text style (sheet_of frames lines) lines
+abbrev pub picture_of : Frames → List Line → List ℕ
+picture_of frames lines = picture_text STYLE.now (sheet_of frames lines) lines
 
 -- the picture of these frames of a report
-pub record IsPicture (style : List ℕ) (frames : Frames) (bytes text : List ℕ) : Type 0 where
+pub record IsPicture (frames : Frames) (bytes text : List ℕ) : Type 0 where
   pub lines : List Line
   pub report : IsReport bytes lines
-  pub picture : text ≡ picture_of style frames (asked_of (first_of frames) (last_of frames) lines)
+  pub picture : text ≡ picture_of frames (asked_of (first_of frames) (last_of frames) lines)
 
 -- the line that says where and why the bytes are no report
 pub record IsRefusal (bytes text : List ℕ) : Type 0 where
@@ -50,9 +52,9 @@ pub record IsRefusal (bytes text : List ℕ) : Type 0 where
   pub line : text ≡ fault_text cause number
 
 -- the bytes are such a report and its picture is written
-pub record Draws (style : List ℕ) (frames : Frames) (bytes : List ℕ) (held held' : Option (List ℕ)) : Type 0 where
+pub record Draws (frames : Frames) (bytes : List ℕ) (held held' : Option (List ℕ)) : Type 0 where
   pub text : List ℕ
-  pub due : IsPicture style frames bytes text
+  pub due : IsPicture frames bytes text
   pub written : Appends held held' text
 
 pub record Refuses (bytes : List ℕ) (held held' : Option (List ℕ)) : Type 0 where
@@ -61,16 +63,16 @@ pub record Refuses (bytes : List ℕ) (held held' : Option (List ℕ)) : Type 0 
   pub written : Appends held held' text
 
 -- of what was due a first part is written
-pub record FailsToWrite (style : List ℕ) (frames : Frames) (bytes : List ℕ) (held held' : Option (List ℕ)) : Type 0 where
+pub record FailsToWrite (frames : Frames) (bytes : List ℕ) (held held' : Option (List ℕ)) : Type 0 where
   pub text : List ℕ
-  pub due : IsPicture style frames bytes text ⊎ IsRefusal bytes text
+  pub due : IsPicture frames bytes text ⊎ IsRefusal bytes text
   pub written : AppendsPart held held' text
 
 -- the whole input was such a report, and its picture is written
-pub record IsDrawn (style : List ℕ) (frames : Frames) (left left' held held' : Option (List ℕ)) : Type 0 where
+pub record IsDrawn (frames : Frames) (left left' held held' : Option (List ℕ)) : Type 0 where
   pub bytes : List ℕ
   pub read : ReadsToEnd left left' bytes
-  pub draws : Draws style frames bytes held held'
+  pub draws : Draws frames bytes held held'
 
 -- the whole input was no report, and the line that says so is written
 pub record IsRefused (left left' held held' : Option (List ℕ)) : Type 0 where
@@ -79,31 +81,31 @@ pub record IsRefused (left left' held held' : Option (List ℕ)) : Type 0 where
   pub refuses : Refuses bytes held held'
 
 -- of one or the other a first part is written
-pub record IsDrawnInPart (style : List ℕ) (frames : Frames) (left left' held held' : Option (List ℕ)) : Type 0 where
+pub record IsDrawnInPart (frames : Frames) (left left' held held' : Option (List ℕ)) : Type 0 where
   pub bytes : List ℕ
   pub read : ReadsToEnd left left' bytes
-  pub fails : FailsToWrite style frames bytes held held'
+  pub fails : FailsToWrite frames bytes held held'
 
--- what a form asks for is written; for a page nothing is read
-abbrev pub Gives : List ℕ → Form → Option (List ℕ) → Option (List ℕ) → Option (List ℕ) → Option (List ℕ) → Type 0
-Gives style (Draw frames) left left' held held' = IsDrawn style frames left left' held held'
-Gives style (Show page) left left' held held' = (left' ≡ left) × Appends held held' (page_text page)
+-- what a form asks for is written; for a flag nothing is read
+abbrev pub Gives : Form → Option (List ℕ) → Option (List ℕ) → Option (List ℕ) → Option (List ℕ) → Type 0
+Gives (Draw frames) left left' held held' = IsDrawn frames left left' held held'
+Gives (Show flag) left left' held held' = (left' ≡ left) × Appends held held' (page_text flag)
 
-abbrev pub GivesPart : List ℕ → Form → Option (List ℕ) → Option (List ℕ) → Option (List ℕ) → Option (List ℕ) → Type 0
-GivesPart style (Draw frames) left left' held held' = IsDrawnInPart style frames left left' held held'
-GivesPart style (Show page) left left' held held' = (left' ≡ left) × AppendsPart held held' (page_text page)
+abbrev pub GivesPart : Form → Option (List ℕ) → Option (List ℕ) → Option (List ℕ) → Option (List ℕ) → Type 0
+GivesPart (Draw frames) left left' held held' = IsDrawnInPart frames left left' held held'
+GivesPart (Show flag) left left' held held' = (left' ≡ left) × AppendsPart held held' (page_text flag)
 
 -- the words ask for a form, and what it asks for is written
-pub record IsDone (style : List ℕ) (words : List (String Global)) (left left' held held' : Option (List ℕ)) : Type 0 where
+pub record IsDone (words : List (String Global)) (left left' held held' : Option (List ℕ)) : Type 0 where
   pub form : Form
   pub asked : AskFor words form
-  pub gives : Gives style form left left' held held'
+  pub gives : Gives form left left' held held'
 
 -- or a first part of it
-pub record IsCutOff (style : List ℕ) (words : List (String Global)) (left left' held held' : Option (List ℕ)) : Type 0 where
+pub record IsCutOff (words : List (String Global)) (left left' held held' : Option (List ℕ)) : Type 0 where
   pub form : Form
   pub asked : AskFor words form
-  pub gives : GivesPart style form left left' held held'
+  pub gives : GivesPart form left left' held held'
 
 -- the answers for bytes that were read
 abbrev pub IsOfReport : Status → Type 0
@@ -124,3 +126,15 @@ WritesNothing TooLong = ⊤
 WritesNothing ReadFault = ⊤
 WritesNothing WriteFault = ⊥
 WritesNothing OutOfMemory = ⊤
+
+-- Usage comes exactly where the words ask for no form
+pub record UsageExactly (status : Status) (words : List (String Global)) : Type 0 where
+  pub unknown : status ≡ Usage → (form : Form) → ¬ AskFor words form
+  pub refused : ((form : Form) → ¬ AskFor words form) → status ≡ Usage
+  pub known : ¬ (status ≡ Usage) → (form : Form) × AskFor words form
+
+-- the source and the sink are as they were, where the answer or the words leave them so
+pub record Untouched {S K : Type 0} (words : List (String Global)) (status : Status) (source source' : S) (sink sink' : K) : Type 0 where
+  pub unread : status ≡ Usage → source' ≡ source
+  pub without_input : (flag : Flag) → AskFor words (Show flag) → source' ≡ source
+  pub unwritten : WritesNothing status → sink' ≡ sink

@@ -2,17 +2,17 @@
 use Rattle.std.specs.Prelude.{⊤, ℕ, ◌≡◌, ◌^◌, ◌-◌, ◌<◌, ◌≤◌, List, [], ◌∷◌, map, String, string_bytes}
 use Rattle.std.specs.Fmt.{decimal}
 use Rattle.std.specs.declared.alloc.Global.{Global}
+use Rattle.rb_flags.specs.Flags.{flag_text}
 use Rattle.rb_picture.specs.declared.form.Form.{Form}
 use Rattle.rb_picture.specs.declared.form.Form.TheVariants.{Draw, Show}
 use Rattle.rb_picture.specs.declared.form.Frames.{Frames}
 use Rattle.rb_picture.specs.declared.form.Frames.TheVariants.{All, Between}
-use Rattle.rb_picture.specs.Pages.{page_word}
 
--- the words of a form: of a picture of all frames none, of others the first and the last, and the word of a page
+-- the words of a form: of a picture of all frames none, of others the first and the last, and the word of a flag
 abbrev pub words_of : Form → List (List ℕ)
 words_of (Draw All) = []
 words_of (Draw (Between first last)) = decimal first ∷ decimal last ∷ []
-words_of (Show page) = page_word page ∷ []
+words_of (Show flag) = flag_text flag ∷ []
 
 -- numbers of 32 bits, in order
 pub record AreInOrder (first last : ℕ) : Type 0 where
@@ -22,7 +22,7 @@ pub record AreInOrder (first last : ℕ) : Type 0 where
 abbrev pub IsInRange : Form → Type 0
 IsInRange (Draw All) = ⊤
 IsInRange (Draw (Between first last)) = AreInOrder first last
-IsInRange (Show page) = ⊤
+IsInRange (Show flag) = ⊤
 
 -- the words ask for this
 pub record AskFor (words : List (String Global)) (form : Form) : Type 0 where

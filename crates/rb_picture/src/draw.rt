@@ -3,20 +3,18 @@ ghost use Rattle.std.specs.Prelude.{ℕ, ◌≡◌, ◌≢◌, ◌<◌, ◌≤�
 ghost use Rattle.std.specs.Io.KnownBytes.{Appends};
 ghost use Rattle.rb_outside.specs.Bytes.{AppendsPart, Gave, ReadsToEnd};
 ghost use Rattle.rb_outside.specs.Causes.{Rose};
-ghost use Rattle.rb_picture.specs.declared.form.Form.{Form};
-ghost use Rattle.rb_picture.specs.Answers.{Draws, FailsToWrite, IsCutOff, IsDone, IsDrawn, IsDrawnInPart, IsOfReport, IsRefused, Refuses, WritesNothing, fault_name, fault_text, picture_of, report_limit};
-ghost use Rattle.rb_picture.specs.Forms.{AskFor, first_of, last_of};
+ghost use Rattle.rb_picture.specs.Answers.{Draws, FailsToWrite, IsCutOff, IsDone, IsDrawn, IsDrawnInPart, IsOfReport, IsRefused, Refuses, Untouched, UsageExactly, WritesNothing, fault_name, fault_text, picture_of, report_limit};
+ghost use Rattle.rb_picture.specs.Forms.{first_of, last_of};
 ghost use Rattle.rb_picture.specs.Picture.{asked_of};
 
 use crate::drawn::picture_of;
 use crate::extent::is_asked;
 use crate::form::{Form, Frames, first_of, form_in, last_of};
 use crate::line::Line;
-use crate::pages::show_page;
+use crate::pages::write_page;
 use crate::reading::{Fault, Unreadable, lines_in};
 use crate::sheet::sheet_of;
 use crate::status::Status;
-use crate::style::STYLE;
 use arrayvec::ArrayString;
 use itoa::Buffer;
 use rb_base::OutOfMemory;
@@ -66,7 +64,7 @@ fn asked_of(alloc: Global, lines: &[Line], first: u32, last: u32) -> Result<Vec<
 
 // The picture of these frames.
 fn picture_of_frames(alloc: Global, lines: &[Line], frames: Frames) -> Result<Vec<u8>, OutOfMemory>
-    ensures { IfOk result (λ v. v.items ≡ picture_of STYLE.now frames (asked_of (first_of frames) (last_of frames) lines.now)) }
+    ensures { IfOk result (λ v. v.items ≡ picture_of frames (asked_of (first_of frames) (last_of frames) lines.now)) }
 {
     let asked = asked_of(alloc, lines, first_of(frames), last_of(frames))?;
     picture_of(alloc, sheet_of(frames, &asked), &asked)
@@ -87,9 +85,9 @@ fn refuse<K: Sink>(fault: Fault, number: u64, output: &mut K) -> Status
 
 // Draws the frames of the report that the bytes are, or writes the line that says why they are none.
 fn draw_bytes<K: Sink>(alloc: Global, bytes: &[u8], frames: Frames, output: &mut K) -> Status
-    ensures done { result ≡ Status.Done → Draws STYLE.now frames bytes.now (K.held output.old) (K.held output.new) }
+    ensures done { result ≡ Status.Done → Draws frames bytes.now (K.held output.old) (K.held output.new) }
     ensures refused { result ≡ Status.Refused → Refuses bytes.now (K.held output.old) (K.held output.new) }
-    ensures part { result ≡ Status.WriteFault → FailsToWrite STYLE.now frames bytes.now (K.held output.old) (K.held output.new) }
+    ensures part { result ≡ Status.WriteFault → FailsToWrite frames bytes.now (K.held output.old) (K.held output.new) }
     ensures cause { result ≡ Status.WriteFault → Rose (K.faults output.old) (K.faults output.new) }
     ensures memory { result ≡ Status.OutOfMemory → output.new ≡ output.old }
     ensures one_of { IsOfReport result }
@@ -117,9 +115,9 @@ fn draw_frames<S: Source, K: Sink>(
     output: &mut K,
 ) -> Status
     ensures known { result ≢ Status.Usage }
-    ensures done { result ≡ Status.Done → IsDrawn STYLE.now frames (S.left input.old) (S.left input.new) (K.held output.old) (K.held output.new) }
+    ensures done { result ≡ Status.Done → IsDrawn frames (S.left input.old) (S.left input.new) (K.held output.old) (K.held output.new) }
     ensures refused { result ≡ Status.Refused → IsRefused (S.left input.old) (S.left input.new) (K.held output.old) (K.held output.new) }
-    ensures part { result ≡ Status.WriteFault → IsDrawnInPart STYLE.now frames (S.left input.old) (S.left input.new) (K.held output.old) (K.held output.new) }
+    ensures part { result ≡ Status.WriteFault → IsDrawnInPart frames (S.left input.old) (S.left input.new) (K.held output.old) (K.held output.new) }
     ensures cause { result ≡ Status.WriteFault → Rose (K.faults output.old) (K.faults output.new) }
     ensures too_long { result ≡ Status.TooLong → Gave (S.left input.old) (S.left input.new) (λ n. report_limit < n) }
     ensures read_fault { result ≡ Status.ReadFault → Rose (S.faults input.old) (S.faults input.new) }
@@ -150,19 +148,18 @@ pub fn draw<S: Source, K: Sink>(
     input: &mut S,
     output: &mut K,
 ) -> Status
-    ensures usage { result ≡ Status.Usage → (form : Form) → ¬ AskFor words.now form }
-    ensures untouched { result ≡ Status.Usage → (input.new ≡ input.old) × (output.new ≡ output.old) }
-    ensures done { result ≡ Status.Done → IsDone STYLE.now words.now (S.left input.old) (S.left input.new) (K.held output.old) (K.held output.new) }
+    ensures usage { UsageExactly result words.now }
+    ensures untouched { Untouched words.now result input.old input.new output.old output.new }
+    ensures done { result ≡ Status.Done → IsDone words.now (S.left input.old) (S.left input.new) (K.held output.old) (K.held output.new) }
     ensures refused { result ≡ Status.Refused → IsRefused (S.left input.old) (S.left input.new) (K.held output.old) (K.held output.new) }
-    ensures write_fault { result ≡ Status.WriteFault → IsCutOff STYLE.now words.now (S.left input.old) (S.left input.new) (K.held output.old) (K.held output.new)
+    ensures write_fault { result ≡ Status.WriteFault → IsCutOff words.now (S.left input.old) (S.left input.new) (K.held output.old) (K.held output.new)
         × Rose (K.faults output.old) (K.faults output.new) }
     ensures too_long { result ≡ Status.TooLong → Gave (S.left input.old) (S.left input.new) (λ n. report_limit < n) }
     ensures read_fault { result ≡ Status.ReadFault → Rose (S.faults input.old) (S.faults input.new) }
-    ensures nothing { WritesNothing result → output.new ≡ output.old }
 {
     match form_in(words) {
         Some(Form::Draw(frames)) => draw_frames(alloc, frames, input, output),
-        Some(Form::Show(page)) => show_page(page, output),
+        Some(Form::Show(flag)) => write_page(flag, output),
         None => Status::Usage,
     }
 }

@@ -2,10 +2,9 @@
 ghost use Rattle.std.specs.Prelude.{ℕ, ◌≡◌, ◌≢◌, ◌<◌, ◌^◌, ◌∷◌, [], IfSome, IfNone, decimal};
 ghost use Rattle.rb_picture.specs.declared.form.Form.{Form};
 ghost use Rattle.rb_picture.specs.Forms.{AskFor, IsInRange, first_of, last_of, words_of};
-ghost use Rattle.rb_picture.specs.Pages.{page_word};
 
-use crate::pages::{Page, page_in};
 use itoa::Buffer;
+use rb_flags::{Flag, flag_in};
 
 /// The frames that are to be drawn.
 #[derive(Clone, Copy, Debug, PartialEq, Eq)]
@@ -21,8 +20,8 @@ pub enum Frames {
 pub enum Form {
     /// To draw the report that is read.
     Draw(Frames),
-    /// To show a page about the program.
-    Show(Page),
+    /// To write what the flag asks for.
+    Show(Flag),
 }
 
 /// The first frame.
@@ -85,14 +84,14 @@ fn between(first: &str, last: &str) -> Option<Form>
     }
 }
 
-// The page of this word.
-#[tactic(auto, using(crate::proofs::Words::no_page))]
-fn page_of(word: &str) -> Option<Form>
+// The form of a flag.
+#[tactic(auto, using(crate::proofs::Words::no_flag))]
+fn show_of(word: &str) -> Option<Form>
     ensures some { IfSome result (λ form. (words_of form ≡ word.now ∷ []) × IsInRange form) }
     ensures none { IfNone result ((form : Form) → words_of form ≢ word.now ∷ []) }
 {
-    match page_in(word) {
-        Some(page) => Some(Form::Show(page)),
+    match flag_in(word) {
+        Some(flag) => Some(Form::Show(flag)),
         None => None,
     }
 }
@@ -104,7 +103,7 @@ pub(crate) fn form_in(words: &[String]) -> Option<Form>
 {
     match words {
         [] => Some(Form::Draw(Frames::All)),
-        [word] => page_of(word.as_str()),
+        [word] => show_of(word.as_str()),
         [first, last] => between(first.as_str(), last.as_str()),
         _ => None,
     }

@@ -12,11 +12,11 @@ pub mod laws;
 pub mod line;
 pub mod markup;
 mod overview;
-pub mod pages;
+mod pages;
 mod places;
 pub mod reading;
 pub mod sheet;
 pub mod status;
-mod style;
+pub mod style;
 
 pub use status::Status;

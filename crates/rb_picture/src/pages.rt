@@ -1,26 +1,16 @@
-//! The pages that are shown of the program itself.
-ghost use Rattle.std.specs.Prelude.{◌≡◌, ◌≢◌, ◌⊎◌, IfSome, IfNone};
+//! What the program says of itself.
+ghost use Rattle.std.specs.Prelude.{◌≡◌, ◌⊎◌};
 ghost use Rattle.std.specs.Io.KnownBytes.{Appends};
 ghost use Rattle.rb_outside.specs.Bytes.{AppendsPart};
 ghost use Rattle.rb_outside.specs.Causes.{Rose};
-ghost use Rattle.rb_picture.specs.declared.pages.Page.{Page};
-ghost use Rattle.rb_picture.specs.Pages.{help_text, page_text, page_word};
+ghost use Rattle.rb_picture.specs.Pages.{help_text, page_text};
 
 use crate::status::Status;
+use rb_flags::Flag;
 use rb_outside::{Failed, Sink, write_all};
 
-/// A page about the program.
-#[derive(Clone, Copy, Debug, PartialEq, Eq)]
-pub enum Page {
-    /// The words, the input, the statuses and an example.
-    Help,
-    /// The same, asked for by one letter.
-    ShortHelp,
-    /// The name of the program and its version.
-    Version,
-}
-
-const HELP: &str = "Usage: robus_picture [FIRST LAST] < REPORT > PICTURE
+const HELP: &'static str = "\
+Usage: robus_picture [FIRST LAST] < REPORT > PICTURE
 Draws a run of a fault-tolerant broadcast bus from the report of robus run.
 
 words          what is written
@@ -37,19 +27,6 @@ Example: robus run < examples/late_onset.toml | robus_picture > run.svg
 Manual: docs/robus_picture.md, or man robus_picture
 ";
 
-/// The page that the text asks for.
-pub(crate) fn page_in(text: &str) -> Option<Page>
-    ensures some { IfSome result (λ page. page_word page ≡ text.now) }
-    ensures none { IfNone result ((page : Page) → page_word page ≢ text.now) }
-{
-    match text {
-        "--help" => Some(Page::Help),
-        "-h" => Some(Page::ShortHelp),
-        "--version" => Some(Page::Version),
-        _ => None,
-    }
-}
-
 #[tactic(auto, unfolding(crate::specs::Pages::help_text))]
 fn help_text() -> &'static str
     ensures { result.now ≡ help_text }
@@ -57,23 +34,23 @@ fn help_text() -> &'static str
     HELP
 }
 
-fn page_text(page: Page) -> &'static str
-    ensures { result.now ≡ page_text page }
+fn page_text(flag: Flag) -> &'static str
+    ensures { result.now ≡ page_text flag }
 {
-    match page {
-        Page::Help | Page::ShortHelp => help_text(),
-        Page::Version => "robus_picture 1.0\n",
+    match flag {
+        Flag::Help | Flag::ShortHelp => help_text(),
+        Flag::Version => "robus_picture 1.0\n",
     }
 }
 
-/// Writes the page.
-pub(crate) fn show_page<K: Sink>(page: Page, output: &mut K) -> Status
-    ensures done { result ≡ Status.Done → Appends (K.held output.old) (K.held output.new) (page_text page) }
-    ensures part { result ≡ Status.WriteFault → AppendsPart (K.held output.old) (K.held output.new) (page_text page) }
+/// Writes what the flag asks for.
+pub(crate) fn write_page<K: Sink>(flag: Flag, output: &mut K) -> Status
+    ensures done { result ≡ Status.Done → Appends (K.held output.old) (K.held output.new) (page_text flag) }
+    ensures part { result ≡ Status.WriteFault → AppendsPart (K.held output.old) (K.held output.new) (page_text flag) }
     ensures cause { result ≡ Status.WriteFault → Rose (K.faults output.old) (K.faults output.new) }
     ensures either { (result ≡ Status.Done) ⊎ (result ≡ Status.WriteFault) }
 {
-    match write_all(output, page_text(page).as_bytes()) {
+    match write_all(output, page_text(flag).as_bytes()) {
         Ok(()) => Status::Done,
         Err(Failed) => Status::WriteFault,
     }

@@ -3,9 +3,9 @@
 /// How the top call ends, with the number that the program ends with.
 #[derive(Clone, Copy, Debug, PartialEq, Eq)]
 pub enum Status {
-    /// The picture is written.
+    /// The picture is written, or what a flag asks for.
     Done = 0,
-    /// The words are neither none nor two numbers of frames in order.
+    /// The words are of no form that is known.
     Usage = 2,
     /// The input is no report, and a line says where and why.
     Refused = 3,
