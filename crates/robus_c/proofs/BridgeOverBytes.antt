@@ -1,12 +1,11 @@
 -- What the clauses of `run_bridge` come to over bytes in memory.
-use Rattle.std.proofs.Common.{◌≡◌, ◌⊎◌, ℕ, ◌≤◌, Bool, List, [], length, String, map, string_bytes, Option, None, Some, true, false, IsTrue, inl, inr, sym, ap, subst, ◌∙◌, refl, arith}
+use Rattle.std.proofs.Common.{◌≡◌, ◌⊎◌, ℕ, Bool, List, String, map, string_bytes, Option, None, Some, true, false, IsTrue, inl, inr, sym, ap, subst, ◌∙◌, refl, arith}
 use Rattle.std.specs.declared.alloc.Global.{Global}
 use Rattle.rb_outside.specs.Causes.{Rose}
 use Rattle.rb_world.specs.declared.drive.FirstDrive.{FirstDrive}
 use Rattle.rb_flags.specs.declared.Flag.{Flag}
 use Rattle.rb_library.specs.Held.{Held, faults_of}
 use Rattle.rb_library.proofs.OverBytes.{fresh, given_over, never_rose, no_fault, read_is, written_is}
-use Rattle.rb_rules_bridge.specs.Bridges.{Bridge}
 use Rattle.rb_bridge_document.specs.Acceptance.{IsBridgeAccepted}
 use Rattle.rb_bridge.specs.Crossing.{ArePlain}
 use Rattle.rb_bridge_top.specs.declared.form.Form.{Form}
@@ -19,7 +18,7 @@ use Rattle.rb_bridge_top.specs.Pages.{Shows, page_text}
 use Rattle.rb_bridge_top.specs.Promise as outside
 use Rattle.rb_bridge_top.specs.Statuses.{HasEnded, HasFailed, MayRefuse, end_of}
 use Rattle.rb_bridge_top.specs.Words.{AskFor}
-use Rattle.robus_c.specs.Bridge.{Answers, AnswersRun, Ask, KeepsTheBridge, number_of}
+use Rattle.robus_c.specs.Bridge.{Answers, KeepsTheBridge, number_of}
 
 pub both_plain : ArePlain true true true
 both_plain = record { left = λ _. refl; right = λ _. refl }
@@ -108,13 +107,13 @@ pub over_bytes : (words : List (String Global)) (status : Status) (input source 
     → Answers (map string_bytes words) input sink'.bytes status
 over_bytes words status input source source' sink sink' left left' right right' e f ok usage untouched shows promise refuses unread fails completes = record {
   unknown = usage.unknown;
-  usage = λ none. inl (usage.refused none);
+  usage = usage.refused;
   nothing = λ w. ap (λ s. s.bytes) (untouched.unwritten w) ∙ ap (λ s. s.bytes) f;
   reads = λ fault. let known : (form : Form) × AskFor words form = usage.known (not_usage status (subst MayRefuse (sym fault) tt)) in
       never_read words status source source' _ _ _ _ shows unread fault known.0 known.1;
   writes = λ fault. let known : (form : Form) × AskFor words form = usage.known (not_usage status (subst MayRefuse (sym fault) tt)) in
       never_written words status source source' sink sink' f ok shows fails fault known.0 known.1;
-  shown = λ flag a. inl (shown_done flag status sink sink' f ok (shows flag a));
+  shown = λ flag a. shown_done flag status sink sink' f ok (shows flag a);
   run = λ a. record {
     promise = λ h. bridge status input source source' sink sink' e f (promise a refl refl h);
     refused = λ r. let d : Refuses (Some source) (Some source') (Some sink.bytes) (Some sink'.bytes) = refuses r in
@@ -126,23 +125,5 @@ over_bytes words status input source source' sink sink' left left' right right' 
         (all.ended_at_once input b (ap Some e) accepted (record { within = within; no_read = never_rose; no_write = no_fault sink sink' f ok }));
     refused_at_once = λ line is within. (completes a true both_plain).refused_at_once input line (ap Some e) is
         (record { within = within; no_read = never_rose; no_write = no_fault sink sink' f ok });
-  };
-}
-
--- want of memory, before any word is looked at
-pub no_memory : (words : List (List ℕ)) (input : List ℕ) → Answers words input [] code.OutOfMemory
-no_memory words input = record {
-  unknown = λ e. let n : 7 ≡ 2 = ap number_of e in absurd (omega (arith, n));
-  usage = λ _. inr refl;
-  nothing = λ _. refl;
-  reads = λ e. let n : 7 ≡ 5 = ap number_of e in absurd (omega (arith, n));
-  writes = λ e. let n : 7 ≡ 6 = ap number_of e in absurd (omega (arith, n));
-  shown = λ flag a. inr refl;
-  run = λ a. record {
-    promise = λ h. absurd h;
-    refused = λ e. let n : 7 ≡ 3 = ap number_of e in absurd (omega (arith, n));
-    too_long = λ e. let n : 7 ≡ 4 = ap number_of e in absurd (omega (arith, n));
-    complete = λ _ _ _. inr refl;
-    refused_at_once = λ _ _ _. inr refl;
   };
 }

@@ -1,7 +1,6 @@
 -- What the clauses of `run_robus` come to over bytes in memory.
-use Rattle.std.proofs.Common.{◌≡◌, ◌⊎◌, ℕ, ◌<◌, List, [], String, map, string_bytes, Option, None, Some, true, false, IsTrue, inl, inr, sym, ap, subst, ◌∙◌, refl, arith}
+use Rattle.std.proofs.Common.{◌≡◌, ℕ, List, String, map, string_bytes, Option, None, Some, true, false, IsTrue, sym, ap, subst, ◌∙◌, refl}
 use Rattle.std.specs.declared.alloc.Global.{Global}
-use Rattle.rb_outside.specs.Causes.{Rose}
 use Rattle.rb_world.specs.declared.drive.FirstDrive.{FirstDrive}
 use Rattle.rb_library.specs.Held.{Held, faults_of}
 use Rattle.rb_library.proofs.OverBytes.{fresh, given_over, never_rose, no_fault, read_is, written_is}
@@ -15,7 +14,7 @@ use Rattle.rb_top.specs.Promise as outside
 use Rattle.rb_top.specs.Statuses.{HasEnded, MayRefuse}
 use Rattle.rb_top.specs.Texts.{Telling}
 use Rattle.rb_top.specs.Words.{AskFor}
-use Rattle.robus_c.specs.Bus.{Answers, AnswersForm, Ask, IsOver, KeepsItsPromise, KeepsTheHeadline, SumsTheHeadline, number_of, read_by}
+use Rattle.robus_c.specs.Bus.{Answers, Ask, IsOver, KeepsItsPromise, KeepsTheHeadline, SumsTheHeadline, read_by}
 
 -- Words.
 
@@ -105,7 +104,7 @@ pub over_bytes : (words : List (String Global)) (status : Status) (input source 
     → Answers (map string_bytes words) input sink'.bytes status
 over_bytes words status input source source' sink sink' drive drive' e f ok usage untouched ends promise refuses unread fails completes = record {
   unknown = λ u form a. usage.unknown u form (to_asked words form a);
-  usage = λ none. inl (usage.refused (λ form a. none form (from_asked words form a)));
+  usage = λ none. usage.refused (λ form a. none form (from_asked words form a));
   nothing = λ w. ap (λ s. s.bytes) (untouched.unwritten w) ∙ ap (λ s. s.bytes) f;
   reads = λ fault. let known : (form : Form) × AskFor words form = usage.known (not_usage status (subst MayRefuse (sym fault) tt)) in
       never_unread (limit_of known.0) status source source' (unread known.0 known.1) fault;
@@ -128,22 +127,4 @@ over_bytes words status input source source' sink sink' drive drive' e f ok usag
         refused_at_once = λ line is within. (completes form asked).refused_at_once (read_by (limit_of form) input) line (is_left (limit_of form) input source e) is
             (record { within = within; no_read = never_rose; no_write = no_fault sink sink' f ok });
       };
-}
-
--- want of memory, before any word is looked at
-pub no_memory : (words : List (List ℕ)) (input : List ℕ) → Answers words input [] code.OutOfMemory
-no_memory words input = record {
-  unknown = λ e. let n : 7 ≡ 2 = ap number_of e in absurd (omega (arith, n));
-  usage = λ _. inr refl;
-  nothing = λ _. refl;
-  reads = λ e. let n : 7 ≡ 5 = ap number_of e in absurd (omega (arith, n));
-  writes = λ e. let n : 7 ≡ 6 = ap number_of e in absurd (omega (arith, n));
-  of_form = λ form a. record {
-    promise = λ h. absurd h;
-    ended = λ h. absurd h;
-    refused = λ e. let n : 7 ≡ 3 = ap number_of e in absurd (omega (arith, n));
-    too_long = λ e. let n : 7 ≡ 4 = ap number_of e in absurd (omega (arith, n));
-    complete = λ _ _ _. inr refl;
-    refused_at_once = λ _ _ _. inr refl;
-  };
 }

@@ -1,6 +1,5 @@
 -- What `robus_bridge_call` promises of the very bytes.
 use Rattle.std.specs.Prelude.{ℕ, ◌≡◌, ◌<◌, ◌≤◌, ◌⊎◌, List, [], length}
-use Rattle.rb_library.specs.Words.{words_in}
 use Rattle.rb_flags.specs.declared.Flag.{Flag}
 use Rattle.rb_rules_bridge.specs.Bridges.{Bridge, IsBridge}
 use Rattle.rb_rules_bridge.specs.Texts.{bridge_text}
@@ -15,7 +14,7 @@ use Rattle.rb_bridge_top.specs.Pages.{page_text}
 use Rattle.rb_bridge_top.specs.Statuses.{HasEnded, WritesNothing, end_of}
 use Rattle.rb_bridge_top.specs.Words.{words_of}
 use Rattle.robus_c.specs.declared.answer.Answer.{Answer}
-use Rattle.robus_c.specs.Put.{AreNoText, IsPut}
+use Rattle.robus_c.specs.Put.{IsAnswer}
 
 -- the number that a status has in the answer
 abbrev pub number_of : Status → ℕ
@@ -54,20 +53,19 @@ pub record AnswersRun (input output : List ℕ) (status : Status) : Type 0 where
 -- The answer to words. Reading and writing never fail
 pub record Answers (words : List (List ℕ)) (input output : List ℕ) (status : Status) : Type 0 where
   pub unknown : status ≡ code.Usage → (form : Form) → ¬ Ask words form
-  pub usage : ((form : Form) → ¬ Ask words form) → (status ≡ code.Usage) ⊎ (status ≡ code.OutOfMemory)
+  pub usage : ((form : Form) → ¬ Ask words form) → status ≡ code.Usage
   pub nothing : WritesNothing status → output ≡ []
   pub reads : ¬ (status ≡ code.ReadFault)
   pub writes : ¬ (status ≡ code.WriteFault)
-  pub shown : (flag : Flag) → Ask words (Show flag) → ((status ≡ code.Done) × (output ≡ page_text flag)) ⊎ (status ≡ code.OutOfMemory)
+  pub shown : (flag : Flag) → Ask words (Show flag) → (status ≡ code.Done) × (output ≡ page_text flag)
   pub run : Ask words Run → AnswersRun input output status
 
--- words are answered so, and that output is put to the host's bytes
-pub record IsAnswered (words : List (List ℕ)) (input before after : List ℕ) (answer : Answer) : Type 0 where
+-- the number of a status with which this output comes
+pub record Says (words : List (List ℕ)) (input output : List ℕ) (number : ℕ) : Type 0 where
   pub status : Status
-  pub output : List ℕ
+  pub is : number ≡ number_of status
   pub answers : Answers words input output status
-  pub put : IsPut (number_of status) output before after answer
 
 -- what `robus_bridge_call` answers
 abbrev pub IsBridgeAnswer : List ℕ → List ℕ → List ℕ → List ℕ → Answer → Type 0
-IsBridgeAnswer words input before after answer = AreNoText words before after answer ⊎ IsAnswered (words_in words) input before after answer
+IsBridgeAnswer words input before after answer = IsAnswer Says words input before after answer

@@ -1,6 +1,5 @@
 -- What `robus_call` promises of the very bytes.
-use Rattle.std.specs.Prelude.{⊤, ℕ, ◌≡◌, ◌<◌, ◌≤◌, ◌⊎◌, true, List, [], length, Option, Some, None}
-use Rattle.rb_library.specs.Words.{words_in}
+use Rattle.std.specs.Prelude.{⊤, ℕ, ◌≡◌, ◌<◌, ◌⊎◌, true, List, [], length, Option, Some, None}
 use Rattle.rb_rules.specs.Goodness.{Scenario}
 use Rattle.rb_rules.specs.Headline.{Headline}
 use Rattle.rb_rules.specs.Rounds.{records_of}
@@ -18,7 +17,7 @@ use Rattle.rb_top.specs.Statuses.{HasEnded, WritesNothing}
 use Rattle.rb_top.specs.Texts.{Telling, summary_with, told_by_group, told_by_letters, told_by_run}
 use Rattle.rb_top.specs.Words.{IsInRange, words_of}
 use Rattle.robus_c.specs.declared.answer.Answer.{Answer}
-use Rattle.robus_c.specs.Put.{AreNoText, IsPut}
+use Rattle.robus_c.specs.Put.{IsAnswer}
 
 -- the number that a status has in the answer
 abbrev pub number_of : Status → ℕ
@@ -92,19 +91,18 @@ pub record AnswersForm (form : Form) (input output : List ℕ) (status : Status)
 -- The answer to words. Reading and writing never fail
 pub record Answers (words : List (List ℕ)) (input output : List ℕ) (status : Status) : Type 0 where
   pub unknown : status ≡ code.Usage → (form : Form) → ¬ Ask words form
-  pub usage : ((form : Form) → ¬ Ask words form) → (status ≡ code.Usage) ⊎ (status ≡ code.OutOfMemory)
+  pub usage : ((form : Form) → ¬ Ask words form) → status ≡ code.Usage
   pub nothing : WritesNothing status → output ≡ []
   pub reads : ¬ (status ≡ code.ReadFault)
   pub writes : ¬ (status ≡ code.WriteFault)
   pub of_form : (form : Form) → Ask words form → AnswersForm form (read_by (limit_of form) input) output status
 
--- words are answered so, and that output is put to the host's bytes
-pub record IsAnswered (words : List (List ℕ)) (input before after : List ℕ) (answer : Answer) : Type 0 where
+-- the number of a status with which this output comes
+pub record Says (words : List (List ℕ)) (input output : List ℕ) (number : ℕ) : Type 0 where
   pub status : Status
-  pub output : List ℕ
+  pub is : number ≡ number_of status
   pub answers : Answers words input output status
-  pub put : IsPut (number_of status) output before after answer
 
 -- what `robus_call` answers
 abbrev pub IsBusAnswer : List ℕ → List ℕ → List ℕ → List ℕ → Answer → Type 0
-IsBusAnswer words input before after answer = AreNoText words before after answer ⊎ IsAnswered (words_in words) input before after answer
+IsBusAnswer words input before after answer = IsAnswer Says words input before after answer

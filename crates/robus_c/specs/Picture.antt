@@ -1,6 +1,5 @@
 -- What `robus_picture_call` promises of the very bytes.
-use Rattle.std.specs.Prelude.{ℕ, ◌≡◌, ◌<◌, ◌⊎◌, List, [], length}
-use Rattle.rb_library.specs.Words.{words_in}
+use Rattle.std.specs.Prelude.{ℕ, ◌≡◌, ◌<◌, List, [], length}
 use Rattle.rb_picture.specs.declared.form.Form.{Form}
 use Rattle.rb_picture.specs.declared.form.Form.TheVariants.{Draw, Show}
 use Rattle.rb_picture.specs.declared.status.Status.{Status}
@@ -9,7 +8,7 @@ use Rattle.rb_picture.specs.Answers.{IsPicture, IsRefusal, WritesNothing, report
 use Rattle.rb_picture.specs.Forms.{IsInRange, words_of}
 use Rattle.rb_picture.specs.Pages.{page_text}
 use Rattle.robus_c.specs.declared.answer.Answer.{Answer}
-use Rattle.robus_c.specs.Put.{AreNoText, IsPut}
+use Rattle.robus_c.specs.Put.{IsAnswer}
 
 -- the number that a status has in the answer
 abbrev pub number_of : Status → ℕ
@@ -26,21 +25,21 @@ pub record Ask (words : List (List ℕ)) (form : Form) : Type 0 where
   pub same : words ≡ words_of form
   pub in_range : IsInRange form
 
--- the output is what the form asks for: the picture, in this style, of these frames of the report that the input is, or a page
-abbrev pub Gives : List ℕ → Form → List ℕ → List ℕ → Type 0
-Gives style (Draw frames) input output = IsPicture style frames input output
-Gives style (Show page) input output = output ≡ page_text page
+-- the output is what the form asks for: the picture of these frames of the report that the input is, or what the flag asks for
+abbrev pub Gives : Form → List ℕ → List ℕ → Type 0
+Gives (Draw frames) input output = IsPicture frames input output
+Gives (Show flag) input output = output ≡ page_text flag
 
--- the words ask for a form, and the output is what it asks for. The style is that of `draw`
+-- the words ask for a form, and the output is what it asks for
 pub record IsDone (words : List (List ℕ)) (input output : List ℕ) : Type 0 where
-  pub style : List ℕ
   pub form : Form
   pub asked : Ask words form
-  pub gives : Gives style form input output
+  pub gives : Gives form input output
 
 -- The answer to words. Reading and writing never fail
 pub record Answers (words : List (List ℕ)) (input output : List ℕ) (status : Status) : Type 0 where
   pub unknown : status ≡ code.Usage → (form : Form) → ¬ Ask words form
+  pub usage : ((form : Form) → ¬ Ask words form) → status ≡ code.Usage
   pub nothing : WritesNothing status → output ≡ []
   pub reads : ¬ (status ≡ code.ReadFault)
   pub writes : ¬ (status ≡ code.WriteFault)
@@ -48,13 +47,12 @@ pub record Answers (words : List (List ℕ)) (input output : List ℕ) (status :
   pub refused : status ≡ code.Refused → IsRefusal input output  -- the input is no report, and the output is the line that says where and why
   pub too_long : status ≡ code.TooLong → report_limit < length input
 
--- words are answered so, and that output is put to the host's bytes
-pub record IsAnswered (words : List (List ℕ)) (input before after : List ℕ) (answer : Answer) : Type 0 where
+-- the number of a status with which this output comes
+pub record Says (words : List (List ℕ)) (input output : List ℕ) (number : ℕ) : Type 0 where
   pub status : Status
-  pub output : List ℕ
+  pub is : number ≡ number_of status
   pub answers : Answers words input output status
-  pub put : IsPut (number_of status) output before after answer
 
 -- what `robus_picture_call` answers
 abbrev pub IsPictureAnswer : List ℕ → List ℕ → List ℕ → List ℕ → Answer → Type 0
-IsPictureAnswer words input before after answer = AreNoText words before after answer ⊎ IsAnswered (words_in words) input before after answer
+IsPictureAnswer words input before after answer = IsAnswer Says words input before after answer

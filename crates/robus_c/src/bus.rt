@@ -1,14 +1,24 @@
 //! `robus` over bytes in memory.
 ghost use Rattle.std.specs.Prelude.{◌≡◌, false, [], map, string_bytes, IfOk};
-ghost use Rattle.robus_c.specs.Bus.{Answers, IsAnswered, IsBusAnswer, number_of};
+ghost use Rattle.robus_c.specs.Bus.{Says, number_of};
 
-use crate::answer::{Answer, NO_MEMORY, NOT_TEXT, answer_with};
+use crate::program::Program;
 use rb_group::{Voters, voters};
-use rb_library::{HeldSink, NoWords, SliceSource, words_in};
+use rb_library::{HeldSink, SliceSource};
 use rb_port::{Apps, applications};
 use rb_top::{Status, run_robus};
 use rb_world::FirstDrive;
 use std::alloc::{AllocError, Global};
+
+/// `robus`.
+pub(crate) struct Robus;
+
+// The number of a status.
+fn number_of(status: Status) -> u8
+    ensures { result ≡ number_of status }
+{
+    status as u8
+}
 
 // The top call over these bytes, into an empty sink.
 fn run_over(
@@ -18,14 +28,15 @@ fn run_over(
     sink: &mut HeldSink,
     apps: &Apps,
     voters: &Voters,
-) -> Status
+) -> u8
     requires { sink.old ≡ record { bytes = []; failed = false } }
     ensures { sink.new.failed ≡ false
-        → Answers (map string_bytes words.now) input.now sink.new.bytes result }
+        → Says (map string_bytes words.now) input.now sink.new.bytes result }
 {
     let mut source = SliceSource::new(input);
     let mut drive = FirstDrive::new();
-    run_robus(alloc, words, &mut source, sink, apps, &mut drive, voters)
+    let status = run_robus(alloc, words, &mut source, sink, apps, &mut drive, voters);
+    number_of(status)
 }
 
 // The same with the two voters, or want of memory for them.
@@ -35,68 +46,25 @@ fn run_with(
     input: &[u8],
     sink: &mut HeldSink,
     apps: &Apps,
-) -> Result<Status, AllocError>
+) -> Result<u8, AllocError>
     requires { sink.old ≡ record { bytes = []; failed = false } }
-    ensures { IfOk result (λ status. sink.new.failed ≡ false
-        → Answers (map string_bytes words.now) input.now sink.new.bytes status) }
+    ensures { IfOk result (λ number. sink.new.failed ≡ false
+        → Says (map string_bytes words.now) input.now sink.new.bytes number) }
 {
     let voters = voters!(alloc);
     Ok(run_over(alloc, words, input, sink, apps, &voters))
 }
 
-// The same with the three applications, or want of memory for them.
-fn run(
-    alloc: Global,
-    words: &[String],
-    input: &[u8],
-    sink: &mut HeldSink,
-) -> Result<Status, AllocError>
-    requires { sink.old ≡ record { bytes = []; failed = false } }
-    ensures { IfOk result (λ status. sink.new.failed ≡ false
-        → Answers (map string_bytes words.now) input.now sink.new.bytes status) }
-{
-    let apps = applications!(alloc);
-    run_with(alloc, words, input, sink, &apps)
-}
+impl Program for Robus {
+    ghost says = { Says };
 
-// The number of a status.
-fn number_of(status: Status) -> u8
-    ensures { result ≡ number_of status }
-{
-    status as u8
-}
-
-// The answer for want of memory.
-fn without_memory(words: &[String], input: &[u8], output: &mut [u8]) -> Answer
-    ensures { IsAnswered (map string_bytes words.now) input.now output.old output.new result }
-{
-    let _ = (words.len(), input.len());
-    answer_with(NO_MEMORY, &[], output)
-}
-
-// The answer to these words.
-fn answer_words(alloc: Global, words: &[String], input: &[u8], output: &mut [u8]) -> Answer
-    ensures { IsAnswered (map string_bytes words.now) input.now output.old output.new result }
-{
-    let Ok(mut sink) = HeldSink::new(alloc, output.len()) else {
-        return without_memory(words, input, output);
-    };
-    let Ok(status) = run(alloc, words, input, &mut sink) else {
-        return without_memory(words, input, output);
-    };
-    if sink.has_failed() {
-        return without_memory(words, input, output);
-    }
-    answer_with(number_of(status), sink.bytes(), output)
-}
-
-/// What `robus` does with the words that the bytes spell, and this input.
-pub(crate) fn call(alloc: Global, words: &[u8], input: &[u8], output: &mut [u8]) -> Answer
-    ensures { IsBusAnswer words.now input.now output.old output.new result }
-{
-    match words_in(alloc, words) {
-        Ok(words) => answer_words(alloc, &words, input, output),
-        Err(NoWords::NotText) => answer_with(NOT_TEXT, &[], output),
-        Err(NoWords::OutOfMemory) => answer_with(NO_MEMORY, &[], output),
+    fn run(
+        alloc: Global,
+        words: &[String],
+        input: &[u8],
+        sink: &mut HeldSink,
+    ) -> Result<u8, AllocError> {
+        let apps = applications!(alloc);
+        run_with(alloc, words, input, sink, &apps)
     }
 }

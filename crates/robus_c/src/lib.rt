@@ -11,8 +11,13 @@ mod bridge;
 mod bus;
 mod node;
 mod picture;
+mod program;
 
 use answer::Answer;
+use bridge::RobusBridge;
+use bus::Robus;
+use picture::RobusPicture;
+use program::call;
 use std::alloc::Global;
 
 /// What `robus` does with these words, a NUL byte between one and the next, and this input. Its output stands in `output`, and the answer
@@ -22,7 +27,7 @@ use std::alloc::Global;
 pub extern "C" fn robus_call(alloc: Global, words: &[u8], input: &[u8], output: &mut [u8]) -> Answer
     ensures { IsBusAnswer words.now input.now output.old output.new result }
 {
-    bus::call(alloc, words, input, output)
+    call::<Robus>(alloc, words, input, output)
 }
 
 /// The same for `robus_bridge`.
@@ -35,7 +40,7 @@ pub extern "C" fn robus_bridge_call(
 ) -> Answer
     ensures { IsBridgeAnswer words.now input.now output.old output.new result }
 {
-    bridge::call(alloc, words, input, output)
+    call::<RobusBridge>(alloc, words, input, output)
 }
 
 /// The same for `robus_picture`, whose status is 0, 2 to 4 or 7.
@@ -48,5 +53,5 @@ pub extern "C" fn robus_picture_call(
 ) -> Answer
     ensures { IsPictureAnswer words.now input.now output.old output.new result }
 {
-    picture::call(alloc, words, input, output)
+    call::<RobusPicture>(alloc, words, input, output)
 }

@@ -1,22 +1,15 @@
 //! `robus_picture` over bytes in memory.
 ghost use Rattle.std.specs.Prelude.{◌≡◌, false, [], map, string_bytes};
-ghost use Rattle.robus_c.specs.Picture.{Answers, IsAnswered, IsPictureAnswer, number_of};
+ghost use Rattle.robus_c.specs.Picture.{Says, number_of};
 
-use crate::answer::{Answer, NO_MEMORY, NOT_TEXT, answer_with};
-use rb_library::{HeldSink, NoWords, SliceSource, words_in};
+use crate::program::Program;
+use rb_library::{HeldSink, SliceSource};
 use rb_picture::Status;
 use rb_picture::draw::draw;
-use std::alloc::Global;
+use std::alloc::{AllocError, Global};
 
-// The top call over these bytes, into an empty sink.
-fn run(alloc: Global, words: &[String], input: &[u8], sink: &mut HeldSink) -> Status
-    requires { sink.old ≡ record { bytes = []; failed = false } }
-    ensures { sink.new.failed ≡ false
-        → Answers (map string_bytes words.now) input.now sink.new.bytes result }
-{
-    let mut source = SliceSource::new(input);
-    draw(alloc, words, &mut source, sink)
-}
+/// `robus_picture`.
+pub(crate) struct RobusPicture;
 
 // The number of a status.
 fn number_of(status: Status) -> u8
@@ -25,35 +18,26 @@ fn number_of(status: Status) -> u8
     status as u8
 }
 
-// The answer for want of memory.
-fn without_memory(words: &[String], input: &[u8], output: &mut [u8]) -> Answer
-    ensures { IsAnswered (map string_bytes words.now) input.now output.old output.new result }
+// The top call over these bytes, into an empty sink.
+fn run_over(alloc: Global, words: &[String], input: &[u8], sink: &mut HeldSink) -> u8
+    requires { sink.old ≡ record { bytes = []; failed = false } }
+    ensures { sink.new.failed ≡ false
+        → Says (map string_bytes words.now) input.now sink.new.bytes result }
 {
-    let _ = (words.len(), input.len());
-    answer_with(NO_MEMORY, &[], output)
+    let mut source = SliceSource::new(input);
+    let status = draw(alloc, words, &mut source, sink);
+    number_of(status)
 }
 
-// The answer to these words.
-fn answer_words(alloc: Global, words: &[String], input: &[u8], output: &mut [u8]) -> Answer
-    ensures { IsAnswered (map string_bytes words.now) input.now output.old output.new result }
-{
-    let Ok(mut sink) = HeldSink::new(alloc, output.len()) else {
-        return without_memory(words, input, output);
-    };
-    let status = run(alloc, words, input, &mut sink);
-    if sink.has_failed() {
-        return without_memory(words, input, output);
-    }
-    answer_with(number_of(status), sink.bytes(), output)
-}
+impl Program for RobusPicture {
+    ghost says = { Says };
 
-/// What `robus_picture` does with the words that the bytes spell, and this input.
-pub(crate) fn call(alloc: Global, words: &[u8], input: &[u8], output: &mut [u8]) -> Answer
-    ensures { IsPictureAnswer words.now input.now output.old output.new result }
-{
-    match words_in(alloc, words) {
-        Ok(words) => answer_words(alloc, &words, input, output),
-        Err(NoWords::NotText) => answer_with(NOT_TEXT, &[], output),
-        Err(NoWords::OutOfMemory) => answer_with(NO_MEMORY, &[], output),
+    fn run(
+        alloc: Global,
+        words: &[String],
+        input: &[u8],
+        sink: &mut HeldSink,
+    ) -> Result<u8, AllocError> {
+        Ok(run_over(alloc, words, input, sink))
     }
 }

@@ -1,7 +1,0 @@
-use Rattle.std.proofs.Common.{[]}
-use Rattle.rb_bridge_top.specs.declared.status.Status.TheVariants.{OutOfMemory}
-use Rattle.robus_c.proofs.BridgeOverBytes.{no_memory}
-use Rattle.robus_c.proofs.bridge.without_memory.Goals as goal
-
-pub returns : goal.returns
-returns c = record { status = OutOfMemory; output = []; answers = no_memory _ _; put = c.answer_with.ensures }
