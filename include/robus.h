@@ -88,7 +88,7 @@ robus_answer robus_picture_call(const uint8_t *words, size_t words_length, const
  * The handle is the caller's: a struct that begins as zeros, `robus_node node = {0};`, and may be moved. Each call takes the handle of its
  * node and keeps no other state, so threads may call at once, each with nodes of its own. A node stays on the thread that made it; one handle
  * is in one call at a time, and is never copied: the copy would have the same node. The fields are for these calls alone. The node itself, some
- * 3 KB, is in memory that robus_node_new takes by malloc; robus_node_free gives it back. No other call takes memory. On a handle without a
+ * 2 KB, is in memory that robus_node_new takes by malloc; robus_node_free gives it back. No other call takes memory. On a handle without a
  * node each call says so and does nothing.
  *
  * What is proved is of the core of rb_rules (specs/Core.antt) that the node stands for, whatever came: a clause says it for every core c for
