@@ -5,7 +5,7 @@ use crate::any_node::AnyNode;
 use crate::held::{Held, close, empty, open};
 use std::alloc::Global;
 
-/// A node in a host's hands, or none. A host keeps the struct where it likes, begins with zeros, and touches no field of it.
+/// A node in a host's hands, or none. A host keeps the struct where it likes and touches no field of it. One in C begins with zeros.
 #[repr(C)]
 #[derive(Drop)]
 pub struct Handle {
@@ -14,8 +14,8 @@ pub struct Handle {
     ghost known: { there ≡ is_some held.node },
 }
 
-// A handle with no node.
-fn vacant() -> Handle
+/// A handle with no node.
+pub fn vacant() -> Handle
     ensures { result.held.node ≡ None }
 {
     Handle {

@@ -1,5 +1,5 @@
-//! The three programs as calls for C, over bytes in memory. No call keeps anything: several threads of a host may call at once, each with
-//! bytes of its own.
+//! The three programs as calls for C, over bytes in memory, and a node core over a handle. No call keeps anything else: several threads of a
+//! host may call at once, each with bytes and handles of its own.
 #![tactic(auto)]
 
 ghost use Rattle.robus_c.specs.Bridge.{IsBridgeAnswer};
