@@ -1,10 +1,10 @@
 //! Calls of the programs on bytes in memory.
 use crate::steps::Program;
 use rb_bridge_top::run_bridge;
-use rb_group::{Voters, voters};
+use rb_group::Voters;
 use rb_outside::{MemSink, MemSource};
 use rb_picture::draw::draw;
-use rb_port::{Apps, applications};
+use rb_port::Apps;
 use rb_top::run_robus;
 use rb_world::FirstDrive;
 use std::alloc::{AllocError, Global};
@@ -15,8 +15,8 @@ const ROOM: usize = 65536;
 /// What the programs are given besides words and input.
 #[derive(Drop)]
 pub(crate) struct Answerer {
-    apps: Apps,
-    voters: Voters,
+    pub(crate) apps: Apps,
+    pub(crate) voters: Voters,
 }
 
 /// How a call ended, by its number, and what it wrote.
@@ -38,12 +38,6 @@ fn words_of(alloc: Global, text: &str) -> Result<Vec<String>, AllocError> {
 }
 
 impl Answerer {
-    pub(crate) fn new(alloc: Global) -> Result<Answerer, AllocError> {
-        let apps = applications!(alloc);
-        let voters = voters!(alloc);
-        Ok(Answerer { apps, voters })
-    }
-
     // The number with which the program ends.
     fn status_of(
         &self,

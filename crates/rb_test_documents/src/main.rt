@@ -11,6 +11,8 @@ mod answers;
 mod steps;
 
 use answers::Answerer;
+use rb_group::voters;
+use rb_port::applications;
 use std::io::Write;
 use std::{fs, io};
 use steps::{Step, changed, step_of};
@@ -47,7 +49,10 @@ fn try_steps(rt: &HostRuntime, answerer: &Answerer, steps: &str, file: &str) -> 
 }
 
 fn main(rt: HostRuntime) -> anyhow::Result<()> {
-    let answerer = Answerer::new(rt.alloc())?;
+    let alloc = rt.alloc();
+    let apps = applications!(alloc);
+    let voters = voters!(alloc);
+    let answerer = Answerer { apps, voters };
     for line in fs::read_to_string(&rt, "runs.txt")?.lines() {
         println!(rt; "{line}")?;
         if line.starts_with('#') {
