@@ -14,20 +14,10 @@ ghost use Rattle.rb_bridge.specs.Receivers.{receiver_by, receivers_by};
 ghost use Rattle.rb_bridge.specs.Refusals.{bank_of};
 
 use crate::lines::cross_line;
-use arrayvec::ArrayString;
 use rb_base::{Heard, NodeName, Shape};
 use rb_group::{Group, most_of};
 use rb_group_run::{Ports, Scope};
-use rb_outside::{Failed, Sink, write_all};
-
-// Writes the line.
-fn write_line<K: Sink>(output: &mut K, line: &ArrayString<96>) -> Result<(), Failed>
-    ensures all { OnOk result (Appends (K.held output.old) (K.held output.new) (line.now.bytes)) }
-    ensures part { OnErr result (AppendsPart (K.held output.old) (K.held output.new) (line.now.bytes)) }
-    ensures cause { HasCause (K.faults output.old) (K.faults output.new) result }
-{
-    write_all(output, line.as_str().as_bytes())
-}
+use rb_outside::{Failed, Sink, write_line};
 
 // The number of the last data slot.
 fn last_data_slot(shape: &Shape) -> u16

@@ -15,9 +15,8 @@ ghost use Rattle.rb_bridge.specs.Crossing.{Finds, FindBoth, shown, told_text};
 use crate::lines::side_breach_line;
 use crate::receivers::write_receivers;
 use crate::side::Side;
-use arrayvec::ArrayString;
 use rb_base::Place;
-use rb_outside::{Failed, Sink, write_all};
+use rb_outside::{Failed, Sink, write_line};
 use rb_report::end_line;
 use rb_rules::Cause;
 use rb_world_book::Turn;
@@ -48,15 +47,6 @@ pub(crate) fn breach_at(turn: &Turn, right: bool, frame: u32) -> Option<Breach>
         }
         _ => None,
     }
-}
-
-// Writes the line.
-fn write_line<K: Sink>(output: &mut K, line: &ArrayString<96>) -> Result<(), Failed>
-    ensures all { OnOk result (Appends (K.held output.old) (K.held output.new) line.now.bytes) }
-    ensures part { OnErr result (AppendsPart (K.held output.old) (K.held output.new) line.now.bytes) }
-    ensures cause { HasCause (K.faults output.old) (K.faults output.new) result }
-{
-    write_all(output, line.as_str().as_bytes())
 }
 
 // Writes the line of a breach.

@@ -9,10 +9,9 @@ ghost use Rattle.rb_bridge_top.specs.Inputs.{HasLine, IsUnread, ReadsBridge, Rea
 ghost use Rattle.rb_bridge_top.specs.Statuses.{IsNotRead, WritesNothing};
 
 use crate::status::Status;
-use arrayvec::ArrayString;
 use rb_bridge::bridge_refused_line;
 use rb_bridge_document::{Bridge, BridgeRefusal, read_bridge};
-use rb_outside::{Failed, Sink, Source, Unread, read_all, write_all};
+use rb_outside::{Failed, Sink, Source, Unread, read_all, write_line};
 use std::alloc::Global;
 
 /// The most bytes of an input.
@@ -31,15 +30,6 @@ fn read_input<S: Source>(alloc: Global, input: &mut S) -> Result<Vec<u8>, Status
         Err(Unread::Fault) => Err(Status::ReadFault),
         Err(Unread::OutOfMemory) => Err(Status::OutOfMemory),
     }
-}
-
-// Writes the line.
-fn write_line<K: Sink>(output: &mut K, line: &ArrayString<96>) -> Result<(), Failed>
-    ensures all { OnOk result (Appends (K.held output.old) (K.held output.new) line.now.bytes) }
-    ensures part { OnErr result (AppendsPart (K.held output.old) (K.held output.new) line.now.bytes) }
-    ensures cause { HasCause (K.faults output.old) (K.faults output.new) result }
-{
-    write_all(output, line.as_str().as_bytes())
 }
 
 // Writes the line of a rule that is broken.

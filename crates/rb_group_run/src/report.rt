@@ -15,21 +15,11 @@ ghost use Rattle.rb_group_run.specs.Replies.{ending_in, frame_text, last_data_sl
 
 use crate::asked::{Asked, Scope};
 use crate::ports::{Ports, find, frame_or};
-use arrayvec::ArrayString;
 use rb_base::{NodeName, Shape};
 use rb_group::Voters;
-use rb_outside::{Failed, Sink, write_all};
+use rb_outside::{Failed, Sink, write_line};
 use rb_report::{breach_line, end_line, group_line};
 use rb_world_book::Turn;
-
-// Writes the line.
-fn write_line<K: Sink>(output: &mut K, line: &ArrayString<96>) -> Result<(), Failed>
-    ensures all { OnOk result (Appends (K.held output.old) (K.held output.new) (line.now.bytes)) }
-    ensures part { OnErr result (AppendsPart (K.held output.old) (K.held output.new) (line.now.bytes)) }
-    ensures cause { HasCause (K.faults output.old) (K.faults output.new) result }
-{
-    write_all(output, line.as_str().as_bytes())
-}
 
 // The number of the last data slot.
 fn last_data_slot(shape: &Shape) -> u16

@@ -9,10 +9,9 @@ ghost use Rattle.rb_long.specs.Readers.{letter_in};
 ghost use Rattle.rb_outside.specs.Bytes.{AppendsPart};
 ghost use Rattle.rb_outside.specs.Causes.{HasCause};
 
-use crate::writing::write_line;
 use arrayvec::ArrayVec;
 use rb_long::LongReceiver;
-use rb_outside::{Failed, Sink};
+use rb_outside::{Failed, Sink, write_line};
 use rb_report::letter_line;
 use rb_rules::SlotLine;
 use std::marker::Model;

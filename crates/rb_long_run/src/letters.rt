@@ -10,8 +10,7 @@ ghost use Rattle.rb_run.specs.Runs.{EndsWith, HasGivenNothing};
 
 use crate::Receivers;
 use crate::ending::{ending_at, newest_block};
-use crate::writing::write_line;
-use rb_outside::{Failed, Sink};
+use rb_outside::{Failed, Sink, write_line};
 use rb_port::Apps;
 use rb_report::{breach_line, end_line};
 use rb_run::Ending;

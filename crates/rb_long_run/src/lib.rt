@@ -9,4 +9,3 @@ mod ending;
 pub mod hearing;
 mod letters;
 mod spelling;
-mod writing;

@@ -6,9 +6,8 @@ ghost use Rattle.rb_long.specs.Spelling.{is_length};
 ghost use Rattle.rb_outside.specs.Bytes.{AppendsPart};
 ghost use Rattle.rb_outside.specs.Causes.{HasCause};
 
-use crate::writing::write_line;
 use rb_long::LongSender;
-use rb_outside::{Failed, Sink};
+use rb_outside::{Failed, Sink, write_line};
 use rb_report::word_line;
 
 /// Writes the words of a letter of 1 to 255 bytes, a line for each, each write asking for the rest of one line. `Failed` comes only

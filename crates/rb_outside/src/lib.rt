@@ -13,4 +13,4 @@ pub use sink::{MemSink, ShortSink};
 pub use source::{MemSource, PlainSource, ShortSource};
 pub use standard::{StdSink, StdSource};
 pub use traits::{Failed, Sink, Source};
-pub use whole::{Unread, read_all, write_all};
+pub use whole::{Unread, read_all, write_all, write_line};

@@ -5,6 +5,7 @@ ghost use Rattle.rb_outside.specs.Bytes.{AppendsPart, Gave, ReadsToEnd};
 ghost use Rattle.rb_outside.specs.Causes.{HasCause, Rose};
 
 use crate::traits::{Failed, Sink, Source};
+use arrayvec::ArrayString;
 use std::alloc::Global;
 
 /// Writes all the bytes, each call asking for the rest of them. At a fault a first part of them has
@@ -20,6 +21,18 @@ pub fn write_all<K: Sink>(output: &mut K, bytes: &[u8]) -> Result<(), Failed>
         at += output.write(&bytes[at..])?;
     }
     Ok(())
+}
+
+/// Writes all bytes of the line.
+pub fn write_line<K: Sink, const N: usize>(
+    output: &mut K,
+    line: &ArrayString<N>,
+) -> Result<(), Failed>
+    ensures all { OnOk result (Appends (K.held output.old) (K.held output.new) line.now.bytes) }
+    ensures part { OnErr result (AppendsPart (K.held output.old) (K.held output.new) line.now.bytes) }
+    ensures cause { HasCause (K.faults output.old) (K.faults output.new) result }
+{
+    write_all(output, line.as_str().as_bytes())
 }
 
 /// Why the input was not read to its end.

@@ -13,17 +13,8 @@ use arrayvec::ArrayString;
 use rb_base::{Delivery, NodeName};
 use rb_listen::Heed;
 use rb_node::{Closed, Epoch, Step};
-use rb_outside::{Failed, Sink, write_all};
+use rb_outside::{Failed, Sink, write_line};
 use rb_report::{convicted_line, delivery_line, epoch_line};
-
-/// Writes the line.
-pub(crate) fn write_line<S: Sink>(output: &mut S, line: &ArrayString<96>) -> Result<(), Failed>
-    ensures all { OnOk result (Appends (S.held output.old) (S.held output.new) line.now.bytes) }
-    ensures part { OnErr result (AppendsPart (S.held output.old) (S.held output.new) line.now.bytes) }
-    ensures cause { HasCause (S.faults output.old) (S.faults output.new) result }
-{
-    write_all(output, line.as_str().as_bytes())
-}
 
 // Writes one line and then the other.
 #[tactic(auto, using(crate::proofs::Written::in_turn))]

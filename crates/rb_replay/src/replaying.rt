@@ -12,11 +12,11 @@ ghost use Rattle.rb_rules.specs.Core.CoreEvent.{Tick};
 ghost use Rattle.rb_replay.specs.Advancing.{Advances};
 ghost use Rattle.rb_replay.specs.Replaying.{IsDue};
 
-use crate::lines::{frames_by, write_line, write_step};
+use crate::lines::{frames_by, write_step};
 use rb_base::{Biu, Kind, NodeName, Rmu};
 use rb_log::{LogEvent, LogReader};
 use rb_node::Node;
-use rb_outside::{Failed, Sink};
+use rb_outside::{Failed, Sink, write_line};
 use rb_report::end_line;
 
 // How many ticks a node can have.

@@ -9,21 +9,11 @@ ghost use Rattle.rb_run.specs.Reports.{convictions_text, epochs_text, newest_wit
 ghost use Rattle.rb_run.specs.Runs.{EndsWith, HasGivenNothing, WritesAll, WritesPart};
 
 use crate::ending::{Ending, ending_at};
-use arrayvec::ArrayString;
-use rb_outside::{Failed, Sink, write_all};
+use rb_outside::{Failed, Sink, write_line};
 use rb_port::Apps;
 use rb_report::{breach_line, convicted_line, delivery_line, end_line, epoch_line, port_line};
 use rb_world::{Drive, World};
 use rb_world_book::{FrameRecord, NodeLine, PortLine, SlotRecord, Turn};
-
-// Writes the line.
-fn write_line<K: Sink>(output: &mut K, line: &ArrayString<96>) -> Result<(), Failed>
-    ensures all { OnOk result (Appends (K.held output.old) (K.held output.new) line.now.bytes) }
-    ensures part { OnErr result (AppendsPart (K.held output.old) (K.held output.new) line.now.bytes) }
-    ensures cause { HasCause (K.faults output.old) (K.faults output.new) result }
-{
-    write_all(output, line.as_str().as_bytes())
-}
 
 // Writes the first tick of each node.
 fn write_epochs<K: Sink>(frame: u32, nodes: &[NodeLine], output: &mut K) -> Result<(), Failed>

@@ -5,10 +5,9 @@ ghost use Rattle.rb_outside.specs.Bytes.{AppendsPart};
 ghost use Rattle.rb_outside.specs.Causes.{HasCause, Rose};
 ghost use Rattle.rb_top.specs.CheckText.{check_text, text_after};
 
-use crate::lines::write_line;
 use crate::status::Status;
 use arrayvec::ArrayString;
-use rb_outside::{Failed, Sink};
+use rb_outside::{Failed, Sink, write_line};
 use rb_plan::{Feasible, sides};
 use rb_report::side_line;
 use rb_scenario::Scenario;

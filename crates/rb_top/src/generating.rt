@@ -11,11 +11,10 @@ ghost use Rattle.rb_top.specs.Serving.{IsOfText};
 ghost use Rattle.rb_top.specs.Texts.{generated_text};
 ghost use Rattle.rb_top.specs.Words.{AreNumbers};
 
-use crate::lines::write_line;
 use crate::status::Status;
 use rb_base::OutOfMemory;
 use rb_gen::line;
-use rb_outside::{Failed, Sink};
+use rb_outside::{Failed, Sink, write_line};
 use rb_scenario::Scenario;
 use std::alloc::Global;
 

@@ -5,7 +5,6 @@ mod checking;
 pub mod commands;
 pub mod form;
 pub mod generating;
-mod lines;
 mod listening;
 mod pages;
 mod reading;

@@ -8,10 +8,9 @@ ghost use Rattle.rb_top.specs.Reading.{ReadsNone, ReadsScenario};
 ghost use Rattle.rb_top.specs.Serving.{IsNotRead};
 ghost use Rattle.rb_top.specs.Statuses.{WritesNothing};
 
-use crate::lines::write_line;
 use crate::status::Status;
 use arrayvec::ArrayString;
-use rb_outside::{Failed, Sink, Source, Unread, read_all};
+use rb_outside::{Failed, Sink, Source, Unread, read_all, write_line};
 use rb_report::refused_line;
 use rb_scenario::{Refusal, Scenario, read};
 use std::alloc::Global;

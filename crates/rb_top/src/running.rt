@@ -14,11 +14,10 @@ ghost use Rattle.rb_top.specs.Statuses.{HasEnded};
 ghost use Rattle.rb_top.specs.Texts.{summary_of};
 ghost use Rattle.rb_top.specs.Words.{AreNumbers};
 
-use crate::lines::write_line;
 use crate::status::Status;
 use rb_base::OutOfMemory;
 use rb_gen::generate;
-use rb_outside::{Failed, Sink};
+use rb_outside::{Failed, Sink, write_line};
 use rb_port::Apps;
 use rb_report::summary_line;
 use rb_run::{Ending, Totals, tally, write_run};
