@@ -34,7 +34,7 @@ use Rattle.rb_laws_events.proofs.PendingLists.{StandsAt}
 use Rattle.rb_laws_events.proofs.Receiving.{every-stands}
 use Rattle.rb_laws_events.proofs.SameHeard.{Every}
 use Rattle.rb_laws_events.proofs.WorldNodes.{worlds-known}
-use Rattle.rb_site.specs.Sites.{KeptSite, Stands as StandsFor, number_of as number_of_kept}
+use Rattle.rb_world.specs.Sites.{KeptSite, Stands as StandsFor, number_of as number_of_kept}
 use Rattle.rb_world_traffic.specs.Arriving.{number_of}
 use Rattle.rb_world.specs.declared.scene.Scene.{Scene}
 use Rattle.rb_world.specs.Steps.{MayHappen, moved}

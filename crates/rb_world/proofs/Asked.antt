@@ -17,7 +17,7 @@ use Rattle.rb_rules.specs.WorldStep.Pending.{Tick, Arrival}
 use Rattle.rb_world_agenda.specs.Agenda.{IsDue}
 use Rattle.rb_world_agenda.specs.Holding.{due_with}
 use Rattle.rb_world_agenda.proofs.Which.{has-item}
-use Rattle.rb_site.specs.Sites.{KeptSite}
+use Rattle.rb_world.specs.Sites.{KeptSite}
 use Rattle.rb_world_traffic.specs.Arriving.{number_of}
 use Rattle.rb_world.specs.Worlds.{KeptWorld, Stands, due_in}
 use Rattle.rb_world.proofs.Idle.{due-busy}

@@ -22,7 +22,7 @@ use Rattle.rb_rules.proofs.WindowNumbers.{exact-numbered}
 use Rattle.rb_laws_events.proofs.TickRooms.{has-room}
 use Rattle.rb_laws_events.proofs.TickWindows.{IsTickIn, first-same, first_of, here-is}
 use Rattle.rb_laws_events.proofs.WorldStands.{get-at, is_node}
-use Rattle.rb_site.specs.Sites.{KeptSite, number_of}
+use Rattle.rb_world.specs.Sites.{KeptSite, number_of}
 use Rattle.rb_world.specs.declared.scene.Scene.{Scene}
 use Rattle.rb_world.specs.Openings.{AreFresh, HaveBegun, MayBegin, with_begun}
 use Rattle.rb_world.specs.Steps.{MayProceed, Proceeds, SpanFits, SpansFit}

@@ -24,7 +24,7 @@ use Rattle.rb_laws_events.specs.PendingEvents.{most_pending}
 use Rattle.rb_laws_events.proofs.OneEvent.{happens-is}
 use Rattle.rb_laws_events.proofs.WorldNodes.{settle-sites}
 use Rattle.rb_laws_events.proofs.WorldStands.{back-from, is_node, node-is, node-itself, not-other}
-use Rattle.rb_site.specs.Sites.{KeptSite, number_of}
+use Rattle.rb_world.specs.Sites.{KeptSite, number_of}
 use Rattle.rb_laws_sweeps.specs.AheadOf.{GoesOnAhead, IsFirstTick, ahead_of, is_behind, tick_alone, until_tick}
 use Rattle.rb_laws_sweeps.specs.Room.{StoppedHaveNothing, TickBehindIsInTime}
 use Rattle.rb_laws_sweeps.specs.Sweeping.{Placed, first_of, swept}

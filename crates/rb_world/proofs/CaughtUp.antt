@@ -20,7 +20,7 @@ use Rattle.rb_world_agenda.specs.Holding.{HoldsSites}
 use Rattle.rb_world_agenda.proofs.Which.{has-item}
 use Rattle.rb_world_book.proofs.Noting.{same-shown}
 use Rattle.rb_laws_events.proofs.WorldStands.{back-from, get-at, is_node, node-itself, not-other}
-use Rattle.rb_site.specs.Sites.{KeptSite, number_of}
+use Rattle.rb_world.specs.Sites.{KeptSite, number_of}
 use Rattle.rb_laws_sweeps.specs.AheadOf.{ahead_of, each_swept, until_tick}
 use Rattle.rb_laws_sweeps.proofs.Calls.{nobody-is-ahead}
 use Rattle.rb_laws_sweeps.specs.Sweeping.{swept}

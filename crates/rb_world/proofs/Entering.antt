@@ -16,7 +16,7 @@ use Rattle.rb_queue.specs.Waiting.{HasLane, Held, lane_of, spare_of, with_lane}
 use Rattle.rb_world_agenda.proofs.Keeping.{lane-with}
 use Rattle.rb_world_agenda.specs.Holding.{HoldsSites}
 use Rattle.rb_laws_events.proofs.WorldStands.{get-at, is_node, node-itself}
-use Rattle.rb_site.specs.Sites.{KeptSite}
+use Rattle.rb_world.specs.Sites.{KeptSite}
 use Rattle.rb_world_traffic.specs.Arriving.{number_of}
 use Rattle.rb_world_traffic.specs.Saying.{hears, with_arrivals}
 use Rattle.rb_world.specs.declared.scene.Scene.{Scene}

@@ -25,7 +25,7 @@ use Rattle.rb_laws_events.proofs.WorldNodes.{first-counts}
 use Rattle.rb_laws_events.proofs.WorldStands.{get-at, node-itself, not-other}
 use Rattle.rb_laws_events.specs.PendingEvents.{most_pending}
 use Rattle.rb_queue.specs.Waiting.{empty_lane}
-use Rattle.rb_site.specs.Sites.{KeptSite}
+use Rattle.rb_world.specs.Sites.{KeptSite}
 use Rattle.rb_world_traffic.specs.Arriving.{AreRunning}
 use Rattle.rb_world.specs.Buses.{HasRoom, HaveRooms}
 use Rattle.rb_world.specs.declared.last.Last.TheVariants as last

@@ -25,7 +25,7 @@ use Rattle.rb_world_agenda.proofs.Changes.{holds-at, holds-nothing, holds-tick}
 use Rattle.rb_world_book.specs.Holding.{Holds}
 use Rattle.rb_port.specs.Keeping.{KeptPort}
 use Rattle.rb_node.specs.Cores.{next_of}
-use Rattle.rb_site.specs.Sites.{KeptSite}
+use Rattle.rb_world.specs.Sites.{KeptSite}
 use Rattle.rb_laws_events.proofs.WorldStands.{is_node, node-is, not-other}
 use Rattle.rb_world_traffic.specs.Arriving.{AreRunning, number_of}
 use Rattle.rb_world.specs.declared.scene.Scene.{Scene}

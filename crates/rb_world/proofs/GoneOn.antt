@@ -18,7 +18,7 @@ use Rattle.rb_world_book.specs.declared.book.Book.{Book as KeptBook}
 use Rattle.rb_world_book.specs.declared.turn.Turn.{Turn}
 use Rattle.rb_laws_events.proofs.OneTake.{settle-ports}
 use Rattle.rb_laws_events.proofs.WorldNodes.{settle-sites}
-use Rattle.rb_site.specs.Sites.{KeptSite}
+use Rattle.rb_world.specs.Sites.{KeptSite}
 use Rattle.rb_laws_sweeps.specs.AheadOf.{GoesOnAhead, IsFirstTick}
 use Rattle.rb_laws_sweeps.proofs.Calls.{go-on-passes, nobody-is-ahead}
 use Rattle.rb_world_traffic.specs.Arriving.{AreRunning}

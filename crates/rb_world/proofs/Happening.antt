@@ -19,7 +19,7 @@ use Rattle.rb_rules.specs.WorldStep.Pending.{Tick}
 use Rattle.rb_rules.proofs.WindowNumbers.{get-each}
 use Rattle.rb_world_agenda.specs.Holding.{without_waiting}
 use Rattle.rb_laws_events.proofs.WorldStands.{is_node, not-other}
-use Rattle.rb_site.specs.Sites.{KeptSite, after_tick}
+use Rattle.rb_world.specs.Sites.{KeptSite, after_tick}
 use Rattle.rb_world.specs.declared.scene.Scene.{Scene}
 use Rattle.rb_world.specs.Steps.{Happens, Ticks, moved}
 use Rattle.rb_world.specs.Worlds.{AreNodes, IsNode, Surrounds}

@@ -14,7 +14,7 @@ use Rattle.rb_rules.specs.Links.{name_of, same_node}
 use Rattle.rb_rules.specs.Slots.{count_of, same_side}
 use Rattle.rb_rules.specs.WorldStep.{Site}
 use Rattle.rb_queue.specs.Waiting.{Held}
-use Rattle.rb_site.specs.Sites.{KeptSite, number_of as number_at}
+use Rattle.rb_world.specs.Sites.{KeptSite, number_of as number_at}
 use Rattle.rb_laws_sweeps.specs.AheadOf.{until_tick}
 use Rattle.rb_laws_sweeps.specs.Told.{Told, heard}
 use Rattle.rb_laws_sweeps.proofs.Calls.{at-any-time}

@@ -53,3 +53,7 @@ pub mod ToldOn
 pub mod LeftTold
 pub mod Calmness
 pub mod NodesKept
+pub mod Closing
+pub mod Coming
+pub mod Standing
+pub mod SitesAlike

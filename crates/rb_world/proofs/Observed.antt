@@ -11,8 +11,8 @@ use Rattle.rb_rules.specs.Ports.{PortState}
 use Rattle.rb_rules.specs.WorldStep.{Pending, Site, event_of}
 use Rattle.rb_queue.specs.Waiting.{Held, lane_of}
 use Rattle.rb_rules.specs.Book.{Each}
-use Rattle.rb_site.specs.Sites.{KeptSite, Stands as StandsFor, number_of}
-use Rattle.rb_site.proofs.Standing.{passing-most}
+use Rattle.rb_world.specs.Sites.{KeptSite, Stands as StandsFor, number_of}
+use Rattle.rb_world.proofs.Standing.{passing-most}
 use Rattle.rb_laws_sweeps.specs.Told.{Told, telling}
 use Rattle.rb_world.specs.Observing.{WasTold}
 use Rattle.rb_world.specs.Showing.{MayShowArrival}

@@ -13,7 +13,7 @@ use Rattle.rb_queue.specs.Waiting.{HasLane, Held, IsFirstBefore, IsReadyBefore, 
 use Rattle.rb_queue.specs.Waiting.Ready.{Comes, Ticks}
 use Rattle.rb_world_agenda.specs.Agenda.{key_of}
 use Rattle.rb_world_agenda.specs.Holding.{coming_with}
-use Rattle.rb_site.specs.Sites.{KeptSite}
+use Rattle.rb_world.specs.Sites.{KeptSite}
 use Rattle.rb_world.specs.Trailing.{TakesArrival, TakesTick}
 use Rattle.rb_world.proofs.Swept.{SweepsOn}
 use Rattle.rb_world.proofs.Taken.{IsTaken, arrival-taken, is-taken, tick-taken}

@@ -9,8 +9,8 @@ use Rattle.rb_rules.specs.Hearing.{Coming, Span}
 use Rattle.rb_rules.specs.Links.{name_of}
 use Rattle.rb_rules.specs.WorldStep.{Site, World, await, enter, proceed, says_in, span_from, stop}
 use Rattle.rb_queue.specs.Waiting.{Held, with_lane}
-use Rattle.rb_site.specs.Sites.{KeptSite}
-use Rattle.rb_site.proofs.Standing.{awaits, stops}
+use Rattle.rb_world.specs.Sites.{KeptSite}
+use Rattle.rb_world.proofs.Standing.{awaits, stops}
 use Rattle.rb_world.specs.declared.scene.Scene.{Scene}
 use Rattle.rb_world.specs.Steps.{IsAt, Proceeds, moved}
 use Rattle.rb_world.specs.Worlds.{IsNode, Surrounds}

@@ -12,7 +12,7 @@ use Rattle.rb_rules.proofs.WindowNumbers.{get-number}
 use Rattle.std.proofs.lemmas.Option.{slice_get-map}
 use Rattle.std.proofs.lemmas.List.FromFn.{length-map-range_with_len}
 use Rattle.rb_port.specs.Keeping.{HoldsPort, KeptPort}
-use Rattle.rb_site.specs.Sites.{KeptSite}
+use Rattle.rb_world.specs.Sites.{KeptSite}
 use Rattle.rb_world.specs.Openings.{AreFresh, IsFresh}
 use Rattle.rb_world.specs.Worlds.{HoldsPorts}
 

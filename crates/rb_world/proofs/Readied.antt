@@ -28,9 +28,9 @@ use Rattle.rb_world_agenda.proofs.Keeping.{has-with}
 use Rattle.rb_node.specs.Cores.{next_of}
 use Rattle.rb_node.specs.Ends.{EndsExactWindow}
 use Rattle.rb_slot.specs.Engines.{Seated}
-use Rattle.rb_site.specs.Sites.{AreAlike, IsHeardAlike, KeptSite, Stands as StandsFor, number_of}
-use Rattle.rb_site.specs.Sites.AreAlike.{Nothing, Several, Single}
-use Rattle.rb_site.proofs.Alike.{heard-alike}
+use Rattle.rb_world.specs.Sites.{AreAlike, IsHeardAlike, KeptSite, Stands as StandsFor, number_of}
+use Rattle.rb_world.specs.Sites.AreAlike.{Nothing, Several, Single}
+use Rattle.rb_world.proofs.SitesAlike.{heard-alike}
 use Rattle.rb_laws_sweeps.specs.Brought.{Brings, CameTogether, IsHeardIfDue, due_from}
 use Rattle.rb_laws_sweeps.specs.Stamps.{stamped_anew}
 use Rattle.rb_laws_sweeps.specs.Sweeping.{swept}

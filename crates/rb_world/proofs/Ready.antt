@@ -26,7 +26,7 @@ use Rattle.rb_laws_events.specs.PendingEvents.{most_pending}
 use Rattle.rb_laws_events.proofs.WorldStands.{not-other}
 use Rattle.rb_queue.specs.Waiting.{lane_of, spare_of}
 use Rattle.rb_laws_events.proofs.SameHeard.{Every}
-use Rattle.rb_site.specs.Sites.{KeptSite, number_of as number_of_kept}
+use Rattle.rb_world.specs.Sites.{KeptSite, number_of as number_of_kept}
 use Rattle.rb_world_traffic.specs.Arriving.{number_of}
 use Rattle.rb_world.specs.declared.scene.Scene.{Scene}
 use Rattle.rb_world.specs.Steps.{MayHappen, MayTick, moved}

@@ -25,7 +25,7 @@ use Rattle.rb_rules.specs.Sense.{Arrival, sense_of, stamp_in, value_in}
 use Rattle.rb_rules.specs.Slots.{expects, role_of}
 use Rattle.rb_rules.specs.Standing.{Standing, is_eligible, taken_of}
 use Rattle.rb_rules.specs.SyncStage.{close_sync, expects_call, see_time, sync_outcome_of}
-use Rattle.rb_site.specs.Sites.{ComeTogether}
+use Rattle.rb_world.specs.Sites.{ComeTogether}
 
 -- Of a source of which nothing came nothing is taken.
 

@@ -26,8 +26,8 @@ use Rattle.rb_world_agenda.proofs.Which.{has-item}
 use Rattle.rb_node.specs.Cores.{passing_end}
 use Rattle.rb_laws_events.proofs.DueEvents.{IsDue as IsPending}
 use Rattle.rb_port.specs.Keeping.{KeptPort}
-use Rattle.rb_site.specs.Sites.{KeptSite, number_of}
-use Rattle.rb_site.proofs.Standing.{passing-most}
+use Rattle.rb_world.specs.Sites.{KeptSite, number_of}
+use Rattle.rb_world.proofs.Standing.{passing-most}
 use Rattle.rb_world.specs.Showing.{IsInTime, MayShow, MayShowArrival, MayShowTick}
 use Rattle.rb_world.specs.Steps.{MayHappen}
 use Rattle.rb_world.specs.Worlds.{KeptWorld, Stands, due_in}

@@ -22,8 +22,8 @@ use Rattle.rb_laws_events.proofs.SameHeard.{Every}
 use Rattle.rb_queue.specs.Waiting.{HasLane, Held}
 use Rattle.rb_world_agenda.specs.Holding.{HoldsSites, without_waiting}
 use Rattle.rb_node.specs.Cores.{passing_end}
-use Rattle.rb_site.proofs.Standing.{passing-next}
-use Rattle.rb_site.specs.Sites.{KeptSite, Stands as StandsFor, number_of}
+use Rattle.rb_world.proofs.Standing.{passing-next}
+use Rattle.rb_world.specs.Sites.{KeptSite, Stands as StandsFor, number_of}
 use Rattle.rb_laws_sweeps.specs.Sweeping.{Placed, first_of, swept}
 use Rattle.rb_laws_sweeps.proofs.SentLater.{node-moves}
 use Rattle.rb_laws_sweeps.proofs.Sweeps.{all-every, sweep-stays, sweep-takes}

@@ -16,7 +16,7 @@ use Rattle.rb_queue.specs.Waiting.{HasLane, Held, IsFirstBefore, IsReadyBefore, 
 use Rattle.rb_queue.specs.Waiting.Ready.{Comes, Ticks}
 use Rattle.rb_world_agenda.specs.Agenda.{key_of}
 use Rattle.rb_world_agenda.specs.Holding.{HoldsSites}
-use Rattle.rb_site.specs.Sites.{KeptSite, Stands as StandsFor, number_of}
+use Rattle.rb_world.specs.Sites.{KeptSite, Stands as StandsFor, number_of}
 use Rattle.rb_laws_sweeps.specs.Sweeping.{swept}
 use Rattle.rb_laws_sweeps.specs.Told.{Told, heard, telling}
 use Rattle.rb_laws_sweeps.proofs.Firsts.{every-so}

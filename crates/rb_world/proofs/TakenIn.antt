@@ -12,7 +12,7 @@ use Rattle.rb_rules.specs.Sense.{Arrival}
 use Rattle.rb_rules.specs.Slots.{count_of}
 use Rattle.rb_rules.specs.WorldStep.{Site, coming_from}
 use Rattle.rb_laws_events.proofs.SameHeard.{Every}
-use Rattle.rb_site.specs.Sites.{taken_in}
+use Rattle.rb_world.specs.Sites.{taken_in}
 use Rattle.rb_laws_sweeps.specs.Brought.{BringsArrivals, BringsComings, due_from}
 use Rattle.rb_laws_sweeps.specs.Stamps.{restamped}
 use Rattle.rb_world.specs.Unstamped.{due_before, taken_all}

@@ -18,7 +18,7 @@ use Rattle.rb_rules.specs.Hearing.{begun_of, port_at, port_line}
 use Rattle.rb_rules.specs.Lawful.{kind_of}
 use Rattle.rb_rules.specs.Links.{name_of}
 use Rattle.rb_rules.specs.NodeState.{NodeState, trusted_of}
-use Rattle.rb_site.specs.Tells.{row_at}
+use Rattle.rb_world.specs.Tells.{row_at}
 use Rattle.rb_rules.specs.Ports.{PortState, delivered_to, fresh_port, losses_of}
 use Rattle.rb_rules.specs.WorldStep.{Site, World, with_delivery, with_epoch}
 use Rattle.rb_world_book.specs.Changing.{changed_at, number_in, row_shown, with_begun, with_row}

@@ -19,7 +19,7 @@ use Rattle.rb_world_book.specs.Settling.{Settles}
 use Rattle.rb_world_book.specs.declared.book.Book.{Book as KeptBook}
 use Rattle.rb_world_book.specs.declared.turn.Turn.{Turn}
 use Rattle.rb_laws_events.proofs.WorldNodes.{settle-sites}
-use Rattle.rb_site.specs.Sites.{KeptSite, number_of as number_at}
+use Rattle.rb_world.specs.Sites.{KeptSite, number_of as number_at}
 use Rattle.rb_laws_sweeps.specs.AheadOf.{TellsAhead, after_takes, ahead_of, tick_alone, told_in, until_tick}
 use Rattle.rb_laws_sweeps.specs.Told.{Told, heard, if_told, told_alone, told_next, telling}
 use Rattle.rb_laws_sweeps.specs.Sweeping.{swept}

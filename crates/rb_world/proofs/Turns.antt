@@ -18,7 +18,7 @@ use Rattle.rb_world_book.specs.declared.turn.Turn.{Turn}
 use Rattle.rb_laws_events.proofs.EveryWorld.{after-more}
 use Rattle.rb_laws_events.proofs.OneTake.{settle-ports}
 use Rattle.rb_laws_events.proofs.WorldNodes.{settle-sites}
-use Rattle.rb_site.specs.Sites.{KeptSite}
+use Rattle.rb_world.specs.Sites.{KeptSite}
 use Rattle.rb_world_traffic.specs.Arriving.{AreRunning}
 use Rattle.rb_world.specs.declared.last.Last.{Last}
 use Rattle.rb_world.specs.declared.scene.Scene.{Scene}

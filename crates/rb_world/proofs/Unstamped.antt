@@ -18,7 +18,7 @@ use Rattle.rb_world_agenda.specs.Holding.{HoldsSites}
 use Rattle.rb_world_agenda.proofs.Which.{has-item}
 use Rattle.rb_laws_events.specs.PendingEvents.{most_pending}
 use Rattle.rb_laws_events.proofs.WorldStands.{not-other}
-use Rattle.rb_site.specs.Sites.{KeptSite, Stands as StandsFor, after_tick, number_of}
+use Rattle.rb_world.specs.Sites.{KeptSite, Stands as StandsFor, after_tick, number_of}
 use Rattle.rb_laws_sweeps.specs.Sweeping.{swept}
 use Rattle.rb_laws_sweeps.proofs.AfterTick.{TicksNow, act-had}
 use Rattle.rb_laws_sweeps.proofs.Sweeps.{sweeps-keep}

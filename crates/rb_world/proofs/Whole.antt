@@ -25,8 +25,8 @@ use Rattle.rb_rules.specs.WorldStep.{Site, World, after_act, await, coming_from,
 use Rattle.rb_queue.specs.Waiting.{Held, empty_lane, lane_of, spare_of}
 use Rattle.rb_node.specs.Acts.{IsAct}
 use Rattle.rb_node.specs.declared.act.Step.{Step}
-use Rattle.rb_site.specs.Sites.{KeptSite, after_tick, number_of}
-use Rattle.rb_site.specs.Tells.{IsTicked, row_after, row_at}
+use Rattle.rb_world.specs.Sites.{KeptSite, after_tick, number_of}
+use Rattle.rb_world.specs.Tells.{IsTicked, row_after, row_at}
 use Rattle.rb_world_traffic.specs.Arriving.{number_of as number_in}
 use Rattle.rb_world.specs.declared.scene.Scene.{Scene}
 use Rattle.rb_world.specs.Steps.{HasRoomFor, MayProceed, MayTick, OthersStay, Proceeds, SeesOnlyNodes, SpansFit, Ticks, closed_if, moved}

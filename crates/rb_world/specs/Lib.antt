@@ -12,3 +12,5 @@ pub mod Trailing
 pub mod Unstamped
 pub mod Sweeping
 pub mod Observing
+pub mod Sites
+pub mod Tells

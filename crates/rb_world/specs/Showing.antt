@@ -14,7 +14,7 @@ use Rattle.rb_rules.specs.WorldStep.Pending.{Tick, Arrival}
 use Rattle.rb_world_agenda.specs.Agenda.{IsAtTime}
 use Rattle.rb_world_agenda.specs.Holding.{Shows}
 use Rattle.rb_port.specs.Keeping.{KeptPort}
-use Rattle.rb_site.specs.Sites.{KeptSite, Stands as StandsFor, number_of}
+use Rattle.rb_world.specs.Sites.{KeptSite, Stands as StandsFor, number_of}
 use Rattle.rb_world.specs.Worlds.{HoldsPorts}
 
 -- node i of kind me has this name, and what is kept of it stands for this site

@@ -23,7 +23,7 @@ use Rattle.rb_node.specs.declared.act.Want.{Want}
 use Rattle.rb_node.specs.declared.act.Want.TheVariants as want
 use Rattle.rb_world_book.specs.Changing.{with_row}
 use Rattle.rb_queue.specs.Waiting.{HasLane, Held, lane_of, spare_of}
-use Rattle.rb_site.specs.Sites.{KeptSite, Stands as StandsFor, number_of}
+use Rattle.rb_world.specs.Sites.{KeptSite, Stands as StandsFor, number_of}
 use Rattle.rb_world_traffic.specs.Arriving.{number_of as number_in}
 use Rattle.rb_world.specs.declared.scene.Scene.{Scene}
 use Rattle.rb_world.specs.Worlds.{AreNodes, IsNode, IsReached, Surrounds}

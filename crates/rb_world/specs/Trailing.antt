@@ -16,7 +16,7 @@ use Rattle.rb_rules.specs.WorldStep.{Site, Timed, World, at_node, happens}
 use Rattle.rb_rules.specs.WorldStep.Pending.{Tick, Arrival}
 use Rattle.rb_queue.specs.Waiting.{HasLane, Held}
 use Rattle.rb_world_agenda.specs.Holding.{HoldsSites, without_waiting}
-use Rattle.rb_site.specs.Sites.{KeptSite}
+use Rattle.rb_world.specs.Sites.{KeptSite}
 use Rattle.rb_laws_sweeps.specs.AheadOf.{GoesOnAhead, IsFirstTick, ahead_of, tick_alone, until_tick}
 use Rattle.rb_laws_sweeps.specs.Laws.{NeedsEvent}
 use Rattle.rb_laws_sweeps.specs.Sweeping.{first_of, swept}

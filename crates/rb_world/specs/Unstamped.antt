@@ -10,7 +10,7 @@ use Rattle.rb_rules.specs.WorldStep.{Site, Timed, World}
 use Rattle.rb_node.specs.Cores.{IsCore, Running, next_of}
 use Rattle.rb_node.specs.Ends.{EndsExactWindow}
 use Rattle.rb_queue.specs.Waiting.{Held, lane_of, with_lane, without_before, without_tick}
-use Rattle.rb_site.specs.Sites.{KeptSite, Stands as StandsFor, taken_in}
+use Rattle.rb_world.specs.Sites.{KeptSite, Stands as StandsFor, taken_in}
 use Rattle.rb_world.specs.Trailing.{MayTakeFirst, bare}
 use Rattle.rb_world.specs.declared.scene.Scene.{Scene}
 

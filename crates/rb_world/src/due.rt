@@ -7,7 +7,7 @@ ghost use Rattle.rb_rules.specs.Ports.{PortState};
 ghost use Rattle.rb_rules.specs.WorldStep.{Pending, Site as WorldSite, World as RunWorld, due_of, event_at, event_of};
 ghost use Rattle.rb_rules.specs.WorldStep.Pending.{Arrival, Tick};
 ghost use Rattle.rb_node.specs.Wants.{want_for};
-ghost use Rattle.rb_site.specs.Sites.{number_of};
+ghost use Rattle.rb_world.specs.Sites.{number_of};
 ghost use Rattle.rb_world.specs.Showing.{MayShow, MayShowArrival, MayShowTick};
 ghost use Rattle.rb_world.specs.Worlds.{NeedsEvent, Stands, due_in};
 
@@ -19,7 +19,7 @@ use arrayvec::ArrayVec;
 use rb_base::{Event, EventKind, Kind, NodeName};
 use rb_node::Want;
 use rb_port::{Apps, Port};
-use rb_site::Site;
+use crate::Site;
 
 // The bytes with room for as many as an arrival may have.
 fn copied(bytes: &[u8]) -> ArrayVec<u8, 32>

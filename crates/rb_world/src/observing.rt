@@ -8,7 +8,7 @@ ghost use Rattle.rb_rules.specs.Links.{name_of, same_node};
 ghost use Rattle.rb_rules.specs.Ports.{PortState};
 ghost use Rattle.rb_rules.specs.WorldStep.{Site as WorldSite};
 ghost use Rattle.rb_rules.specs.WorldStep.Pending.{Arrival, Tick};
-ghost use Rattle.rb_site.specs.Sites.{Stands as StandsFor, number_of};
+ghost use Rattle.rb_world.specs.Sites.{Stands as StandsFor, number_of};
 ghost use Rattle.rb_laws_sweeps.specs.Told.{Told, telling};
 ghost use Rattle.rb_world.specs.Observing.{WasTold};
 ghost use Rattle.rb_world.specs.Showing.{MayShowTick};
@@ -18,7 +18,7 @@ use crate::bus::Bus;
 use crate::due::{show_arrival, show_tick};
 use rb_base::{Event, Kind, NodeName};
 use rb_port::{Apps, Port};
-use rb_site::Site;
+use crate::Site;
 use rb_world_agenda::Agenda;
 
 /// Who is told what one node is given while a run goes on, event by event.

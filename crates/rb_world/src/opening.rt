@@ -20,7 +20,7 @@ use crate::world::World;
 use rb_base::{Biu, Kind, NodeName, NodeSet, OutOfMemory, Rmu};
 use rb_port::Port;
 use rb_scenario::Scenario;
-use rb_site::Site;
+use crate::Site;
 use rb_world_agenda::Agenda;
 use std::alloc::Global;
 

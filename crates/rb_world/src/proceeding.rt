@@ -6,7 +6,7 @@ ghost use Rattle.rb_rules.specs.Lawful.{IsNodeOf, kind_of};
 ghost use Rattle.rb_rules.specs.Links.{name_of};
 ghost use Rattle.rb_rules.specs.WorldStep.{Site as WorldSite, World, await, span_from, stop};
 ghost use Rattle.rb_queue.specs.Waiting.{lane_of, spare_of};
-ghost use Rattle.rb_site.specs.Sites.{Stands, number_of};
+ghost use Rattle.rb_world.specs.Sites.{Stands, number_of};
 ghost use Rattle.rb_world_traffic.specs.Arriving.{number_of as number_in};
 ghost use Rattle.rb_world.specs.Steps.{IsCoreAt, MayProceed, OthersStay, Proceeds, moved};
 ghost use Rattle.rb_world.specs.Worlds.{Surrounds};
@@ -14,7 +14,7 @@ ghost use Rattle.rb_world.specs.Worlds.{Surrounds};
 use crate::bus::Bus;
 use crate::scene::Scene;
 use rb_base::{Kind, NodeId, NodeName, NodeSet};
-use rb_site::Site;
+use crate::Site;
 
 // The set without node i.
 fn without<K: Copy>(set: NodeSet<K>, i: u8) -> NodeSet<K>

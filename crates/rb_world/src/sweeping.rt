@@ -8,7 +8,7 @@ ghost use Rattle.rb_rules.specs.Links.{name_of, same_node};
 ghost use Rattle.rb_rules.specs.Slots.{count_of};
 ghost use Rattle.rb_rules.specs.WorldStep.{Site as WorldSite, World as RunWorld};
 ghost use Rattle.rb_queue.specs.Waiting.{HasLane, Held, lane_of, with_lane, without_before, without_tick};
-ghost use Rattle.rb_site.specs.Sites.{KeptSite, Stands as StandsFor, number_of};
+ghost use Rattle.rb_world.specs.Sites.{KeptSite, Stands as StandsFor, number_of};
 ghost use Rattle.rb_laws_sweeps.specs.AheadOf.{until_tick};
 ghost use Rattle.rb_laws_sweeps.specs.Told.{heard};
 ghost use Rattle.rb_world_traffic.specs.Arriving.{number_of as number_in};
@@ -22,7 +22,7 @@ use crate::scene::Scene;
 use crate::taking::hear_at;
 use rb_base::{Biu, Kind, NodeName, Rmu};
 use rb_queue::Arrival;
-use rb_site::Site;
+use crate::Site;
 use rb_world_agenda::Agenda;
 
 /// What comes to the node before this time is taken, one arrival after another, and with it a tick of the node before then.

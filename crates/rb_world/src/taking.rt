@@ -2,7 +2,7 @@
 ghost use Rattle.std.specs.Prelude.{◌≡◌, ◌<◌, ℕ};
 ghost use Rattle.rb_base.specs.Nodes.{side_of};
 ghost use Rattle.rb_rules.specs.Links.{name_of};
-ghost use Rattle.rb_site.specs.Sites.{Stands as StandsFor, number_of};
+ghost use Rattle.rb_world.specs.Sites.{Stands as StandsFor, number_of};
 ghost use Rattle.rb_rules.specs.Hearing.{Coming};
 ghost use Rattle.rb_rules.specs.WorldStep.{Due, Site as WorldSite, World as RunWorld, after_arrival, take};
 ghost use Rattle.rb_laws_events.specs.Promise.{NodesKeepThePromise};
@@ -22,7 +22,7 @@ use crate::world::World;
 use rb_base::{Biu, Event, EventKind, Kind, NodeName, Rmu};
 use rb_frame::Spelling;
 use rb_port::Apps;
-use rb_site::Site;
+use crate::Site;
 use rb_world_agenda::Agenda;
 use rb_world_book::{Turn, Way};
 

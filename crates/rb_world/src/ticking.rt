@@ -8,12 +8,12 @@ ghost use Rattle.rb_rules.specs.Lawful.{IsNodeOf, kind_of};
 ghost use Rattle.rb_rules.specs.Ports.{PortState};
 ghost use Rattle.rb_node.specs.Acts.{IsSendable};
 ghost use Rattle.rb_node.specs.Wants.{want_for};
-ghost use Rattle.rb_site.specs.Tells.{row_at};
+ghost use Rattle.rb_world.specs.Tells.{row_at};
 ghost use Rattle.rb_world_traffic.specs.Arriving.{number_of as number_in};
 ghost use Rattle.rb_world.specs.Worlds.{HoldsPorts, Surrounds};
 ghost use Rattle.rb_rules.specs.Links.{name_of};
 ghost use Rattle.rb_rules.specs.WorldStep.{Site as WorldSite, World, wants_in, with_delivery, with_epoch, with_message, word_of};
-ghost use Rattle.rb_site.specs.Sites.{number_of};
+ghost use Rattle.rb_world.specs.Sites.{number_of};
 ghost use Rattle.rb_world.specs.Steps.{CanWant, HasRoomFor, IsWordSlot, MayTick, SeesOnlyNodes, Ticks, act_at, closed_if, moved};
 
 use crate::bus::Bus;
@@ -23,7 +23,7 @@ use rb_base::{Delivery, Kind, NodeName};
 use rb_node::Want;
 use rb_port::{Apps, Port};
 use rb_rules::{Epoch, Message, NodeLine, PortLine};
-use rb_site::Site;
+use crate::Site;
 use rb_world_traffic::Departure;
 
 // The word that a node is handed for a tick: its request, or what its port offers.

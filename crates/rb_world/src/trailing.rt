@@ -6,7 +6,7 @@ ghost use Rattle.rb_rules.specs.Lawful.{IsNodeOf};
 ghost use Rattle.rb_rules.specs.Links.{name_of, same_node};
 ghost use Rattle.rb_rules.specs.WorldStep.{Timed, World as RunWorld};
 ghost use Rattle.rb_world_book.specs.declared.turn.Turn.{Turn};
-ghost use Rattle.rb_site.specs.Sites.{KeptSite};
+ghost use Rattle.rb_world.specs.Sites.{KeptSite};
 ghost use Rattle.rb_world.specs.Observing.{AlongTold, ComesTold, ToldToRecord, WasTold, alone_for};
 ghost use Rattle.rb_world.specs.Trailing.{Along, BehindTick, Comes, ComesToRecord, GoesToTick, MayRun, MayTakeFirst, MayTickFirst, TakesFirst, TakesFirstAt, until_from};
 ghost use Rattle.rb_world.specs.Unstamped.{EndsExactly, MayTakeExactly};
@@ -18,7 +18,7 @@ use crate::sweeping::{catch_up, sweep_for, take_in_all};
 use crate::taking::tick_at;
 use rb_base::{Biu, Kind, NodeName, Rmu};
 use rb_port::Apps;
-use rb_site::Site;
+use crate::Site;
 use rb_world_book::{Turn, Way};
 
 // Whether the node, which is not the one that is observed, may take in unstamped what came to it before its next tick: that ends a window

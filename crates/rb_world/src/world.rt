@@ -4,7 +4,7 @@ use crate::last::Last;
 use crate::scene::Scene;
 use crate::ties::Seeding;
 use rb_base::{Biu, Rmu};
-use rb_site::Site;
+use crate::Site;
 use std::marker::Model;
 
 /// All nodes of a bus, with what is pending at each: a run of a scenario, event by event. It stands for a world of the definitions

@@ -1,7 +1,7 @@
 use Rattle.std.proofs.Common.{sym, ap, ◌∙◌}
 use Rattle.rb_base.specs.Nodes.{side_of}
 use Rattle.rb_rules.specs.WorldStep.{event_of}
-use Rattle.rb_site.specs.Sites.{number_of}
+use Rattle.rb_world.specs.Sites.{number_of}
 use Rattle.rb_world.proofs.Showing.{arrival-shows, tick-shows}
 use Rattle.rb_world.proofs.due.show.Goals as goal
 

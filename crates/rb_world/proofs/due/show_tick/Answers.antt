@@ -6,7 +6,7 @@ use Rattle.rb_rules.specs.Core.{pass_to}
 use Rattle.rb_rules.specs.WorldStep.{wants_in, word_of}
 use Rattle.rb_node.specs.Cores.{IsCore, next_of}
 use Rattle.rb_node.specs.Wants.{want_then}
-use Rattle.rb_site.specs.Sites.{number_of}
+use Rattle.rb_world.specs.Sites.{number_of}
 use Rattle.rb_world_traffic.specs.Arriving.{number_of as number_in}
 use Rattle.rb_world.specs.Steps.{CanWant}
 use Rattle.rb_world.proofs.Acting.{next-is, want-is}

@@ -3,7 +3,7 @@ use Rattle.rb_base.specs.Nodes.{side_of}
 use Rattle.rb_rules.specs.Hearing.{Coming}
 use Rattle.rb_rules.specs.WorldStep.{event_of}
 use Rattle.rb_rules.specs.WorldStep.Pending.{Arrival}
-use Rattle.rb_site.specs.Sites.{number_of}
+use Rattle.rb_world.specs.Sites.{number_of}
 use Rattle.rb_world.proofs.Observed.{arrival-shown, arrival-there, told-as}
 use Rattle.rb_world.proofs.OneTaken.{coming-is}
 use Rattle.rb_world.proofs.observing.tell_arrival.Goals as goal

@@ -1,6 +1,6 @@
 use Rattle.rb_base.specs.Nodes.{side_of}
 use Rattle.rb_rules.specs.WorldStep.Pending.{Tick}
-use Rattle.rb_site.specs.Sites.{number_of}
+use Rattle.rb_world.specs.Sites.{number_of}
 use Rattle.rb_world.proofs.Observed.{told-as}
 use Rattle.rb_world.proofs.observing.tell_tick.Goals as goal
 

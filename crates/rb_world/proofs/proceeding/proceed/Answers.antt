@@ -2,7 +2,7 @@ use Rattle.std.proofs.Common.{sym, ap, ◌∙◌}
 use Rattle.rb_base.specs.Nodes.{side_of}
 use Rattle.rb_slot.specs.Engines.{Seated}
 use Rattle.rb_node.specs.Cores.{Running}
-use Rattle.rb_site.specs.Sites.{number_of}
+use Rattle.rb_world.specs.Sites.{number_of}
 use Rattle.rb_world.proofs.Entering.{after-calm}
 use Rattle.rb_world.proofs.proceeding.proceed.Goals as goal
 

@@ -6,7 +6,7 @@ use Rattle.rb_rules.specs.Lawful.{IsNodeOf, kind_of}
 use Rattle.rb_rules.specs.WorldStep.{says_in}
 use Rattle.rb_queue.specs.Waiting.{lane_of, spare_of}
 use Rattle.rb_node.specs.Acts.{span_in}
-use Rattle.rb_site.specs.Sites.{number_of}
+use Rattle.rb_world.specs.Sites.{number_of}
 use Rattle.rb_world_traffic.specs.Arriving.{number_of as number_in}
 use Rattle.rb_world_traffic.specs.Saying.{hears, with_arrivals}
 use Rattle.rb_world.specs.declared.scene.Scene.{Scene}

@@ -2,7 +2,7 @@ use Rattle.std.proofs.Common.{◌+◌, ◌≤◌, sym, subst, arith}
 use Rattle.std.specs.Prelude.{length}
 use Rattle.rb_base.specs.Nodes.{side_of}
 use Rattle.rb_queue.specs.Waiting.{lane_of, spare_of}
-use Rattle.rb_site.specs.Sites.{number_of}
+use Rattle.rb_world.specs.Sites.{number_of}
 use Rattle.rb_world.proofs.Entering.{after-none}
 use Rattle.rb_world.proofs.proceeding.proceed_within.Goals as goal
 

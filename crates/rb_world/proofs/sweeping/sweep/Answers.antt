@@ -12,7 +12,7 @@ use Rattle.rb_queue.specs.Waiting.{HasLane, Held, IsFirstBefore, IsReadyBefore, 
 use Rattle.rb_queue.specs.Waiting.Ready.{Comes, Ticks}
 use Rattle.rb_world_agenda.specs.Agenda.{key_of}
 use Rattle.rb_node.specs.Cores.{passing_end}
-use Rattle.rb_site.specs.Sites.{Stands as StandsFor, number_of}
+use Rattle.rb_world.specs.Sites.{Stands as StandsFor, number_of}
 use Rattle.rb_world.specs.Trailing.{TakesArrival, TakesTick, NoneBefore}
 use Rattle.rb_queue.proofs.Sources.{is_within}
 use Rattle.rb_world.proofs.Lanes.{node-named}

@@ -3,7 +3,7 @@ use Rattle.rb_base.specs.Nodes.{side_of}
 use Rattle.rb_rules.specs.Links.{name_of}
 use Rattle.rb_rules.specs.WorldStep.{at_node}
 use Rattle.rb_queue.specs.Waiting.{HasLane, IsFirstBefore, IsReadyBefore, lane_of, without_place}
-use Rattle.rb_site.specs.Sites.{number_of}
+use Rattle.rb_world.specs.Sites.{number_of}
 use Rattle.rb_world.specs.Steps.{CanHear}
 use Rattle.rb_world.specs.Trailing.{MaySweep, Sweeps}
 use Rattle.rb_world.proofs.SweptTold.{hears-next, sweep-rest, told-begins, told-ends, told-goes}

@@ -7,7 +7,7 @@ use Rattle.rb_rules.specs.Slots.{count_of}
 use Rattle.rb_queue.specs.Waiting.{lane_of, with_lane, without_before, without_tick}
 use Rattle.rb_world_agenda.proofs.Keeping.{lane-with}
 use Rattle.rb_slot.specs.Engines.{Seated}
-use Rattle.rb_site.specs.Sites.{Stands as StandsFor}
+use Rattle.rb_world.specs.Sites.{Stands as StandsFor}
 use Rattle.rb_laws_sweeps.proofs.Sweeps.{all-every}
 use Rattle.rb_world.specs.Unstamped.{due_before, taken_all}
 use Rattle.rb_world.proofs.Readied.{lane-again}

@@ -9,7 +9,7 @@ use Rattle.rb_rules.specs.Hearing.{Coming}
 use Rattle.rb_rules.specs.Slots.{count_of}
 use Rattle.rb_world_agenda.specs.Holding.{coming_with, without_waiting}
 use Rattle.rb_node.specs.Cores.{passing_end}
-use Rattle.rb_site.specs.Sites.{Stands as StandsFor, number_of}
+use Rattle.rb_world.specs.Sites.{Stands as StandsFor, number_of}
 use Rattle.rb_world_traffic.specs.Arriving.{number_of as number_in}
 use Rattle.rb_rules.specs.WorldStep.{Site as WorldSite, after_arrival}
 use Rattle.rb_world.specs.Steps.{Happens, MayTick, Ticks, act_at, moved}

@@ -1,7 +1,7 @@
 use Rattle.std.proofs.Common.{sym, ap, ◌∙◌, subst}
 use Rattle.rb_base.specs.Nodes.{side_of}
 use Rattle.rb_node.specs.Cores.{IsCore, next_of}
-use Rattle.rb_site.specs.Sites.{number_of}
+use Rattle.rb_world.specs.Sites.{number_of}
 use Rattle.rb_world.specs.Steps.{MayTick, Ticks, act_at}
 use Rattle.rb_world.proofs.Acting.{next-is}
 use Rattle.rb_world.proofs.Whole.{none-some, some-same}

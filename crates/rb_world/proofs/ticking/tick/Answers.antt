@@ -2,8 +2,8 @@ use Rattle.std.proofs.Common.{refl, sym, ap, ◌∙◌, subst, None, true}
 use Rattle.rb_base.specs.Nodes.{side_of}
 use Rattle.rb_rules.specs.Lawful.{kind_of}
 use Rattle.rb_node.specs.declared.act.Step.{Step}
-use Rattle.rb_site.specs.Sites.{after_tick, number_of}
-use Rattle.rb_site.specs.Tells.{IsTicked}
+use Rattle.rb_world.specs.Sites.{after_tick, number_of}
+use Rattle.rb_world.specs.Tells.{IsTicked}
 use Rattle.rb_world_traffic.specs.Arriving.{number_of as number_in}
 use Rattle.rb_world.specs.Steps.{MayProceed, Proceeds, SeesOnlyNodes}
 use Rattle.rb_world.proofs.Acting.{told_in}

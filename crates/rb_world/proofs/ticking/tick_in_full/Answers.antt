@@ -6,7 +6,7 @@ use Rattle.rb_rules.specs.WorldStep.{Site as WorldSite, World, proceed, wants_in
 use Rattle.rb_node.specs.Cores.{IsCore, Running, next_of}
 use Rattle.rb_slot.specs.Engines.{Seated}
 use Rattle.rb_node.specs.Wants.{want_then}
-use Rattle.rb_site.specs.Sites.{KeptSite, number_of}
+use Rattle.rb_world.specs.Sites.{KeptSite, number_of}
 use Rattle.rb_world.specs.Steps.{CanWant, HasRoomFor, MayTick, moved}
 use Rattle.rb_world.specs.Worlds.{HoldsPorts}
 use Rattle.rb_world.proofs.Acting.{want-is}

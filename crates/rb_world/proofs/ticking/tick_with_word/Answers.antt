@@ -5,8 +5,8 @@ use Rattle.rb_rules.specs.Lawful.{kind_of}
 use Rattle.rb_rules.specs.WorldStep.{proceed}
 use Rattle.rb_node.specs.Cores.{Running}
 use Rattle.rb_slot.specs.Engines.{Seated}
-use Rattle.rb_site.specs.Sites.{after_tick, number_of}
-use Rattle.rb_site.specs.Tells.{IsTicked}
+use Rattle.rb_world.specs.Sites.{after_tick, number_of}
+use Rattle.rb_world.specs.Tells.{IsTicked}
 use Rattle.rb_world.specs.declared.scene.Scene.{Scene}
 use Rattle.rb_world.specs.Steps.{moved, HasRoomFor, MayProceed, Proceeds, SeesOnlyNodes}
 use Rattle.rb_world.proofs.Acting.{told_in}

@@ -2,7 +2,7 @@ use Rattle.std.proofs.Common.{◌≡◌, true, false, sym, ◌∙◌}
 use Rattle.rb_rules.specs.WorldStep.{needs_no_event}
 use Rattle.rb_world.specs.Trailing.{until_from}
 use Rattle.rb_rules.specs.Book.{Each}
-use Rattle.rb_site.specs.Sites.{KeptSite}
+use Rattle.rb_world.specs.Sites.{KeptSite}
 use Rattle.rb_world.proofs.Along.{comes-by-itself}
 use Rattle.rb_world.proofs.Running.{may-tick-along, ticks-along}
 use Rattle.rb_world.proofs.ToldOn.{told-by-itself, told-by-tick}

@@ -2,7 +2,7 @@ use Rattle.std.proofs.Common.{refl, sym, ◌∙◌, subst}
 use Rattle.rb_base.specs.Nodes.Side.{Biu, Rmu}
 use Rattle.rb_base.specs.declared.node.NodeName.TheVariants as node
 use Rattle.rb_rules.specs.Book.{Each}
-use Rattle.rb_site.specs.Sites.{KeptSite}
+use Rattle.rb_world.specs.Sites.{KeptSite}
 use Rattle.rb_world.proofs.Running.{FirstHere, may-same, biu-may, biu-named, biu-taken, first-here, rmu-may, rmu-named, rmu-taken}
 use Rattle.rb_world.proofs.ToldOn.{alone-moved}
 use Rattle.rb_world.proofs.trailing.take_first.Goals as goal

@@ -5,7 +5,7 @@ use Rattle.rb_rules.specs.Book.{of_kind}
 use Rattle.rb_rules.specs.Links.{name_of, same_node}
 use Rattle.rb_rules.specs.WorldStep.Pending.{Tick}
 use Rattle.rb_world_agenda.specs.Holding.{without_waiting}
-use Rattle.rb_site.specs.Sites.{number_of}
+use Rattle.rb_world.specs.Sites.{number_of}
 use Rattle.rb_laws_sweeps.specs.Told.{heard, telling}
 use Rattle.rb_world.specs.Observing.{WasTold, alone_for}
 use Rattle.rb_world.specs.Showing.{MayShowTick}

@@ -15,8 +15,8 @@ ghost use Rattle.rb_node.specs.Cores.{IsCore, IsSameNode, passing_end};
 ghost use Rattle.rb_node.specs.Ends.{EndsExactWindow, IsWithinExactWindow};
 ghost use Rattle.rb_node.specs.Wants.{want_for};
 ghost use Rattle.rb_slot.specs.Engines.{nothing_shown};
-ghost use Rattle.rb_site.specs.Sites.{KeptSite, Stands, goes_on, number_of, taken_in};
-ghost use Rattle.rb_site.specs.Tells.{IsTicked};
+ghost use Rattle.rb_world.specs.Sites.{KeptSite, Stands, goes_on, number_of, taken_in};
+ghost use Rattle.rb_world.specs.Tells.{IsTicked};
 
 use rb_base::{Kind, NodeName};
 use rb_clock::Clock;
@@ -40,7 +40,7 @@ pub struct Site<K: Kind> {
 
 impl<K: Kind> Model for Site<K> {
     ghost use Rattle.std.specs.Prelude.{◌≡◌, length};
-    ghost use Rattle.rb_site.specs.Sites.{KeptSite};
+    ghost use Rattle.rb_world.specs.Sites.{KeptSite};
 
     ghost Value = { KeptSite };
 

@@ -4,9 +4,9 @@ use Rattle.rb_rules.specs.Core.{next_tick, pass_to}
 use Rattle.rb_rules.specs.WorldStep.{wants_in, word_of}
 use Rattle.rb_node.specs.Cores.{IsSameNode, next_of}
 use Rattle.rb_node.specs.Ends.{EndsExactWindow}
-use Rattle.rb_site.specs.Sites.{KeptSite, number_of}
-use Rattle.rb_site.proofs.Standing.{ticks}
-use Rattle.rb_site.proofs.site.Site.end_window.Goals as goal
+use Rattle.rb_world.specs.Sites.{KeptSite, number_of}
+use Rattle.rb_world.proofs.Standing.{ticks}
+use Rattle.rb_world.proofs.site.Site.end_window.Goals as goal
 
 pub returns-clause-ticked : goal.returns-clause-ticked
 returns-clause-ticked g c =

@@ -12,9 +12,9 @@ use Rattle.rb_rules.specs.Hearing.{Coming, judged_see, sole_time}
 use Rattle.rb_rules.specs.Sense.{Arrival}
 use Rattle.rb_rules.specs.WorldStep.{coming_from}
 use Rattle.rb_rules.proofs.ExactStages.{same_each_node}
-use Rattle.rb_site.specs.Sites.{ComeTogether, HoldsTimes}
-use Rattle.rb_site.specs.Tells.{sees_at}
-use Rattle.rb_site.proofs.Closing.{ShowsTime}
+use Rattle.rb_world.specs.Sites.{ComeTogether, HoldsTimes}
+use Rattle.rb_world.specs.Tells.{sees_at}
+use Rattle.rb_world.proofs.Closing.{ShowsTime}
 
 -- How many came of a source.
 

@@ -5,9 +5,9 @@ use Rattle.rb_rules.specs.Core.{arrive}
 use Rattle.rb_rules.specs.Hearing.{Coming}
 use Rattle.rb_rules.specs.Slots.{count_of}
 use Rattle.rb_node.specs.Cores.{IsCore, IsSameNode, Running}
-use Rattle.rb_site.specs.Sites.{KeptSite}
-use Rattle.rb_site.proofs.Standing.{takes}
-use Rattle.rb_site.proofs.site.Site.take_in.Goals as goal
+use Rattle.rb_world.specs.Sites.{KeptSite}
+use Rattle.rb_world.proofs.Standing.{takes}
+use Rattle.rb_world.proofs.site.Site.take_in.Goals as goal
 
 pub returns-clause-stands : goal.returns-clause-stands
 returns-clause-stands g c =

@@ -5,9 +5,9 @@ use Rattle.rb_rules.specs.NodeState.{NodeState}
 use Rattle.rb_rules.specs.WorldStep.{span_from}
 use Rattle.rb_node.specs.Cores.{IsSameNode, next_of}
 use Rattle.rb_node.specs.Ends.{IsWithinExactWindow}
-use Rattle.rb_site.specs.Sites.{KeptSite, number_of}
-use Rattle.rb_site.proofs.Standing.{ticks}
-use Rattle.rb_site.proofs.site.Site.say_alone.Goals as goal
+use Rattle.rb_world.specs.Sites.{KeptSite, number_of}
+use Rattle.rb_world.proofs.Standing.{ticks}
+use Rattle.rb_world.proofs.site.Site.say_alone.Goals as goal
 
 pub returns-clause-ticked : goal.returns-clause-ticked
 returns-clause-ticked g c =

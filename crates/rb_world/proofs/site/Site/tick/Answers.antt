@@ -2,9 +2,9 @@ use Rattle.std.proofs.Common.{ap}
 use Rattle.rb_base.specs.Nodes.{Side, side_of}
 use Rattle.rb_rules.specs.Core.{pass_to}
 use Rattle.rb_node.specs.Cores.{IsSameNode, Running}
-use Rattle.rb_site.specs.Sites.{KeptSite}
-use Rattle.rb_site.proofs.Standing.{begins-in-time, ticks}
-use Rattle.rb_site.proofs.site.Site.tick.Goals as goal
+use Rattle.rb_world.specs.Sites.{KeptSite}
+use Rattle.rb_world.proofs.Standing.{begins-in-time, ticks}
+use Rattle.rb_world.proofs.site.Site.tick.Goals as goal
 
 pub returns-clause-ticked : goal.returns-clause-ticked
 returns-clause-ticked g c =

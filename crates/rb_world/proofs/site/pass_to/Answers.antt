@@ -1,6 +1,6 @@
 use Rattle.std.proofs.Common.{◌+◌, ◌-◌}
 use Rattle.rb_rules.specs.Core.{pass_to}
-use Rattle.rb_site.proofs.site.pass_to.Goals as goal
+use Rattle.rb_world.proofs.site.pass_to.Goals as goal
 
 pub returns-then-had-k-clause-stands : goal.returns-then-had-k-clause-stands
 returns-then-had-k-clause-stands g c =

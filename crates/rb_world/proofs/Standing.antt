@@ -27,10 +27,10 @@ use Rattle.rb_node.specs.Cores.{IsCore, IsSameNode, Running, bare_core, next_of,
 use Rattle.rb_node.specs.declared.act.Step.{Step}
 use Rattle.rb_node.proofs.Between.{arrive-spent, arrive-takes}
 use Rattle.rb_node.proofs.Cores.{tick-now, tick-spent}
-use Rattle.rb_site.specs.Sites.{ComeTogether, HoldsTimes, KeptSite, Stands, goes_on, number_of, taken_in}
-use Rattle.rb_site.specs.Tells.{IsTicked, begun_after, row_after, row_at}
-use Rattle.rb_site.proofs.Closing.{Leaves, ShowsTime, tick-leaves}
-use Rattle.rb_site.proofs.Coming.{sees-same, times-more, together-more}
+use Rattle.rb_world.specs.Sites.{ComeTogether, HoldsTimes, KeptSite, Stands, goes_on, number_of, taken_in}
+use Rattle.rb_world.specs.Tells.{IsTicked, begun_after, row_after, row_at}
+use Rattle.rb_world.proofs.Closing.{Leaves, ShowsTime, tick-leaves}
+use Rattle.rb_world.proofs.Coming.{sees-same, times-more, together-more}
 
 -- Arrivals.
 

@@ -1,9 +1,9 @@
 use Rattle.std.proofs.Common.{sym, ◌∙◌, subst}
 use Rattle.rb_base.specs.Nodes.{Side, side_of}
 use Rattle.rb_rules.specs.WorldStep.{proceed}
-use Rattle.rb_site.specs.Sites.{KeptSite, Stands, number_of}
-use Rattle.rb_site.proofs.Standing.{proceeds, proceeds-not}
-use Rattle.rb_site.proofs.site.Site.proceed.Goals as goal
+use Rattle.rb_world.specs.Sites.{KeptSite, Stands, number_of}
+use Rattle.rb_world.proofs.Standing.{proceeds, proceeds-not}
+use Rattle.rb_world.proofs.site.Site.proceed.Goals as goal
 
 pub returns-then-not-is_good-clause-stands : goal.returns-then-not-is_good-clause-stands
 returns-then-not-is_good-clause-stands g c =

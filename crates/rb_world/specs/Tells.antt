@@ -15,7 +15,7 @@ use Rattle.rb_rules.specs.WorldStep.{Site, pass_and_tick}
 use Rattle.rb_node.specs.Acts.{IsAct}
 use Rattle.rb_node.specs.Cores.{IsCore}
 use Rattle.rb_node.specs.declared.act.Step.{Step}
-use Rattle.rb_site.specs.Sites.{KeptSite, Stands, after_tick, number_of}
+use Rattle.rb_world.specs.Sites.{KeptSite, Stands, after_tick, number_of}
 
 -- what was seen of each source, with the time kept in place of a stamp
 abbrev pub sees_at : List ℕ → Closed → List See

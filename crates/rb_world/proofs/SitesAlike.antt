@@ -12,8 +12,8 @@ use Rattle.rb_eligible.specs.declared.reading.Sole.{Sole}
 use Rattle.rb_node.specs.Cores.{passing_end, received_of}
 use Rattle.rb_node.specs.Ends.{EndsExactWindow}
 use Rattle.rb_node.proofs.Cores.{arrivals-are}
-use Rattle.rb_site.specs.Sites.{AreAlike, IsHeardAlike, KeptSite, Stands, number_of, taken_in}
-use Rattle.rb_site.specs.Sites.AreAlike.{Nothing, Single, Several}
+use Rattle.rb_world.specs.Sites.{AreAlike, IsHeardAlike, KeptSite, Stands, number_of, taken_in}
+use Rattle.rb_world.specs.Sites.AreAlike.{Nothing, Single, Several}
 
 -- What an inbox keeps of one source.
 

@@ -4,9 +4,9 @@ use Rattle.rb_rules.specs.Clock.{Timeline, stamp_of}
 use Rattle.rb_rules.specs.Core.{pass_to}
 use Rattle.rb_rules.specs.Hearing.{Coming}
 use Rattle.rb_node.specs.Cores.{IsSameNode, Running, passing_end}
-use Rattle.rb_site.specs.Sites.{KeptSite, number_of}
-use Rattle.rb_site.proofs.Standing.{arrived, passed, passing-most}
-use Rattle.rb_site.proofs.site.Site.arrive.Goals as goal
+use Rattle.rb_world.specs.Sites.{KeptSite, number_of}
+use Rattle.rb_world.proofs.Standing.{arrived, passed, passing-most}
+use Rattle.rb_world.proofs.site.Site.arrive.Goals as goal
 
 pub first_near-stamp-requires-clause-come : goal.first_near-stamp-requires-clause-come
 first_near-stamp-requires-clause-come g c =

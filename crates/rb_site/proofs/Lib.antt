@@ -1,4 +1,0 @@
-pub mod Closing
-pub mod Coming
-pub mod Standing
-pub mod Alike
