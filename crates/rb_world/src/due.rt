@@ -11,6 +11,7 @@ ghost use Rattle.rb_world.specs.Sites.{number_of};
 ghost use Rattle.rb_world.specs.Showing.{MayShow, MayShowArrival, MayShowTick};
 ghost use Rattle.rb_world.specs.Worlds.{NeedsEvent, Stands, due_in};
 
+use crate::Site;
 use crate::bus::Bus;
 use crate::scene::number_of as number_in;
 use crate::ticking::word_for;
@@ -19,7 +20,6 @@ use arrayvec::ArrayVec;
 use rb_base::{Event, EventKind, Kind, NodeName};
 use rb_node::Want;
 use rb_port::{Apps, Port};
-use crate::Site;
 
 // The bytes with room for as many as an arrival may have.
 fn copied(bytes: &[u8]) -> ArrayVec<u8, 32>

@@ -4,7 +4,7 @@
 pub use drive::{Drive, FirstDrive, MemDrive};
 pub use observing::Observer;
 pub use rb_world_book::{Cause, FrameRecord, NodeLine, PortLine, SlotLine, SlotRecord, Turn};
-pub use site::{Site, ticks_pass_to_the_next};
+pub use site::Site;
 pub use ties::Ties;
 pub use world::World;
 

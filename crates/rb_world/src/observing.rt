@@ -14,11 +14,11 @@ ghost use Rattle.rb_world.specs.Observing.{WasTold};
 ghost use Rattle.rb_world.specs.Showing.{MayShowTick};
 ghost use Rattle.rb_world.specs.Steps.{CanHear};
 
+use crate::Site;
 use crate::bus::Bus;
 use crate::due::{show_arrival, show_tick};
 use rb_base::{Event, Kind, NodeName};
 use rb_port::{Apps, Port};
-use crate::Site;
 use rb_world_agenda::Agenda;
 
 /// Who is told what one node is given while a run goes on, event by event.

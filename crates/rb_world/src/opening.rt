@@ -11,6 +11,7 @@ ghost use Rattle.rb_scenario.specs.Acceptance.{as_scenario};
 ghost use Rattle.rb_world.specs.Openings.{AreFresh, HaveBegun, MayBegin, before_all};
 ghost use Rattle.rb_world.specs.Worlds.{HoldsPorts, Stands, Surrounds};
 
+use crate::Site;
 use crate::bus::Bus;
 use crate::last::Last;
 use crate::proceeding::proceed;
@@ -20,7 +21,6 @@ use crate::world::World;
 use rb_base::{Biu, Kind, NodeName, NodeSet, OutOfMemory, Rmu};
 use rb_port::Port;
 use rb_scenario::Scenario;
-use crate::Site;
 use rb_world_agenda::Agenda;
 use std::alloc::Global;
 

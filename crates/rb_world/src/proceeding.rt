@@ -11,10 +11,10 @@ ghost use Rattle.rb_world_traffic.specs.Arriving.{number_of as number_in};
 ghost use Rattle.rb_world.specs.Steps.{IsCoreAt, MayProceed, OthersStay, Proceeds, moved};
 ghost use Rattle.rb_world.specs.Worlds.{Surrounds};
 
+use crate::Site;
 use crate::bus::Bus;
 use crate::scene::Scene;
 use rb_base::{Kind, NodeId, NodeName, NodeSet};
-use crate::Site;
 
 // The set without node i.
 fn without<K: Copy>(set: NodeSet<K>, i: u8) -> NodeSet<K>

@@ -105,13 +105,6 @@ impl<K: Kind> Site<K> {
         &self.node
     }
 
-    /// Whether the node runs.
-    pub fn runs(&self) -> bool
-        ensures { result ≡ self.now.runs }
-    {
-        self.runs
-    }
-
     /// For each source the reference time of what came of it last.
     pub fn times(&self) -> &[u64; 16]
         ensures { result.now ≡ self.now.times }
@@ -124,47 +117,6 @@ impl<K: Kind> Site<K> {
         ensures { result ≡ name_of (side_of K.CODE) (number_of self.now) }
     {
         name_of(K::CODE, self.node.engine().index())
-    }
-
-    /// The number of the node's next busy tick. None exactly where that would not be below 2^31.
-    pub fn next_tick(&self) -> Option<u64>
-        ensures next { (sc : Scenario) (s : WorldSite) → Stands sc (side_of K.CODE) self.now s
-            → result ≡ next_tick sc.sizes sc.plan (side_of K.CODE) (number_of self.now) s.core }
-        ensures passing { passing_end (side_of K.CODE) self.now.node ≡ unwrap_or result (2 ^ 31) }
-        ensures below { IfSome result (λ k. k < 2 ^ 31) }
-    {
-        self.node.next_tick()
-    }
-
-    /// What the node wants for its next busy tick.
-    pub fn wants_then(&self) -> Want
-        ensures { (sc : Scenario) (s : WorldSite) (k : ℕ) → Stands sc (side_of K.CODE) self.now s
-            → next_tick sc.sizes sc.plan (side_of K.CODE) (number_of self.now) s.core ≡ Some k
-            → result ≡ want_for sc.sizes (wants_in sc (side_of K.CODE) (number_of self.now) (pass_to k s.core)) }
-    {
-        self.node.wants_then()
-    }
-
-    /// How many quiet ticks pass before tick k, or before what comes with that stamp.
-    pub fn quiet_before(&self, k: u64) -> u64
-        ensures { (sc : Scenario) (s : WorldSite) → Stands sc (side_of K.CODE) self.now s → result ≡ k - s.core.had }
-    {
-        k.saturating_sub(self.node.had())
-    }
-
-    /// What the node tells of a frame that it begins, by its clock.
-    pub fn line(&self, clock: &Clock, epoch: Epoch) -> NodeLine
-        requires { epoch.tick < 2 ^ 31 }
-        ensures { (sc : Scenario) (ports : List PortState) → clock.now ≡ clock_of sc (side_of K.CODE) (number_of self.now)
-            → result ≡ (begun_of sc ports (side_of K.CODE) (number_of self.now) epoch).line }
-    {
-        NodeLine {
-            node: self.name(),
-            tick: epoch.tick,
-            time: clock.at(epoch.tick),
-            biu: epoch.biu,
-            rmu: epoch.rmu,
-        }
     }
 
     /// The window that begins with the node's next tick. None exactly where none does.
@@ -182,18 +134,6 @@ impl<K: Kind> Site<K> {
         ensures rest { self.new ≡ record self.old { runs = false } }
     {
         self.runs = false;
-    }
-
-    /// The node goes on to its next tick, or stops if it is not good in the window that begins with it.
-    pub fn proceed(&mut self, is_good: bool)
-        ensures stands { (sc : Scenario) (s : WorldSite) → Stands sc (side_of K.CODE) self.old s
-            → goes_on sc (side_of K.CODE) (number_of self.old) (span_from sc.sizes sc.plan (side_of K.CODE) s.core.state s.core.had) ≡ is_good
-            → Stands sc (side_of K.CODE) self.new (proceed sc (side_of K.CODE) (number_of self.old) s) }
-        ensures rest { self.new ≡ record self.old { runs = self.old.runs && is_good } }
-    {
-        if !is_good {
-            self.stop();
-        }
     }
 
     /// A message or other bytes come to the node from a source at a reference time, no later than its next busy tick, by the
@@ -304,10 +244,3 @@ impl<K: Kind> Site<K> {
         self.node.say_alone(word)
     }
 }
-
-/// Ticks may pass at a node up to the next busy tick of each site that it stands for, and where that has none up to the last of
-/// all. So what is due no later than that tick may come to the node.
-pub fn ticks_pass_to_the_next()
-    ensures { (sc : Scenario) (me : Side) (k : KeptSite) (s : WorldSite) → Stands sc me k s
-        → passing_end me k.node ≡ unwrap_or (next_tick sc.sizes sc.plan me (number_of k) s.core) (2 ^ 31) }
-{}

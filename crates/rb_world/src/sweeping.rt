@@ -16,13 +16,13 @@ ghost use Rattle.rb_world.specs.Observing.{WasTold, left_below, left_for};
 ghost use Rattle.rb_world.specs.Trailing.{HasCaughtUp, HaveCaughtUp, MayCatchUp, MaySweep, Sweeps, Trails, until_from};
 ghost use Rattle.rb_world.specs.Unstamped.{due_before, taken_all};
 
+use crate::Site;
 use crate::bus::Bus;
 use crate::observing::{Observer, is_observed, tell_arrival};
 use crate::scene::Scene;
 use crate::taking::hear_at;
 use rb_base::{Biu, Kind, NodeName, Rmu};
 use rb_queue::Arrival;
-use crate::Site;
 use rb_world_agenda::Agenda;
 
 /// What comes to the node before this time is taken, one arrival after another, and with it a tick of the node before then.

@@ -14,6 +14,7 @@ ghost use Rattle.rb_world.specs.Worlds.{Stands, due_in, last_of};
 ghost use Rattle.rb_world_book.specs.declared.turn.Turn.{Turn};
 ghost use Rattle.rb_world_book.specs.Records.{record_of};
 
+use crate::Site;
 use crate::bus::Bus;
 use crate::last::Last;
 use crate::scene::Scene;
@@ -22,7 +23,6 @@ use crate::world::World;
 use rb_base::{Biu, Event, EventKind, Kind, NodeName, Rmu};
 use rb_frame::Spelling;
 use rb_port::Apps;
-use crate::Site;
 use rb_world_agenda::Agenda;
 use rb_world_book::{Turn, Way};
 

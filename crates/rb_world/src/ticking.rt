@@ -16,6 +16,7 @@ ghost use Rattle.rb_rules.specs.WorldStep.{Site as WorldSite, World, wants_in, w
 ghost use Rattle.rb_world.specs.Sites.{number_of};
 ghost use Rattle.rb_world.specs.Steps.{CanWant, HasRoomFor, IsWordSlot, MayTick, SeesOnlyNodes, Ticks, act_at, closed_if, moved};
 
+use crate::Site;
 use crate::bus::Bus;
 use crate::proceeding::{proceed, proceed_within};
 use crate::scene::{Scene, number_of};
@@ -23,7 +24,6 @@ use rb_base::{Delivery, Kind, NodeName};
 use rb_node::Want;
 use rb_port::{Apps, Port};
 use rb_rules::{Epoch, Message, NodeLine, PortLine};
-use crate::Site;
 use rb_world_traffic::Departure;
 
 // The word that a node is handed for a tick: its request, or what its port offers.

@@ -11,6 +11,7 @@ ghost use Rattle.rb_world.specs.Observing.{AlongTold, ComesTold, ToldToRecord, W
 ghost use Rattle.rb_world.specs.Trailing.{Along, BehindTick, Comes, ComesToRecord, GoesToTick, MayRun, MayTakeFirst, MayTickFirst, TakesFirst, TakesFirstAt, until_from};
 ghost use Rattle.rb_world.specs.Unstamped.{EndsExactly, MayTakeExactly};
 
+use crate::Site;
 use crate::bus::Bus;
 use crate::observing::{Observer, is_observed, tell_tick_for};
 use crate::scene::Scene;
@@ -18,7 +19,6 @@ use crate::sweeping::{catch_up, sweep_for, take_in_all};
 use crate::taking::tick_at;
 use rb_base::{Biu, Kind, NodeName, Rmu};
 use rb_port::Apps;
-use crate::Site;
 use rb_world_book::{Turn, Way};
 
 // Whether the node, which is not the one that is observed, may take in unstamped what came to it before its next tick: that ends a window

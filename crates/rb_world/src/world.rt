@@ -1,10 +1,10 @@
 //! All nodes of a run.
+use crate::Site;
 use crate::bus::Bus;
 use crate::last::Last;
 use crate::scene::Scene;
 use crate::ties::Seeding;
 use rb_base::{Biu, Rmu};
-use crate::Site;
 use std::marker::Model;
 
 /// All nodes of a bus, with what is pending at each: a run of a scenario, event by event. It stands for a world of the definitions
