@@ -2,6 +2,9 @@
 use crate::NodeName;
 use arrayvec::ArrayVec;
 
+/// How many ticks a node can have: those below 2^31.
+pub const MOST_TICKS: u64 = 2_147_483_648;
+
 /// One event at a node. Before it the node had `quiet` ticks at which it had nothing to do.
 #[derive(Clone, Debug, PartialEq, Eq, Drop)]
 pub struct Event {

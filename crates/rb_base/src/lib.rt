@@ -9,7 +9,7 @@ pub mod node_set;
 pub mod shape;
 pub mod values;
 
-pub use event::{Event, EventKind};
+pub use event::{Event, EventKind, MOST_TICKS};
 pub use kind::{Biu, Kind, Rmu};
 pub use memory::OutOfMemory;
 pub use node::{NodeId, NodeName};

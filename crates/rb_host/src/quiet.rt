@@ -4,11 +4,8 @@ ghost use Rattle.rb_base.specs.Nodes.{side_of};
 ghost use Rattle.rb_rules.specs.Core.{Core};
 ghost use Rattle.rb_node.specs.Cores.{IsCore, passing_end, ticks_of};
 
-use rb_base::Kind;
+use rb_base::{Kind, MOST_TICKS};
 use rb_node::Node;
-
-// How many ticks a node can have.
-const MOST_TICKS: u64 = 2_147_483_648;
 
 /// As many quiet ticks pass as there are before the next that isn't quiet, and at most so many; gives how many did.
 pub(crate) fn pass_some<K: Kind>(node: &mut Node<K>, ticks: u64) -> u64

@@ -8,12 +8,9 @@ ghost use Rattle.rb_rules.specs.Plan.{IsPlan, tail_start_of};
 ghost use Rattle.rb_node.specs.Aheads.{IsSooner, IsWindowOf};
 ghost use Rattle.rb_listen.specs.Waking.{IsNextWake, LooksAhead};
 
-use rb_base::Biu;
+use rb_base::{Biu, MOST_TICKS};
 use rb_plan::{Feasible, Window};
 use rb_slot::Engine;
-
-// How many ticks a follower can have.
-pub(crate) const MOST_TICKS: u64 = 2_147_483_648;
 
 /// What is ahead of a follower.
 #[derive(Clone, Copy)]

@@ -7,9 +7,9 @@ ghost use Rattle.rb_node.specs.Cores.{IsCore, IsSameNode};
 ghost use Rattle.rb_listen.specs.Following.{arrive_at, core_from, follow_at, follows_at, next_wake_at, passing_end};
 ghost use Rattle.rb_listen.specs.Waking.{wakes_at};
 
-use crate::ahead::{Ahead, MOST_TICKS, bounds, look_ahead};
+use crate::ahead::{Ahead, bounds, look_ahead};
 use crate::parts::{close_at, epoch_at, nothing, turn_at};
-use rb_base::{Biu, NodeId, NodeSet, Rmu};
+use rb_base::{Biu, MOST_TICKS, NodeId, NodeSet, Rmu};
 use rb_eligible::Inbox;
 use rb_node::{Closed, Step};
 use rb_plan::Feasible;

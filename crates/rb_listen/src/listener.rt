@@ -11,8 +11,8 @@ ghost use Rattle.rb_listen.specs.declared.listener.Stage.TheVariants as stage;
 use crate::Follower;
 use crate::heed::Heed;
 use crate::lesson::First;
-use crate::search::{MOST_TICKS, Search, arrive, decision, first_search, in_time, search_on};
-use rb_base::{Delivery, NodeSet};
+use crate::search::{Search, arrive, decision, first_search, in_time, search_on};
+use rb_base::{Delivery, MOST_TICKS, NodeSet};
 use rb_plan::Feasible;
 use std::marker::Model;
 

@@ -8,13 +8,10 @@ ghost use Rattle.rb_listen.specs.Stamps.{AreSoon};
 use crate::lesson::{First, Lesson, begin, first_of, frame_after, note, nothing_recorded};
 use crate::listener::Stage;
 use crate::passes::{Call, is_call, pass_of, reach};
-use rb_base::Shape;
+use rb_base::{MOST_TICKS, Shape};
 use rb_frame::decode;
 use rb_plan::Feasible;
 use rb_rules::Message;
-
-// How many ticks a listener can have.
-pub(crate) const MOST_TICKS: u64 = 2_147_483_648;
 
 /// What a listener heard while it seeks and learns: how many ticks it has had, the newest call of each RMU, and what is recorded of the
 /// frame that it learns. Where it seeks, and learns none, the lesson says nothing.

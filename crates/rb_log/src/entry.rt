@@ -4,9 +4,7 @@ ghost use Rattle.rb_log.specs.Entries.{GoesOn, HasTicks, arrival_in, entry_at, e
 
 use crate::field::field;
 use crate::refusal::LogRefusal;
-
-/// The most ticks that a log may have.
-const MOST_TICKS: u64 = 1 << 31;
+use rb_base::MOST_TICKS;
 
 /// A record, without the bytes of a message that arrived.
 #[derive(Clone, Copy, Debug, PartialEq, Eq)]

@@ -10,12 +10,9 @@ ghost use Rattle.rb_node.specs.Aheads.{IsChosen, IsEnded, IsNextBusy, IsSaidNext
 ghost use Rattle.rb_node.specs.Wants.{slot_of_words, want_for};
 
 use crate::act::Want;
-use rb_base::{Kind, Shape};
+use rb_base::{Kind, MOST_TICKS, Shape};
 use rb_plan::{Feasible, Plan, Window};
 use rb_slot::Engine;
-
-// How many ticks a node can have.
-pub(crate) const MOST_TICKS: u64 = 2_147_483_648;
 
 /// A tick that isn't quiet, and the stage of the message that the node says then; 0 where it says none.
 #[derive(Clone, Copy)]

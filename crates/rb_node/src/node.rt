@@ -15,14 +15,14 @@ ghost use Rattle.rb_node.specs.Wants.{want_of, want_then};
 
 use crate::act::{Act, Span, Step, Want};
 use crate::ahead::{
-    Ahead, MOST_TICKS, bounds, following, go_on, is_tick, is_within, look_ahead, look_on,
-    look_to_end, not_looked, window_of,
+    Ahead, bounds, following, go_on, is_tick, is_within, look_ahead, look_on, look_to_end,
+    not_looked, window_of,
 };
 use crate::parts::{
     bytes_of, close_at, delivered_in, epoch_at, first_window, if_closed, nothing, others, say_at,
     span_at, turn_at,
 };
-use rb_base::{Kind, NodeId};
+use rb_base::{Kind, MOST_TICKS, NodeId};
 use rb_eligible::Inbox;
 use rb_frame::Spelling;
 use rb_plan::Feasible;

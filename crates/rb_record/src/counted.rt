@@ -5,12 +5,9 @@ ghost use Rattle.rb_log.specs.Writing.{HasBytes, ticks_given, written};
 ghost use Rattle.rb_record.specs.Recording.{HasRoom, fresh_log};
 
 use arrayvec::ArrayVec;
-use rb_base::{Event, EventKind};
+use rb_base::{Event, EventKind, MOST_TICKS};
 use rb_log::LogWriter;
 use std::marker::Model;
-
-// A log has at most so many ticks.
-const MOST_TICKS: u64 = 2_147_483_648;
 
 // How many ticks an event gives.
 fn ticks_given(event: &Event) -> u64

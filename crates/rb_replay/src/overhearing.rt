@@ -12,14 +12,11 @@ ghost use Rattle.rb_replay.specs.ListeningOn.{IsDue};
 ghost use Rattle.rb_replay.specs.Overhearing.{begun_with, from_tick, heed_lines, is_of_biu, overheard_text};
 
 use crate::lines::{begun_by, write_heed};
-use rb_base::NodeName;
+use rb_base::{MOST_TICKS, NodeName};
 use rb_listen::Listener;
 use rb_log::{LogEvent, LogReader};
 use rb_outside::{Failed, Sink, write_line};
 use rb_report::end_line;
-
-// How many ticks a listener can have.
-const MOST_TICKS: u64 = 2_147_483_648;
 
 // How many quiet ticks may pass at the listener.
 fn quiet_ahead(listener: &Listener) -> u64

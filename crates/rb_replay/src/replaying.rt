@@ -13,14 +13,11 @@ ghost use Rattle.rb_replay.specs.Advancing.{Advances};
 ghost use Rattle.rb_replay.specs.Replaying.{IsDue};
 
 use crate::lines::{frames_by, write_step};
-use rb_base::{Biu, Kind, NodeName, Rmu};
+use rb_base::{Biu, Kind, MOST_TICKS, NodeName, Rmu};
 use rb_log::{LogEvent, LogReader};
 use rb_node::Node;
 use rb_outside::{Failed, Sink, write_line};
 use rb_report::end_line;
-
-// How many ticks a node can have.
-const MOST_TICKS: u64 = 2_147_483_648;
 
 // How many quiet ticks may pass at the node.
 fn quiet_ahead<K: Kind>(node: &Node<K>) -> u64

@@ -12,7 +12,7 @@ ghost use Rattle.rb_top.specs.Words.{AskFor, IsInRange, IsLetter, IsMask, letter
 
 use arrayvec::ArrayVec;
 use itoa::Buffer;
-use rb_base::NodeName;
+use rb_base::{MOST_TICKS, NodeName};
 use rb_flags::{Flag, flag_in};
 use rb_group::Which;
 
@@ -45,9 +45,6 @@ pub enum Form {
 
 /// The most frames of a generated scenario.
 const MOST_FRAMES: u64 = 4096;
-
-/// How many ticks a log can have.
-const MOST_TICKS: u64 = 2_147_483_648;
 
 /// The mask of all 16 nodes.
 const MOST_MASK: u64 = 65535;

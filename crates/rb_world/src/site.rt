@@ -18,16 +18,13 @@ ghost use Rattle.rb_slot.specs.Engines.{nothing_shown};
 ghost use Rattle.rb_world.specs.Sites.{KeptSite, Stands, goes_on, number_of, taken_in};
 ghost use Rattle.rb_world.specs.Tells.{IsTicked};
 
-use rb_base::{Kind, NodeName};
+use rb_base::{Kind, MOST_TICKS, NodeName};
 use rb_clock::Clock;
 use rb_frame::Spelling;
 use rb_node::{Epoch, Node, Span, Step, Want};
 use rb_plan::Feasible;
 use rb_rules::{Message, NodeLine};
 use std::marker::Model;
-
-// No node has as many ticks.
-const LAST_TICK: u64 = 1 << 31;
 
 /// One node of a world, for both kinds by one code: its core, whether it runs, and for each source the reference time of what
 /// came of it last. Where one message came of a source since the last close, that is the time of it.
@@ -152,7 +149,7 @@ impl<K: Kind> Site<K> {
         } }
         ensures same { IsSameNode self.old.node self.new.node }
     {
-        let near = self.node.next_tick().unwrap_or(LAST_TICK);
+        let near = self.node.next_tick().unwrap_or(MOST_TICKS);
         let stamp = clock.first_near(time, near);
         pass_to(&mut self.node, stamp);
         self.take_in(time, from, bytes);
