@@ -4,6 +4,7 @@ pub mod Evidence
 pub mod Shown
 pub mod Sensed
 pub mod Alike
+pub mod Runs
 pub mod Seeing
 pub mod Quiet
 pub mod Forms

@@ -218,8 +218,3 @@ stamp_up_to n kept j up_to h sole = here (has kept.came j) (has kept.spoilt j) s
 -- where it is not one, there is no value
 pub says_none : (e : Expect) (bytes : List ℕ) (one : Bool) (value : Option Heard) → Says e bytes one value → one ≡ false → value ≡ None
 says_none e bytes one value says poor = says.value_is ∙ no_value (sense_of_one e 0 (message_in e.version bytes)) (sym says.one_is ∙ poor)
-
--- so who has a value is one
-pub says_one : (e : Expect) (bytes : List ℕ) (one : Bool) (value : Option Heard) (h : Heard) → Says e bytes one value → value ≡ Some h → one ≡ true
-says_one e bytes true value h says is = refl
-says_one e bytes false value h says is = let e : ◌≡◌ {A = Option Heard} (Some h) None = sym is ∙ says_none e bytes false value says refl in absurd cc

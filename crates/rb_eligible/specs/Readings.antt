@@ -1,12 +1,10 @@
 -- What an arrival is kept as, and what its bytes say.
-use Rattle.std.specs.Prelude.{ℕ, ◌≡◌, ◌≤◌, ◌+◌, ◌*◌, ◌/◌, ◌%◌, Bool, true, false, Option, Some, List}
+use Rattle.std.specs.Prelude.{ℕ, ◌≡◌, ◌≤◌, ◌+◌, ◌*◌, ◌/◌, ◌%◌, Bool, false, Option, List}
 use Rattle.rb_base.specs.declared.values.Heard.{Heard}
 use Rattle.rb_rules.specs.declared.sense.Expect.{Expect}
-use Rattle.rb_rules.specs.ExactStage.{see_value}
 use Rattle.rb_rules.specs.Sense.{is_one, sense_of_one, value_in}
 use Rattle.rb_rules.specs.Spelling.{message_in}
 use Rattle.rb_frame.specs.Spellings.{high_of, len_of, spelled}
-use Rattle.rb_eligible.specs.declared.reading.Reading.{Reading}
 use Rattle.rb_eligible.specs.declared.reading.Sole.{Sole}
 
 -- the bytes of a sole arrival
@@ -17,12 +15,6 @@ bytes_of s = spelled s.low (high_of s.tail) (len_of s.tail)
 pub record Says (e : Expect) (bytes : List ℕ) (one : Bool) (value : Option Heard) : Type 0 where
   pub one_is : one ≡ is_one (sense_of_one e 0 (message_in e.version bytes))
   pub value_is : value ≡ value_in (sense_of_one e 0 (message_in e.version bytes))
-
--- the reading is that of its bytes, unless they are those of no arrival, and it shows its value
-pub record IsReading (e : Expect) (r : Reading) : Type 0 where
-  pub says : len_of r.tail ≤ 12 → Says e (spelled r.low (high_of r.tail) (len_of r.tail)) r.one r.value
-  pub shown : r.see ≡ see_value r.value
-  pub agreed : r.agrees ≡ true → (h : Heard) × ((r.value ≡ Some h) × (r.candidate ≡ Some h))
 
 -- the first eight bytes begin as a word that is meant for the window
 pub record StartsAsWord (e : Expect) (low : ℕ) : Type 0 where

@@ -1,5 +1,5 @@
 -- What is taken of sources in a window, and whom that accuses, whatever list of arrivals the inbox stands for.
-use Rattle.std.specs.Prelude.{ℕ, ◌≡◌, ◌<◌, ◌&&◌, Bool, true, if◌then◌else◌, Option, None, List}
+use Rattle.std.specs.Prelude.{ℕ, ◌≡◌, ◌<◌, ◌^◌, ◌&&◌, not, Bool, true, false, if◌then◌else◌, Option, Some, None, List}
 use Rattle.rb_base.specs.Nodes.{has, set_of}
 use Rattle.rb_base.specs.declared.values.Heard.{Heard}
 use Rattle.rb_rules.specs.declared.sense.Expect.{Expect}
@@ -7,7 +7,7 @@ use Rattle.rb_rules.specs.ExactStage.{at_source, each_node}
 use Rattle.rb_rules.specs.Sense.{is_one, value_in}
 use Rattle.rb_rules.specs.Standing.{Standing, has_evidence, taken_of, with_evidence}
 use Rattle.rb_eligible.specs.Inboxes.{HoldsArrivals, KeptArrivals, Received, sense_in, sole_at}
-use Rattle.rb_eligible.specs.Readings.{Says, bytes_of}
+use Rattle.rb_eligible.specs.declared.reading.Sole.{Sole}
 
 -- the sources among these of which exactly one message came that is meant for the window
 abbrev pub AreOnesOf : KeptArrivals → Expect → (ℕ → Bool) → ℕ → Type 0
@@ -27,14 +27,21 @@ AreTakenOf kept s e expected taken = (received : List Received) → HoldsArrival
 abbrev pub AccusesBy : KeptArrivals → Standing → Expect → ℕ → Standing → Type 0
 AccusesBy kept s e expected after = (received : List Received) → HoldsArrivals kept received → after ≡ with_evidence (has_evidence s (has expected) (sense_in e received)) s
 
--- there are sources in the set, of each of which the same bytes came and the value was taken
-pub record AreAlike (kept : KeptArrivals) (due low tail : ℕ) (value : Option Heard) (taken : List (Option Heard)) : Type 0 where
-  pub some : (k : ℕ) × ((k < 16) × (has due k ≡ true))
-  pub each : (j : ℕ) → j < 16 → has due j ≡ true
-      → (at_source taken j ≡ value) × ((sole_at kept.soles j).low ≡ low) × ((sole_at kept.soles j).tail ≡ tail)
+-- of these sources none is left any longer but those of the second set: of the others each has the same bytes, and the value was taken; nothing changed for those that weren't left before
+pub record IsRun (kept : KeptArrivals) (left rest : ℕ) (sole : Sole) (value : Option Heard) (before taken : List (Option Heard)) : Type 0 where
+  pub within : (j : ℕ) → j < 16 → has rest j ≡ true → has left j ≡ true
+  pub same : (j : ℕ) → j < 16 → has left j ≡ true → has rest j ≡ false
+      → (at_source taken j ≡ value) × ((sole_at kept.soles j).low ≡ sole.low) × ((sole_at kept.soles j).tail ≡ sole.tail)
+  pub others : (j : ℕ) → j < 16 → has left j ≡ false → at_source taken j ≡ at_source before j
 
--- and the value is what the bytes say
-pub record AreSaid (kept : KeptArrivals) (e : Expect) (due : ℕ) (one : Bool) (value : Option Heard) (taken : List (Option Heard)) : Type 0 where
-  pub some : (k : ℕ) × ((k < 16) × (has due k ≡ true))
-  pub each : (j : ℕ) → j < 16 → has due j ≡ true
-      → (at_source taken j ≡ value) × Says e (bytes_of (sole_at kept.soles j)) one value
+-- what was taken of the sources of a set but of those that are left, which of them are ones, and of each of the leading ones the same value was taken
+pub record IsPartial (kept : KeptArrivals) (e : Expect) (due left ones lead : ℕ) (value : Option Heard) (taken : List (Option Heard)) : Type 0 where
+  pub fits : ones < 2 ^ 16
+  pub within : (j : ℕ) → j < 16 → has left j ≡ true → has due j ≡ true
+  pub one : (received : List Received) → HoldsArrivals kept received → (j : ℕ) → j < 16
+      → has ones j ≡ ((has due j && not (has left j)) && is_one (sense_in e received j))
+  pub so_far : (received : List Received) → HoldsArrivals kept received → (j : ℕ) → j < 16 → has left j ≡ false
+      → at_source taken j ≡ (if has due j then value_in (sense_in e received j) else None)
+  pub blank : (j : ℕ) → j < 16 → has left j ≡ false → has ones j ≡ false → at_source taken j ≡ None
+  pub held : (j : ℕ) → j < 16 → has lead j ≡ true
+      → (has left j ≡ false) × ((h : Heard) × ((at_source taken j ≡ Some h) × (value ≡ Some h)))

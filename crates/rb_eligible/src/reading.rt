@@ -6,7 +6,7 @@ ghost use Rattle.rb_rules.specs.Sense.{is_one, sense_of_one, suits, tag_suits, v
 ghost use Rattle.rb_rules.specs.Spelling.{message_in};
 ghost use Rattle.rb_base.specs.declared.values.Heard.{Heard};
 ghost use Rattle.rb_frame.specs.Spellings.{high_of, len_of, spelled};
-ghost use Rattle.rb_eligible.specs.Readings.{IsReading, Says, StartsAsWord, bytes_of};
+ghost use Rattle.rb_eligible.specs.Readings.{Says, StartsAsWord, bytes_of};
 
 use crate::words::{has_form, message_in, value_in as value_at};
 use byteorder::{ByteOrder, LittleEndian};
@@ -26,21 +26,6 @@ pub struct Sole {
     pub tail: u64,
 }
 
-/// The bytes that were read last, as an arrival keeps them: whether they are exactly one message that is meant for the window,
-/// the value that such a message carries, and what is shown of it. Who spells alike is read alike: the next arrival with the
-/// same bytes need not be read. `candidate` is the first value that was read, if there was one, and `agrees` says that this one
-/// is the same.
-#[derive(Clone, Copy, Debug, PartialEq, Eq)]
-pub struct Reading {
-    pub low: u64,
-    pub tail: u64,
-    pub one: bool,
-    pub value: Option<Heard>,
-    pub see: See,
-    pub candidate: Option<Heard>,
-    pub agrees: bool,
-}
-
 /// Whether bytes are exactly one message that is meant for the window, and its value.
 #[derive(Clone, Copy, Debug, PartialEq, Eq)]
 pub(crate) struct Said {
@@ -48,48 +33,10 @@ pub(crate) struct Said {
     pub value: Option<Heard>,
 }
 
-/// The reading before the first: no arrival that is kept has 13 bytes.
-pub(crate) fn nothing_read(expect: &Expect) -> Reading
-    ensures reading { IsReading expect.now result }
-{
-    let _version = expect.version;
-    Reading {
-        low: 0,
-        tail: 13 << 32,
-        one: false,
-        value: None,
-        see: See::Nothing,
-        candidate: None,
-        agrees: false,
-    }
-}
-
-// Whether the arrival has the bytes that were read.
-fn spells_alike(sole: &Sole, last: &Reading) -> bool
-    ensures low { IsTrue result → sole.now.low ≡ last.now.low }
-    ensures tail { IsTrue result → sole.now.tail ≡ last.now.tail }
-{
-    sole.low == last.low && sole.tail == last.tail
-}
-
-/// Reads an arrival, once another one was read.
-#[inline(always)]
-pub(crate) fn read(sole: &Sole, expect: &Expect, last: &mut Reading)
-    requires short { len_of sole.now.tail ≤ 12 }
-    requires last { IsReading expect.now last.old }
-    ensures reading { IsReading expect.now last.new }
-    ensures says { Says expect.now (bytes_of sole.now) last.new.one last.new.value }
-    ensures candidate { (h : Heard) → last.old.candidate ≡ Some h → last.new.candidate ≡ Some h }
-{
-    if !spells_alike(sole, last) {
-        read_anew(sole, expect, last);
-    }
-}
-
-/// Whether an arrival is one message that is meant for the window, and its value.
-#[inline(always)]
+// Whether an arrival is one message that is meant for the window, and its value.
+#[inline(never)]
 #[tactic(auto, using(crate::proofs::Sensed::says_sense))]
-pub(crate) fn words_of(sole: &Sole, expect: &Expect) -> Said
+fn words_of(sole: &Sole, expect: &Expect) -> Said
     requires { len_of sole.now.tail ≤ 12 }
     ensures { Says expect.now (bytes_of sole.now) result.one result.value }
 {
@@ -140,22 +87,19 @@ pub(crate) fn word_of(low: u64, tail: u64, expect: &Expect) -> Option<u32>
     }
 }
 
-// Reads an arrival that is unlike the one before.
-#[inline(never)]
-fn read_anew(sole: &Sole, expect: &Expect, last: &mut Reading)
+/// Whether an arrival is one message that is meant for the window, and its value. Most are words.
+#[inline(always)]
+pub(crate) fn said_of(sole: &Sole, expect: &Expect) -> Said
     requires { len_of sole.now.tail ≤ 12 }
-    ensures reading { IsReading expect.now last.new }
-    ensures says { Says expect.now (bytes_of sole.now) last.new.one last.new.value }
-    ensures candidate { (h : Heard) → last.old.candidate ≡ Some h → last.new.candidate ≡ Some h }
+    ensures { Says expect.now (bytes_of sole.now) result.one result.value }
 {
-    let Said { one, value } = words_of(sole, expect);
-    last.candidate = first_of(last.candidate, value);
-    last.agrees = agrees(last.candidate, value);
-    last.low = sole.low;
-    last.tail = sole.tail;
-    last.one = one;
-    last.value = value;
-    last.see = see_value(value);
+    match word_of(sole.low, sole.tail, expect) {
+        Some(word) => Said {
+            one: true,
+            value: Some(Heard::Word(word)),
+        },
+        None => words_of(sole, expect),
+    }
 }
 
 // What is shown of a source, by the value that was taken of it.
@@ -165,26 +109,6 @@ pub(crate) fn see_value(taken: Option<Heard>) -> See
     match taken {
         Some(value) => See::Value(value),
         None => See::Nothing,
-    }
-}
-
-// The first value, once one more was read.
-fn first_of(before: Option<Heard>, value: Option<Heard>) -> Option<Heard>
-    ensures { (h : Heard) → before ≡ Some h → result ≡ Some h }
-{
-    match before {
-        Some(heard) => Some(heard),
-        None => value,
-    }
-}
-
-// Whether there is a value, and it is the candidate.
-fn agrees(candidate: Option<Heard>, value: Option<Heard>) -> bool
-    ensures { result ≡ true → (h : Heard) × ((value ≡ Some h) × (candidate ≡ Some h)) }
-{
-    match value {
-        Some(heard) => candidate == Some(heard),
-        None => false,
     }
 }
 

@@ -1,17 +1,17 @@
 //! What a node takes in a window, and whom it accuses for what came.
-ghost use Rattle.std.specs.Prelude.{◌≡◌, ℕ, ◌<◌, ◌*◌, ◌^◌, ◌&&◌, ◌==◌, not, true, if◌then◌else◌, Some, slice_set, unwrap_or, IfSome, IsTrue};
+ghost use Rattle.std.specs.Prelude.{◌≡◌, ℕ, ◌<◌, ◌*◌, ◌^◌, ◌&&◌, ◌||◌, ◌⊎◌, true, if◌then◌else◌, length, map, slice_set, IfSome, IsNone, IsSome, IsTrue};
 ghost use Rattle.rb_base.specs.Nodes.{has, set_of, size};
-ghost use Rattle.rb_base.specs.declared.values.Heard.{Heard};
 ghost use Rattle.rb_rules.specs.ExactStage.{present, see_value};
 ghost use Rattle.rb_rules.specs.Majority.{majority_of};
 ghost use Rattle.rb_rules.specs.Standing.{is_eligible};
 ghost use Rattle.rb_eligible.specs.Inboxes.{is_sole, sole_at};
-ghost use Rattle.rb_eligible.specs.Sheets.{IsSheet};
+ghost use Rattle.rb_eligible.specs.Sheets.{IsSheet, IsWritten};
 ghost use Rattle.rb_eligible.specs.Standings.{standing_of};
-ghost use Rattle.rb_eligible.specs.Takings.{AccusesBy, AreAlike, AreOnesOf, AreTakenOf, AreSaid, AreValuesOf};
+ghost use Rattle.rb_eligible.specs.Takings.{AccusesBy, AreOnesOf, AreTakenOf, AreValuesOf, IsPartial, IsRun};
 
 use crate::inbox::Inbox;
-use crate::reading::{Said, Sole, nothing_read, read, see_value, word_of, words_of};
+use crate::reading::{Sole, said_of, see_value, word_of};
+use crate::sheet::Sheet;
 use crate::standing::Standing;
 use rb_base::{Heard, NodeId, NodeSet, See};
 use rb_rules::Expect;
@@ -22,38 +22,7 @@ use rb_rules::Expect;
 pub struct Taking<K> {
     pub ones: NodeSet<K>,
     pub alike: bool,
-    pub value: Option<Heard>,
-}
-
-// Takes the node out of the set of the same, and out of that of the ones unless it is one. That is rare, so it is no part of a
-// loop's body.
-#[inline(never)]
-fn drop_from<K: Copy>(ones: &mut NodeSet<K>, same: &mut NodeSet<K>, source: NodeId<K>, one: bool)
-    ensures ones { ones.new ≡ (if one then ones.old else set_of (λ i. has ones.old i && not (i == source))) }
-    ensures same { same.new ≡ set_of (λ i. has same.old i && not (i == source)) }
-{
-    if !one {
-        ones.remove(source);
-    }
-    same.remove(source);
-}
-
-// Keeps the node in the two sets, if it is one and agrees. Who agrees is one.
-#[inline(always)]
-fn keep_if<K: Copy>(
-    ones: &mut NodeSet<K>,
-    same: &mut NodeSet<K>,
-    source: NodeId<K>,
-    one: bool,
-    agrees: bool,
-)
-    requires { agrees ≡ true → one ≡ true }
-    ensures ones { ones.new ≡ (if one then ones.old else set_of (λ i. has ones.old i && not (i == source))) }
-    ensures same { same.new ≡ (if agrees then same.old else set_of (λ i. has same.old i && not (i == source))) }
-{
-    if !agrees {
-        drop_from(ones, same, source, one);
-    }
+    pub value: Heard,
 }
 
 // Whether the sources of the one set are more than half of those of the other.
@@ -65,75 +34,27 @@ fn leads<K: Copy>(same: NodeSet<K>, ones: NodeSet<K>) -> bool
 
 // Makes room for what comes of the sources of the set. Of the others nothing is written down any longer.
 #[inline(always)]
-fn make_room<K: Copy>(
-    due: NodeSet<K>,
-    written: &mut NodeSet<K>,
-    taken: &mut [Option<Heard>; 16],
-    sees: &mut [See; 16],
-)
-    requires { IsSheet written.old taken.old sees.old }
-    ensures written { written.new ≡ due }
-    ensures sheet { IsSheet due taken.new sees.new }
+fn make_room<K: Copy>(due: NodeSet<K>, sheet: &mut Sheet<K>)
+    requires { IsWritten sheet.old }
+    ensures written { sheet.new.written ≡ due }
+    ensures sheet { IsSheet due sheet.new.closing.taken sheet.new.closed.sees }
 {
-    let stale = written.difference(due);
-    *written = due;
+    let stale = sheet.written.difference(due);
+    sheet.written = due;
     if !stale.is_empty() {
-        *taken = [None; 16];
-        *sees = [See::Nothing; 16];
+        sheet.closing.taken = [None; 16];
+        sheet.closed.sees = [See::Nothing; 16];
     }
 }
 
-// The set, or the empty one.
-fn set_if<K: Copy>(set: NodeSet<K>, stays: bool) -> NodeSet<K>
-    ensures { result ≡ (if stays then set else 0) }
-{
-    if stays { set } else { NodeSet::empty() }
-}
-
-// Takes what came of the sources of the set, of each of which there is one arrival.
+// The first source that is left.
 #[inline(always)]
-fn take_some<K: Copy>(
-    inbox: &Inbox<K>,
-    due: NodeSet<K>,
-    expect: &Expect,
-    taken: &mut [Option<Heard>; 16],
-    sees: &mut [See; 16],
-) -> Taking<K>
-    requires fits { due < 2 ^ 16 }
-    requires due { (j : ℕ) → j < 16 → has due j ≡ true → is_sole inbox.now j ≡ true }
-    requires sheet { IsSheet due taken.old sees.old }
-    ensures ones { AreOnesOf inbox.now expect.now (has due) result.ones }
-    ensures taken { AreValuesOf inbox.now expect.now due taken.new }
-    ensures alike { IsTrue result.alike → majority_of (present taken.new) ≡ unwrap_or result.value Heard.Fault }
-    ensures sheet { IsSheet due taken.new sees.new }
+fn first_of<K: Copy>(left: NodeSet<K>) -> Option<NodeId<K>>
+    ensures first { IfSome result (λ first. has left first ≡ true) }
+    ensures none { IsNone result → left ≡ 0 }
 {
-    let mut left = due;
-    let (mut ones, mut same) = (due, due);
-    let mut last = nothing_read(expect);
-    while let Some(source) = left.pop_first() {
-        read(inbox.sole_at(source), expect, &mut last);
-        keep_if(&mut ones, &mut same, source, last.one, last.agrees);
-        let at = usize::from(source.index());
-        taken[at] = last.value;
-        sees[at] = last.see;
-    }
-    Taking {
-        ones,
-        alike: leads(same, ones),
-        value: last.candidate,
-    }
-}
-
-// The lowest node of the set.
-#[inline(always)]
-fn lowest_of<K: Copy>(set: NodeSet<K>) -> Option<NodeId<K>>
-    ensures { IfSome result (λ first. has set first ≡ true) }
-{
-    let mut left = set;
-    match left.pop_first() {
-        Some(first) => Some(first),
-        None => None,
-    }
+    let mut rest = left;
+    rest.pop_first()
 }
 
 // Writes down what was taken of the source.
@@ -153,91 +74,154 @@ fn put<K: Copy>(
     sees[at] = see_value(value);
 }
 
-// Takes the value of the first source, and of all others of the set of which the same bytes came. Whether there is no source of
-// which others came.
+// Takes the value of the first source that is left, and of those after it up to the first one that spells otherwise. Gives those
+// that are left then.
 #[inline(always)]
-fn take_alike<K: Copy>(
+fn take_run<K: Copy>(
     inbox: &Inbox<K>,
-    due: NodeSet<K>,
+    left: NodeSet<K>,
     first: NodeId<K>,
     value: Option<Heard>,
     taken: &mut [Option<Heard>; 16],
     sees: &mut [See; 16],
-) -> bool
-    requires inside { has due first ≡ true }
-    requires sheet { IsSheet due taken.old sees.old }
-    ensures alike { IsTrue result → AreAlike inbox.now due (sole_at inbox.now.soles first).low (sole_at inbox.now.soles first).tail value taken.new }
-    ensures sheet { IsSheet due taken.new sees.new }
+) -> NodeSet<K>
+    requires inside { has left first ≡ true }
+    requires all { length taken.old ≡ 16 }
+    requires shown { sees.old ≡ map see_value taken.old }
+    ensures run { IsRun inbox.now left result (sole_at inbox.now.soles first) value taken.old taken.new }
+    ensures fewer { size result < size left }
+    ensures all { length taken.new ≡ 16 }
+    ensures shown { sees.new ≡ map see_value taken.new }
 {
     let Sole { low, tail, .. } = *inbox.sole_at(first);
-    let mut left = due;
-    left.remove(first);
+    let mut rest = left;
+    rest.remove(first);
     put(first, value, taken, sees);
-    while let Some(source) = left.pop_first() {
+    while let Some(source) = first_of(rest) {
         let sole = inbox.sole_at(source);
         if sole.low != low || sole.tail != tail {
-            return false;
+            return rest;
         }
+        rest.remove(source);
         put(source, value, taken, sees);
     }
-    true
+    rest
 }
 
-// Takes the word that came of all sources of the set, of each of which there is one arrival: if the bytes are alike of all, and
-// are a word that is meant for the window. That is nearly always so, and quick.
-#[inline(always)]
-fn take_words<K: Copy>(
-    inbox: &Inbox<K>,
-    due: NodeSet<K>,
-    expect: &Expect,
-    taken: &mut [Option<Heard>; 16],
-    sees: &mut [See; 16],
-) -> Option<u32>
-    requires { IsSheet due taken.old sees.old }
-    ensures words { IfSome result (λ word. AreSaid inbox.now expect.now due true (Some (Heard.Word word)) taken.new) }
-    ensures sheet { IsSheet due taken.new sees.new }
+// Sources of which the same value was taken.
+#[derive(Clone, Copy)]
+struct Group<K> {
+    sources: NodeSet<K>,
+    value: Option<Heard>,
+}
+
+// What was taken of the sources of a set but of those that are left: of which exactly one message came, and the largest group.
+#[derive(Clone, Copy)]
+struct Partial<K> {
+    left: NodeSet<K>,
+    ones: NodeSet<K>,
+    lead: Group<K>,
+}
+
+// Whether both are the same value.
+fn are_same(value: Option<Heard>, other: Option<Heard>) -> bool
+    ensures same { IsTrue result → value ≡ other }
+    ensures some { IsTrue result → IsSome value }
 {
-    let Some(first) = lowest_of(due) else {
-        return None;
-    };
-    let sole = inbox.sole_at(first);
-    let Some(word) = word_of(sole.low, sole.tail, expect) else {
-        return None;
-    };
-    if take_alike(inbox, due, first, Some(Heard::Word(word)), taken, sees) {
-        Some(word)
-    } else {
-        None
+    match (value, other) {
+        (Some(Heard::Word(word)), Some(Heard::Word(another))) => word == another,
+        (Some(Heard::Fault), Some(Heard::Fault)) => true,
+        _ => false,
     }
 }
 
-// The same of whatever came of all sources of the set, if the bytes are alike of all.
-#[inline(always)]
-fn take_same<K: Copy>(
-    inbox: &Inbox<K>,
-    due: NodeSet<K>,
-    expect: &Expect,
-    taken: &mut [Option<Heard>; 16],
-    sees: &mut [See; 16],
-) -> Option<Said>
-    requires { IsSheet due taken.old sees.old }
-    ensures said { IfSome result (λ said. AreSaid inbox.now expect.now due said.one said.value taken.new) }
-    ensures sheet { IsSheet due taken.new sees.new }
+// The group with a run of which the same value was taken, or the larger of the two where a value was taken of the run.
+fn with_run<K: Copy>(lead: Group<K>, run: NodeSet<K>, value: Option<Heard>) -> Group<K>
+    ensures { (j : ℕ) → j < 16 → has result.sources j ≡ true
+        → ((has lead.sources j ≡ true) × (result.value ≡ lead.value))
+        ⊎ ((has run j ≡ true) × ((result.value ≡ value) × IsSome value)) }
 {
-    let Some(first) = lowest_of(due) else {
-        return None;
-    };
-    let said = words_of(inbox.sole_at(first), expect);
-    if take_alike(inbox, due, first, said.value, taken, sees) {
-        Some(said)
+    if are_same(value, lead.value) {
+        Group {
+            sources: lead.sources.union(run),
+            value,
+        }
+    } else if value.is_some() && lead.sources.count() < run.count() {
+        Group {
+            sources: run,
+            value,
+        }
     } else {
-        None
+        lead
     }
 }
 
-// Takes what came of the sources of the set, of each of which there is one arrival, whatever it is.
+// The set, with the run if exactly one message came of each of it.
+fn with_ones<K: Copy>(ones: NodeSet<K>, run: NodeSet<K>, one: bool) -> NodeSet<K>
+    ensures { result ≡ (if one then set_of (λ j. has ones j || has run j) else ones) }
+{
+    if one { ones.union(run) } else { ones }
+}
+
+// All sources of the set are left.
+fn nothing_of<K: Copy>(due: NodeSet<K>) -> Partial<K>
+    ensures left { result.left ≡ due }
+    ensures ones { result.ones ≡ 0 }
+    ensures lead { result.lead.sources ≡ 0 }
+{
+    Partial {
+        left: due,
+        ones: NodeSet::empty(),
+        lead: Group {
+            sources: NodeSet::empty(),
+            value: None,
+        },
+    }
+}
+
+// Takes what came of those sources of the set that are left, of each of which there is one arrival. It goes by runs: the first
+// source that is left is read, and what it said is taken of all after it that spell as it does.
+#[inline(never)]
+fn take_runs<K: Copy>(
+    inbox: &Inbox<K>,
+    due: NodeSet<K>,
+    start: Partial<K>,
+    expect: &Expect,
+    taken: &mut [Option<Heard>; 16],
+    sees: &mut [See; 16],
+) -> Taking<K>
+    requires due { (j : ℕ) → j < 16 → has due j ≡ true → is_sole inbox.now j ≡ true }
+    requires start { IsPartial inbox.now expect.now due start.left start.ones start.lead.sources start.lead.value taken.old }
+    requires sheet { IsSheet due taken.old sees.old }
+    ensures ones { AreOnesOf inbox.now expect.now (has due) result.ones }
+    ensures taken { AreValuesOf inbox.now expect.now due taken.new }
+    ensures alike { IsTrue result.alike → majority_of (present taken.new) ≡ result.value }
+    ensures sheet { IsSheet due taken.new sees.new }
+{
+    let Partial {
+        mut left,
+        mut ones,
+        mut lead,
+    } = start;
+    while let Some(first) = first_of(left) {
+        let said = said_of(inbox.sole_at(first), expect);
+        let rest = take_run(inbox, left, first, said.value, taken, sees);
+        let run = left.difference(rest);
+        ones = with_ones(ones, run, said.one);
+        lead = with_run(lead, run, said.value);
+        left = rest;
+    }
+    Taking {
+        ones,
+        alike: leads(lead.sources, ones),
+        value: lead.value.unwrap_or(Heard::Fault),
+    }
+}
+
+// Takes what came of the sources of the set, of each of which there is one arrival. Where all say the same word, which is nearly
+// always so, nothing is counted.
 #[inline(always)]
-fn take_any<K: Copy>(
+fn take_due<K: Copy>(
     inbox: &Inbox<K>,
     due: NodeSet<K>,
     expect: &Expect,
@@ -249,17 +233,36 @@ fn take_any<K: Copy>(
     requires sheet { IsSheet due taken.old sees.old }
     ensures ones { AreOnesOf inbox.now expect.now (has due) result.ones }
     ensures taken { AreValuesOf inbox.now expect.now due taken.new }
-    ensures alike { IsTrue result.alike → majority_of (present taken.new) ≡ unwrap_or result.value Heard.Fault }
+    ensures alike { IsTrue result.alike → majority_of (present taken.new) ≡ result.value }
     ensures sheet { IsSheet due taken.new sees.new }
 {
-    match take_same(inbox, due, expect, taken, sees) {
-        Some(said) => Taking {
-            ones: set_if(due, said.one),
+    let Some(first) = first_of(due) else {
+        return take_runs(inbox, due, nothing_of(due), expect, taken, sees);
+    };
+    let sole = inbox.sole_at(first);
+    let Some(word) = word_of(sole.low, sole.tail, expect) else {
+        return take_runs(inbox, due, nothing_of(due), expect, taken, sees);
+    };
+    let value = Heard::Word(word);
+    let rest = take_run(inbox, due, first, Some(value), taken, sees);
+    if rest.is_empty() {
+        return Taking {
+            ones: due,
             alike: true,
-            value: said.value,
-        },
-        None => take_some(inbox, due, expect, taken, sees),
+            value,
+        };
     }
+    let run = due.difference(rest);
+    let lead = Group {
+        sources: run,
+        value: Some(value),
+    };
+    let begun = Partial {
+        left: rest,
+        ones: run,
+        lead,
+    };
+    take_runs(inbox, due, begun, expect, taken, sees)
 }
 
 // The sources of the set of which exactly one message came that is meant for the window.
@@ -270,7 +273,7 @@ fn ones_among<K: Copy>(inbox: &Inbox<K>, set: NodeSet<K>, expect: &Expect) -> No
     let due = set.intersection(inbox.soles());
     let mut taken = [None; 16];
     let mut sees = [See::Nothing; 16];
-    take_some(inbox, due, expect, &mut taken, &mut sees).ones
+    take_due(inbox, due, expect, &mut taken, &mut sees).ones
 }
 
 // The same of the sources that are expected and accused already.
@@ -313,75 +316,31 @@ fn due_of<K: Copy>(inbox: &Inbox<K>, standing: &Standing<K>, expected: NodeSet<K
     standing.eligible_of(expected).intersection(inbox.soles())
 }
 
-// Takes and accuses, whatever came of the sources of which something may be taken.
-#[cold]
-#[inline(never)]
-fn take_mixed<K: Copy>(
-    inbox: &Inbox<K>,
-    standing: &mut Standing<K>,
-    expect: &Expect,
-    expected: NodeSet<K>,
-    due: NodeSet<K>,
-    taken: &mut [Option<Heard>; 16],
-    sees: &mut [See; 16],
-) -> Taking<K>
-    requires fits { due < 2 ^ 16 }
-    requires due { (j : ℕ) → j < 16
-        → has due j ≡ ((has expected j && is_eligible (standing_of standing.old) j) && is_sole inbox.now j) }
-    requires sheet { IsSheet due taken.old sees.old }
-    ensures ones { AreOnesOf inbox.now expect.now (λ j. has expected j && is_eligible (standing_of standing.old) j) result.ones }
-    ensures taken { AreTakenOf inbox.now (standing_of standing.old) expect.now expected taken.new }
-    ensures accused { AccusesBy inbox.now (standing_of standing.old) expect.now expected (standing_of standing.new) }
-    ensures alike { IsTrue result.alike → majority_of (present taken.new) ≡ unwrap_or result.value Heard.Fault }
-    ensures sheet { IsSheet due taken.new sees.new }
-{
-    let taking = take_any(inbox, due, expect, taken, sees);
-    accuse_by(inbox, standing, expect, expected, taking.ones);
-    taking
-}
-
-// Of all these sources the word was taken.
-fn all_alike<K: Copy>(ones: NodeSet<K>, word: u32) -> Taking<K>
-    ensures { result ≡ record { ones = ones; alike = true; value = Some (Heard.Word word) } }
-{
-    Taking {
-        ones,
-        alike: true,
-        value: Some(Heard::Word(word)),
-    }
-}
-
 /// Takes what came in a window of each source that is expected and eligible, if exactly one message came and it is meant for
-/// the window: `taken` is by source the value of that message, which a call to resynchronise has not, and `sees` is what is
-/// shown of it. Then each trusted source is accused that was expected and of which not exactly that came, or that wasn't
-/// expected and of which something came. What was taken and shown of an earlier window is written over: only of the sources in
-/// `written` there may be something.
+/// the window: on the sheet stands by source the value of that message, which a call to resynchronise has not, and what is shown
+/// of it. Then each trusted source is accused that was expected and of which not exactly that came, or that wasn't expected and
+/// of which something came. What was taken and shown of an earlier window is written over.
 #[inline(always)]
 pub fn take_with_evidence<K: Copy>(
     inbox: &Inbox<K>,
     standing: &mut Standing<K>,
     expect: &Expect,
     expected: NodeSet<K>,
-    written: &mut NodeSet<K>,
-    taken: &mut [Option<Heard>; 16],
-    sees: &mut [See; 16],
+    sheet: &mut Sheet<K>,
 ) -> Taking<K>
-    requires { IsSheet written.old taken.old sees.old }
+    requires { IsWritten sheet.old }
     ensures ones { AreOnesOf inbox.now expect.now (λ j. has expected j && is_eligible (standing_of standing.old) j) result.ones }
-    ensures taken { AreTakenOf inbox.now (standing_of standing.old) expect.now expected taken.new }
+    ensures taken { AreTakenOf inbox.now (standing_of standing.old) expect.now expected sheet.new.closing.taken }
     ensures accused { AccusesBy inbox.now (standing_of standing.old) expect.now expected (standing_of standing.new) }
-    ensures alike { IsTrue result.alike → majority_of (present taken.new) ≡ unwrap_or result.value Heard.Fault }
-    ensures sheet { IsSheet written.new taken.new sees.new }
+    ensures alike { IsTrue result.alike → majority_of (present sheet.new.closing.taken) ≡ result.value }
+    ensures sheet { IsWritten sheet.new }
 {
     let due = due_of(inbox, standing, expected);
-    make_room(due, written, taken, sees);
-    match take_words(inbox, due, expect, taken, sees) {
-        Some(word) => {
-            accuse_by(inbox, standing, expect, expected, due);
-            all_alike(due, word)
-        }
-        None => take_mixed(inbox, standing, expect, expected, due, taken, sees),
-    }
+    make_room(due, sheet);
+    let taken = &mut sheet.closing.taken;
+    let taking = take_due(inbox, due, expect, taken, &mut sheet.closed.sees);
+    accuse_by(inbox, standing, expect, expected, taking.ones);
+    taking
 }
 
 /// Whether a window is quiet: nothing came, and no trusted source is expected. Then nothing is taken, and nobody accused.

@@ -12,8 +12,8 @@ ghost use Rattle.rb_rules.specs.NodeState.{NodeState};
 ghost use Rattle.rb_rules.specs.SyncStage.{new_epoch_of, sync_closing_of};
 
 use arrayvec::ArrayVec;
-use rb_base::{NodeId, NodeSet, See};
-use rb_eligible::{Inbox, Standing, take_with_evidence};
+use rb_base::{NodeId, NodeSet};
+use rb_eligible::{Inbox, Sheet, Standing, take_with_evidence};
 use rb_mid::middle;
 use rb_plan::Feasible;
 use rb_rules::Expect;
@@ -62,17 +62,8 @@ pub fn close_sync<K: Copy>(
     ensures accused { AccusesBy inbox.now (standing_of standing.old) expect.now expected (standing_of standing.new) }
     ensures soon { (n : ℕ) → StampsUpTo n inbox.now → first ≤ n → result.middle ≤ n }
 {
-    let mut written = NodeSet::empty();
-    let (mut values, mut sees) = ([None; 16], [See::Nothing; 16]);
-    let taking = take_with_evidence(
-        inbox,
-        standing,
-        expect,
-        expected,
-        &mut written,
-        &mut values,
-        &mut sees,
-    );
+    let mut sheet = Sheet::new();
+    let taking = take_with_evidence(inbox, standing, expect, expected, &mut sheet);
     let takers = taking.ones.intersection(inbox.soles());
     let mut taken_of = [None; 16];
     let mut stamps = ArrayVec::new();

@@ -1,36 +1,32 @@
 //! A stage below the sync slot: what a node makes of what came in it.
 #![tactic(auto)]
 
-ghost use Rattle.std.specs.Prelude.{◌≡◌, ◌<◌, ◌||◌, ◌==◌, if◌then◌else◌, None, map, replicate, unwrap_or, IsTrue};
+ghost use Rattle.std.specs.Prelude.{◌≡◌, ◌<◌, ◌||◌, ◌==◌, if◌then◌else◌, unwrap_or, IsTrue};
 ghost use Rattle.rb_base.specs.Nodes.{has, set_of};
 ghost use Rattle.rb_base.specs.declared.values.Heard.{Heard};
-ghost use Rattle.rb_eligible.specs.Sheets.{IsSheet};
+ghost use Rattle.rb_eligible.specs.Sheets.{IsWritten};
 ghost use Rattle.rb_eligible.specs.Standings.{standing_of};
 ghost use Rattle.rb_eligible.specs.Takings.{AccusesBy};
 ghost use Rattle.rb_round.specs.Closes.{ClosesBy};
-ghost use Rattle.rb_rules.specs.ExactStage.{at_source, present, see_value, with_unlike};
+ghost use Rattle.rb_rules.specs.ExactStage.{at_source, present, with_unlike};
 ghost use Rattle.rb_rules.specs.Majority.{majority_of};
 ghost use Rattle.rb_rules.specs.Standing.{is_unlike};
 
-use rb_base::{Heard, NodeId, NodeSet, See};
-use rb_eligible::{Inbox, Standing, is_quiet, take_with_evidence};
+pub use close::close_on_sheet;
+use rb_base::{Heard, NodeId, NodeSet};
+use rb_eligible::{Inbox, Sheet, Standing, take_with_evidence};
 pub use rb_rules::Closing;
 use rb_rules::Expect;
 use rb_vote::majority_taken;
-pub use sheet::{Sheet, close_on_sheet};
 
-pub mod sheet;
+pub mod close;
 
 // The vote over what was taken. Where more than half of it is known to be alike, it is that value.
-fn vote(taken: &[Option<Heard>; 16], alike: bool, value: Option<Heard>) -> Heard
-    requires { IsTrue alike → majority_of (present taken.now) ≡ unwrap_or value Heard.Fault }
+fn vote(taken: &[Option<Heard>; 16], alike: bool, value: Heard) -> Heard
+    requires { IsTrue alike → majority_of (present taken.now) ≡ value }
     ensures { result ≡ majority_of (present taken.now) }
 {
-    if alike {
-        value.unwrap_or(Heard::Fault)
-    } else {
-        majority_taken(taken)
-    }
+    if alike { value } else { majority_taken(taken) }
 }
 
 /// Closes a stage below the sync slot. Of each source that is expected and eligible the value is taken that came of it, if
@@ -49,10 +45,9 @@ pub fn close_stage<K: Copy>(
     ensures closing { ClosesBy inbox.now (standing_of standing.old) expect.now expected result }
     ensures accused { AccusesBy inbox.now (standing_of standing.old) expect.now expected (standing_of standing.new) }
 {
-    let mut closing = nothing_taken();
-    let mut sees = [See::Nothing; 16];
-    close_stage_into(inbox, standing, expect, expected, &mut closing, &mut sees);
-    closing
+    let mut sheet = Sheet::new();
+    close_on_sheet(inbox, standing, expect, expected, &mut sheet);
+    sheet.closing
 }
 
 // The close of a stage in which something came or somebody is expected.
@@ -62,65 +57,15 @@ fn close_busy<K: Copy>(
     standing: &mut Standing<K>,
     expect: &Expect,
     expected: NodeSet<K>,
-    written: &mut NodeSet<K>,
-    closing: &mut Closing,
-    sees: &mut [See; 16],
+    sheet: &mut Sheet<K>,
 )
-    requires { IsSheet written.old closing.old.taken sees.old }
-    ensures closing { ClosesBy inbox.now (standing_of standing.old) expect.now expected closing.new }
+    requires { IsWritten sheet.old }
+    ensures closing { ClosesBy inbox.now (standing_of standing.old) expect.now expected sheet.new.closing }
     ensures accused { AccusesBy inbox.now (standing_of standing.old) expect.now expected (standing_of standing.new) }
-    ensures sheet { IsSheet written.new closing.new.taken sees.new }
+    ensures sheet { IsWritten sheet.new }
 {
-    let taking = take_with_evidence(
-        inbox,
-        standing,
-        expect,
-        expected,
-        written,
-        &mut closing.taken,
-        sees,
-    );
-    closing.voted = vote(&closing.taken, taking.alike, taking.value);
-}
-
-/// The same in place: the closing is written over `closing`, and what is shown of each source over `sees`, whatever they were
-/// before. Where nothing came and no trusted source is expected that costs next to nothing.
-pub fn close_stage_into<K: Copy>(
-    inbox: &Inbox<K>,
-    standing: &mut Standing<K>,
-    expect: &Expect,
-    expected: NodeSet<K>,
-    closing: &mut Closing,
-    sees: &mut [See; 16],
-)
-    ensures closing { ClosesBy inbox.now (standing_of standing.old) expect.now expected closing.new }
-    ensures accused { AccusesBy inbox.now (standing_of standing.old) expect.now expected (standing_of standing.new) }
-    ensures sees { sees.new ≡ map see_value closing.new.taken }
-{
-    *closing = nothing_taken();
-    *sees = [See::Nothing; 16];
-    if !is_quiet(inbox, standing, expected) {
-        let mut written = NodeSet::empty();
-        close_busy(
-            inbox,
-            standing,
-            expect,
-            expected,
-            &mut written,
-            closing,
-            sees,
-        );
-    }
-}
-
-/// A closing in which nothing was taken.
-pub fn nothing_taken() -> Closing
-    ensures { result ≡ record { taken = replicate 16 None; voted = Heard.Fault } }
-{
-    Closing {
-        taken: [None; 16],
-        voted: Heard::Fault,
-    }
+    let taking = take_with_evidence(inbox, standing, expect, expected, sheet);
+    sheet.closing.voted = vote(&sheet.closing.taken, taking.alike, taking.value);
 }
 
 // Whether something other than the value was taken.

@@ -7,16 +7,16 @@ use Rattle.rb_eligible.proofs.Scans.{both_second, common_has}
 use Rattle.rb_eligible.proofs.Sensed.{none_but_soles}
 use Rattle.rb_eligible.proofs.taking.ones_among.Goals as goal
 
-pub take_some-requires-clause-fits : goal.take_some-requires-clause-fits
-take_some-requires-clause-fits g c = rw c.intersection-due.ensures (set_of-lt (λ i. has c.args.set i && has c.soles.result i))
+pub take_due-requires-clause-fits : goal.take_due-requires-clause-fits
+take_due-requires-clause-fits g c = rw c.intersection-due.ensures (set_of-lt (λ i. has c.args.set i && has c.soles.result i))
 
-pub take_some-requires-clause-due : goal.take_some-requires-clause-due
-take_some-requires-clause-due g c = λ j h inside.
+pub take_due-requires-clause-due : goal.take_due-requires-clause-due
+take_due-requires-clause-due g c = λ j h inside.
     both_second (has c.args.set j) (is_sole c.args.inbox.now j) (sym (common_has c.args.set c.soles.result c.intersection-due.result j (is_sole c.args.inbox.now) c.intersection-due.ensures c.soles.ensures h) ∙ inside)
 
 pub returns : goal.returns
 returns g c = λ received shown.
-    c.take_some.ensures.ones received shown
+    c.take_due.ensures.ones received shown
     ∙ same_set_of _ _ (λ j h.
     ap (λ b. b && is_one (sense_in c.args.expect.now received j))
     (common_has c.args.set c.soles.result c.intersection-due.result j (is_sole c.args.inbox.now) c.intersection-due.ensures c.soles.ensures h)

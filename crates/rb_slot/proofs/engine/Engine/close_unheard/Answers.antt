@@ -8,11 +8,11 @@ use Rattle.rb_slot.proofs.Unheard.{no_delivery, unheard_steps}
 use Rattle.rb_slot.proofs.engine.Engine.close_unheard.Goals as goal
 
 steps : (g : _) (c : goal.After-keep_next g) (received : List Received) → HoldsArrivals c.args.inbox.now received
-    → Steps (side_of g.K.Kind.CODE) c.args.slot c.args.stage c.args.role (sender_at c.args.self.now.sizes (side_of g.K.Kind.CODE) c.args.self.now.state c.args.slot) c.take_of.new.closing
+    → Steps (side_of g.K.Kind.CODE) c.args.slot c.args.stage c.args.role (sender_at c.args.self.now.sizes (side_of g.K.Kind.CODE) c.args.self.now.state c.args.slot) c.take_of.new.sheet.closing
     (senses_in c.args.self.now c.args.slot c.args.stage received)
     c.args.self.now c.take_of.new.self c.take_of.new.self c.keep_owners.new.self c.keep_owners.new.self c.forget_stage.new.self
 steps g c received shown =
-    unheard_steps (side_of g.K.Kind.CODE) c.args.slot c.args.stage c.args.role c.take_of.new.closing (senses_in c.args.self.now c.args.slot c.args.stage received)
+    unheard_steps (side_of g.K.Kind.CODE) c.args.slot c.args.stage c.args.role c.take_of.new.sheet.closing (senses_in c.args.self.now c.args.slot c.args.stage received)
     c.args.self.now c.take_of.new.self c.keep_owners.new.self c.forget_stage.new.self
     c.requires.role
     c.requires.unheard
@@ -29,6 +29,6 @@ returns-clause-closed g c = λ received shown.
     rw (
       ap (λ (v : Seated). v.state.frame) c.self.view_is,
       c.take_of.ensures.sheet.shown,
-      ← no_delivery (side_of g.K.Kind.CODE) c.forget_stage.new.self.state c.args.slot c.args.role (sender_at c.args.self.now.sizes (side_of g.K.Kind.CODE) c.args.self.now.state c.args.slot) c.args.stage c.take_of.new.closing.voted c.requires.unheard,
+      ← no_delivery (side_of g.K.Kind.CODE) c.forget_stage.new.self.state c.args.slot c.args.role (sender_at c.args.self.now.sizes (side_of g.K.Kind.CODE) c.args.self.now.state c.args.slot) c.args.stage c.take_of.new.sheet.closing.voted c.requires.unheard,
     )
     (shows_so _ _ _ _ _ _ _ _ _ _ _ _ _ (steps g c received shown))

@@ -4,7 +4,7 @@ use Rattle.rb_eligible.specs.Inboxes.{sense_in}
 use Rattle.rb_eligible.specs.Standings.{standing_of}
 use Rattle.rb_eligible.proofs.Quiet.{quiet_accuses, quiet_takes}
 use Rattle.rb_round.proofs.Closings.{nothing_closing}
-use Rattle.rb_round.proofs.sheet.close_on_sheet.Goals as goal
+use Rattle.rb_round.proofs.close.close_on_sheet.Goals as goal
 
 pub returns-then-is_quiet-clause-closing : goal.returns-then-is_quiet-clause-closing
 returns-then-is_quiet-clause-closing g c = λ received shown.
