@@ -4,8 +4,8 @@ use Rattle.std.specs.declared.alloc.Global.{Global}
 use Rattle.rb_outside.specs.Causes.{Rose}
 use Rattle.rb_world.specs.declared.drive.FirstDrive.{FirstDrive}
 use Rattle.rb_flags.specs.declared.Flag.{Flag}
-use Rattle.rb_library.specs.Held.{Held, faults_of}
-use Rattle.rb_library.proofs.OverBytes.{fresh, given_over, never_rose, no_fault, read_is, written_is}
+use Rattle.robus_c.specs.Held.{Held, faults_of}
+use Rattle.robus_c.proofs.OverBytes.{fresh, given_over, never_rose, no_fault, read_is, written_is}
 use Rattle.rb_bridge_document.specs.Acceptance.{IsBridgeAccepted}
 use Rattle.rb_bridge.specs.Crossing.{ArePlain}
 use Rattle.rb_bridge_top.specs.declared.form.Form.{Form}

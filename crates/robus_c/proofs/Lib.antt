@@ -1,3 +1,4 @@
+pub mod OverBytes
 pub mod BusOverBytes
 pub mod BridgeOverBytes
 pub mod PictureOverBytes

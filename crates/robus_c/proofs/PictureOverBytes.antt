@@ -3,8 +3,8 @@ use Rattle.std.proofs.Common.{◌≡◌, ℕ, ◌<◌, List, String, map, string
 use Rattle.std.specs.declared.alloc.Global.{Global}
 use Rattle.rb_outside.specs.Bytes.{Gave}
 use Rattle.rb_outside.specs.Causes.{Rose}
-use Rattle.rb_library.specs.Held.{Held, faults_of}
-use Rattle.rb_library.proofs.OverBytes.{fresh, given_over, never_rose, no_fault, read_is, written_is}
+use Rattle.robus_c.specs.Held.{Held, faults_of}
+use Rattle.robus_c.proofs.OverBytes.{fresh, given_over, never_rose, no_fault, read_is, written_is}
 use Rattle.rb_picture.specs.declared.form.Form.{Form}
 use Rattle.rb_picture.specs.declared.form.Form.TheVariants.{Draw, Show}
 use Rattle.rb_picture.specs.declared.form.Frames.{Frames}

@@ -1,3 +1,5 @@
+pub mod Words
+pub mod Held
 pub mod Put
 pub mod Bus
 pub mod Bridge

@@ -1,7 +1,7 @@
 -- How output comes into a host's bytes, and how a program answers there.
 use Rattle.std.specs.Prelude.{ℕ, ◌≡◌, ◌≤◌, ◌<◌, ◌⊎◌, List, [], length, take, drop, min, pos}
 use Rattle.std.specs.Str.{IsUtf8}
-use Rattle.rb_library.specs.Words.{words_in}
+use Rattle.robus_c.specs.Words.{words_in}
 use Rattle.robus_c.specs.declared.answer.Answer.{Answer}
 
 -- These bytes stand at the front of `after`, or as many of them as it has room for, and the rest is as it was. The answer says how many

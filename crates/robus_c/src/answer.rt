@@ -1,7 +1,7 @@
 //! The answer of a call.
 ghost use Rattle.robus_c.specs.Put.{IsPut};
 
-use rb_library::put;
+use crate::copying::put;
 
 /// The number of a status, and how many bytes there are of output.
 #[repr(C)]

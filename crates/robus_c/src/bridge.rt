@@ -3,8 +3,9 @@ ghost use Rattle.std.specs.Prelude.{◌≡◌, false, [], map, string_bytes};
 ghost use Rattle.robus_c.specs.Bridge.{Says, number_of};
 
 use crate::program::Program;
+use crate::sink::HeldSink;
+use crate::source::SliceSource;
 use rb_bridge_top::{Status, run_bridge};
-use rb_library::{HeldSink, SliceSource};
 use rb_port::{Apps, applications};
 use rb_world::FirstDrive;
 use std::alloc::{AllocError, Global};

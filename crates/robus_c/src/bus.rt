@@ -3,8 +3,9 @@ ghost use Rattle.std.specs.Prelude.{◌≡◌, false, [], map, string_bytes, IfO
 ghost use Rattle.robus_c.specs.Bus.{Says, number_of};
 
 use crate::program::Program;
+use crate::sink::HeldSink;
+use crate::source::SliceSource;
 use rb_group::{Voters, voters};
-use rb_library::{HeldSink, SliceSource};
 use rb_port::{Apps, applications};
 use rb_top::{Status, run_robus};
 use rb_world::FirstDrive;

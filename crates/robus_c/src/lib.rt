@@ -6,19 +6,23 @@ ghost use Rattle.robus_c.specs.Bridge.{IsBridgeAnswer};
 ghost use Rattle.robus_c.specs.Bus.{IsBusAnswer};
 ghost use Rattle.robus_c.specs.Picture.{IsPictureAnswer};
 
-pub mod answer;
-mod bridge;
-mod bus;
-mod node;
-mod picture;
-mod program;
-
 use answer::Answer;
 use bridge::RobusBridge;
 use bus::Robus;
 use picture::RobusPicture;
 use program::call;
 use std::alloc::Global;
+
+pub mod answer;
+mod bridge;
+mod bus;
+mod copying;
+mod node;
+mod picture;
+mod program;
+mod sink;
+mod source;
+mod spelled;
 
 /// What `robus` does with these words, a NUL byte between one and the next, and this input. Its output stands in `output`, and the answer
 /// has the number of its status, 0 to 4 or 7, and the number of bytes of the output. Where there are more than `output` has room for, the

@@ -3,7 +3,8 @@ ghost use Rattle.std.specs.Prelude.{◌≡◌, false, [], map, string_bytes};
 ghost use Rattle.robus_c.specs.Picture.{Says, number_of};
 
 use crate::program::Program;
-use rb_library::{HeldSink, SliceSource};
+use crate::sink::HeldSink;
+use crate::source::SliceSource;
 use rb_picture::Status;
 use rb_picture::draw::draw;
 use std::alloc::{AllocError, Global};

@@ -3,7 +3,8 @@ ghost use Rattle.std.specs.Prelude.{ℕ, ◌≡◌, List, false, [], map, string
 ghost use Rattle.robus_c.specs.Put.{IsAnswer, MayAnswer};
 
 use crate::answer::{Answer, NO_MEMORY, NOT_TEXT, answer_with};
-use rb_library::{HeldSink, NoWords, words_in};
+use crate::sink::HeldSink;
+use crate::spelled::{NoWords, words_in};
 use std::alloc::{AllocError, Global};
 
 /// A program that is given words and an input, both as bytes in memory.

@@ -4,7 +4,7 @@ use Rattle.std.proofs.lemmas.List.{append-nil}
 use Rattle.std.specs.Io.KnownBytes.{Appends}
 use Rattle.rb_outside.specs.Bytes.{Gave, ReadsToEnd}
 use Rattle.rb_outside.specs.Causes.{Rose}
-use Rattle.rb_library.specs.Held.{Held, faults_of}
+use Rattle.robus_c.specs.Held.{Held, faults_of}
 
 abbrev pub fresh : Held
 fresh = record { bytes = []; failed = false }

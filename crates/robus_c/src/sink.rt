@@ -3,7 +3,7 @@ ghost use Rattle.std.specs.Prelude.{◌≡◌, true, false, [], length, take, So
 ghost use Rattle.std.specs.Io.{WritesAtMost};
 ghost use Rattle.std.specs.Io.KnownBytes.{WriteAppends};
 ghost use Rattle.rb_outside.specs.Causes.{HasCause, TakesSome};
-ghost use Rattle.rb_library.specs.Held.{faults_of};
+ghost use Rattle.robus_c.specs.Held.{faults_of};
 
 use rb_base::OutOfMemory;
 use rb_outside::{Failed, Sink};
@@ -19,7 +19,7 @@ pub struct HeldSink {
 }
 
 impl Model for HeldSink {
-    ghost use Rattle.rb_library.specs.Held.{Held};
+    ghost use Rattle.robus_c.specs.Held.{Held};
 
     ghost Value = { Held };
 

@@ -2,7 +2,7 @@
 ghost use Rattle.std.specs.Prelude.{◌≡◌, ◌==◌, map, string_bytes, IfOk, IsOk};
 ghost use Rattle.std.specs.List.{slice_split};
 ghost use Rattle.std.specs.Str.{IsUtf8};
-ghost use Rattle.rb_library.specs.Words.{words_in};
+ghost use Rattle.robus_c.specs.Words.{words_in};
 
 use std::alloc::{AllocError, Global};
 
