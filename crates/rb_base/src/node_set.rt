@@ -59,8 +59,9 @@ impl<K: Copy> NodeSet<K> {
         self.bits &= !(1 << id.index());
     }
 
-    /// Takes the node with the lowest number out of the set and gives it. None exactly where the set is empty. So a loop
-    /// `while let Some(id) = left.pop_first()` walks over the nodes of a set in order.
+    /// Takes the node with the lowest number out of the set and gives it. None exactly where the
+    /// set is empty. So a loop `while let Some(id) = left.pop_first()` walks over the nodes of a
+    /// set in order.
     pub fn pop_first(&mut self) -> Option<NodeId<K>>
         ensures empty { IsNone result ↔ (self.old ≡ 0) }
         ensures first { IfSome result (TakesFirst self.old self.new) }

@@ -23,10 +23,13 @@ impl Model for Shape {
 }
 
 impl Shape {
-    /// The shape with these numbers. None exactly where there are not 1 to 16 BIUs, 1 to 16 RMUs and 1 to 64 data slots.
+    /// The shape with these numbers. None exactly where there are not 1 to 16 BIUs, 1 to 16 RMUs
+    /// and 1 to 64 data slots.
     pub fn new(biu: u8, rmu: u8, slots: u16) -> Option<Shape>
-        ensures range { IsSome result ↔ IsShape (record { bius = biu; rmus = rmu; data_slots = slots }) }
-        ensures value { IfSome result (λ s. s ≡ record { bius = biu; rmus = rmu; data_slots = slots }) }
+        ensures range { IsSome result
+            ↔ IsShape (record { bius = biu; rmus = rmu; data_slots = slots }) }
+        ensures value { IfSome result (λ s. s
+            ≡ record { bius = biu; rmus = rmu; data_slots = slots }) }
     {
         if (1..=16).contains(&biu) && (1..=16).contains(&rmu) && (1..=64).contains(&slots) {
             Some(Shape { biu, rmu, slots })
@@ -59,8 +62,8 @@ impl Shape {
         self.slots
     }
 
-    /// The number of the sync slot, at most 112: one schedule slot a BIU, the data slots and one diagnosis slot a node come
-    /// before it.
+    /// The number of the sync slot, at most 112: one schedule slot a BIU, the data slots and one
+    /// diagnosis slot a node come before it.
     pub fn sync_slot(&self) -> u16
         ensures value { result ≡ sync_slot_of self.now }
         ensures most { result ≤ 112 }

@@ -8,8 +8,8 @@ pub enum Heard {
     Fault,
 }
 
-/// A stage of a slot of a frame. Frames and slots are counted from 0. The stages of a slot are 1 to 3, and the tail of the sync
-/// slot counts as its stage 4.
+/// A stage of a slot of a frame. Frames and slots are counted from 0. The stages of a slot are 1 to
+/// 3, and the tail of the sync slot counts as its stage 4.
 #[derive(Clone, Copy, Debug, PartialEq, Eq, Default)]
 pub struct Place {
     pub frame: u32,
@@ -26,8 +26,9 @@ pub struct Delivery {
     pub value: Heard,
 }
 
-/// What a receiver saw of one source in a window: nothing, a value, or the time of a call to resynchronise. That time is in
-/// the receiver's own ticks where one node speaks of itself, and in reference units where nodes are compared.
+/// What a receiver saw of one source in a window: nothing, a value, or the time of a call to
+/// resynchronise. That time is in the receiver's own ticks where one node speaks of itself, and in
+/// reference units where nodes are compared.
 #[derive(Clone, Copy, Debug, PartialEq, Eq, Default)]
 pub enum See {
     #[default]

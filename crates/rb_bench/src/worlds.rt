@@ -1,4 +1,5 @@
-//! Runs of whole worlds: one of 16 BIUs and 16 RMUs whose nodes are all good, and the generated one with seed 7.
+//! Runs of whole worlds: one of 16 BIUs and 16 RMUs whose nodes are all good, and the generated one
+//! with seed 7.
 use anyhow::{Result, bail};
 use rb_gen::generate;
 use rb_port::Apps;
@@ -18,7 +19,8 @@ fn frames_in(turn: &Turn) -> u32 {
     }
 }
 
-// Takes one event, or goes on where none is due. Gives how many events were taken, and of how many frames a record came.
+// Takes one event, or goes on where none is due. Gives how many events were taken, and of how many
+// frames a record came.
 fn take_one(world: &mut World, apps: &Apps) -> (u64, u32) {
     if world.due() > 0 {
         let turn = world.take(apps, 0);
@@ -59,7 +61,8 @@ fn run(world: &mut World, apps: &Apps, frames: u32) -> u64 {
     records
 }
 
-/// What is counted: events, which are then taken one by one, or records, to which the world goes by itself.
+/// What is counted: events, which are then taken one by one, or records, to which the world goes by
+/// itself.
 #[derive(Clone, Copy)]
 pub enum Told {
     Events,

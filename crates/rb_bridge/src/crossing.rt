@@ -15,7 +15,8 @@ use rb_rules_bridge::Pair;
 use rb_run::Ending;
 use rb_world::Drive;
 
-// Takes both buses through a frame, the left one first, and gives its breach, if there is one. After a breach of the left bus the right one is not taken through.
+// Takes both buses through a frame, the left one first, and gives its breach, if there is one.
+// After a breach of the left bus the right one is not taken through.
 fn pass_both<D: Drive>(
     left: &mut Side,
     right: &mut Side,
@@ -25,7 +26,8 @@ fn pass_both<D: Drive>(
     right_drive: &mut D,
 ) -> Option<Breach>
     requires { MayGoOn (D.is_plain left_drive.old) (D.told left_drive.old) (D.is_plain right_drive.old) (D.told right_drive.old) left.old right.old }
-    ensures through { (b : Bridge) (both : Bool) (ltold rtold : Option (List Turn)) → IsBridge b → frame < b.left.frames
+    ensures through { (b : Bridge) (both : Bool) (ltold rtold : Option (List Turn)) → IsBridge b
+        → frame < b.left.frames
         → ArePlain both (D.is_plain left_drive.old) (D.is_plain right_drive.old)
         → AreReady b frame both (D.is_plain left_drive.old) ltold (D.told left_drive.old) (D.is_plain right_drive.old) rtold (D.told right_drive.old) left.old right.old
         → GoThrough b frame both (D.is_plain left_drive.old) ltold (D.told left_drive.new) (D.is_plain right_drive.old) rtold (D.told right_drive.new) left.new right.new (option_map shown result) }
@@ -40,7 +42,8 @@ fn pass_both<D: Drive>(
     breach_at(&right.turn, true, frame)
 }
 
-// Takes both buses through a frame, and writes what is said of it. Gives whether they go on: they do unless there was a breach.
+// Takes both buses through a frame, and writes what is said of it. Gives whether they go on: they
+// do unless there was a breach.
 fn cross_frame<K: Sink, D: Drive>(
     left: &mut Side,
     right: &mut Side,
@@ -52,12 +55,14 @@ fn cross_frame<K: Sink, D: Drive>(
     output: &mut K,
 ) -> Result<bool, Failed>
     requires { MayCross pairs.now frame (D.is_plain left_drive.old) (D.told left_drive.old) (D.is_plain right_drive.old) (D.told right_drive.old) left.old right.old }
-    ensures all { (b : Bridge) (both : Bool) (ltold rtold : Option (List Turn)) → IsBridge b → b.pairs ≡ pairs.now → frame < b.left.frames
+    ensures all { (b : Bridge) (both : Bool) (ltold rtold : Option (List Turn)) → IsBridge b
+        → b.pairs ≡ pairs.now → frame < b.left.frames
         → ArePlain both (D.is_plain left_drive.old) (D.is_plain right_drive.old)
         → AreReady b frame both (D.is_plain left_drive.old) ltold (D.told left_drive.old) (D.is_plain right_drive.old) rtold (D.told right_drive.old) left.old right.old
         → IfOk result (Crosses b frame both (D.is_plain left_drive.old) ltold (D.told left_drive.new) (D.is_plain right_drive.old) rtold (D.told right_drive.new) left.new right.new
         (K.held output.old) (K.held output.new)) }
-    ensures part { (b : Bridge) (both : Bool) (ltold rtold : Option (List Turn)) → IsBridge b → b.pairs ≡ pairs.now → frame < b.left.frames
+    ensures part { (b : Bridge) (both : Bool) (ltold rtold : Option (List Turn)) → IsBridge b
+        → b.pairs ≡ pairs.now → frame < b.left.frames
         → ArePlain both (D.is_plain left_drive.old) (D.is_plain right_drive.old)
         → AreReady b frame both (D.is_plain left_drive.old) ltold (D.told left_drive.old) (D.is_plain right_drive.old) rtold (D.told right_drive.old) left.old right.old
         → OnErr result (CrossesPart b frame both (D.is_plain left_drive.old) ltold (D.told left_drive.new) (D.is_plain right_drive.old) rtold (D.told right_drive.new)
@@ -75,11 +80,13 @@ fn cross_frame<K: Sink, D: Drive>(
     Ok(true)
 }
 
-/// Takes both buses of a bridge from their begin to their end, frame by frame, the left one first, and writes what is said of the bridge. After
-/// each frame each bus is handed what the other one carries over. From the second frame on there is a line for each BIU of the left bus, and
-/// then of the right, that is good in the frame's last data slot: the word that it finds. The last line is `end` or the first `breach`. At
-/// the end both drives are asked for their last turns; at a breach that of the other bus may have been left on the way. `Failed`
-/// comes only where a write failed; a first part of the text has then been written. The sides must be as `open_side` gives them.
+/// Takes both buses of a bridge from their begin to their end, frame by frame, the left one first,
+/// and writes what is said of the bridge. After each frame each bus is handed what the other one
+/// carries over. From the second frame on there is a line for each BIU of the left bus, and then of
+/// the right, that is good in the frame's last data slot: the word that it finds. The last line is
+/// `end` or the first `breach`. At the end both drives are asked for their last turns; at a breach
+/// that of the other bus may have been left on the way. `Failed` comes only where a write failed; a
+/// first part of the text has then been written. The sides must be as `open_side` gives them.
 pub fn cross<K: Sink, D: Drive>(
     left: &mut Side,
     right: &mut Side,
@@ -91,11 +98,13 @@ pub fn cross<K: Sink, D: Drive>(
     output: &mut K,
 ) -> Result<Ending, Failed>
     requires { MayBegin pairs.now frames left.old right.old }
-    ensures all { (b : Bridge) (both : Bool) → IsBridge b → b.pairs ≡ pairs.now → b.left.frames ≡ frames → HaveOpened b left.old right.old
+    ensures all { (b : Bridge) (both : Bool) → IsBridge b → b.pairs ≡ pairs.now
+        → b.left.frames ≡ frames → HaveOpened b left.old right.old
         → ArePlain both (D.is_plain left_drive.old) (D.is_plain right_drive.old)
         → IfOk result (WritesAll b both (D.is_plain left_drive.old) (D.told left_drive.old) (D.told left_drive.new) (D.is_plain right_drive.old) (D.told right_drive.old) (D.told right_drive.new)
         (K.held output.old) (K.held output.new)) }
-    ensures part { (b : Bridge) (both : Bool) → IsBridge b → b.pairs ≡ pairs.now → b.left.frames ≡ frames → HaveOpened b left.old right.old
+    ensures part { (b : Bridge) (both : Bool) → IsBridge b → b.pairs ≡ pairs.now
+        → b.left.frames ≡ frames → HaveOpened b left.old right.old
         → ArePlain both (D.is_plain left_drive.old) (D.is_plain right_drive.old)
         → OnErr result (WritesPart b both (D.is_plain left_drive.old) (D.told left_drive.old) (D.told left_drive.new) (D.is_plain right_drive.old) (D.told right_drive.old) (D.told right_drive.new)
         (K.held output.old) (K.held output.new)) }

@@ -20,9 +20,11 @@ use rb_world_book::Turn;
 
 // A frame begins with a turn: what is kept is what that tells of it.
 fn begin_frame(passage: &mut Passage, terms: &Terms, turn: &Turn)
-    ensures { (turns : List Turn) → is_last (record_of turn.now) ≡ false → is_over terms.now.frames passage.old.ports.frame (record_of turn.now) ≡ true
+    ensures { (turns : List Turn) → is_last (record_of turn.now) ≡ false
+        → is_over terms.now.frames passage.old.ports.frame (record_of turn.now) ≡ true
         → HoldsPassage terms.now passage.old.ports.frame (records_in turns) passage.old
-        → HoldsPassage terms.now passage.new.ports.frame (records_in (turns ++ turn.now ∷ [])) passage.new }
+        → HoldsPassage terms.now passage.new.ports.frame (records_in (turns ++ turn.now ∷ []))
+        passage.new }
 {
     advance(&mut passage.ports, &terms.asked, terms.frames, turn);
     let frame = passage.ports.frame;
@@ -45,12 +47,16 @@ pub(crate) fn exchange(left: &mut Side, right: &mut Side, pairs: &[Pair])
     requires left { All (λ pair. biu_on Left pair < 16) pairs.now }
     requires right { All (λ pair. biu_on Right pair < 16) pairs.now }
     ensures left { (b : Bridge) (frame : ℕ) (both is_plain is_plain' : Bool) (told since told' since' : Option (List Turn)) → IsBridge b → b.pairs ≡ pairs.now → frame < b.left.frames
-        → (both ≡ true → is_plain ≡ true) → (both ≡ true → is_plain' ≡ true) → (both ≡ true → AreUnbroken frame left.old right.old)
-        → AfterFrame b Left frame both is_plain told since left.old → AfterFrame b Right frame both is_plain' told' since' right.old
+        → (both ≡ true → is_plain ≡ true) → (both ≡ true → is_plain' ≡ true)
+        → (both ≡ true → AreUnbroken frame left.old right.old)
+        → AfterFrame b Left frame both is_plain told since left.old
+        → AfterFrame b Right frame both is_plain' told' since' right.old
         → BeforeFrame b Left (frame + 1) both is_plain told since left.new }
     ensures right { (b : Bridge) (frame : ℕ) (both is_plain is_plain' : Bool) (told since told' since' : Option (List Turn)) → IsBridge b → b.pairs ≡ pairs.now → frame < b.left.frames
-        → (both ≡ true → is_plain ≡ true) → (both ≡ true → is_plain' ≡ true) → (both ≡ true → AreUnbroken frame left.old right.old)
-        → AfterFrame b Left frame both is_plain told since left.old → AfterFrame b Right frame both is_plain' told' since' right.old
+        → (both ≡ true → is_plain ≡ true) → (both ≡ true → is_plain' ≡ true)
+        → (both ≡ true → AreUnbroken frame left.old right.old)
+        → AfterFrame b Left frame both is_plain told since left.old
+        → AfterFrame b Right frame both is_plain' told' since' right.old
         → BeforeFrame b Right (frame + 1) both is_plain' told' since' right.new }
 {
     hand_over(&mut left.world, Bank::Left, pairs, &right.passage.values);

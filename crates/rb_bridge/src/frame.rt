@@ -28,12 +28,16 @@ pub(crate) fn is_last(turn: &Turn) -> bool
     }
 }
 
-/// Takes a bus through the frame that it has begun, up to the first turn beyond it. Where the run has ended, nothing is asked of the drive: the
-/// breach of this frame was given in place of its begin.
+/// Takes a bus through the frame that it has begun, up to the first turn beyond it. Where the run
+/// has ended, nothing is asked of the drive: the breach of this frame was given in place of its
+/// begin.
 pub(crate) fn pass<D: Drive>(side: &mut Side, apps: &Apps, drive: &mut D)
-    requires { is_last (record_of side.old.turn) ≡ false → IsOnItsWay (D.is_plain drive.old) (D.told drive.old) side.old.world side.old.terms side.old.passage }
+    requires { is_last (record_of side.old.turn) ≡ false
+        → IsOnItsWay (D.is_plain drive.old) (D.told drive.old) side.old.world side.old.terms
+        side.old.passage }
     ensures passes { (b : Bridge) (bank : Bank) (frame : ℕ) (both : Bool) (told : Option (List Turn)) → frame < b.left.frames → b.left.frames ≡ b.right.frames
-        → (both ≡ true → D.is_plain drive.old ≡ true) → BeforeFrame b bank frame both (D.is_plain drive.old) told (D.told drive.old) side.old
+        → (both ≡ true → D.is_plain drive.old ≡ true)
+        → BeforeFrame b bank frame both (D.is_plain drive.old) told (D.told drive.old) side.old
         → AfterFrame b bank frame both (D.is_plain drive.old) told (D.told drive.new) side.new }
     ensures stays { D.is_plain drive.new ≡ D.is_plain drive.old }
 {
@@ -47,7 +51,8 @@ pub(crate) fn pass<D: Drive>(side: &mut Side, apps: &Apps, drive: &mut D)
 pub(crate) fn finish<D: Drive>(side: &mut Side, apps: &Apps, drive: &mut D)
     requires { IsUp (D.is_plain drive.old) (D.told drive.old) side.old }
     ensures { (sc : Scenario) (handed : List HandIn) (told : Option (List Turn)) (turns : List Turn)
-        → IsUnderWay sc handed (D.is_plain drive.old) told (D.told drive.old) side.old.world turns (is_last (record_of side.old.turn))
+        → IsUnderWay sc handed (D.is_plain drive.old) told (D.told drive.old) side.old.world turns
+        (is_last (record_of side.old.turn))
         → RunsOut sc handed (D.is_plain drive.old) told (D.told drive.new) }
 {
     for passed in 0..u32::MAX {

@@ -25,7 +25,8 @@ fn ends(bank: Bank, pair: &Pair) -> (u8, u8)
 // Hands over the word of one pair.
 fn hand_word(world: &mut World, bank: Bank, pair: &Pair, values: &Values)
     requires { biu_on (across bank) pair.now < 16 }
-    ensures world { (told : ℕ → Option Heard) (w : RunWorld) → HoldValues told values.now → Stands world.old w
+    ensures world { (told : ℕ → Option Heard) (w : RunWorld) → HoldValues told values.now
+        → Stands world.old w
         → Stands world.new (with_words world.old.bus bank told (pair.now ∷ []) w) }
     ensures bus { world.new.bus ≡ world.old.bus }
 {
@@ -34,11 +35,13 @@ fn hand_word(world: &mut World, bank: Bank, pair: &Pair, values: &Values)
     world.hand(here, u64::from(word));
 }
 
-/// Hands to the BIU of each pair on a bank the word that its BIU across the bridge carries, by the values of that bus's carried slot. The
-/// last turn of this bus must be the record of a frame; a BIU that is not good at its begin is handed nothing.
+/// Hands to the BIU of each pair on a bank the word that its BIU across the bridge carries, by the
+/// values of that bus's carried slot. The last turn of this bus must be the record of a frame; a
+/// BIU that is not good at its begin is handed nothing.
 pub(crate) fn hand_over(world: &mut World, bank: Bank, pairs: &[Pair], values: &Values)
     requires { All (λ pair. biu_on (across bank) pair < 16) pairs.now }
-    ensures world { (told : ℕ → Option Heard) (w : RunWorld) → HoldValues told values.now → Stands world.old w
+    ensures world { (told : ℕ → Option Heard) (w : RunWorld) → HoldValues told values.now
+        → Stands world.old w
         → Stands world.new (with_words world.old.bus bank told pairs.now w) }
     ensures bus { world.new.bus ≡ world.old.bus }
 {

@@ -1,5 +1,6 @@
-//! A bridge of two buses: some processors are attached to a BIU of each, and carry one word a frame. Both buses are taken frame by frame to
-//! their end, with what is handed over and what is written.
+//! A bridge of two buses: some processors are attached to a BIU of each, and carry one word a
+//! frame. Both buses are taken frame by frame to their end, with what is handed over and what is
+//! written.
 #![tactic(auto)]
 
 pub use crossing::cross;

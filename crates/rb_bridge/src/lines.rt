@@ -10,8 +10,9 @@ use arrayvec::ArrayString;
 use rb_base::{Heard, Place};
 use rb_rules::Cause;
 
-/// The word that BIU `receiver` of the left or the right bus finds in a frame for those that crossed, as `x FRAME left RECEIVER WORD` or
-/// `x FRAME right RECEIVER WORD`. The word is `none` where `value` is Fault.
+/// The word that BIU `receiver` of the left or the right bus finds in a frame for those that
+/// crossed, as `x FRAME left RECEIVER WORD` or `x FRAME right RECEIVER WORD`. The word is `none`
+/// where `value` is Fault.
 pub fn cross_line(frame: u32, right: bool, receiver: u8, value: Heard) -> ArrayString<96>
     ensures bytes { result.bytes ≡ cross_text frame (bank_of right) receiver value }
 {
@@ -25,8 +26,8 @@ pub fn cross_line(frame: u32, right: bool, receiver: u8, value: Heard) -> ArrayS
     line
 }
 
-/// The end of a bridge at a breach of the fault premise on one of its buses, as `breach left FRAME SLOT STAGE CAUSE`, or `right`: the place,
-/// and which part of the premise fails there.
+/// The end of a bridge at a breach of the fault premise on one of its buses, as `breach left FRAME
+/// SLOT STAGE CAUSE`, or `right`: the place, and which part of the premise fails there.
 pub fn side_breach_line(right: bool, place: Place, cause: Cause) -> ArrayString<96>
     ensures bytes { result.bytes ≡ side_breach_text (bank_of right) place cause }
 {
@@ -41,8 +42,8 @@ pub fn side_breach_line(right: bool, place: Place, cause: Cause) -> ArrayString<
     line
 }
 
-/// Why a bridge is refused, as `refused CODE NAME`: the rule that it breaks, 21 to 25. With 23 and 24 a last field is the code of the rule that
-/// the left or the right bus's scenario breaks.
+/// Why a bridge is refused, as `refused CODE NAME`: the rule that it breaks, 21 to 25. With 23 and
+/// 24 a last field is the code of the rule that the left or the right bus's scenario breaks.
 pub fn bridge_refused_line(code: u8, detail: Option<u64>) -> ArrayString<96>
     requires { IsBridgeRefusal code detail }
     ensures bytes { result.bytes ≡ bridge_refused_text code detail }

@@ -15,7 +15,8 @@ use rb_port::Apps;
 use rb_world::{Drive, World};
 use rb_world_book::Turn;
 
-/// What is asked of a bus: the group whose value its receivers find, the slot that is carried over, and the number of frames.
+/// What is asked of a bus: the group whose value its receivers find, the slot that is carried over,
+/// and the number of frames.
 #[derive(Clone, Copy, Debug, PartialEq, Eq)]
 pub struct Terms {
     pub asked: Asked,
@@ -50,7 +51,9 @@ fn is_over(turn: &Turn, frames: u32, frame: u32) -> bool
 
 // What is kept of the frame after a turn of it.
 fn keep(passage: &mut Passage, terms: &Terms, turn: &Turn)
-    ensures { (frame : ℕ) (turns : List Turn) → is_over terms.now.frames frame (record_of turn.now) ≡ false → HoldsPassage terms.now frame (records_in turns) passage.old
+    ensures { (frame : ℕ) (turns : List Turn)
+        → is_over terms.now.frames frame (record_of turn.now) ≡ false
+        → HoldsPassage terms.now frame (records_in turns) passage.old
         → HoldsPassage terms.now frame (records_in (turns ++ turn.now ∷ [])) passage.new }
 {
     let frame = passage.ports.frame;
@@ -58,8 +61,8 @@ fn keep(passage: &mut Passage, terms: &Terms, turn: &Turn)
     note(&mut passage.values, frame, terms.slot, turn);
 }
 
-/// Takes a run on to the first turn of a later frame, or to its end, and gives that turn. What is kept of the frame is then all that the turns
-/// before it tell. The run must not have ended.
+/// Takes a run on to the first turn of a later frame, or to its end, and gives that turn. What is
+/// kept of the frame is then all that the turns before it tell. The run must not have ended.
 pub(crate) fn pass_frame<D: Drive>(
     world: &mut World,
     apps: &Apps,
@@ -67,9 +70,11 @@ pub(crate) fn pass_frame<D: Drive>(
     terms: &Terms,
     passage: &mut Passage,
 ) -> Turn
-    requires { IsOnItsWay (D.is_plain drive.old) (D.told drive.old) world.old terms.now passage.old }
+    requires { IsOnItsWay (D.is_plain drive.old) (D.told drive.old) world.old terms.now
+        passage.old }
     ensures passes { (handed : List HandIn) (told : Option (List Turn)) (before : List Turn)
-        → IsUnderWay world.old.bus handed (D.is_plain drive.old) told (D.told drive.old) world.old before false
+        → IsUnderWay world.old.bus handed (D.is_plain drive.old) told (D.told drive.old) world.old
+        before false
         → HoldsPassage terms.now passage.old.ports.frame (records_in before) passage.old
         → PassesFrame world.old.bus handed (D.is_plain drive.old) told (D.told drive.new) world.new before terms.now passage.old.ports.frame passage.new result }
     ensures bus { world.new.bus ≡ world.old.bus }

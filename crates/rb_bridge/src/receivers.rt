@@ -28,16 +28,19 @@ fn last_data_slot(shape: &Shape) -> u16
 
 // Whether the BIU is good in the last data slot of a frame.
 fn is_good_at_last(scope: &Scope, frame: u32, port: u8) -> bool
-    ensures { (sc : Scenario) → IsScopeOf sc scope.now → result ≡ is_good sc Biu port frame (last_data_slot sc.sizes) }
+    ensures { (sc : Scenario) → IsScopeOf sc scope.now
+        → result ≡ is_good sc Biu port frame (last_data_slot sc.sizes) }
 {
     let slot = last_data_slot(&scope.shape);
     scope.onsets.is_good(NodeName::Biu(port), frame, slot)
 }
 
-// The value that more than half of the first values are which a port delivered of the bridge's BIUs.
+// The value that more than half of the first values are which a port delivered of the bridge's
+// BIUs.
 fn find(groups: &[Group; 16], port: u8) -> Heard
     requires { port < 16 }
-    ensures { (members : ℕ) (told : ℕ → List Delivery) → HoldPortions members told groups.now → result ≡ group_value Most members (told port) }
+    ensures { (members : ℕ) (told : ℕ → List Delivery) → HoldPortions members told groups.now
+        → result ≡ group_value Most members (told port) }
 {
     most_of(&groups[usize::from(port)].values())
 }
@@ -45,9 +48,11 @@ fn find(groups: &[Group; 16], port: u8) -> Heard
 // Writes the value that a port finds.
 fn write_value<K: Sink>(ports: &Ports, right: bool, port: u8, output: &mut K) -> Result<(), Failed>
     requires { port < 16 }
-    ensures all { (members : ℕ) (told : ℕ → List Delivery) → HoldPortions members told ports.now.groups
+    ensures all { (members : ℕ) (told : ℕ → List Delivery)
+        → HoldPortions members told ports.now.groups
         → OnOk result (Appends (K.held output.old) (K.held output.new) (cross_text ports.now.frame (bank_of right) port (group_value Most members (told port)))) }
-    ensures part { (members : ℕ) (told : ℕ → List Delivery) → HoldPortions members told ports.now.groups
+    ensures part { (members : ℕ) (told : ℕ → List Delivery)
+        → HoldPortions members told ports.now.groups
         → OnErr result (AppendsPart (K.held output.old) (K.held output.new) (cross_text ports.now.frame (bank_of right) port (group_value Most members (told port)))) }
     ensures cause { HasCause (K.faults output.old) (K.faults output.new) result }
 {
@@ -64,9 +69,11 @@ fn write_port<K: Sink>(
     output: &mut K,
 ) -> Result<(), Failed>
     requires { port < 16 }
-    ensures all { (sc : Scenario) (members : ℕ) (told : ℕ → List Delivery) → IsScopeOf sc scope.now → HoldPortions members told ports.now.groups
+    ensures all { (sc : Scenario) (members : ℕ) (told : ℕ → List Delivery) → IsScopeOf sc scope.now
+        → HoldPortions members told ports.now.groups
         → OnOk result (Appends (K.held output.old) (K.held output.new) (receiver_by sc ports.now.frame (bank_of right) (λ i. group_value Most members (told i)) port)) }
-    ensures part { (sc : Scenario) (members : ℕ) (told : ℕ → List Delivery) → IsScopeOf sc scope.now → HoldPortions members told ports.now.groups
+    ensures part { (sc : Scenario) (members : ℕ) (told : ℕ → List Delivery) → IsScopeOf sc scope.now
+        → HoldPortions members told ports.now.groups
         → OnErr result (AppendsPart (K.held output.old) (K.held output.new) (receiver_by sc ports.now.frame (bank_of right) (λ i. group_value Most members (told i)) port)) }
     ensures cause { HasCause (K.faults output.old) (K.faults output.new) result }
 {
@@ -77,18 +84,21 @@ fn write_port<K: Sink>(
     }
 }
 
-/// Writes what the receivers of a bus find in the frame of its ports: for each BIU that is good in the frame's last data slot the value that more
-/// than half of the first values are which it delivered of the bridge's BIUs. Each write asks for the rest of one line. `Failed` comes
-/// only where a write failed; a first part of the lines has then been written.
+/// Writes what the receivers of a bus find in the frame of its ports: for each BIU that is good in
+/// the frame's last data slot the value that more than half of the first values are which it
+/// delivered of the bridge's BIUs. Each write asks for the rest of one line. `Failed` comes only
+/// where a write failed; a first part of the lines has then been written.
 pub(crate) fn write_receivers<K: Sink>(
     ports: &Ports,
     right: bool,
     scope: &Scope,
     output: &mut K,
 ) -> Result<(), Failed>
-    ensures all { (sc : Scenario) (members : ℕ) (told : ℕ → List Delivery) → IsScopeOf sc scope.now → HoldPortions members told ports.now.groups
+    ensures all { (sc : Scenario) (members : ℕ) (told : ℕ → List Delivery) → IsScopeOf sc scope.now
+        → HoldPortions members told ports.now.groups
         → OnOk result (Appends (K.held output.old) (K.held output.new) (receivers_by sc ports.now.frame (bank_of right) (λ i. group_value Most members (told i)))) }
-    ensures part { (sc : Scenario) (members : ℕ) (told : ℕ → List Delivery) → IsScopeOf sc scope.now → HoldPortions members told ports.now.groups
+    ensures part { (sc : Scenario) (members : ℕ) (told : ℕ → List Delivery) → IsScopeOf sc scope.now
+        → HoldPortions members told ports.now.groups
         → OnErr result (AppendsPart (K.held output.old) (K.held output.new) (receivers_by sc ports.now.frame (bank_of right) (λ i. group_value Most members (told i)))) }
     ensures cause { HasCause (K.faults output.old) (K.faults output.new) result }
 {

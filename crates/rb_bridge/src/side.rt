@@ -14,7 +14,8 @@ use rb_world::World;
 use rb_world_book::Turn;
 use std::alloc::Global;
 
-/// A bus of a bridge: its run, what is kept of the frame that it has reached, what is asked of it, and the last turn that was given.
+/// A bus of a bridge: its run, what is kept of the frame that it has reached, what is asked of it,
+/// and the last turn that was given.
 #[derive(Drop)]
 pub struct Side {
     pub world: World,
@@ -27,7 +28,11 @@ pub struct Side {
 // What is asked of a bus: the bridge's BIUs, and which data slot is carried over, counted from 0.
 fn terms_of(scope: &Scope, members: NodeSet<Biu>, slot: u16) -> Terms
     requires { slot < scope.now.shape.data_slots }
-    ensures { result ≡ record { asked = record { which = Which.Most; members = members }; slot = scope.now.shape.bius + slot; frames = scope.now.frames } }
+    ensures { result ≡ record {
+      asked = record { which = Which.Most; members = members };
+      slot = scope.now.shape.bius + slot;
+      frames = scope.now.frames;
+    } }
 {
     Terms {
         asked: Asked {
@@ -39,8 +44,8 @@ fn terms_of(scope: &Scope, members: NodeSet<Biu>, slot: u16) -> Terms
     }
 }
 
-/// The side of a scenario before its first frame, with the BIUs of the bridge on it, and the data slot that is carried over, counted from 0. All
-/// memory of its run is taken here.
+/// The side of a scenario before its first frame, with the BIUs of the bridge on it, and the data
+/// slot that is carried over, counted from 0. All memory of its run is taken here.
 pub fn open_side(
     alloc: Global,
     scenario: Scenario,

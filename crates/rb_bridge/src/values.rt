@@ -1,4 +1,5 @@
-//! What of a bus is carried over a bridge: the values that its BIUs deliver in one slot of a frame, kept turn by turn.
+//! What of a bus is carried over a bridge: the values that its BIUs deliver in one slot of a frame,
+//! kept turn by turn.
 
 ghost use Rattle.std.specs.Prelude.{◌≡◌, ◌<◌, ◌==◌, if◌then◌else◌, ◌++◌, ◌∷◌, [], ℕ, List, Some, None, Option, get_or};
 ghost use Rattle.std.specs.Option.{option_or, option_to_list};
@@ -11,7 +12,8 @@ ghost use Rattle.rb_bridge.specs.Holding.{HoldValues, value_by, value_with};
 use rb_base::Heard;
 use rb_world_book::{SlotLine, SlotRecord, Turn};
 
-/// The values that BIUs deliver in one slot of a frame: of each of the 16 that there may be, the first.
+/// The values that BIUs deliver in one slot of a frame: of each of the 16 that there may be, the
+/// first.
 pub(crate) type Values = [Option<Heard>; 16];
 
 /// No values.
@@ -35,7 +37,8 @@ fn keep_first(kept: &mut Values, place: u8, value: Heard)
 
 // Keeps what a line says.
 fn note_line(kept: &mut Values, line: &SlotLine)
-    ensures { (told : ℕ → Option Heard) → HoldValues told kept.old → HoldValues (λ i. option_or (told i) (value_by (line.now ∷ []) i)) kept.new }
+    ensures { (told : ℕ → Option Heard) → HoldValues told kept.old
+        → HoldValues (λ i. option_or (told i) (value_by (line.now ∷ []) i)) kept.new }
 {
     if line.receiver < 16 {
         keep_first(kept, line.receiver, line.value);
@@ -44,7 +47,8 @@ fn note_line(kept: &mut Values, line: &SlotLine)
 
 // Keeps what the lines of a slot say.
 fn note_lines(kept: &mut Values, lines: &[SlotLine])
-    ensures { (told : ℕ → Option Heard) → HoldValues told kept.old → HoldValues (λ i. option_or (told i) (value_by lines.now i)) kept.new }
+    ensures { (told : ℕ → Option Heard) → HoldValues told kept.old
+        → HoldValues (λ i. option_or (told i) (value_by lines.now i)) kept.new }
 {
     for line in lines {
         note_line(kept, line);
@@ -64,7 +68,8 @@ fn note_slot(kept: &mut Values, frame: u32, slot: u16, record: &SlotRecord)
 // Keeps what a turn tells of the slot.
 fn note_turn(kept: &mut Values, frame: u32, slot: u16, turn: &Turn)
     ensures { (told : ℕ → Option Heard) → HoldValues told kept.old
-        → HoldValues (λ i. option_or (told i) (value_with frame slot (record_of turn.now) i)) kept.new }
+        → HoldValues (λ i. option_or (told i) (value_with frame slot (record_of turn.now) i))
+        kept.new }
 {
     match turn {
         Turn::Slot(record) => note_slot(kept, frame, slot, record),
@@ -75,10 +80,12 @@ fn note_turn(kept: &mut Values, frame: u32, slot: u16, turn: &Turn)
     }
 }
 
-/// Keeps what a turn tells of a slot of a frame: of each BIU the first value that it delivered there.
+/// Keeps what a turn tells of a slot of a frame: of each BIU the first value that it delivered
+/// there.
 pub(crate) fn note(kept: &mut Values, frame: u32, slot: u16, turn: &Turn)
     ensures { (records : List Record) → HoldValues (value_told frame slot records) kept.old
-        → HoldValues (value_told frame slot (records ++ option_to_list (record_of turn.now))) kept.new }
+        → HoldValues (value_told frame slot (records ++ option_to_list (record_of turn.now)))
+        kept.new }
 {
     note_turn(kept, frame, slot, turn)
 }

@@ -3,8 +3,8 @@ use arrayvec::ArrayVec;
 use rb_rules_bridge::Pair;
 use rb_scenario::Scenario;
 
-/// Two buses, and what joins them: the pairs of BIUs to which one processor is attached, and which data slot of each bus is carried over,
-/// counted from 0.
+/// Two buses, and what joins them: the pairs of BIUs to which one processor is attached, and which
+/// data slot of each bus is carried over, counted from 0.
 #[derive(Drop)]
 pub struct Bridge {
     pub left: Scenario,

@@ -1,4 +1,5 @@
-//! Whether a document has the keys of a bridge and no others, and values of their forms; and what stands there.
+//! Whether a document has the keys of a bridge and no others, and values of their forms; and what
+//! stands there.
 ghost use Rattle.std.specs.Prelude.{◌≡◌, ◌&&◌, nat_le, not, option_map, string_bytes};
 ghost use Rattle.std.specs.List.{list_any};
 ghost use Rattle.std.specs.BTreeMap.{keys as keys_in};
@@ -78,7 +79,8 @@ fn is_known(fields: &[Field], key: &str) -> bool
 }
 
 fn any_key_unknown(fields: &[Field], table: &Table) -> bool
-    ensures { result ≡ list_any (λ k. not (is_known (fields_shown fields.now) (string_bytes k))) (keys_in table.now) }
+    ensures { result ≡ list_any (λ k. not (is_known (fields_shown fields.now) (string_bytes k)))
+        (keys_in table.now) }
 {
     table.keys().any(|key| !is_known(fields, key.as_str()))
 }
@@ -127,13 +129,15 @@ fn count_in(value: Option<&Value>) -> usize
 
 // Whether there are 1 to 16 pairs.
 fn has_few_pairs(table: &Table) -> bool
-    ensures { result ≡ (nat_le 1 (length_of (pair_items (table_view table.now))) && nat_le (length_of (pair_items (table_view table.now))) 16) }
+    ensures { result ≡ (nat_le 1 (length_of (pair_items (table_view table.now)))
+        && nat_le (length_of (pair_items (table_view table.now))) 16) }
 {
     let count = count_in(member(table, "bridges"));
     1 <= count && count <= 16
 }
 
-// Whether the document has the keys of a bridge and no others, each value is of its form, and there are 1 to 16 pairs.
+// Whether the document has the keys of a bridge and no others, each value is of its form, and there
+// are 1 to 16 pairs.
 pub(crate) fn has_bridge_form(table: &Table) -> bool
     ensures { result ≡ has_bridge_form (table_view table.now) }
 {

@@ -16,7 +16,8 @@ use toml::value::Array;
 
 // The number that the value is, if it is one below the count.
 pub(crate) fn below(count: u8, value: Option<&Value>) -> Option<u8>
-    ensures { result ≡ when (is_below count (option_map (λ x. view x.now) value.entry)) (number_or 0 (option_map (λ x. view x.now) value.entry)) }
+    ensures { result ≡ when (is_below count (option_map (λ x. view x.now) value.entry))
+        (number_or 0 (option_map (λ x. view x.now) value.entry)) }
 {
     match value {
         Some(value) => match value.as_integer() {
@@ -42,7 +43,9 @@ fn has_table(apps: &[u8; 16], biu: u8) -> bool
 
 // The BIU that the value names, if it is one with a table.
 fn head_in(scenario: &Scenario, value: Option<&Value>) -> Option<u8>
-    ensures { result ≡ when (is_head (as_scenario scenario.now) (option_map (λ x. view x.now) value.entry)) (number_or 0 (option_map (λ x. view x.now) value.entry)) }
+    ensures { result
+        ≡ when (is_head (as_scenario scenario.now) (option_map (λ x. view x.now) value.entry))
+        (number_or 0 (option_map (λ x. view x.now) value.entry)) }
 {
     match below(scenario.plan.shape().biu(), value) {
         Some(biu) => {
@@ -58,7 +61,8 @@ fn head_in(scenario: &Scenario, value: Option<&Value>) -> Option<u8>
 
 // The pair that the value is, if it joins the two buses.
 fn joined(left: &Scenario, right: &Scenario, value: &Value) -> Option<Pair>
-    ensures { result ≡ when (joins (as_scenario left.now) (as_scenario right.now) (view value.now)) (pair_in (view value.now)) }
+    ensures { result ≡ when (joins (as_scenario left.now) (as_scenario right.now) (view value.now))
+        (pair_in (view value.now)) }
 {
     match head_in(left, value.get(0)) {
         Some(near) => match head_in(right, value.get(1)) {

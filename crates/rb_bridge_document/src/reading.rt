@@ -24,7 +24,8 @@ use toml::{Table, Value};
 
 // The number that the value is, if it is one below the count.
 fn slot_below(count: u16, value: Option<&Value>) -> Option<u16>
-    ensures { result ≡ when (is_below count (option_map (λ x. view x.now) value.entry)) (number_or 0 (option_map (λ x. view x.now) value.entry)) }
+    ensures { result ≡ when (is_below count (option_map (λ x. view x.now) value.entry))
+        (number_or 0 (option_map (λ x. view x.now) value.entry)) }
 {
     match value {
         Some(value) => match value.as_integer() {
@@ -50,7 +51,8 @@ fn slot_key(bank: Bank) -> &'static str
 
 // The slot of a bus that is carried over, if the bus has it.
 fn slot_at(bank: Bank, scenario: &Scenario, table: &Table) -> Option<u16>
-    ensures { result ≡ when (has_slot bank (as_scenario scenario.now) (table_view table.now)) (number_at (slot_key bank) 0 (table_view table.now)) }
+    ensures { result ≡ when (has_slot bank (as_scenario scenario.now) (table_view table.now))
+        (number_at (slot_key bank) 0 (table_view table.now)) }
 {
     slot_below(scenario.plan.shape().slots(), member(table, slot_key(bank)))
 }
@@ -75,7 +77,8 @@ fn join(left: Scenario, right: Scenario, table: &Table) -> Option<Bridge>
     requires { length_of (pair_items (table_view table.now)) ≤ 16 }
     ensures fits { IfSome result (λ b. (is_in_range (as_scenario left) (as_scenario right) (table_view table.now) ≡ true)
         × (as_bridge b ≡ bridge_of (as_scenario left) (as_scenario right) (table_view table.now))) }
-    ensures none { result ≡ None → is_in_range (as_scenario left) (as_scenario right) (table_view table.now) ≡ false }
+    ensures none { result ≡ None
+        → is_in_range (as_scenario left) (as_scenario right) (table_view table.now) ≡ false }
 {
     let Some(pairs) = pairs_at(&left, &right, table) else {
         return None;
@@ -135,7 +138,8 @@ fn right_refused(why: Refusal) -> BridgeRefusal
 fn read_table(alloc: Global, table: &Table) -> Result<Bridge, BridgeRefusal>
     ensures says { IfOk result (λ b. SaysBridge (table_view table.now) (as_bridge b)) }
     ensures bridge { IfOk result (λ b. IsBridge (as_bridge b)) }
-    ensures refused { IfErr result (λ e. (e ≡ BridgeRefusal.OutOfMemory) ⊎ IsFirstBroken (table_view table.now) e) }
+    ensures refused { IfErr result (λ e. (e ≡ BridgeRefusal.OutOfMemory)
+        ⊎ IsFirstBroken (table_view table.now) e) }
 {
     if !has_bridge_form(table) {
         return Err(BridgeRefusal::BridgeForm);
@@ -154,9 +158,10 @@ fn read_table(alloc: Global, table: &Table) -> Result<Bridge, BridgeRefusal>
     }
 }
 
-/// The bridge that the bytes of a TOML document say, or why there is none: the first rule of `BridgeRefusal` that it breaks. The document has
-/// the keys `left` and `right`, each with the text of a scenario, `bridges` with 1 to 16 pairs of BIUs, and `slot_left` and `slot_right`.
-/// Want of memory may come at any time. The form is this project's own.
+/// The bridge that the bytes of a TOML document say, or why there is none: the first rule of
+/// `BridgeRefusal` that it breaks. The document has the keys `left` and `right`, each with the text
+/// of a scenario, `bridges` with 1 to 16 pairs of BIUs, and `slot_left` and `slot_right`. Want of
+/// memory may come at any time. The form is this project's own.
 pub fn read_bridge(alloc: Global, bytes: &[u8]) -> Result<Bridge, BridgeRefusal>
     ensures accepted { IfOk result (λ b. IsBridgeAccepted bytes.now (as_bridge b)) }
     ensures bridge { IfOk result (λ b. IsBridge (as_bridge b)) }

@@ -9,7 +9,8 @@ pub enum BridgeRefusal {
     /// The bytes are not the text of a TOML document.
     #[error("the text is not TOML")]
     BridgeToml,
-    /// A key is missing or not known, a value is of another form than is asked for, or there is no pair or more than 16.
+    /// A key is missing or not known, a value is of another form than is asked for, or there is no
+    /// pair or more than 16.
     #[error("the bridge is of another form")]
     BridgeForm,
     /// The scenario of the left bus is refused.
@@ -18,8 +19,8 @@ pub enum BridgeRefusal {
     /// The scenario of the right bus is refused.
     #[error("the right bus is refused: {0}")]
     RightRefused(Refusal),
-    /// A number is no BIU of its bus, two pairs share a BIU, a bus has no such data slot, the application at a BIU of the bridge is no table,
-    /// or the buses' numbers of frames differ.
+    /// A number is no BIU of its bus, two pairs share a BIU, a bus has no such data slot, the
+    /// application at a BIU of the bridge is no table, or the buses' numbers of frames differ.
     #[error("a value is out of range")]
     BridgeRange,
     /// An allocation failed.
@@ -45,7 +46,8 @@ impl BridgeRefusal {
         }
     }
 
-    /// The number that is printed after the name: the code of the rule that a scenario breaks, and none for every other refusal.
+    /// The number that is printed after the name: the code of the rule that a scenario breaks, and
+    /// none for every other refusal.
     pub fn detail(&self) -> Option<u64>
         ensures { result ≡ detail_of self.now }
     {

@@ -46,8 +46,10 @@ fn write_rule<K: Sink>(rule: BridgeRefusal, output: &mut K) -> Result<(), Failed
 // Refuses the input for a rule that it breaks.
 fn refuse<K: Sink>(rule: BridgeRefusal, output: &mut K) -> Status
     requires { HasLine rule }
-    ensures refused { result ≡ Status.Refused → Appends (K.held output.old) (K.held output.new) (rule_text rule) }
-    ensures part { result ≡ Status.WriteFault → AppendsPart (K.held output.old) (K.held output.new) (rule_text rule) }
+    ensures refused { result ≡ Status.Refused
+        → Appends (K.held output.old) (K.held output.new) (rule_text rule) }
+    ensures part { result ≡ Status.WriteFault
+        → AppendsPart (K.held output.old) (K.held output.new) (rule_text rule) }
     ensures cause { result ≡ Status.WriteFault → Rose (K.faults output.old) (K.faults output.new) }
     ensures either { (result ≡ Status.Refused) ⊎ (result ≡ Status.WriteFault) }
 {

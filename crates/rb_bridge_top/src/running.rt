@@ -38,14 +38,18 @@ pub(crate) fn report<K: Sink, D: Drive>(
     right_drive: &mut D,
 ) -> Status
     requires { IsBridge (as_bridge bridge) }
-    ensures ended { HasEnded result → (both : Bool) → ArePlain both (D.is_plain left_drive.old) (D.is_plain right_drive.old)
+    ensures ended { HasEnded result → (both : Bool)
+        → ArePlain both (D.is_plain left_drive.old) (D.is_plain right_drive.old)
         → IsCrossed (as_bridge bridge) both result (D.is_plain left_drive.old) (D.told left_drive.old) (D.told left_drive.new) (D.is_plain right_drive.old) (D.told right_drive.old) (D.told right_drive.new)
         (K.held output.old) (K.held output.new) }
-    ensures part { result ≡ Status.WriteFault → (both : Bool) → ArePlain both (D.is_plain left_drive.old) (D.is_plain right_drive.old)
+    ensures part { result ≡ Status.WriteFault → (both : Bool)
+        → ArePlain both (D.is_plain left_drive.old) (D.is_plain right_drive.old)
         → WritesPart (as_bridge bridge) both (D.is_plain left_drive.old) (D.told left_drive.old) (D.told left_drive.new) (D.is_plain right_drive.old) (D.told right_drive.old) (D.told right_drive.new)
         (K.held output.old) (K.held output.new) }
     ensures cause { result ≡ Status.WriteFault → Rose (K.faults output.old) (K.faults output.new) }
-    ensures unopened { result ≡ Status.OutOfMemory → (output.new ≡ output.old) × ((left_drive.new ≡ left_drive.old) × (right_drive.new ≡ right_drive.old)) }
+    ensures unopened { result ≡ Status.OutOfMemory
+        → (output.new ≡ output.old)
+        × ((left_drive.new ≡ left_drive.old) × (right_drive.new ≡ right_drive.old)) }
     ensures one_of { IsOfRun result }
 {
     let Bridge {

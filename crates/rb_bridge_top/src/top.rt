@@ -44,8 +44,8 @@ fn serve<S: Source, K: Sink, D: Drive>(
     }
 }
 
-/// The program `robus_bridge` as a call: it does what the words ask for. `left` is asked for the turns of the left bus, and `right` for
-/// those of the right one.
+/// The program `robus_bridge` as a call: it does what the words ask for. `left` is asked for the
+/// turns of the left bus, and `right` for those of the right one.
 ///
 /// | words | what it does |
 /// |---|---|
@@ -53,11 +53,13 @@ fn serve<S: Source, K: Sink, D: Drive>(
 /// | `--help`, `-h` | writes a page with these words and the statuses, at once; reads nothing |
 /// | `--version` | writes the name of the program and its version; reads nothing |
 ///
-/// `Done`: all is written. `Breach`: the bridge ended with a breach of the fault premise on one of its buses, and all up to it is written.
-/// `Usage`: the words are others; nothing was read or written. `Refused`: the input says no bridge, or one of its scenarios is refused, or a
-/// number is out of range; one line with the code says why. `TooLong`: the source gave more than 4,194,304 bytes. `ReadFault`, `WriteFault`:
-/// the source or the sink failed; what a failing sink took is a first part of what was due. `OutOfMemory`: an allocation failed before
-/// anything was written. The bridge is this project's own.
+/// `Done`: all is written. `Breach`: the bridge ended with a breach of the fault premise on one of
+/// its buses, and all up to it is written. `Usage`: the words are others; nothing was read or
+/// written. `Refused`: the input says no bridge, or one of its scenarios is refused, or a number is
+/// out of range; one line with the code says why. `TooLong`: the source gave more than 4,194,304
+/// bytes. `ReadFault`, `WriteFault`: the source or the sink failed; what a failing sink took is a
+/// first part of what was due. `OutOfMemory`: an allocation failed before anything was written. The
+/// bridge is this project's own.
 pub fn run_bridge<S: Source, K: Sink, D: Drive>(
     alloc: Global,
     words: &[String],

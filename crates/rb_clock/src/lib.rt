@@ -1,7 +1,7 @@
 //! Clocks: at which time a tick begins, and which tick comes next at a time.
 //!
-//! Times are whole reference units. Tick 0 begins at the clock's start, and each tick takes the length of the last
-//! segment that begins at or before it.
+//! Times are whole reference units. Tick 0 begins at the clock's start, and each tick takes the
+//! length of the last segment that begins at or before it.
 #![tactic(auto)]
 
 ghost use Rattle.std.specs.Prelude.{◌≡◌, ◌≤◌, ◌<◌, ◌+◌, ◌-◌, ◌^◌, ◌↔◌, true, false, IfOk};
@@ -20,7 +20,8 @@ const WHOLE: u64 = 1 << 40;
 /// Why there is no such clock.
 #[derive(Clone, Copy, Debug, PartialEq, Eq, Error)]
 pub enum ClockRefusal {
-    /// There is no segment, the first does not begin at tick 0, or one does not begin after the one before it.
+    /// There is no segment, the first does not begin at tick 0, or one does not begin after the one
+    /// before it.
     #[error("the segments do not begin at tick 0 and rise")]
     NotRising,
     /// A length is shorter or longer than a tick may be.
@@ -47,7 +48,8 @@ impl From<AllocError> for ClockRefusal {
 pub struct Clock {
     start: u64,
     segments: Vec<(u64, u32)>,
-    // About 2^40 over the last length. Nothing hangs on it: each tick that is guessed by it is looked at.
+    // About 2^40 over the last length. Nothing hangs on it: each tick that is guessed by it is
+    // looked at.
     inverse: u32,
 }
 
@@ -102,18 +104,20 @@ fn inverse_of(segments: &[(u64, u32)]) -> u32 {
     u32::try_from(inverse.saturating_add(1)).unwrap_or(u32::MAX)
 }
 
-// About so many reference units over the length with this inverse, if they are fewer than 2^32; else any number.
+// About so many reference units over the length with this inverse, if they are fewer than 2^32;
+// else any number.
 #[inline]
 fn over(units: u64, inverse: u32) -> u64 {
     units.wrapping_mul(u64::from(inverse)) >> 40
 }
 
 impl Clock {
-    /// A clock that starts at `start`. A segment is a first tick and the length of the ticks from there on, `unit` give
-    /// or take `drift`.
+    /// A clock that starts at `start`. A segment is a first tick and the length of the ticks from
+    /// there on, `unit` give or take `drift`.
     ///
-    /// `NotRising` comes exactly where there is no segment, the first does not begin at tick 0, or one does not begin
-    /// after the one before it; else `TickOutOfBounds` exactly where a length is not within the bounds.
+    /// `NotRising` comes exactly where there is no segment, the first does not begin at tick 0, or
+    /// one does not begin after the one before it; else `TickOutOfBounds` exactly where a length is
+    /// not within the bounds.
     pub fn new(
         alloc: Global,
         start: u64,
@@ -127,7 +131,8 @@ impl Clock {
         requires drift { drift < unit }
         ensures value { IfOk result (λ c. c ≡ record { start = start; segments = segments.now }) }
         ensures clock { IfOk result (IsClock (unit - drift) (unit + drift)) }
-        ensures not_rising { (result ≡ Err ClockRefusal.NotRising) ↔ (are_rising segments.now ≡ false) }
+        ensures not_rising { (result ≡ Err ClockRefusal.NotRising)
+            ↔ (are_rising segments.now ≡ false) }
         ensures out_of_bounds { (result ≡ Err ClockRefusal.TickOutOfBounds)
             ↔ ((are_rising segments.now ≡ true)
             × (are_within (unit - drift) (unit + drift) segments.now ≡ false)) }
@@ -211,8 +216,8 @@ impl Clock {
         now + (tick - from) * length
     }
 
-    /// The stamp of a time: the least tick that does not begin before it. An arrival at that time is given to a node
-    /// before this tick. The time has come by tick 2^31.
+    /// The stamp of a time: the least tick that does not begin before it. An arrival at that time
+    /// is given to a node before this tick. The time has come by tick 2^31.
     #[inline(never)]
     pub fn first_at(&self, time: u64) -> u64
         requires { ComesBy (2 ^ 31) self.now time }
@@ -245,7 +250,8 @@ impl Clock {
         }
     }
 
-    // Whether this tick is the stamp of a time: the time has come by it, and not by the tick before.
+    // Whether this tick is the stamp of a time: the time has come by it, and not by the tick
+    // before.
     #[inline(always)]
     fn is_stamp(&self, time: u64, tick: u64) -> bool
         requires { tick ≤ 2 ^ 31 }
@@ -255,8 +261,8 @@ impl Clock {
         time <= self.at(tick) && (tick == 0 || self.at(tick - 1) < time)
     }
 
-    // The tick that is nearly always the stamp of a time where the last length stands from there to this tick. Else it may be any
-    // before this one.
+    // The tick that is nearly always the stamp of a time where the last length stands from there to
+    // this tick. Else it may be any before this one.
     #[inline(always)]
     fn guess(&self, time: u64, tick: u64) -> u64
         requires { tick ≤ 2 ^ 31 }
@@ -266,8 +272,8 @@ impl Clock {
         tick.saturating_sub(over(back, self.inverse))
     }
 
-    /// The stamp of a time, as `first_at` gives it, for who knows a tick near to it, of ticks up to 2^31. Where the time comes not
-    /// long before that tick it takes no division.
+    /// The stamp of a time, as `first_at` gives it, for who knows a tick near to it, of ticks up to
+    /// 2^31. Where the time comes not long before that tick it takes no division.
     #[inline(always)]
     pub fn first_near(&self, time: u64, tick: u64) -> u64
         requires come { ComesBy (2 ^ 31) self.now time }

@@ -9,7 +9,8 @@ ghost use Rattle.rb_diag.specs.Votes.{Votes, against, counts, most_against, no_v
 use rb_base::{Heard, Kind, NodeId, NodeSet};
 use std::marker::{Model, PhantomData};
 
-/// The votes of one frame on the vectors of the nodes of kind K: bit i of a vector accuses node i of the other kind.
+/// The votes of one frame on the vectors of the nodes of kind K: bit i of a vector accuses node i
+/// of the other kind.
 #[derive(Drop)]
 pub struct Ballot<K: Kind> {
     others: u8,
@@ -52,9 +53,9 @@ impl<K: Kind> Ballot<K> {
         self.vectors = [Heard::Fault; 16];
     }
 
-    /// The nodes to convict: of the `trusted` ones of the other kind those that more of the valid vectors name than spare. Only
-    /// the vectors of `senders`, the trusted nodes of kind K, count. A vector is valid where it names none but the nodes that
-    /// there are.
+    /// The nodes to convict: of the `trusted` ones of the other kind those that more of the valid
+    /// vectors name than spare. Only the vectors of `senders`, the trusted nodes of kind K, count.
+    /// A vector is valid where it names none but the nodes that there are.
     pub fn convicted(&self, senders: NodeSet<K>, trusted: NodeSet<K::Other>) -> NodeSet<K::Other>
         ensures { result
             ≡ convicted_by self.now.others senders trusted (vector_in self.now.vectors) }
@@ -133,7 +134,8 @@ fn named_by<S: Copy>(vectors: &[Heard; 16], senders: NodeSet<S>, i: u8) -> u32
     }
 }
 
-// The trusted nodes but for those that no sender names, who are most: counting would find nothing against them.
+// The trusted nodes but for those that no sender names, who are most: counting would find nothing
+// against them.
 fn suspects<S: Copy, T: Copy>(
     vectors: &[Heard; 16],
     senders: NodeSet<S>,

@@ -11,13 +11,14 @@ use rb_frame::Spelling;
 use rb_rules::{Expect, Sense};
 use std::marker::Model;
 
-/// What came of each source since the last window was closed: as much of it as the sense of a source depends on. Its size
-/// does not depend on how much comes.
+/// What came of each source since the last window was closed: as much of it as the sense of a
+/// source depends on. Its size does not depend on how much comes.
 #[derive(Drop)]
 pub struct Inbox<K> {
     // The sources of which something came.
     came: NodeSet<K>,
-    // Those of which it can be no message: more than one arrival, or one that is longer than any message.
+    // Those of which it can be no message: more than one arrival, or one that is longer than any
+    // message.
     spoilt: NodeSet<K>,
     // The arrivals of the others.
     soles: [Sole; 16],
@@ -88,7 +89,8 @@ impl<K: Copy> Inbox<K> {
         }
     }
 
-    /// The sources of which something came. An inbox stands for some list of arrivals, whatever came.
+    /// The sources of which something came. An inbox stands for some list of arrivals, whatever
+    /// came.
     pub fn came(&self) -> NodeSet<K>
         ensures value { result ≡ self.now.came }
         ensures stands { (received : List Received) × HoldsArrivals self.now received }

@@ -17,8 +17,9 @@ use rb_rules::{Expect, Sense};
 // The bytes of the longest message.
 pub(crate) const MOST_BYTES: usize = 12;
 
-/// What is kept of an arrival that is no longer than any message: its stamp, and its bytes as two numbers, the lowest byte
-/// first: `low` has the first eight, `tail` the other four, both filled up with zeros, and above these how many bytes there are.
+/// What is kept of an arrival that is no longer than any message: its stamp, and its bytes as two
+/// numbers, the lowest byte first: `low` has the first eight, `tail` the other four, both filled up
+/// with zeros, and above these how many bytes there are.
 #[derive(Clone, Copy, Debug, PartialEq, Eq)]
 pub struct Sole {
     pub at: u64,
@@ -47,11 +48,13 @@ fn words_of(sole: &Sole, expect: &Expect) -> Said
     }
 }
 
-// The first six bytes of a word that is meant for a window, the first byte lowest: the tag, the frame, the slot and the stage.
+// The first six bytes of a word that is meant for a window, the first byte lowest: the tag, the
+// frame, the slot and the stage.
 #[inline(always)]
 fn word_start(frame: u16, slot: u16, stage: u8) -> u64
     ensures bytes { result
-        ≡ 1 + frame / 256 * 256 + frame % 256 * 65536 + slot / 256 * 16777216 + slot % 256 * 4294967296 + stage * 1099511627776 }
+        ≡ 1 + frame / 256 * 256 + frame % 256 * 65536 + slot / 256 * 16777216
+        + slot % 256 * 4294967296 + stage * 1099511627776 }
     ensures frame { frame < 2 ^ 16 }
     ensures slot { slot < 2 ^ 16 }
     ensures stage { stage < 2 ^ 8 }
@@ -71,8 +74,8 @@ fn starts_as_word(low: u64, expect: &Expect) -> bool
         && !expect.sync
 }
 
-/// The word that the bytes are which are kept as these two numbers, if they are one that is meant for the window. None also
-/// where they are another message that is meant for it.
+/// The word that the bytes are which are kept as these two numbers, if they are one that is meant
+/// for the window. None also where they are another message that is meant for it.
 #[inline(always)]
 pub(crate) fn word_of(low: u64, tail: u64, expect: &Expect) -> Option<u32>
     requires { len_of tail ≤ 12 }
@@ -198,7 +201,8 @@ fn tag_suits(in_sync: bool, tag: Tag) -> bool
     }
 }
 
-// Room that begins with the bytes. In a branch for one length, it is known when this is compiled how many are copied.
+// Room that begins with the bytes. In a branch for one length, it is known when this is compiled
+// how many are copied.
 fn room_with(bytes: &[u8]) -> [u8; 12]
     requires { length bytes.now ≤ 12 }
     ensures begins { take (length bytes.now) result ≡ bytes.now }

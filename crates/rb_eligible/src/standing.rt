@@ -8,10 +8,11 @@ ghost use Rattle.rb_eligible.specs.Standings.{standing_of};
 
 use rb_base::{NodeId, NodeSet};
 
-/// What a node holds of the nodes of the other kind: which it trusts, which it accuses for what came of them or did not
-/// come (`direct`), which for a value that differed (`mismatch`), and against which it had direct evidence in the frame
-/// that runs (`fresh`). `calm` is by node the number of whole frames in a row without direct evidence while it is accused
-/// directly, counted up to 4096.
+/// What a node holds of the nodes of the other kind: which it trusts, which it accuses for what
+/// came of them or did not come (`direct`), which for a value that differed (`mismatch`), and
+/// against which it had direct evidence in the frame that runs (`fresh`). `calm` is by node the
+/// number of whole frames in a row without direct evidence while it is accused directly, counted up
+/// to 4096.
 #[derive(Clone, Copy, Debug, PartialEq, Eq)]
 pub struct Standing<K> {
     pub trusted: NodeSet<K>,
@@ -29,7 +30,8 @@ fn one_more(calm: u16) -> u16
 }
 
 impl<K: Copy> Standing<K> {
-    /// At first the nodes with the numbers below `count`, at most 16 of them, are trusted, and none is accused.
+    /// At first the nodes with the numbers below `count`, at most 16 of them, are trusted, and none
+    /// is accused.
     pub fn new(count: u8) -> Standing<K>
         requires { count ≤ 16 }
         ensures first { standing_of result ≡ first_standing count }
@@ -58,20 +60,25 @@ impl<K: Copy> Standing<K> {
         set.intersection(self.trusted.difference(self.direct))
     }
 
-    /// Direct evidence against the node: it is accused, which it may be already, and the evidence is of this frame.
+    /// Direct evidence against the node: it is accused, which it may be already, and the evidence
+    /// is of this frame.
     pub fn accuse_direct(&mut self, id: NodeId<K>)
-        ensures accused { standing_of self.new ≡ with_evidence (λ j. j == id) (standing_of self.old) }
-        ensures newest { (frame : ℕ) (newest : ℕ → ℕ) → HasNewest (standing_of self.old) frame newest
+        ensures accused { standing_of self.new
+            ≡ with_evidence (λ j. j == id) (standing_of self.old) }
+        ensures newest { (frame : ℕ) (newest : ℕ → ℕ)
+            → HasNewest (standing_of self.old) frame newest
             → HasNewest (standing_of self.new) frame (newest_with (λ j. j == id) frame newest) }
     {
         self.accuse_each(NodeSet::only(id));
     }
 
-    /// The nodes against which there is direct evidence: the trusted ones that were expected and didn't send exactly their
-    /// message, and those that weren't expected and sent something. `ones` are those of which exactly one message came that is
-    /// meant for the window, `came` those of which anything came.
+    /// The nodes against which there is direct evidence: the trusted ones that were expected and
+    /// didn't send exactly their message, and those that weren't expected and sent something.
+    /// `ones` are those of which exactly one message came that is meant for the window, `came`
+    /// those of which anything came.
     pub fn evidence(&self, expected: NodeSet<K>, ones: NodeSet<K>, came: NodeSet<K>) -> NodeSet<K>
-        ensures { result ≡ set_of (λ j. has self.now.trusted j && (if has expected j then not (has ones j) else has came j)) }
+        ensures { result ≡ set_of (λ j. has self.now.trusted j
+            && (if has expected j then not (has ones j) else has came j)) }
     {
         let missed = expected.difference(ones);
         let unasked = came.difference(expected);
@@ -81,7 +88,8 @@ impl<K: Copy> Standing<K> {
     /// Direct evidence against each node of the set.
     pub fn accuse_each(&mut self, set: NodeSet<K>)
         ensures accused { standing_of self.new ≡ with_evidence (has set) (standing_of self.old) }
-        ensures newest { (frame : ℕ) (newest : ℕ → ℕ) → HasNewest (standing_of self.old) frame newest
+        ensures newest { (frame : ℕ) (newest : ℕ → ℕ)
+            → HasNewest (standing_of self.old) frame newest
             → HasNewest (standing_of self.new) frame (newest_with (has set) frame newest) }
     {
         self.direct = self.direct.union(set);
@@ -110,8 +118,8 @@ impl<K: Copy> Standing<K> {
         self.trusted = self.trusted.difference(set);
     }
 
-    /// The vector that the node sends in its diagnosis slot: the mask of the trusted nodes that it accuses in one way or
-    /// the other, bit i for node i.
+    /// The vector that the node sends in its diagnosis slot: the mask of the trusted nodes that it
+    /// accuses in one way or the other, bit i for node i.
     pub fn vector(&self) -> u32
         ensures { result ≡ vector_of (standing_of self.now) }
     {
@@ -199,15 +207,17 @@ impl<K: Copy> Standing<K> {
         calms
     }
 
-    /// The end of a frame. Where `probation`, a number of frames up to 4096, is at least 1, the direct accusation of a node
-    /// lapses after so many whole frames in a row without direct evidence against it: one whose newest evidence is of frame e
-    /// lapses as frame e + probation + 1 begins. With 0 none lapses. Mismatch accusations stay, and so do convictions. The next
+    /// The end of a frame. Where `probation`, a number of frames up to 4096, is at least 1, the
+    /// direct accusation of a node lapses after so many whole frames in a row without direct
+    /// evidence against it: one whose newest evidence is of frame e lapses as frame e + probation +
+    /// 1 begins. With 0 none lapses. Mismatch accusations stay, and so do convictions. The next
     /// frame begins without evidence.
     pub fn lapse(&mut self, probation: u16)
         ensures ends { standing_of self.new ≡ standing_at_end probation (standing_of self.old) }
         ensures by_frames { (frame : ℕ) (newest : ℕ → ℕ) → probation ≤ 4096
             → HasNewest (standing_of self.old) frame newest
-            → LapsesByFrames probation (frame + 1) newest (standing_of self.old) (standing_of self.new) }
+            → LapsesByFrames probation (frame + 1) newest (standing_of self.old)
+            (standing_of self.new) }
     {
         let lapsing = self.lapsing(probation);
         self.calm = self.calms(probation);

@@ -16,8 +16,9 @@ use crate::standing::Standing;
 use rb_base::{Heard, NodeId, NodeSet, See};
 use rb_rules::Expect;
 
-/// What was taken in a window: of which sources exactly one message came that is meant for it. Where `alike` says that more than
-/// half of what was taken is alike, `value` is what it is; where it doesn't, that has to be counted.
+/// What was taken in a window: of which sources exactly one message came that is meant for it.
+/// Where `alike` says that more than half of what was taken is alike, `value` is what it is; where
+/// it doesn't, that has to be counted.
 #[derive(Clone, Copy, Debug, PartialEq, Eq)]
 pub struct Taking<K> {
     pub ones: NodeSet<K>,
@@ -32,7 +33,8 @@ fn leads<K: Copy>(same: NodeSet<K>, ones: NodeSet<K>) -> bool
     ones.count() < 2 * same.count()
 }
 
-// Makes room for what comes of the sources of the set. Of the others nothing is written down any longer.
+// Makes room for what comes of the sources of the set. Of the others nothing is written down any
+// longer.
 #[inline(always)]
 fn make_room<K: Copy>(due: NodeSet<K>, sheet: &mut Sheet<K>)
     requires { IsWritten sheet.old }
@@ -74,8 +76,8 @@ fn put<K: Copy>(
     sees[at] = see_value(value);
 }
 
-// Takes the value of the first source that is left, and of those after it up to the first one that spells otherwise. Gives those
-// that are left then.
+// Takes the value of the first source that is left, and of those after it up to the first one that
+// spells otherwise. Gives those that are left then.
 #[inline(always)]
 fn take_run<K: Copy>(
     inbox: &Inbox<K>,
@@ -88,7 +90,8 @@ fn take_run<K: Copy>(
     requires inside { has left first ≡ true }
     requires all { length taken.old ≡ 16 }
     requires shown { sees.old ≡ map see_value taken.old }
-    ensures run { IsRun inbox.now left result (sole_at inbox.now.soles first) value taken.old taken.new }
+    ensures run { IsRun inbox.now left result (sole_at inbox.now.soles first) value taken.old
+        taken.new }
     ensures fewer { size result < size left }
     ensures all { length taken.new ≡ 16 }
     ensures shown { sees.new ≡ map see_value taken.new }
@@ -115,7 +118,8 @@ struct Group<K> {
     value: Option<Heard>,
 }
 
-// What was taken of the sources of a set but of those that are left: of which exactly one message came, and the largest group.
+// What was taken of the sources of a set but of those that are left: of which exactly one message
+// came, and the largest group.
 #[derive(Clone, Copy)]
 struct Partial<K> {
     left: NodeSet<K>,
@@ -135,7 +139,8 @@ fn are_same(value: Option<Heard>, other: Option<Heard>) -> bool
     }
 }
 
-// The group with a run of which the same value was taken, or the larger of the two where a value was taken of the run.
+// The group with a run of which the same value was taken, or the larger of the two where a value
+// was taken of the run.
 fn with_run<K: Copy>(lead: Group<K>, run: NodeSet<K>, value: Option<Heard>) -> Group<K>
     ensures { (j : ℕ) → j < 16 → has result.sources j ≡ true
         → ((has lead.sources j ≡ true) × (result.value ≡ lead.value))
@@ -179,8 +184,9 @@ fn nothing_of<K: Copy>(due: NodeSet<K>) -> Partial<K>
     }
 }
 
-// Takes what came of those sources of the set that are left, of each of which there is one arrival. It goes by runs: the first
-// source that is left is read, and what it said is taken of all after it that spell as it does.
+// Takes what came of those sources of the set that are left, of each of which there is one arrival.
+// It goes by runs: the first source that is left is read, and what it said is taken of all after it
+// that spell as it does.
 #[inline(never)]
 fn take_runs<K: Copy>(
     inbox: &Inbox<K>,
@@ -191,7 +197,8 @@ fn take_runs<K: Copy>(
     sees: &mut [See; 16],
 ) -> Taking<K>
     requires due { (j : ℕ) → j < 16 → has due j ≡ true → is_sole inbox.now j ≡ true }
-    requires start { IsPartial inbox.now expect.now due start.left start.ones start.lead.sources start.lead.value taken.old }
+    requires start { IsPartial inbox.now expect.now due start.left start.ones start.lead.sources
+        start.lead.value taken.old }
     requires sheet { IsSheet due taken.old sees.old }
     ensures ones { AreOnesOf inbox.now expect.now (has due) result.ones }
     ensures taken { AreValuesOf inbox.now expect.now due taken.new }
@@ -218,8 +225,8 @@ fn take_runs<K: Copy>(
     }
 }
 
-// Takes what came of the sources of the set, of each of which there is one arrival. Where all say the same word, which is nearly
-// always so, nothing is counted.
+// Takes what came of the sources of the set, of each of which there is one arrival. Where all say
+// the same word, which is nearly always so, nothing is counted.
 #[inline(always)]
 fn take_due<K: Copy>(
     inbox: &Inbox<K>,
@@ -287,8 +294,8 @@ fn ones_barred<K: Copy>(inbox: &Inbox<K>, barred: NodeSet<K>, expect: &Expect) -
     }
 }
 
-// Accuses after a window in which exactly one message that is meant for it came of these of the sources that are expected and
-// eligible.
+// Accuses after a window in which exactly one message that is meant for it came of these of the
+// sources that are expected and eligible.
 #[inline(always)]
 fn accuse_by<K: Copy>(
     inbox: &Inbox<K>,
@@ -297,8 +304,10 @@ fn accuse_by<K: Copy>(
     expected: NodeSet<K>,
     ones: NodeSet<K>,
 )
-    requires { AreOnesOf inbox.now expect.now (λ j. has expected j && is_eligible (standing_of standing.old) j) ones }
-    ensures { AccusesBy inbox.now (standing_of standing.old) expect.now expected (standing_of standing.new) }
+    requires { AreOnesOf inbox.now expect.now (λ j. has expected j
+        && is_eligible (standing_of standing.old) j) ones }
+    ensures { AccusesBy inbox.now (standing_of standing.old) expect.now expected
+        (standing_of standing.new) }
 {
     let barred = expected.intersection(standing.direct);
     let ones = ones.union(ones_barred(inbox, barred, expect));
@@ -306,20 +315,23 @@ fn accuse_by<K: Copy>(
     standing.accuse_each(evidence);
 }
 
-// The sources of which something may be taken: they are expected and eligible, and of each there is one arrival.
+// The sources of which something may be taken: they are expected and eligible, and of each there is
+// one arrival.
 #[inline(always)]
 fn due_of<K: Copy>(inbox: &Inbox<K>, standing: &Standing<K>, expected: NodeSet<K>) -> NodeSet<K>
     ensures fits { result < 2 ^ 16 }
     ensures due { (j : ℕ) → j < 16
-        → has result j ≡ ((has expected j && is_eligible (standing_of standing.now) j) && is_sole inbox.now j) }
+        → has result j ≡ ((has expected j && is_eligible (standing_of standing.now) j)
+        && is_sole inbox.now j) }
 {
     standing.eligible_of(expected).intersection(inbox.soles())
 }
 
-/// Takes what came in a window of each source that is expected and eligible, if exactly one message came and it is meant for
-/// the window: on the sheet stands by source the value of that message, which a call to resynchronise has not, and what is shown
-/// of it. Then each trusted source is accused that was expected and of which not exactly that came, or that wasn't expected and
-/// of which something came. What was taken and shown of an earlier window is written over.
+/// Takes what came in a window of each source that is expected and eligible, if exactly one message
+/// came and it is meant for the window: on the sheet stands by source the value of that message,
+/// which a call to resynchronise has not, and what is shown of it. Then each trusted source is
+/// accused that was expected and of which not exactly that came, or that wasn't expected and of
+/// which something came. What was taken and shown of an earlier window is written over.
 #[inline(always)]
 pub fn take_with_evidence<K: Copy>(
     inbox: &Inbox<K>,
@@ -329,10 +341,14 @@ pub fn take_with_evidence<K: Copy>(
     sheet: &mut Sheet<K>,
 ) -> Taking<K>
     requires { IsWritten sheet.old }
-    ensures ones { AreOnesOf inbox.now expect.now (λ j. has expected j && is_eligible (standing_of standing.old) j) result.ones }
-    ensures taken { AreTakenOf inbox.now (standing_of standing.old) expect.now expected sheet.new.closing.taken }
-    ensures accused { AccusesBy inbox.now (standing_of standing.old) expect.now expected (standing_of standing.new) }
-    ensures alike { IsTrue result.alike → majority_of (present sheet.new.closing.taken) ≡ result.value }
+    ensures ones { AreOnesOf inbox.now expect.now (λ j. has expected j
+        && is_eligible (standing_of standing.old) j) result.ones }
+    ensures taken { AreTakenOf inbox.now (standing_of standing.old) expect.now expected
+        sheet.new.closing.taken }
+    ensures accused { AccusesBy inbox.now (standing_of standing.old) expect.now expected
+        (standing_of standing.new) }
+    ensures alike { IsTrue result.alike
+        → majority_of (present sheet.new.closing.taken) ≡ result.value }
     ensures sheet { IsWritten sheet.new }
 {
     let due = due_of(inbox, standing, expected);
@@ -343,12 +359,15 @@ pub fn take_with_evidence<K: Copy>(
     taking
 }
 
-/// Whether a window is quiet: nothing came, and no trusted source is expected. Then nothing is taken, and nobody accused.
+/// Whether a window is quiet: nothing came, and no trusted source is expected. Then nothing is
+/// taken, and nobody accused.
 #[inline(always)]
 pub fn is_quiet<K: Copy>(inbox: &Inbox<K>, standing: &Standing<K>, expected: NodeSet<K>) -> bool
     ensures came { IsTrue result → inbox.now.came ≡ 0 }
-    ensures nobody { IsTrue result → set_of (λ j. has standing.now.trusted j && has expected j) ≡ 0 }
-    ensures told { inbox.now.came ≡ 0 → set_of (λ j. has standing.now.trusted j && has expected j) ≡ 0 → IsTrue result }
+    ensures nobody { IsTrue result
+        → set_of (λ j. has standing.now.trusted j && has expected j) ≡ 0 }
+    ensures told { inbox.now.came ≡ 0
+        → set_of (λ j. has standing.now.trusted j && has expected j) ≡ 0 → IsTrue result }
     ensures direct { standing.now.direct < 2 ^ 16 }
     ensures fresh { standing.now.fresh < 2 ^ 16 }
 {

@@ -26,13 +26,14 @@ fn check(low: u64, high: u32) -> u8
 // Whether the bus's number and the check stand at the end.
 fn has_end(bus: u8, low: u64, high: u32) -> bool
     ensures { result
-        ≡ ((high / 65536 % 256 == bus) && (check_of (to_le_bytes w64 low ++ to_le_bytes w32 high) == 0)) }
+        ≡ ((high / 65536 % 256 == bus)
+        && (check_of (to_le_bytes w64 low ++ to_le_bytes w32 high) == 0)) }
 {
     (high >> 16) % 256 == u32::from(bus) && check(low, high) == 0
 }
 
-/// Whether there are as many bytes as the version has, with the check at the end and the bus's number where it has one. The
-/// check is right where the exclusive or of all bytes is 0.
+/// Whether there are as many bytes as the version has, with the check at the end and the bus's
+/// number where it has one. The check is right where the exclusive or of all bytes is 0.
 pub(crate) fn has_form(version: Version, low: u64, high: u32, len: u64) -> bool
     requires { len ≤ 12 }
     ensures { result ≡ has_form version (spelled low high len) }
@@ -59,7 +60,8 @@ fn slot_in(low: u64) -> u16
 
 /// The value.
 pub(crate) fn value_in(low: u64, high: u32) -> u32
-    ensures { result ≡ low / 281474976710656 % 256 * 16777216 + low / 72057594037927936 % 256 * 65536 + high % 256 * 256 + high / 256 % 256 }
+    ensures { result ≡ low / 281474976710656 % 256 * 16777216
+        + low / 72057594037927936 % 256 * 65536 + high % 256 * 256 + high / 256 % 256 }
 {
     ((low >> 48) as u32 + (high % 0x1_0000) * 0x1_0000).swap_bytes()
 }

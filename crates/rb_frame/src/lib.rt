@@ -1,8 +1,9 @@
 //! Messages as bytes on a link.
 //!
-//! A message is 11 bytes in version `One`: its tag (1 Word, 2 Fault, 3 Sync), the frame's number and the slot in two
-//! bytes each, the stage, the value in four bytes, and the exclusive or of these ten. Version `Two` has the number of
-//! the bus before the check, which covers it, and so 12 bytes. All numbers have the most significant byte first.
+//! A message is 11 bytes in version `One`: its tag (1 Word, 2 Fault, 3 Sync), the frame's number
+//! and the slot in two bytes each, the stage, the value in four bytes, and the exclusive or of
+//! these ten. Version `Two` has the number of the bus before the check, which covers it, and so 12
+//! bytes. All numbers have the most significant byte first.
 #![tactic(auto)]
 
 ghost use Rattle.std.specs.Prelude.{◌≡◌, ◌≤◌, ◌<◌, ◌^◌, ◌++◌, ℕ, List, [], ◌∷◌, length, IfSome, IfNone, IsTrue};
@@ -83,7 +84,8 @@ pub fn encode(version: Version, message: &Message) -> ArrayVec<u8, 12>
     }
 }
 
-// Whether there are as many bytes as the version has, with the check at the end and the bus's number where it has one.
+// Whether there are as many bytes as the version has, with the check at the end and the bus's
+// number where it has one.
 fn has_form(version: Version, bytes: &[u8]) -> bool
     ensures value { result ≡ has_form version bytes.now }
     ensures enough { IsTrue result → 11 ≤ length bytes.now }
@@ -119,8 +121,8 @@ fn may_have(tag: Tag, value: u32) -> bool
     }
 }
 
-/// The message with these fields. None exactly where there is none: no tag, a stage that is not 1 to 3, or a value other than 0
-/// beside a tag that is not Word.
+/// The message with these fields. None exactly where there is none: no tag, a stage that is not 1
+/// to 3, or a value other than 0 beside a tag that is not Word.
 pub fn message_with(
     tag: Option<Tag>,
     frame: u16,
@@ -161,9 +163,9 @@ fn message_in(version: Version, bytes: &[u8]) -> Option<Message>
     )
 }
 
-/// The message that the bytes spell in this version. None exactly where they spell none: the number of bytes, the tag,
-/// the stage, the value beside its tag, the bus's number or the check is not one of a message. Whether a message suits
-/// the window in which it arrives is not asked here.
+/// The message that the bytes spell in this version. None exactly where they spell none: the number
+/// of bytes, the tag, the stage, the value beside its tag, the bus's number or the check is not one
+/// of a message. Whether a message suits the window in which it arrives is not asked here.
 #[tactic(auto, using(crate::proofs::Bytes::decoding))]
 pub fn decode(version: Version, bytes: &[u8]) -> Option<Message>
     ensures spelled { IfSome result (Spells version bytes.now) }

@@ -10,8 +10,8 @@ use byteorder::{ByteOrder, LittleEndian};
 use rb_rules::{Message, Version};
 use std::marker::Model;
 
-/// The bytes of what comes over a link, at most 32: kept as numbers, so that a message is made, moved, compared and read
-/// without a look at single bytes.
+/// The bytes of what comes over a link, at most 32: kept as numbers, so that a message is made,
+/// moved, compared and read without a look at single bytes.
 #[derive(Clone, Copy, Debug, PartialEq, Eq)]
 pub struct Spelling {
     // The first eight bytes, the lowest first, filled up with zeros.
@@ -32,9 +32,17 @@ impl Model for Spelling {
 
     ghost invariant = { λ s. IsFilled s.low s.tail s.rest };
 
-    ghost inverse = { λ bytes. record { low = low_in bytes; tail = tail_in bytes; rest = rest_in bytes } };
+    ghost inverse = { λ bytes. record {
+      low = low_in bytes;
+      tail = tail_in bytes;
+      rest = rest_in bytes;
+    } };
 
-    ghost inverse_ok = { λ s h i. record { low = h.low_is i; tail = h.tail_is i; rest = h.rest_is i } };
+    ghost inverse_ok = { λ s h i. record {
+      low = h.low_is i;
+      tail = h.tail_is i;
+      rest = h.rest_is i;
+    } };
 }
 
 // The bytes, filled up with zeros.
@@ -95,7 +103,8 @@ fn rest_of(all: &[u8; 32]) -> [u8; 20]
 #[inline(always)]
 fn first_word(tag: u8, frame: u16, slot: u16, stage: u8, value: u32) -> u64
     ensures bytes { to_le_bytes w64 result
-        ≡ tag ∷ to_be_bytes w16 frame ++ to_be_bytes w16 slot ++ stage ∷ take 2 (to_be_bytes w32 value) }
+        ≡ tag ∷ to_be_bytes w16 frame ++ to_be_bytes w16 slot
+        ++ stage ∷ take 2 (to_be_bytes w32 value) }
     ensures frame { frame < 2 ^ 16 }
     ensures slot { slot < 2 ^ 16 }
     ensures value { value < 2 ^ 32 }
@@ -166,8 +175,8 @@ fn twelve(low: u64, high: u32, bus: u8) -> Spelling
 }
 
 impl Spelling {
-    /// The bytes that spell the message in this version, as `encode` gives them. They are made from the
-    /// message's fields at once.
+    /// The bytes that spell the message in this version, as `encode` gives them. They are made from
+    /// the message's fields at once.
     #[inline(always)]
     pub fn of_message(version: Version, message: &Message) -> Spelling
         requires some_stage { 1 ≤ message.now.stage }
@@ -205,15 +214,17 @@ impl Spelling {
         }
     }
 
-    /// The two numbers that bytes are kept as. The first has the first eight bytes, the lowest first. The second has the next
-    /// four, and above these, from bit 32 on, how many bytes there are in all. Both are filled up with zeros. So bytes that are at
-    /// most 12 are compared and read by them alone.
+    /// The two numbers that bytes are kept as. The first has the first eight bytes, the lowest
+    /// first. The second has the next four, and above these, from bit 32 on, how many bytes there
+    /// are in all. Both are filled up with zeros. So bytes that are at most 12 are compared and
+    /// read by them alone.
     #[inline(always)]
     pub fn words(&self) -> (u64, u64)
         ensures low { result.0 ≡ low_in self.now }
         ensures tail { result.1 ≡ tail_in self.now }
         ensures len { len_of result.1 ≡ length self.now }
-        ensures short { length self.now ≤ 12 → self.now ≡ spelled result.0 (high_of result.1) (len_of result.1) }
+        ensures short { length self.now ≤ 12
+            → self.now ≡ spelled result.0 (high_of result.1) (len_of result.1) }
     {
         (self.low, self.tail)
     }

@@ -6,7 +6,8 @@ const MULTIPLIER: u64 = 6364136223846793005;
 
 const INCREMENT: u64 = 1442695040888963407;
 
-/// A linear congruential generator modulo 2^64, with the constants of Knuth's MMIX. Equal seeds give equal numbers.
+/// A linear congruential generator modulo 2^64, with the constants of Knuth's MMIX. Equal seeds
+/// give equal numbers.
 #[derive(Clone, Copy, Debug, PartialEq, Eq)]
 pub struct Draws {
     state: u64,

@@ -194,11 +194,12 @@ fn node_at(node: usize) -> NodeName
     }
 }
 
-/// Line n of the text of a generated scenario, counted from 0, with its line feed: the text is a document that says the
-/// scenario. None exactly past the last line, 413.
+/// Line n of the text of a generated scenario, counted from 0, with its line feed: the text is a
+/// document that says the scenario. None exactly past the last line, 413.
 pub fn line(scenario: &Scenario, n: usize) -> Option<ArrayString<64>>
     requires { IsGenerated (as_scenario scenario.now) }
-    ensures text { option_map (λ l. l.bytes) result ≡ slice_get (lines_of (as_scenario scenario.now)) n }
+    ensures text { option_map (λ l. l.bytes) result
+        ≡ slice_get (lines_of (as_scenario scenario.now)) n }
     ensures none { IsNone result ↔ (414 ≤ n) }
 {
     if n < 6 {

@@ -10,7 +10,8 @@ use arrayvec::ArrayVec;
 use rb_base::{Biu, Delivery, Heard, NodeSet};
 use std::marker::Model;
 
-/// A group of BIUs at one port: the first value of each member that the port delivered since the last `clear`.
+/// A group of BIUs at one port: the first value of each member that the port delivered since the
+/// last `clear`.
 #[derive(Clone, Copy, Debug, PartialEq, Eq)]
 pub struct Group {
     members: NodeSet<Biu>,
@@ -42,12 +43,15 @@ impl Group {
         }
     }
 
-    /// Keeps the value of a delivery, where its sender is a member of which none is kept. Else nothing changes.
+    /// Keeps the value of a delivery, where its sender is a member of which none is kept. Else
+    /// nothing changes.
     pub fn hear(&mut self, delivery: Delivery)
-        ensures heard { (deliveries : List Delivery) → HasHeard self.old deliveries → HasHeard self.new (deliveries ++ delivery ∷ []) }
+        ensures heard { (deliveries : List Delivery) → HasHeard self.old deliveries
+            → HasHeard self.new (deliveries ++ delivery ∷ []) }
         ensures members { self.new.members ≡ self.old.members }
         ensures no_member { has self.old.members delivery.sender ≡ false → self.new ≡ self.old }
-        ensures kept { is_some (get_or self.old.kept delivery.sender None) ≡ true → self.new ≡ self.old }
+        ensures kept { is_some (get_or self.old.kept delivery.sender None) ≡ true
+            → self.new ≡ self.old }
     {
         if delivery.sender < 16 && self.members.has(delivery.sender) {
             keep_first(&mut self.kept, delivery.sender, delivery.value);
@@ -56,7 +60,8 @@ impl Group {
 
     /// The values that are kept, by index of the member.
     pub fn values(&self) -> ArrayVec<Heard, 16>
-        ensures { (deliveries : List Delivery) → HasHeard self.now deliveries → result.items ≡ values_of self.now.members deliveries }
+        ensures { (deliveries : List Delivery) → HasHeard self.now deliveries
+            → result.items ≡ values_of self.now.members deliveries }
     {
         present(&self.kept)
     }

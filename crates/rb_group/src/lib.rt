@@ -1,5 +1,5 @@
-//! Groups of replicas: several BIUs that offer the same, and one value for them at each port in each frame. Both voters and the form of
-//! a group are this project's own.
+//! Groups of replicas: several BIUs that offer the same, and one value for them at each port in
+//! each frame. Both voters and the form of a group are this project's own.
 #![tactic(auto)]
 
 pub mod group;

@@ -19,10 +19,11 @@ pub struct Voter {
 /// Which voter is meant.
 #[derive(Clone, Copy, Debug, PartialEq, Eq)]
 pub enum Which {
-    /// The value that more than half of the values are, where Fault counts as a value, and Fault where no value is.
+    /// The value that more than half of the values are, where Fault counts as a value, and Fault
+    /// where no value is.
     Most,
-    /// The middle word of the values: of n words in ascending order the one at place (n - 1) / 2, counted from 0 and rounded down, and
-    /// Fault where there is no word.
+    /// The middle word of the values: of n words in ascending order the one at place (n - 1) / 2,
+    /// counted from 0 and rounded down, and Fault where there is no word.
     Mid,
 }
 
@@ -60,7 +61,8 @@ pub struct Voters {
 }
 
 impl Voters {
-    /// Keeps the two. On every list of at most 16 values each may be called, and answers as its voter does.
+    /// Keeps the two. On every list of at most 16 values each may be called, and answers as its
+    /// voter does.
     pub fn new(most: Voter, mid: Voter) -> Voters
         requires most { AnswersAs which.Most (Pick.pre most.pick) (Pick.post most.pick) }
         requires mid { AnswersAs which.Mid (Pick.pre mid.pick) (Pick.post mid.pick) }
@@ -88,8 +90,9 @@ impl Voters {
     }
 }
 
-/// The two voters, in boxes that this allocator gives; where it gives none, its error leaves by `?`. They are made in the function
-/// that calls this, since a function may not hand out a boxed closure.
+/// The two voters, in boxes that this allocator gives; where it gives none, its error leaves by
+/// `?`. They are made in the function that calls this, since a function may not hand out a boxed
+/// closure.
 #[macro_export]
 macro_rules! voters {
     ($alloc:expr) => {

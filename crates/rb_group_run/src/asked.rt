@@ -13,7 +13,8 @@ pub struct Asked {
     pub members: NodeSet<Biu>,
 }
 
-/// What of a scenario tells who is asked: the bus's size, the number of frames, and from where on nodes are not good.
+/// What of a scenario tells who is asked: the bus's size, the number of frames, and from where on
+/// nodes are not good.
 #[derive(Clone, Copy, Debug, PartialEq, Eq)]
 pub struct Scope {
     pub shape: Shape,
@@ -21,8 +22,9 @@ pub struct Scope {
     pub onsets: Onsets,
 }
 
-/// Whether each node of the mask, whose bit i is BIU i, is a BIU of a bus of this shape. Where one is not, the scenario is refused with
-/// code 14 after all rules of a scenario; the line is `refused_line(14, None, false)`.
+/// Whether each node of the mask, whose bit i is BIU i, is a BIU of a bus of this shape. Where one
+/// is not, the scenario is refused with code 14 after all rules of a scenario; the line is
+/// `refused_line(14, None, false)`.
 pub fn has_members(shape: &Shape, mask: u16) -> bool
     ensures { IsTrue result ↔ AreMembers shape.now mask }
 {

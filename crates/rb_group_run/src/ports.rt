@@ -14,7 +14,8 @@ use rb_base::{Biu, Delivery, Heard, NodeSet};
 use rb_group::{Group, Voters};
 use rb_world_book::{SlotLine, SlotRecord, Turn};
 
-/// The frame that a run has reached, and what each of the 16 ports that there may be delivered in it.
+/// The frame that a run has reached, and what each of the 16 ports that there may be delivered in
+/// it.
 #[derive(Drop)]
 pub struct Ports {
     pub frame: u32,
@@ -69,7 +70,8 @@ fn hear_slot(groups: &mut [Group; 16], frame: u32, slot: u16, lines: &[SlotLine]
 // The ports deliver what was delivered in a slot, if it is one of this frame.
 fn hear_if_now(groups: &mut [Group; 16], frame: u32, slot: &SlotRecord)
     ensures { (members : ℕ) (told : ℕ → List Delivery) → HoldPortions members told groups.old
-        → HoldPortions members (λ i. told i ++ told_of frame i (Record.Slot slot.now.frame slot.now.slot slot.now.lines.items)) groups.new }
+        → HoldPortions members (λ i. told i
+        ++ told_of frame i (Record.Slot slot.now.frame slot.now.slot slot.now.lines.items)) groups.new }
 {
     if slot.frame == frame {
         hear_slot(groups, slot.frame, slot.slot, slot.lines.as_slice());
@@ -90,7 +92,8 @@ fn hear(groups: &mut [Group; 16], frame: u32, turn: &Turn)
     }
 }
 
-/// The frame of a turn, where it has one, or else this one. That of the end is the one after all `frames`.
+/// The frame of a turn, where it has one, or else this one. That of the end is the one after all
+/// `frames`.
 pub fn frame_or(turn: &Turn, frames: u32, newest: u32) -> u32
     ensures { result ≡ frame_or frames newest (record_of turn.now) }
 {
@@ -106,8 +109,10 @@ pub fn frame_or(turn: &Turn, frames: u32, newest: u32) -> u32
 // The ports in a frame, which begins anew if it is a later one.
 fn move_to(ports: &mut Ports, asked: &Asked, frame: u32)
     ensures frame { ports.new.frame ≡ max ports.old.frame frame }
-    ensures groups { (frames : ℕ) (records : List Record) → HoldsFrame frames asked.now records ports.old
-        → HoldPortions asked.now.members (λ i. port_deliveries ports.new.frame i records) ports.new.groups }
+    ensures groups { (frames : ℕ) (records : List Record)
+        → HoldsFrame frames asked.now records ports.old
+        → HoldPortions asked.now.members (λ i. port_deliveries ports.new.frame i records)
+        ports.new.groups }
 {
     if ports.frame < frame {
         ports.frame = frame;
@@ -115,8 +120,8 @@ fn move_to(ports: &mut Ports, asked: &Asked, frame: u32)
     }
 }
 
-/// The ports after a turn of a run of so many frames: the frame begins anew with the first turn of a later one, and what a slot of this frame
-/// brought is delivered.
+/// The ports after a turn of a run of so many frames: the frame begins anew with the first turn of
+/// a later one, and what a slot of this frame brought is delivered.
 pub fn advance(ports: &mut Ports, asked: &Asked, frames: u32, turn: &Turn)
     ensures { (records : List Record) → HoldsFrame frames asked.now records ports.old
         → HoldsFrame frames asked.now (records ++ option_to_list (record_of turn.now)) ports.new }
@@ -129,7 +134,8 @@ pub fn advance(ports: &mut Ports, asked: &Asked, frames: u32, turn: &Turn)
 /// The value that a port, below 16, finds for the group in this frame.
 pub fn find(groups: &[Group; 16], port: u8, voters: &Voters, asked: &Asked) -> Heard
     requires { port < 16 }
-    ensures { (told : ℕ → List Delivery) → HoldPortions asked.now.members told groups.now → result ≡ group_value asked.now.which asked.now.members (told port) }
+    ensures { (told : ℕ → List Delivery) → HoldPortions asked.now.members told groups.now
+        → result ≡ group_value asked.now.which asked.now.members (told port) }
 {
     voters.pick(asked.which, &groups[usize::from(port)].values())
 }

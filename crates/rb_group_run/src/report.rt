@@ -30,7 +30,8 @@ fn last_data_slot(shape: &Shape) -> u16
 
 // Whether the BIU is good in the last data slot of a frame.
 fn is_good_at_last(scope: &Scope, frame: u32, port: u8) -> bool
-    ensures { (sc : Scenario) → IsScopeOf sc scope.now → result ≡ is_good sc Biu port frame (last_data_slot sc.sizes) }
+    ensures { (sc : Scenario) → IsScopeOf sc scope.now
+        → result ≡ is_good sc Biu port frame (last_data_slot sc.sizes) }
 {
     let slot = last_data_slot(&scope.shape);
     scope.onsets.is_good(NodeName::Biu(port), frame, slot)
@@ -65,9 +66,11 @@ fn write_port<K: Sink>(
     output: &mut K,
 ) -> Result<(), Failed>
     requires { port < 16 }
-    ensures all { (sc : Scenario) (told : ℕ → List Delivery) → IsScopeOf sc scope.now → HoldPortions asked.now.members told ports.now.groups
+    ensures all { (sc : Scenario) (told : ℕ → List Delivery) → IsScopeOf sc scope.now
+        → HoldPortions asked.now.members told ports.now.groups
         → OnOk result (Appends (K.held output.old) (K.held output.new) (port_text sc ports.now.frame (λ i. group_value asked.now.which asked.now.members (told i)) port)) }
-    ensures part { (sc : Scenario) (told : ℕ → List Delivery) → IsScopeOf sc scope.now → HoldPortions asked.now.members told ports.now.groups
+    ensures part { (sc : Scenario) (told : ℕ → List Delivery) → IsScopeOf sc scope.now
+        → HoldPortions asked.now.members told ports.now.groups
         → OnErr result (AppendsPart (K.held output.old) (K.held output.new) (port_text sc ports.now.frame (λ i. group_value asked.now.which asked.now.members (told i)) port)) }
     ensures cause { HasCause (K.faults output.old) (K.faults output.new) result }
 {
@@ -86,9 +89,11 @@ fn write_frame<K: Sink>(
     asked: &Asked,
     output: &mut K,
 ) -> Result<(), Failed>
-    ensures all { (sc : Scenario) (told : ℕ → List Delivery) → IsScopeOf sc scope.now → HoldPortions asked.now.members told ports.now.groups
+    ensures all { (sc : Scenario) (told : ℕ → List Delivery) → IsScopeOf sc scope.now
+        → HoldPortions asked.now.members told ports.now.groups
         → OnOk result (Appends (K.held output.old) (K.held output.new) (frame_text sc ports.now.frame (λ i. group_value asked.now.which asked.now.members (told i)))) }
-    ensures part { (sc : Scenario) (told : ℕ → List Delivery) → IsScopeOf sc scope.now → HoldPortions asked.now.members told ports.now.groups
+    ensures part { (sc : Scenario) (told : ℕ → List Delivery) → IsScopeOf sc scope.now
+        → HoldPortions asked.now.members told ports.now.groups
         → OnErr result (AppendsPart (K.held output.old) (K.held output.new) (frame_text sc ports.now.frame (λ i. group_value asked.now.which asked.now.members (told i)))) }
     ensures cause { HasCause (K.faults output.old) (K.faults output.new) result }
 {
@@ -107,9 +112,11 @@ fn write_if_over<K: Sink>(
     asked: &Asked,
     output: &mut K,
 ) -> Result<(), Failed>
-    ensures all { (sc : Scenario) (told : ℕ → List Delivery) → IsScopeOf sc scope.now → HoldPortions asked.now.members told ports.now.groups
+    ensures all { (sc : Scenario) (told : ℕ → List Delivery) → IsScopeOf sc scope.now
+        → HoldPortions asked.now.members told ports.now.groups
         → OnOk result (Appends (K.held output.old) (K.held output.new) (if over then frame_text sc ports.now.frame (λ i. group_value asked.now.which asked.now.members (told i)) else [])) }
-    ensures part { (sc : Scenario) (told : ℕ → List Delivery) → IsScopeOf sc scope.now → HoldPortions asked.now.members told ports.now.groups
+    ensures part { (sc : Scenario) (told : ℕ → List Delivery) → IsScopeOf sc scope.now
+        → HoldPortions asked.now.members told ports.now.groups
         → OnErr result (AppendsPart (K.held output.old) (K.held output.new) (if over then frame_text sc ports.now.frame (λ i. group_value asked.now.which asked.now.members (told i)) else [])) }
     ensures cause { HasCause (K.faults output.old) (K.faults output.new) result }
 {
@@ -133,9 +140,11 @@ fn write_ending<K: Sink>(turn: &Turn, frames: u32, output: &mut K) -> Result<(),
     }
 }
 
-/// Writes what a turn says, where the ports are as all turns before it left them: with the first turn of a later frame, for each BIU that is
-/// good in the last data slot of this frame, the value that it finds; and `end` or `breach`. So a breach leaves the values of its frame out.
-/// Each write asks for the rest of one line. `Failed` comes only where a write failed; a first part of the text has then been written.
+/// Writes what a turn says, where the ports are as all turns before it left them: with the first
+/// turn of a later frame, for each BIU that is good in the last data slot of this frame, the value
+/// that it finds; and `end` or `breach`. So a breach leaves the values of its frame out. Each write
+/// asks for the rest of one line. `Failed` comes only where a write failed; a first part of the
+/// text has then been written.
 pub fn write_turn<K: Sink>(
     turn: &Turn,
     ports: &Ports,
@@ -144,9 +153,11 @@ pub fn write_turn<K: Sink>(
     asked: &Asked,
     output: &mut K,
 ) -> Result<(), Failed>
-    ensures all { (sc : Scenario) (records : List Record) → IsScopeOf sc scope.now → HoldsFrame sc.frames asked.now records ports.now
+    ensures all { (sc : Scenario) (records : List Record) → IsScopeOf sc scope.now
+        → HoldsFrame sc.frames asked.now records ports.now
         → OnOk result (Appends (K.held output.old) (K.held output.new) (turn_text sc asked.now records (record_of turn.now))) }
-    ensures part { (sc : Scenario) (records : List Record) → IsScopeOf sc scope.now → HoldsFrame sc.frames asked.now records ports.now
+    ensures part { (sc : Scenario) (records : List Record) → IsScopeOf sc scope.now
+        → HoldsFrame sc.frames asked.now records ports.now
         → OnErr result (AppendsPart (K.held output.old) (K.held output.new) (turn_text sc asked.now records (record_of turn.now))) }
     ensures cause { HasCause (K.faults output.old) (K.faults output.new) result }
 {

@@ -8,8 +8,8 @@ ghost use Rattle.rb_host.specs.Acts.{IsHostAct, delivery_shown, epoch_shown, wan
 use rb_base::{Delivery, Heard};
 use rb_node::{Act, Epoch, Want};
 
-/// The begin of a frame, if `begins`: the frame's number, its first tick by the node's own clock, and whom the node holds convicted, BIUs
-/// and RMUs as masks. Else all numbers are 0.
+/// The begin of a frame, if `begins`: the frame's number, its first tick by the node's own clock,
+/// and whom the node holds convicted, BIUs and RMUs as masks. Else all numbers are 0.
 #[repr(C)]
 #[derive(Clone, Copy, Debug, PartialEq, Eq)]
 pub struct HostEpoch {
@@ -20,8 +20,8 @@ pub struct HostEpoch {
     pub rmu: u16,
 }
 
-/// A delivery, if `delivers`: in which slot of which frame, of which BIU, and the word; where that is none, `none` is true and `word` 0.
-/// Else all numbers are 0.
+/// A delivery, if `delivers`: in which slot of which frame, of which BIU, and the word; where that
+/// is none, `none` is true and `word` 0. Else all numbers are 0.
 #[repr(C)]
 #[derive(Clone, Copy, Debug, PartialEq, Eq)]
 pub struct HostDelivery {
@@ -33,8 +33,8 @@ pub struct HostDelivery {
     pub word: u32,
 }
 
-/// What a node gives at a tick: the message that it sends, in the first `length` bytes, 0 for none; whether it closed a window; the frame
-/// that begins; and what it delivers.
+/// What a node gives at a tick: the message that it sends, in the first `length` bytes, 0 for none;
+/// whether it closed a window; the frame that begins; and what it delivers.
 #[repr(C)]
 #[derive(Clone, Copy, Debug, PartialEq, Eq)]
 pub struct HostAct {
@@ -45,7 +45,8 @@ pub struct HostAct {
     pub delivery: HostDelivery,
 }
 
-/// What a node wants to be handed for a tick: nothing (0), its request (1), or its word in a data slot (2).
+/// What a node wants to be handed for a tick: nothing (0), its request (1), or its word in a data
+/// slot (2).
 #[repr(C)]
 #[derive(Clone, Copy, Debug, PartialEq, Eq)]
 pub struct HostWant {
@@ -118,7 +119,8 @@ fn put_message(bytes: &[u8], message: &mut [u8; 12]) -> u8
 
 // What a node gives at a tick in plain numbers.
 pub(crate) fn act_shown(act: &Act) -> HostAct
-    ensures { (version : Version) (x : CoreAct) → IsWholeAct version act.now x → IsHostAct version result x }
+    ensures { (version : Version) (x : CoreAct) → IsWholeAct version act.now x
+        → IsHostAct version result x }
 {
     let mut message = [0; 12];
     let length = match &act.send {

@@ -28,7 +28,8 @@ impl AnyNode {
         }
     }
 
-    /// A message comes, or other bytes, with the number of their source among the nodes of the other kind.
+    /// A message comes, or other bytes, with the number of their source among the nodes of the
+    /// other kind.
     pub fn arrive(&mut self, from: u8, bytes: &[u8])
         ensures { Arrives self.old from bytes.now self.new }
     {
@@ -58,7 +59,8 @@ impl AnyNode {
         }
     }
 
-    /// The number of the first tick from the next on that isn't quiet, or 2^31 where that would not be below 2^31.
+    /// The number of the first tick from the next on that isn't quiet, or 2^31 where that would not
+    /// be below 2^31.
     pub fn next_tick(&self) -> u64
         ensures { IsNextTick self.now result }
     {

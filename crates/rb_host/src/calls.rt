@@ -46,8 +46,9 @@ fn make(alloc: Global, node: &mut Handle, seat: &Seat) -> Result<(), NoNode>
     }
 }
 
-/// Frees the node that is there, if one is, and puts the node of this seat into the handle, before its first tick. The answer is 0, or says
-/// why there is none: 7 no memory, 11 the sizes, 12 no such node, 13 a number of the plan, 21 to 27 the inequality that fails first.
+/// Frees the node that is there, if one is, and puts the node of this seat into the handle, before
+/// its first tick. The answer is 0, or says why there is none: 7 no memory, 11 the sizes, 12 no
+/// such node, 13 a number of the plan, 21 to 27 the inequality that fails first.
 pub fn new(alloc: Global, node: &mut Handle, seat: &Seat) -> u32
     ensures { IsAnswered seat.now (node_in node.new) result }
 {
@@ -55,10 +56,12 @@ pub fn new(alloc: Global, node: &mut Handle, seat: &Seat) -> u32
     number_of(make(alloc, node, seat))
 }
 
-/// A message comes, or other bytes, with the number of their source among the nodes of the other kind. Whether there is a node.
+/// A message comes, or other bytes, with the number of their source among the nodes of the other
+/// kind. Whether there is a node.
 pub fn arrive(alloc: Global, node: &mut Handle, from: u8, bytes: &[u8]) -> bool
     ensures there { result ≡ is_some (node_in node.old) }
-    ensures arrives { Becomes (λ n m. Arrives n from bytes.now m) (node_in node.old) (node_in node.new) }
+    ensures arrives { Becomes (λ n m. Arrives n from bytes.now m) (node_in node.old)
+        (node_in node.new) }
 {
     let Some(mut whole) = take(node, alloc) else {
         return false;
@@ -82,8 +85,8 @@ pub fn wants(alloc: Global, node: &mut Handle) -> HostWant
     want
 }
 
-/// A tick of the node's clock, with the request or the word for the case that one is wanted, and what the node gives. Whether there is a
-/// node; where there is none, `act` is as it was.
+/// A tick of the node's clock, with the request or the word for the case that one is wanted, and
+/// what the node gives. Whether there is a node; where there is none, `act` is as it was.
 pub fn tick(alloc: Global, node: &mut Handle, word: u32, act: &mut HostAct) -> bool
     ensures there { result ≡ is_some (node_in node.old) }
     ensures ticks { Becomes (λ n m. Ticks n word m act.new) (node_in node.old) (node_in node.new) }
@@ -97,7 +100,8 @@ pub fn tick(alloc: Global, node: &mut Handle, word: u32, act: &mut HostAct) -> b
     true
 }
 
-/// The number of the first tick from the next on that isn't quiet; 2^31 where that would not be below 2^31, and where there is no node.
+/// The number of the first tick from the next on that isn't quiet; 2^31 where that would not be
+/// below 2^31, and where there is no node.
 pub fn next_tick(alloc: Global, node: &mut Handle) -> u64
     ensures next { IfSome (node_in node.old) (λ n. IsNextTick n result) }
     ensures none { node_in node.old ≡ None → result ≡ 2 ^ 31 }
@@ -111,10 +115,11 @@ pub fn next_tick(alloc: Global, node: &mut Handle) -> u64
     tick
 }
 
-/// Quiet ticks pass: as many as there are before the next that isn't quiet, and at most so many. Gives how many did; 0 where there is no
-/// node.
+/// Quiet ticks pass: as many as there are before the next that isn't quiet, and at most so many.
+/// Gives how many did; 0 where there is no node.
 pub fn pass(alloc: Global, node: &mut Handle, ticks: u64) -> u64
-    ensures passes { Becomes (λ n m. Passes n ticks result m) (node_in node.old) (node_in node.new) }
+    ensures passes { Becomes (λ n m. Passes n ticks result m) (node_in node.old)
+        (node_in node.new) }
     ensures none { node_in node.old ≡ None → result ≡ 0 }
 {
     let Some(mut whole) = take(node, alloc) else {

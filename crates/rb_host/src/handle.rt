@@ -5,7 +5,8 @@ use crate::any_node::AnyNode;
 use crate::held::{Held, close, empty, open};
 use std::alloc::Global;
 
-/// A node in a host's hands, or none. A host keeps the struct where it likes and touches no field of it. One in C begins with zeros.
+/// A node in a host's hands, or none. A host keeps the struct where it likes and touches no field
+/// of it. One in C begins with zeros.
 #[repr(C)]
 #[derive(Drop)]
 pub struct Handle {

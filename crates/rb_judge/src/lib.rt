@@ -1,4 +1,5 @@
-//! Judges whether the premise on faults holds, by what the good nodes saw of each other and of the rest.
+//! Judges whether the premise on faults holds, by what the good nodes saw of each other and of the
+//! rest.
 #![tactic(auto)]
 
 ghost use Rattle.std.specs.Prelude.{◌≡◌, ◌<◌, true, false, [], ◌∷◌, List};
@@ -20,8 +21,8 @@ mod seen;
 mod sources;
 mod stage_sets;
 
-/// What was seen in the stages of a frame so far, as much of it as the classes of nodes depend on. Its size does not depend
-/// on how much was seen.
+/// What was seen in the stages of a frame so far, as much of it as the classes of nodes depend on.
+/// Its size does not depend on how much was seen.
 #[derive(Drop)]
 pub struct Judge {
     shape: Shape,
@@ -36,7 +37,12 @@ impl Model for Judge {
 
     ghost Value = { KeptJudge };
 
-    ghost view = { λ j. record { sizes = j.shape; eps = j.eps; bius = kept_kind j.bius; rmus = kept_kind j.rmus } };
+    ghost view = { λ j. record {
+      sizes = j.shape;
+      eps = j.eps;
+      bius = kept_kind j.bius;
+      rmus = kept_kind j.rmus;
+    } };
 }
 
 impl Judge {
@@ -63,8 +69,8 @@ impl Judge {
         self.rmus = Sources::new();
     }
 
-    /// A stage begins, with the good nodes of both kinds, the trusted ones, and how far apart the times of one message may be
-    /// at two good receivers, in reference units.
+    /// A stage begins, with the good nodes of both kinds, the trusted ones, and how far apart the
+    /// times of one message may be at two good receivers, in reference units.
     pub fn stage(
         &mut self,
         good_biu: NodeSet<Biu>,
@@ -82,12 +88,14 @@ impl Judge {
         self.rmus.begin(good_rmu, trusted_rmu);
     }
 
-    /// In the stage that runs, the receiver saw this of node `from` of the other kind. Where nothing is noted, it saw nothing.
+    /// In the stage that runs, the receiver saw this of node `from` of the other kind. Where
+    /// nothing is noted, it saw nothing.
     pub fn note(&mut self, receiver: NodeName, from: u8, see: See)
         requires good { is_good_now self.old receiver ≡ true }
         requires source { from < sources_of self.old receiver }
         requires once { has_noted self.old receiver from ≡ false }
-        ensures seen { (stages : List JudgedStage) → HoldsStages self.old stages → HoldsStages self.new (with_newest_sight receiver from see stages) }
+        ensures seen { (stages : List JudgedStage) → HoldsStages self.old stages
+            → HoldsStages self.new (with_newest_sight receiver from see stages) }
         ensures shape { self.new.sizes ≡ self.old.sizes }
     {
         match receiver {
@@ -102,11 +110,13 @@ impl Judge {
         }
     }
 
-    /// A stage begins and is told whole, by the sets of its nodes of both kinds. It stands beside `stage` and a `note` for each
-    /// sight, for who keeps these sets: of such a stage no single sights can be noted.
+    /// A stage begins and is told whole, by the sets of its nodes of both kinds. It stands beside
+    /// `stage` and a `note` for each sight, for who keeps these sets: of such a stage no single
+    /// sights can be noted.
     pub fn whole_stage(&mut self, biu: &StageSets<Biu>, rmu: &StageSets<Rmu>)
         ensures known { (stages : List JudgedStage) (s : JudgedStage) → Knows self.old stages
-            → AreSetsOf biu_side biu.now s → AreSetsOf rmu_side rmu.now s → Knows self.new (s ∷ stages) }
+            → AreSetsOf biu_side biu.now s → AreSetsOf rmu_side rmu.now s
+            → Knows self.new (s ∷ stages) }
         ensures shape { self.new.sizes ≡ self.old.sizes }
         ensures bound { self.new.eps ≡ self.old.eps }
     {
@@ -116,21 +126,24 @@ impl Judge {
 
     /// The classes of the trusted BIUs, by all that was seen in the frame so far.
     pub fn biu(&self) -> Classes<Biu>
-        ensures { (stages : List JudgedStage) → Knows self.now stages → sets_of result ≡ classes_of biu_side stages }
+        ensures { (stages : List JudgedStage) → Knows self.now stages
+            → sets_of result ≡ classes_of biu_side stages }
     {
         self.bius.classes()
     }
 
     /// The classes of the trusted RMUs, by all that was seen in the frame so far.
     pub fn rmu(&self) -> Classes<Rmu>
-        ensures { (stages : List JudgedStage) → Knows self.now stages → sets_of result ≡ classes_of rmu_side stages }
+        ensures { (stages : List JudgedStage) → Knows self.now stages
+            → sets_of result ≡ classes_of rmu_side stages }
     {
         self.rmus.classes()
     }
 
-    /// Why the premise fails, if it does: the good BIUs do not outnumber the symmetric and asymmetric together, the good RMUs
-    /// do not, or both kinds have an asymmetric node. The first that applies is the cause. This is the premise of Miner,
-    /// Geser, Pike and Maddalon (FORMATS 2004) on symmetric and asymmetric faults.
+    /// Why the premise fails, if it does: the good BIUs do not outnumber the symmetric and
+    /// asymmetric together, the good RMUs do not, or both kinds have an asymmetric node. The first
+    /// that applies is the cause. This is the premise of Miner, Geser, Pike and Maddalon (FORMATS
+    /// 2004) on symmetric and asymmetric faults.
     pub fn verdict(&self) -> Option<Cause>
         ensures { (stages : List JudgedStage) → Knows self.now stages → result ≡ verdict_of stages }
     {

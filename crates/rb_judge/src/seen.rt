@@ -44,8 +44,8 @@ impl SourceSights {
         }
     }
 
-    /// One sight more. The receiver is one of the good ones, and saw nothing of the source so far. The times of one message may be
-    /// `eps` reference units apart.
+    /// One sight more. The receiver is one of the good ones, and saw nothing of the source so far.
+    /// The times of one message may be `eps` reference units apart.
     pub fn noted<R: Copy>(self, good: NodeSet<R>, eps: u32, receiver: u8, see: See) -> SourceSights
         requires number { receiver < 16 }
         requires good { has good receiver ≡ true }

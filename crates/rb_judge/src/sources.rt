@@ -16,13 +16,15 @@ pub struct Sources<K> {
     /// The good nodes and the trusted ones in the newest stage.
     pub good: NodeSet<K>,
     pub trusted: NodeSet<K>,
-    /// Those that were seen unlike in an earlier stage of the frame, and those of which something was taken.
+    /// Those that were seen unlike in an earlier stage of the frame, and those of which something
+    /// was taken.
     pub unlike: NodeSet<K>,
     pub taken: NodeSet<K>,
     /// The same of the newest stage.
     pub unlike_now: NodeSet<K>,
     pub heard_now: NodeSet<K>,
-    /// By source, which receivers saw something of it in the newest stage, as a mask, and what is kept of that.
+    /// By source, which receivers saw something of it in the newest stage, as a mask, and what is
+    /// kept of that.
     pub by: [u16; 16],
     pub kept: [KeptSight; 16],
 }
@@ -66,7 +68,8 @@ impl<K: Copy> Sources<K> {
 
     /// A new stage with these sets, told at once.
     pub(crate) fn pass(&mut self, stage: &StageSets<K>)
-        ensures { Begins (kept_kind self.old) (kept_kind self.new) stage.now.good stage.now.trusted stage.now.taken stage.now.unlike }
+        ensures { Begins (kept_kind self.old) (kept_kind self.new) stage.now.good stage.now.trusted
+            stage.now.taken stage.now.unlike }
     {
         self.good = stage.good;
         self.trusted = stage.trusted;
@@ -106,7 +109,8 @@ impl<K: Copy> Sources<K> {
     fn put(&mut self, source: u8, seen: SourceSights)
         requires { source < 16 }
         ensures here { seen_of source (kept_kind self.new) ≡ seen }
-        ensures others { (j : ℕ) → j < 16 → j ≢ source → seen_of j (kept_kind self.new) ≡ seen_of j (kept_kind self.old) }
+        ensures others { (j : ℕ) → j < 16 → j ≢ source
+            → seen_of j (kept_kind self.new) ≡ seen_of j (kept_kind self.old) }
         ensures sets { KeepsSets (kept_kind self.old) (kept_kind self.new) }
     {
         let at = usize::from(source);
@@ -128,9 +132,12 @@ impl<K: Copy> Sources<K> {
         requires source { source < 16 }
         requires good { has good receiver ≡ true }
         requires once { has (slice_index self.old.by source) receiver ≡ false }
-        ensures here { (sight : ℕ → See) → ShowsSource eps good sight (seen_of source (kept_kind self.old))
-            → ShowsSource eps good (λ i. if i == receiver then see else sight i) (seen_of source (kept_kind self.new)) }
-        ensures others { (j : ℕ) → j < 16 → j ≢ source → seen_of j (kept_kind self.new) ≡ seen_of j (kept_kind self.old) }
+        ensures here { (sight : ℕ → See)
+            → ShowsSource eps good sight (seen_of source (kept_kind self.old))
+            → ShowsSource eps good (λ i. if i == receiver then see else sight i)
+            (seen_of source (kept_kind self.new)) }
+        ensures others { (j : ℕ) → j < 16 → j ≢ source
+            → seen_of j (kept_kind self.new) ≡ seen_of j (kept_kind self.old) }
         ensures sets { KeepsSets (kept_kind self.old) (kept_kind self.new) }
     {
         let seen = self.seen(source).noted(good, eps, receiver, see);

@@ -1,12 +1,13 @@
-//! Laws of agreement: what all good nodes hold in common, whom they accuse, and whom they convict. There is no clock in them, but for
-//! the premise of the last two. Each law is the contract of a function that does nothing.
+//! Laws of agreement: what all good nodes hold in common, whom they accuse, and whom they convict.
+//! There is no clock in them, but for the premise of the last two. Each law is the contract of a
+//! function that does nothing.
 #![tactic(auto)]
 
 ghost use Rattle.rb_laws_agreement.specs.Laws.{AccusedByAllIsConvicted, DeliveriesAreRight, GoodNodesAgree, GoodNodesHoldOneSchedule, GoodSendersAreHeard, NoGoodNodeIsAccused, NoGoodNodeIsConvicted, PortsFollowTheBus, PortsHoldOneState, RoundsStepTheBus, TimeIsAllThatIsLeft, TimeKeepsThePromise, UnheardNodesHaveNoVector};
 ghost use Rattle.rb_laws_agreement.specs.OneSlot.{OneSlotAgrees, VotesAgree, VotesAreValid};
 
-/// In one stage, whatever comes of the others: where all good sources say one value, and more of what a node takes comes of them than
-/// of others, that is its vote.
+/// In one stage, whatever comes of the others: where all good sources say one value, and more of
+/// what a node takes comes of them than of others, that is its vote.
 pub fn votes_are_valid()
     ensures { VotesAreValid }
 {}
@@ -16,30 +17,35 @@ pub fn votes_agree()
     ensures { VotesAgree }
 {}
 
-/// In one slot below the sync slot, whatever comes of the nodes that are not good: all good nodes that vote on it vote alike, for what
-/// the sender says where that is good; in a data slot each good BIU delivers that vote; and no good node accuses a good one. The premise is
-/// that in stages 2 and 3 more of what each good node takes comes of good sources than of others, and that of one kind no node is
-/// asymmetric.
+/// In one slot below the sync slot, whatever comes of the nodes that are not good: all good nodes
+/// that vote on it vote alike, for what the sender says where that is good; in a data slot each
+/// good BIU delivers that vote; and no good node accuses a good one. The premise is that in stages
+/// 2 and 3 more of what each good node takes comes of good sources than of others, and that of one
+/// kind no node is asymmetric.
 pub fn one_slot_agrees()
     ensures { OneSlotAgrees }
 {}
 
-/// The good nodes that vote on a slot hold one vote, and each good BIU delivers that in an owned data slot.
+/// The good nodes that vote on a slot hold one vote, and each good BIU delivers that in an owned
+/// data slot.
 pub fn good_nodes_agree()
     ensures { GoodNodesAgree }
 {}
 
-/// Where the sender is good, the vote is what it sent: its request, the word that its application offered, its vector.
+/// Where the sender is good, the vote is what it sent: its request, the word that its application
+/// offered, its vector.
 pub fn good_senders_are_heard()
     ensures { GoodSendersAreHeard }
 {}
 
-/// In each complete slot all good BIUs deliver one value, and where the slot's owner is good, the word that its application offered.
+/// In each complete slot all good BIUs deliver one value, and where the slot's owner is good, the
+/// word that its application offered.
 pub fn deliveries_are_right()
     ensures { DeliveriesAreRight }
 {}
 
-/// From the first data slot on good nodes hold one schedule, and they trust the same nodes, also as a frame begins.
+/// From the first data slot on good nodes hold one schedule, and they trust the same nodes, also as
+/// a frame begins.
 pub fn good_nodes_hold_one_schedule()
     ensures { GoodNodesHoldOneSchedule }
 {}
@@ -59,12 +65,14 @@ pub fn unheard_nodes_have_no_vector()
     ensures { UnheardNodesHaveNoVector }
 {}
 
-/// Whoever is accused by all nodes of the other kind that are good in the sync slot, when they send their vectors, is convicted at the frame's end; with probation as without.
+/// Whoever is accused by all nodes of the other kind that are good in the sync slot, when they send
+/// their vectors, is convicted at the frame's end; with probation as without.
 pub fn accused_by_all_is_convicted()
     ensures { AccusedByAllIsConvicted }
 {}
 
-/// A good BIU's port is what the values of the data slots that were not idle make of it, from its first word or its newest hand-in on.
+/// A good BIU's port is what the values of the data slots that were not idle make of it, from its
+/// first word or its newest hand-in on.
 pub fn ports_follow_the_bus()
     ensures { PortsFollowTheBus }
 {}
@@ -74,13 +82,14 @@ pub fn ports_hold_one_state()
     ensures { PortsHoldOneState }
 {}
 
-/// What good nodes hold is what the abstract bus holds, each slot is a step of it, and so is the begin of each frame. Of its times nothing is said.
+/// What good nodes hold is what the abstract bus holds, each slot is a step of it, and so is the
+/// begin of each frame. Of its times nothing is said.
 pub fn rounds_step_the_bus()
     ensures { RoundsStepTheBus }
 {}
 
-/// Where good nodes begin frames at most `p` reference units apart, and each frame takes as long as it must, the rounds stand for a
-/// run of the abstract bus.
+/// Where good nodes begin frames at most `p` reference units apart, and each frame takes as long as
+/// it must, the rounds stand for a run of the abstract bus.
 pub fn time_is_all_that_is_left()
     ensures { TimeIsAllThatIsLeft }
 {}

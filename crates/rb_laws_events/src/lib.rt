@@ -1,5 +1,5 @@
-//! Laws of runs: what the rounds of a scenario and its run event by event have to do with each other. Each law is the contract
-//! of a function that does nothing.
+//! Laws of runs: what the rounds of a scenario and its run event by event have to do with each
+//! other. Each law is the contract of a function that does nothing.
 #![tactic(none)]
 
 ghost use Rattle.rb_laws_events.specs.ByItself.{WhatNeedsNoEventIsGiven};
@@ -20,7 +20,8 @@ pub fn rounds_only_add()
     ensures { RoundsOnlyAdd }
 {}
 
-/// Whatever event is taken, whatever is handed in, the world only adds records, and none after the last.
+/// Whatever event is taken, whatever is handed in, the world only adds records, and none after the
+/// last.
 pub fn events_only_add()
     ensures { EventsOnlyAdd }
 {}
@@ -35,27 +36,30 @@ pub fn quiet_ticks_count()
     ensures { QuietTicksCount }
 {}
 
-/// A record that needs no event, as the end of the run or a stage in which no node is good, is given by the call that asks for it.
+/// A record that needs no event, as the end of the run or a stage in which no node is good, is
+/// given by the call that asks for it.
 pub fn what_needs_no_event_is_given()
     ensures { WhatNeedsNoEventIsGiven }
 {}
 
-/// Every good node closes a stage before any good node closes the next stage. So of each stage a world need keep only what was
-/// seen in it last. The tail is no stage: some nodes may be through it, and in the next frame, while others are still in the
-/// last stage. It is enough that good nodes begin the frame at most `p` apart and, over the turn, that none begins the next frame
+/// Every good node closes a stage before any good node closes the next stage. So of each stage a
+/// world need keep only what was seen in it last. The tail is no stage: some nodes may be through
+/// it, and in the next frame, while others are still in the last stage. It is enough that good
+/// nodes begin the frame at most `p` apart and, over the turn, that none begins the next frame
 /// before the ticks of all its stages have passed.
 pub fn close_order()
     ensures { GoodNodesCloseInOrder }
 {}
 
-/// Whatever is chosen among what is due, the records of a run event by event are the first of those of its rounds, and all of them
-/// once it has ended: in every lawful scenario, whatever is handed in, also where the premise on faults is broken.
+/// Whatever is chosen among what is due, the records of a run event by event are the first of those
+/// of its rounds, and all of them once it has ended: in every lawful scenario, whatever is handed
+/// in, also where the premise on faults is broken.
 pub fn events_are_rounds()
     ensures { EventsAreRoundsInLawful }
 {}
 
-/// No run stands still: in every lawful scenario some event is due, whatever was chosen, as long as the run has not ended and its next
-/// record needs an event.
+/// No run stands still: in every lawful scenario some event is due, whatever was chosen, as long as
+/// the run has not ended and its next record needs an event.
 pub fn something_is_due()
     ensures { SomethingIsDueInLawful }
 {}
@@ -65,50 +69,57 @@ pub fn one_turn_a_record()
     ensures { OneTurnARecordInLawful }
 {}
 
-/// Every run ends in every lawful scenario: whatever is chosen, at most so many events are taken as the nodes, the number of their ticks and
-/// what is said allow (`most_takes`), and no node that runs has had 2^31 ticks. Until then some event is due, or the next record is given
-/// without one.
+/// Every run ends in every lawful scenario: whatever is chosen, at most so many events are taken as
+/// the nodes, the number of their ticks and what is said allow (`most_takes`), and no node that
+/// runs has had 2^31 ticks. Until then some event is due, or the next record is given without one.
 pub fn every_run_ends()
     ensures { EveryRunEndsInLawful }
 {}
 
-/// In every lawful scenario room for `most_pending` events at each node, reserved at opening, is enough: for its tick, for four messages
-/// of each node of the other kind, and for three times as many as there are entries of what is said. Whatever was chosen, no more is
-/// pending at a node (`now`), nor after a tick of its own (`own`), nor with the message that another node sends at its tick (`message`).
+/// In every lawful scenario room for `most_pending` events at each node, reserved at opening, is
+/// enough: for its tick, for four messages of each node of the other kind, and for three times as
+/// many as there are entries of what is said. Whatever was chosen, no more is pending at a node
+/// (`now`), nor after a tick of its own (`own`), nor with the message that another node sends at
+/// its tick (`message`).
 pub fn pending_events_are_few()
     ensures { PendingEventsAreFewInLawful }
 {}
 
-/// In every lawful scenario, whatever is chosen and handed in, each core that runs holds the state that its node has in the rounds at the
-/// moment before the stage in which the core stands by its own frame and window, and each BIU that runs has its port of that moment. A node
-/// that does not run stands in a slot in which it is not good. All this in every world before a stage of a sync slot with which the run
-/// breaks off.
+/// In every lawful scenario, whatever is chosen and handed in, each core that runs holds the state
+/// that its node has in the rounds at the moment before the stage in which the core stands by its
+/// own frame and window, and each BIU that runs has its port of that moment. A node that does not
+/// run stands in a slot in which it is not good. All this in every world before a stage of a sync
+/// slot with which the run breaks off.
 pub fn cores_are_those_of_the_rounds()
     ensures { CoresAreThoseOfTheRounds }
 {}
 
-/// In every world, also where the run breaks off with a stage of a sync slot that some nodes have left already: each core that runs and
-/// has a tick to come holds the state of the rounds at its own moment, and each such BIU has its port of that moment, unless the run has
-/// ended by that moment in the rounds.
+/// In every world, also where the run breaks off with a stage of a sync slot that some nodes have
+/// left already: each core that runs and has a tick to come holds the state of the rounds at its
+/// own moment, and each such BIU has its port of that moment, unless the run has ended by that
+/// moment in the rounds.
 pub fn cores_follow_the_rounds()
     ensures { CoresFollowTheRounds }
 {}
 
-/// Any two running nodes of a world that stand in one slot begin it at most the stated skew apart, and hold one schedule, the same convicted
-/// nodes, no good one among them, and the same votes on the earlier slots of the frame: in each slot that is complete in the rounds, and at
-/// the begin of each frame.
+/// Any two running nodes of a world that stand in one slot begin it at most the stated skew apart,
+/// and hold one schedule, the same convicted nodes, no good one among them, and the same votes on
+/// the earlier slots of the frame: in each slot that is complete in the rounds, and at the begin of
+/// each frame.
 pub fn running_nodes_agree()
     ensures { RunningNodesAgreeInLawful }
 {}
 
-/// After the same complete slot running BIUs with one application, one first word and equal hand-ins have equal ports, unless a stage of a
-/// sync slot has ended the run and it has ended by the BIU's own moment, too.
+/// After the same complete slot running BIUs with one application, one first word and equal
+/// hand-ins have equal ports, unless a stage of a sync slot has ended the run and it has ended by
+/// the BIU's own moment, too.
 pub fn running_ports_agree()
     ensures { RunningPortsAgreeInLawful }
 {}
 
-/// All that is promised of running nodes holds in every world that choices lead to; and in the rounds, whatever is handed in, every window
-/// is timely, good BIUs that are alike have equal ports, and whoever all good nodes of the other kind accuse is convicted.
+/// All that is promised of running nodes holds in every world that choices lead to; and in the
+/// rounds, whatever is handed in, every window is timely, good BIUs that are alike have equal
+/// ports, and whoever all good nodes of the other kind accuse is convicted.
 pub fn running_nodes_keep_the_promise()
     ensures { RunningNodesKeepThePromiseInLawful }
 {}

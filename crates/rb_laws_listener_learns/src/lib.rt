@@ -1,4 +1,5 @@
-//! Laws of a passive listener beside a run of the bus. Each law is the contract of a function that does nothing.
+//! Laws of a passive listener beside a run of the bus. Each law is the contract of a function that
+//! does nothing.
 #![tactic(auto)]
 
 ghost use Rattle.std.specs.Prelude.{[]};
@@ -9,8 +10,9 @@ ghost use Rattle.rb_laws_listener_learns.specs.Ears.{HearsTheRun, IsEar};
 ghost use Rattle.rb_laws_listener_learns.specs.Laws.{AlwaysGoodIsGoodInEachSlot, DecisionsComeAfterTheCalls, DecisionsComeInTime, EarsAreFedEvents, FaultyRmusMaySpeakByAnyClock, FramesComeApart, GoodCallsComeTogether, GoodRmusAreHeardToCall, ListenersLearn, ListenersTrustAsTheBus, ListenersTrustTheTrusted, ListenersWait, RecordsOfTheGoodAreTrue, RecordsOfTheGoodAreWhole, TheFrameSoughtIsReal};
 ghost use Rattle.rb_laws_listener_learns.specs.Receivers.{IsCalm};
 
-/// An instance of what the laws ask, computed: a listener beside a run of two frames hears the RMU, learns the second frame, and decides by
-/// it; that frame comes to its end before the first breach of the premise with the listener.
+/// An instance of what the laws ask, computed: a listener beside a run of two frames hears the RMU,
+/// learns the second frame, and decides by it; that frame comes to its end before the first breach
+/// of the premise with the listener.
 pub fn a_listener_beside_a_run()
     ensures lawful { IsLawful two_frames }
     ensures ear { IsEar two_frames ear }
@@ -24,22 +26,26 @@ pub fn always_good_is_good_in_each_slot()
     ensures { AlwaysGoodIsGoodInEachSlot }
 {}
 
-/// An RMU may be heard to say anything from less than a tick before the slot of its onset begins by a clock that begins the frame near the good nodes.
+/// An RMU may be heard to say anything from less than a tick before the slot of its onset begins by
+/// a clock that begins the frame near the good nodes.
 pub fn faulty_rmus_may_speak_by_any_clock()
     ensures { FaultyRmusMaySpeakByAnyClock }
 {}
 
-/// What a listener tells beside a run is what it tells where it is given the ticks and messages one after another.
+/// What a listener tells beside a run is what it tells where it is given the ticks and messages one
+/// after another.
 pub fn ears_are_fed_events()
     ensures { EarsAreFedEvents }
 {}
 
-/// Where a listener learns a frame, it is the one after a frame of the bus in which the RMUs called.
+/// Where a listener learns a frame, it is the one after a frame of the bus in which the RMUs
+/// called.
 pub fn the_frame_sought_is_real()
     ensures { TheFrameSoughtIsReal }
 {}
 
-/// What a listener has recorded of an RMU that is good in the whole run is what that sent: in each place one message or none, never a bad one.
+/// What a listener has recorded of an RMU that is good in the whole run is what that sent: in each
+/// place one message or none, never a bad one.
 pub fn records_of_the_good_are_true()
     ensures { RecordsOfTheGoodAreTrue }
 {}
@@ -49,32 +55,38 @@ pub fn listeners_trust_the_trusted()
     ensures { ListenersTrustTheTrusted }
 {}
 
-/// In each frame whose sync slot the run comes to, each RMU that is good there calls in stage 2, and a listener hears it.
+/// In each frame whose sync slot the run comes to, each RMU that is good there calls in stage 2,
+/// and a listener hears it.
 pub fn good_rmus_are_heard_to_call()
     ensures { GoodRmusAreHeardToCall }
 {}
 
-/// The calls of good RMUs in one frame come to a listener with stamps at most as far apart as the calls of a pass may be.
+/// The calls of good RMUs in one frame come to a listener with stamps at most as far apart as the
+/// calls of a pass may be.
 pub fn good_calls_come_together()
     ensures { GoodCallsComeTogether }
 {}
 
-/// The calls of good RMUs in a later frame come later, and by more than those of a pass may lie apart.
+/// The calls of good RMUs in a later frame come later, and by more than those of a pass may lie
+/// apart.
 pub fn frames_come_apart()
     ensures { FramesComeApart }
 {}
 
-/// Where the tick is fixed at which a listener decides, all calls of good RMUs in the frame that it learns come before it.
+/// Where the tick is fixed at which a listener decides, all calls of good RMUs in the frame that it
+/// learns come before it.
 pub fn decisions_come_after_the_calls()
     ensures { DecisionsComeAfterTheCalls }
 {}
 
-/// Where a listener decides, all is recorded that an RMU, good in the learned frame up to its sync slot, sent in that frame in the places that are recorded.
+/// Where a listener decides, all is recorded that an RMU, good in the learned frame up to its sync
+/// slot, sent in that frame in the places that are recorded.
 pub fn records_of_the_good_are_whole()
     ensures { RecordsOfTheGoodAreWhole }
 {}
 
-/// Where a listener decides, it trusts by what it has recorded just the nodes that the bus trusts in the learned frame.
+/// Where a listener decides, it trusts by what it has recorded just the nodes that the bus trusts
+/// in the learned frame.
 pub fn listeners_trust_as_the_bus()
     ensures { ListenersTrustAsTheBus }
 {}
@@ -84,13 +96,15 @@ pub fn decisions_come_in_time()
     ensures { DecisionsComeInTime }
 {}
 
-/// Where a listener decides by a frame that comes to its end before the first breach of the premise with the listener, it has learned what it needs to follow: whom the
-/// bus trusts in that frame and in the next, the calls of the good RMUs, and the first tick of the next frame by their middle.
+/// Where a listener decides by a frame that comes to its end before the first breach of the premise
+/// with the listener, it has learned what it needs to follow: whom the bus trusts in that frame and
+/// in the next, the calls of the good RMUs, and the first tick of the next frame by their middle.
 pub fn listeners_learn()
     ensures { ListenersLearn }
 {}
 
-/// A listener that has decided waits up to the first tick of its first frame, whatever it hears, and with that it begins to follow.
+/// A listener that has decided waits up to the first tick of its first frame, whatever it hears,
+/// and with that it begins to follow.
 pub fn listeners_wait()
     ensures { ListenersWait }
 {}

@@ -1,35 +1,38 @@
-//! Laws of synchrony: how near good nodes begin their frames and slots, and that what they send each other comes in time. Each law
-//! is the contract of a function that does nothing.
+//! Laws of synchrony: how near good nodes begin their frames and slots, and that what they send
+//! each other comes in time. Each law is the contract of a function that does nothing.
 #![tactic(auto)]
 
 ghost use Rattle.rb_laws_synchrony.specs.Laws.{EpochsStayNear, SlotsBeginNear, WindowsAreTimely};
 ghost use Rattle.rb_laws_synchrony.specs.OneStage.{MiddlesAreNear, MiddlesLieAmongGoodCalls};
 
-/// In one stage of the sync slot, whatever comes of the nodes that are not good: where good sources call a good node between two
-/// reference times, and more of what it takes comes of them than of others, the middle that it keeps lies between these times, but for
-/// a tick, and it accuses none of them.
+/// In one stage of the sync slot, whatever comes of the nodes that are not good: where good sources
+/// call a good node between two reference times, and more of what it takes comes of them than of
+/// others, the middle that it keeps lies between these times, but for a tick, and it accuses none
+/// of them.
 pub fn middles_lie_among_good_calls()
     ensures { MiddlesLieAmongGoodCalls }
 {}
 
-/// Where two good nodes besides take near calls of each source, their middles differ by no more than `dmax - dmin` and a longest tick.
+/// Where two good nodes besides take near calls of each source, their middles differ by no more
+/// than `dmax - dmin` and a longest tick.
 pub fn middles_are_near()
     ensures { MiddlesAreNear }
 {}
 
-/// Good nodes begin each frame at most `p` reference units apart. A frame takes a good node all ticks of its windows, and fewer
-/// than `max(z, v + c)` more.
+/// Good nodes begin each frame at most `p` reference units apart. A frame takes a good node all
+/// ticks of its windows, and fewer than `max(z, v + c)` more.
 pub fn epochs_stay_near()
     ensures { EpochsStayNear }
 {}
 
-/// Good nodes send at ticks of their own windows, and what they hear of each other comes in the receiver's window, up to the
-/// window of the first breach, and in it too.
+/// Good nodes send at ticks of their own windows, and what they hear of each other comes in the
+/// receiver's window, up to the window of the first breach, and in it too.
 pub fn windows_are_timely()
     ensures { WindowsAreTimely }
 {}
 
-/// Good nodes begin a slot at most `p + 2 * r * o` reference units apart, `o` being the offset of its first tick in the frame.
+/// Good nodes begin a slot at most `p + 2 * r * o` reference units apart, `o` being the offset of
+/// its first tick in the frame.
 pub fn slots_begin_near()
     ensures { SlotsBeginNear }
 {}

@@ -22,9 +22,10 @@ const PAIRS: u16 = 512;
 // As many rules can be numbered. A bus has far fewer.
 const NUMBERED: usize = 65536;
 
-/// The delays of a bus, in reference units: the one of a message for which there is no rule, and the rules. Beside them it is
-/// kept which rules are for each pair of nodes, and which is the latest of these, since each message is looked up, and for each
-/// sender which places its latest rules all have, and the delays of these.
+/// The delays of a bus, in reference units: the one of a message for which there is no rule, and
+/// the rules. Beside them it is kept which rules are for each pair of nodes, and which is the
+/// latest of these, since each message is looked up, and for each sender which places its latest
+/// rules all have, and the delays of these.
 #[derive(Drop)]
 pub struct Delays {
     base: u32,
@@ -44,11 +45,13 @@ impl Model for Delays {
 
     ghost view = { λ d. record { base = d.base; rules = d.rules.items } };
 
-    ghost invariant = { λ d. ArePrepared d.base d.rules.items d.latest.items d.index.starts.items d.index.places.items d.shared.items d.flat.items };
+    ghost invariant = { λ d. ArePrepared d.base d.rules.items d.latest.items d.index.starts.items
+        d.index.places.items d.shared.items d.flat.items };
 }
 
-/// Which rules are for each pair of nodes: `places` holds the numbers of the rules, pair by pair, and `starts` where those of
-/// each pair begin and the last end. Where there are too many rules to be numbered, both are empty.
+/// Which rules are for each pair of nodes: `places` holds the numbers of the rules, pair by pair,
+/// and `starts` where those of each pair begin and the last end. Where there are too many rules to
+/// be numbered, both are empty.
 #[derive(Drop)]
 struct Index {
     starts: Vec<usize>,
@@ -73,7 +76,8 @@ impl Index {
     }
 }
 
-// The numbers of the rules that are for messages from the one node to the other come behind those that are there.
+// The numbers of the rules that are for messages from the one node to the other come behind those
+// that are there.
 fn add_places(
     places: &mut Vec<u16>,
     rules: &[Rule],
@@ -81,7 +85,8 @@ fn add_places(
     to: NodeName,
 ) -> Result<(), OutOfMemory>
     requires { length rules.now ≤ NUMBERED }
-    ensures { IfOk result (λ _. places.new.items ≡ places.old.items ++ places_from 0 (is_between from to) rules.now) }
+    ensures { IfOk result (λ _. places.new.items
+        ≡ places.old.items ++ places_from 0 (is_between from to) rules.now) }
 {
     let mut number: usize = 0;
     for rule in rules {
@@ -106,7 +111,8 @@ fn add<T: Copy>(list: &mut Vec<T>, item: T) -> Result<(), OutOfMemory>
 
 // The number comes behind those that are there, if its rule passes.
 fn add_if(places: &mut Vec<u16>, passes: bool, number: u16) -> Result<(), OutOfMemory>
-    ensures { IfOk result (λ _. places.new.items ≡ places.old.items ++ cond passes (number ∷ []) []) }
+    ensures { IfOk result (λ _. places.new.items
+        ≡ places.old.items ++ cond passes (number ∷ []) []) }
 {
     if passes { add(places, number) } else { Ok(()) }
 }
@@ -142,7 +148,8 @@ fn rule_at(rules: &[Rule], number: u16) -> Option<Rule>
 }
 
 impl Delays {
-    /// The delays with these rules. Where several are for one message the last of them counts, and where none is, `base`.
+    /// The delays with these rules. Where several are for one message the last of them counts, and
+    /// where none is, `base`.
     pub fn new(alloc: Global, base: u32, rules: &[Rule]) -> Result<Delays, OutOfMemory>
         ensures { IfOk result (λ d. d ≡ record { base = base; rules = rules.now }) }
     {
@@ -161,8 +168,9 @@ impl Delays {
         })
     }
 
-    /// How long a message of this place from one node to another is on its way, in reference units. The place is the one
-    /// that the message's header names. Only the rules for these two nodes are looked at, the latest first.
+    /// How long a message of this place from one node to another is on its way, in reference units.
+    /// The place is the one that the message's header names. Only the rules for these two nodes are
+    /// looked at, the latest first.
     #[inline]
     pub fn delay(&self, from: NodeName, to: NodeName, place: Place) -> u32
         ensures { result ≡ delay_of self.now from to place }
@@ -179,9 +187,10 @@ impl Delays {
         }
     }
 
-    /// The delays, in reference units, of a message of this place from the node to the nodes of the other kind, at their numbers.
-    /// There are 16, where the node's number is below 16 and the place is one that, for each of these 16 nodes, the latest of the
-    /// rules for messages from the one to the other has, if there are any for them. Else the row is empty.
+    /// The delays, in reference units, of a message of this place from the node to the nodes of the
+    /// other kind, at their numbers. There are 16, where the node's number is below 16 and the
+    /// place is one that, for each of these 16 nodes, the latest of the rules for messages from the
+    /// one to the other has, if there are any for them. Else the row is empty.
     #[inline]
     pub fn row(&self, from: NodeName, place: Place) -> &[u32]
         ensures delays { IsRow self.now from place result.now }
@@ -221,7 +230,8 @@ impl Delays {
 #[inline]
 #[tactic(auto, using(crate::proofs::Latest::by_latest))]
 fn latest_delay(latest: &[Rule], pair: u16, place: Place) -> Option<u32>
-    ensures { IfSome result (λ delay. (base : ℕ) → (rules : List KeptRule) → AreLatest base rules latest.now
+    ensures { IfSome result (λ delay. (base : ℕ) → (rules : List KeptRule)
+        → AreLatest base rules latest.now
         → delay ≡ delay_after base rules (sender_of pair) (receiver_of pair) place) }
 {
     let Some(rule) = rule_at(latest, pair) else {
@@ -255,8 +265,8 @@ fn latest_rules(alloc: Global, base: u32, rules: &[Rule]) -> Result<Vec<Rule>, O
     Ok(latest)
 }
 
-// The last of the rules that is for messages from the one node to the other. Where there is none it is one for all places,
-// with the base as its delay.
+// The last of the rules that is for messages from the one node to the other. Where there is none it
+// is one for all places, with the base as its delay.
 fn latest_rule(base: u32, rules: &[Rule], from: NodeName, to: NodeName) -> Rule
     ensures { IsLatest base rules.now from to result }
 {
@@ -297,7 +307,8 @@ fn last_rule(rules: &[Rule], from: NodeName, to: NodeName, place: Place) -> Opti
 // The number of the pair. None for nodes of one kind and for numbers that no node has.
 #[inline]
 fn pair_of(from: NodeName, to: NodeName) -> Option<u16>
-    ensures { IfSome result (λ pair. (pair < PAIRS) × (sender_of pair ≡ from) × (receiver_of pair ≡ to)) }
+    ensures { IfSome result (λ pair. (pair < PAIRS) × (sender_of pair ≡ from)
+        × (receiver_of pair ≡ to)) }
 {
     match (from, to) {
         (NodeName::Biu(i), NodeName::Rmu(j)) if i < 16 && j < 16 => {

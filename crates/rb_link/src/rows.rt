@@ -1,5 +1,5 @@
-//! The delays of the messages from each node, one a receiver. At the places that the latest rules for these messages all have,
-//! they are read with no look at the rules.
+//! The delays of the messages from each node, one a receiver. At the places that the latest rules
+//! for these messages all have, they are read with no look at the rules.
 ghost use Rattle.std.specs.Prelude.{◌≡◌, ℕ, List, ◌+◌, ◌<◌, ◌≤◌, ◌&&◌, IfNone, IfOk, IfSome, if◌then◌else◌, is_some, length, map, slice_get};
 ghost use Rattle.std.specs.List.{slice_range};
 ghost use Rattle.rb_base.specs.declared.values.Place.{Place as KeptPlace};
@@ -108,12 +108,14 @@ pub(crate) fn sender_number(from: NodeName) -> Option<u16>
     }
 }
 
-// The delays of the sender's messages of this place. Empty where its latest rules don't all have it.
+// The delays of the sender's messages of this place. Empty where its latest rules don't all have
+// it.
 #[inline]
 #[tactic(auto, using(crate::proofs::NodeRows::row_found))]
 pub(crate) fn row_at<'a>(shared: &[Ranges], flat: &'a [u32], sender: u16, place: Place) -> &'a [u32]
     requires { sender < SENDERS }
-    ensures delays { (base : ℕ) → (rules : List KeptRule) → AreRows base rules shared.now flat.now → IsRowOf base rules sender place result.now }
+    ensures delays { (base : ℕ) → (rules : List KeptRule) → AreRows base rules shared.now flat.now
+        → IsRowOf base rules sender place result.now }
     ensures there { (base : ℕ) → (rules : List KeptRule) → AreRows base rules shared.now flat.now
         → length result.now ≡ (if all_latest_have rules sender place then 16 else 0) }
 {

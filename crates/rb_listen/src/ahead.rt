@@ -21,7 +21,8 @@ pub struct Ahead {
     pub(crate) window: Window,
 }
 
-// The sizes and the plan are within their bounds. It does nothing: a proof that needs a bound reads it at its call.
+// The sizes and the plan are within their bounds. It does nothing: a proof that needs a bound reads
+// it at its call.
 pub(crate) fn bounds(engine: &Engine<Biu>)
     ensures shape { IsShape engine.now.sizes }
     ensures plan { IsPlan engine.now.plan }

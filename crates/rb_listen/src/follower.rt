@@ -16,9 +16,10 @@ use rb_plan::Feasible;
 use rb_slot::{Engine, Shown};
 use std::marker::Model;
 
-/// A passive listener that follows the bus, as a BIU without a number that says nothing: its passive engine, the ticks that it
-/// has had, what came since its last close, what it showed of the window that it closed last, and what is ahead of it. Ticks are
-/// those of the listener's own clock.
+/// A passive listener that follows the bus, as a BIU without a number that says nothing: its
+/// passive engine, the ticks that it has had, what came since its last close, what it showed of the
+/// window that it closed last, and what is ahead of it. Ticks are those of the listener's own
+/// clock.
 #[derive(Drop)]
 pub struct Follower {
     engine: Engine<Biu>,
@@ -40,8 +41,9 @@ impl Model for Follower {
 }
 
 impl Follower {
-    /// A listener of the plan's bus that follows from this tick on, with which this frame begins: it trusts these nodes and
-    /// accuses nobody, and nothing came. The frame's number is below 65536 and the tick below 2^31.
+    /// A listener of the plan's bus that follows from this tick on, with which this frame begins:
+    /// it trusts these nodes and accuses nobody, and nothing came. The frame's number is below
+    /// 65536 and the tick below 2^31.
     pub fn new(
         plan: &Feasible,
         frame: u32,
@@ -68,7 +70,8 @@ impl Follower {
         }
     }
 
-    /// How many ticks the listener has had, which is the number of its next tick. It stands for some core, whatever came.
+    /// How many ticks the listener has had, which is the number of its next tick. It stands for
+    /// some core, whatever came.
     pub fn had(&self) -> u64
         ensures value { result ≡ self.now.had }
         ensures most { result ≤ 2 ^ 31 }
@@ -85,15 +88,17 @@ impl Follower {
         self.engine.frame()
     }
 
-    /// What the listener showed of the window that it closed last, the tail among them. Before its first close nothing is in it.
+    /// What the listener showed of the window that it closed last, the tail among them. Before its
+    /// first close nothing is in it.
     pub fn shown(&self) -> &Closed
         ensures { result.now ≡ self.now.shown }
     {
         self.shown.closed()
     }
 
-    /// The number of the first tick from the next on that isn't quiet: a frame begins with it, or the listener closes a window.
-    /// None exactly where that number would not be below 2^31. It is kept at hand.
+    /// The number of the first tick from the next on that isn't quiet: a frame begins with it, or
+    /// the listener closes a window. None exactly where that number would not be below 2^31. It is
+    /// kept at hand.
     pub fn next_tick(&self) -> Option<u64>
         ensures core { (c : Core) → IsCore self.now c → result ≡ next_wake_at self.now c }
         ensures passing { passing_end self.now ≡ unwrap_or result (2 ^ 31) }
@@ -107,11 +112,12 @@ impl Follower {
         }
     }
 
-    /// A message comes, or other bytes: any number of any bytes, with the number of their source among the RMUs. They are
-    /// stamped with the number of the next tick. A number that no RMU has changes nothing, and a listener that has had 2^31
-    /// ticks does not change.
+    /// A message comes, or other bytes: any number of any bytes, with the number of their source
+    /// among the RMUs. They are stamped with the number of the next tick. A number that no RMU has
+    /// changes nothing, and a listener that has had 2^31 ticks does not change.
     pub fn arrive(&mut self, from: u8, bytes: &[u8])
-        ensures core { (c : Core) → IsCore self.old c → IsCore self.new (arrive_at self.old c from bytes.now) }
+        ensures core { (c : Core) → IsCore self.old c
+            → IsCore self.new (arrive_at self.old c from bytes.now) }
         ensures rest { self.new ≡ record self.old { inbox = self.new.inbox } }
         ensures spent { 2 ^ 31 ≤ self.old.had → self.new ≡ self.old }
     {
@@ -126,12 +132,15 @@ impl Follower {
         }
     }
 
-    /// A tick of the listener's clock. At the tick of its next epoch it first turns to the next frame; then it closes the window,
-    /// if this is its last tick, on what came since the last close. What it saw is then `shown`. It never sends a message. A
-    /// listener that has had 2^31 ticks gives nothing and does not change.
+    /// A tick of the listener's clock. At the tick of its next epoch it first turns to the next
+    /// frame; then it closes the window, if this is its last tick, on what came since the last
+    /// close. What it saw is then `shown`. It never sends a message. A listener that has had 2^31
+    /// ticks gives nothing and does not change.
     pub fn step(&mut self) -> Step
-        ensures core { (c : Core) → IsCore self.old c → IsCore self.new (follow_at self.old c).core }
-        ensures act { (c : Core) → IsCore self.old c → IsAct self.new.shown result (follow_at self.old c) }
+        ensures core { (c : Core) → IsCore self.old c
+            → IsCore self.new (follow_at self.old c).core }
+        ensures act { (c : Core) → IsCore self.old c
+            → IsAct self.new.shown result (follow_at self.old c) }
         ensures shown { result.closed ≡ false → self.new.shown ≡ self.old.shown }
         ensures same { IsSameNode self.old self.new }
         ensures spent { 2 ^ 31 ≤ self.old.had → self.new ≡ self.old }
@@ -163,14 +172,18 @@ impl Follower {
         }
     }
 
-    /// So many quiet ticks pass, at once: at most up to the tick that `next_tick` gives, which is not among them, and where it
-    /// gives none, up to the last that a listener can have. It leaves what so many calls of `step` leave, which give nothing.
+    /// So many quiet ticks pass, at once: at most up to the tick that `next_tick` gives, which is
+    /// not among them, and where it gives none, up to the last that a listener can have. It leaves
+    /// what so many calls of `step` leave, which give nothing.
     pub fn pass(&mut self, ticks: u64)
         requires { self.old.had + ticks ≤ passing_end self.old }
         ensures value { self.new ≡ record self.old { had = self.old.had + ticks } }
-        ensures core { (c : Core) → IsCore self.old c → IsCore self.new (follows_at self.old ticks c) }
-        ensures counted { (c : Core) → IsCore self.old c → IsCore self.new (pass_to (self.old.had + ticks) c) }
-        ensures quiet { (k : ℕ) → self.old.had ≤ k → k < self.old.had + ticks → wakes_at self.old.seat k ≡ false }
+        ensures core { (c : Core) → IsCore self.old c
+            → IsCore self.new (follows_at self.old ticks c) }
+        ensures counted { (c : Core) → IsCore self.old c
+            → IsCore self.new (pass_to (self.old.had + ticks) c) }
+        ensures quiet { (k : ℕ) → self.old.had ≤ k → k < self.old.had + ticks
+            → wakes_at self.old.seat k ≡ false }
         ensures most { self.old.had + ticks ≤ 2 ^ 31 }
     {
         self.had += ticks;

@@ -19,8 +19,9 @@ use rb_rules::{Message, Role, Sense, Tag};
 use rb_slot::role_of;
 use rb_vote::majority_taken;
 
-/// What is recorded of a frame: its number, modulo 65536, the tick at which the listener decides by it, if that is known, and of
-/// each RMU what came of it in each slot: that of RMU `j` in a slot has the number 16 times the slot and `j`.
+/// What is recorded of a frame: its number, modulo 65536, the tick at which the listener decides by
+/// it, if that is known, and of each RMU what came of it in each slot: that of RMU `j` in a slot
+/// has the number 16 times the slot and `j`.
 #[derive(Drop)]
 pub struct Lesson {
     pub frame: u16,
@@ -28,7 +29,8 @@ pub struct Lesson {
     pub records: [Sense; 1808],
 }
 
-/// The first frame that a listener follows: its number, its first tick, and whom the listener then trusts.
+/// The first frame that a listener follows: its number, its first tick, and whom the listener then
+/// trusts.
 #[derive(Clone, Copy, Debug, PartialEq, Eq)]
 pub struct First {
     pub frame: u32,
@@ -299,7 +301,8 @@ fn vote_on(records: &[Sense; 1808], rmus: NodeSet<Rmu>, slot: u16) -> Heard
 // Enters the vote on the vector of the sender with this number.
 fn enter<S: Kind>(ballot: &mut Ballot<S>, index: u8, voted: Heard)
     requires { index < 16 }
-    ensures { ballot.new ≡ record ballot.old { vectors = slice_set ballot.old.vectors index voted } }
+    ensures { ballot.new
+        ≡ record ballot.old { vectors = slice_set ballot.old.vectors index voted } }
 {
     ballot.enter(NodeId::of(index), voted);
 }
@@ -314,7 +317,8 @@ fn ballot_of<S: Kind>(
     requires first { first ≤ 96 }
     requires others { others ≤ 16 }
     ensures others { result.others ≡ others }
-    ensures vectors { (i : ℕ) → i < 16 → vector_in result.vectors i ≡ vote_on records.now rmus (first + i) }
+    ensures vectors { (i : ℕ) → i < 16
+        → vector_in result.vectors i ≡ vote_on records.now rmus (first + i) }
 {
     let mut ballot = Ballot::new(others);
     for i in 0..16u8 {

@@ -1,4 +1,5 @@
-//! A passive listener: what it learns of the bus, when a frame comes to its end, what one frame tells of the next, and how it then follows.
+//! A passive listener: what it learns of the bus, when a frame comes to its end, what one frame
+//! tells of the next, and how it then follows.
 #![tactic(auto)]
 
 pub use follower::Follower;

@@ -16,8 +16,8 @@ use rb_base::{Delivery, MOST_TICKS, NodeSet};
 use rb_plan::Feasible;
 use std::marker::Model;
 
-/// What a listener does: it seeks or learns a frame, it has decided and waits for the first tick of the first frame that it
-/// follows, or it follows.
+/// What a listener does: it seeks or learns a frame, it has decided and waits for the first tick of
+/// the first frame that it follows, or it follows.
 #[derive(Clone, Copy)]
 pub enum Stage {
     Searching,
@@ -25,9 +25,10 @@ pub enum Stage {
     Following,
 }
 
-/// A passive listener: a device that hears what the RMUs send to one BIU, and sends nothing. It starts at any time and knows
-/// nothing but the plan of the bus. First it seeks the frame that the bus is in, by the calls to resynchronise of most RMUs; then it
-/// learns one whole frame, and from that frame whom the bus trusts and when the next frame begins; then it follows the bus, as a BIU
+/// A passive listener: a device that hears what the RMUs send to one BIU, and sends nothing. It
+/// starts at any time and knows nothing but the plan of the bus. First it seeks the frame that the
+/// bus is in, by the calls to resynchronise of most RMUs; then it learns one whole frame, and from
+/// that frame whom the bus trusts and when the next frame begins; then it follows the bus, as a BIU
 /// without a number that says nothing. Ticks are those of the listener's own clock.
 #[derive(Drop)]
 pub struct Listener {
@@ -78,7 +79,8 @@ fn delivered_in(closed: bool, follower: &Follower) -> Option<Delivery>
 
 // A tick of a listener that follows.
 fn follow(follower: &mut Follower) -> Heed
-    ensures core { (c : Core) → IsCore follower.old c → IsCore follower.new (follow_at follower.old c).core }
+    ensures core { (c : Core) → IsCore follower.old c
+        → IsCore follower.new (follow_at follower.old c).core }
     ensures heed { (c : Core) → IsCore follower.old c → result ≡ told (follow_at follower.old c) }
     ensures same { IsSameNode follower.old follower.new }
 {
@@ -104,7 +106,8 @@ impl Listener {
         }
     }
 
-    /// The number of the frame that the listener follows. None exactly while it seeks or learns or waits for its first epoch.
+    /// The number of the frame that the listener follows. None exactly while it seeks or learns or
+    /// waits for its first epoch.
     pub fn frame(&self) -> Option<u32>
         ensures { (l : Listening) → IsListening self.now l → result ≡ frame_of l }
     {
@@ -115,8 +118,8 @@ impl Listener {
         }
     }
 
-    /// How many ticks the listener has had, which is the number of its next tick. It stands for some listener of the definitions,
-    /// whatever came.
+    /// How many ticks the listener has had, which is the number of its next tick. It stands for
+    /// some listener of the definitions, whatever came.
     pub fn had(&self) -> u64
         ensures value { result ≡ had_at self.now }
         ensures had { (l : Listening) → IsListening self.now l → result ≡ had_by l }
@@ -131,10 +134,12 @@ impl Listener {
         }
     }
 
-    /// The number of the first tick from the next on that isn't quiet: the listener decides at it, or a frame begins with it, or it
-    /// closes a window. None exactly where that number would not be below 2^31. It is kept at hand.
+    /// The number of the first tick from the next on that isn't quiet: the listener decides at it,
+    /// or a frame begins with it, or it closes a window. None exactly where that number would not
+    /// be below 2^31. It is kept at hand.
     pub fn next_tick(&self) -> Option<u64>
-        ensures next { (l : Listening) → IsListening self.now l → result ≡ next_heed self.now.sizes self.now.plan l }
+        ensures next { (l : Listening) → IsListening self.now l
+            → result ≡ next_heed self.now.sizes self.now.plan l }
         ensures passing { passing_end self.now ≡ unwrap_or result (2 ^ 31) }
         ensures later { IfSome result (λ k. had_at self.now ≤ k) }
         ensures below { IfSome result (λ k. k < 2 ^ 31) }
@@ -146,10 +151,11 @@ impl Listener {
         }
     }
 
-    /// A message comes, or other bytes: any number of any bytes, with the number of their source among the RMUs. While the listener
-    /// seeks and learns they count by what they say, whenever they come; between its decision and its first epoch they are
-    /// dropped; then they are stamped with the number of the next tick, as at a node. A number that no RMU has changes nothing, and
-    /// a listener that has had 2^31 ticks does not change.
+    /// A message comes, or other bytes: any number of any bytes, with the number of their source
+    /// among the RMUs. While the listener seeks and learns they count by what they say, whenever
+    /// they come; between its decision and its first epoch they are dropped; then they are stamped
+    /// with the number of the next tick, as at a node. A number that no RMU has changes nothing,
+    /// and a listener that has had 2^31 ticks does not change.
     pub fn arrive(&mut self, from: u8, bytes: &[u8])
         ensures stands { (l : Listening) → IsListening self.old l
             → IsListening self.new (hear self.old.sizes self.old.plan from bytes.now l) }
@@ -168,7 +174,8 @@ impl Listener {
         requires { self.old.stage ≡ stage.Searching }
         ensures stands { (l : Listening) → IsListening self.old l
             → IsListening self.new (heed self.old.sizes self.old.plan l).listening }
-        ensures heed { (l : Listening) → IsListening self.old l → result ≡ (heed self.old.sizes self.old.plan l).heed }
+        ensures heed { (l : Listening) → IsListening self.old l
+            → result ≡ (heed self.old.sizes self.old.plan l).heed }
         ensures same { IsSameBus self.old self.new }
     {
         if self.search.had >= MOST_TICKS {
@@ -183,7 +190,8 @@ impl Listener {
         requires { self.old.stage ≡ stage.Waiting first }
         ensures stands { (l : Listening) → IsListening self.old l
             → IsListening self.new (heed self.old.sizes self.old.plan l).listening }
-        ensures heed { (l : Listening) → IsListening self.old l → result ≡ (heed self.old.sizes self.old.plan l).heed }
+        ensures heed { (l : Listening) → IsListening self.old l
+            → result ≡ (heed self.old.sizes self.old.plan l).heed }
         ensures same { IsSameBus self.old self.new }
     {
         if self.search.had >= MOST_TICKS {
@@ -205,14 +213,16 @@ impl Listener {
         }
     }
 
-    /// A tick of the listener's clock. While it learns it decides at the tick that a pass fixed: it waits for the first frame after
-    /// the one that it learned, or learns the next where none can be known. With its first epoch it begins to follow. It tells of each
-    /// frame that begins, and of what it delivers in the window that it closes. A listener that has had 2^31 ticks tells
+    /// A tick of the listener's clock. While it learns it decides at the tick that a pass fixed: it
+    /// waits for the first frame after the one that it learned, or learns the next where none can
+    /// be known. With its first epoch it begins to follow. It tells of each frame that begins, and
+    /// of what it delivers in the window that it closes. A listener that has had 2^31 ticks tells
     /// nothing and does not change.
     pub fn tick(&mut self) -> Heed
         ensures stands { (l : Listening) → IsListening self.old l
             → IsListening self.new (heed self.old.sizes self.old.plan l).listening }
-        ensures heed { (l : Listening) → IsListening self.old l → result ≡ (heed self.old.sizes self.old.plan l).heed }
+        ensures heed { (l : Listening) → IsListening self.old l
+            → result ≡ (heed self.old.sizes self.old.plan l).heed }
         ensures same { IsSameBus self.old self.new }
     {
         match self.stage {
@@ -222,13 +232,15 @@ impl Listener {
         }
     }
 
-    /// So many quiet ticks pass, at once: at most up to the tick that `next_tick` gives, which is not among them, and where it
-    /// gives none, up to the last that a listener can have. It leaves what so many calls of `tick` leave, which tell nothing.
+    /// So many quiet ticks pass, at once: at most up to the tick that `next_tick` gives, which is
+    /// not among them, and where it gives none, up to the last that a listener can have. It leaves
+    /// what so many calls of `tick` leave, which tell nothing.
     pub fn pass(&mut self, ticks: u64)
         requires { had_at self.old + ticks ≤ passing_end self.old }
         ensures stands { (l : Listening) → IsListening self.old l
             → IsListening self.new (heeds self.old.sizes self.old.plan ticks l) }
-        ensures quiet { (l : Listening) → IsListening self.old l → TellNothing self.old.sizes self.old.plan ticks l }
+        ensures quiet { (l : Listening) → IsListening self.old l
+            → TellNothing self.old.sizes self.old.plan ticks l }
         ensures had { had_at self.new ≡ had_at self.old + ticks }
         ensures same { IsSameBus self.old self.new }
     {

@@ -15,7 +15,8 @@ use rb_node::{Epoch, Step};
 use rb_plan::Window;
 use rb_slot::{Engine, Shown};
 
-// The follower turns, if this is the tick of its next epoch. It gives the tick's window, which was this in the state before.
+// The follower turns, if this is the tick of its next epoch. It gives the tick's window, which was
+// this in the state before.
 pub(crate) fn turn_at(engine: &mut Engine<Biu>, window: &Window, now: u64) -> Window
     requires now { now < 2 ^ 31 }
     requires frame { engine.old.state.frame < 2 ^ 31 }
@@ -66,11 +67,14 @@ pub(crate) fn close_at(
     requires fits { engine.old.state.epoch + window.now.last < 2 ^ 64 }
     requires stamps { StampsUpTo (2 ^ 32) inbox.old }
     ensures closes { result ≡ (now == engine.old.state.epoch + window.now.last) }
-    ensures state { (received : List Received) → HoldsArrivals inbox.old received → engine.new ≡ record engine.old {
-      state = if result then (outcome_on TheBiu engine.old window.now received).state else engine.old.state;
-    } }
+    ensures state { (received : List Received) → HoldsArrivals inbox.old received
+        → engine.new ≡ record engine.old {
+          state = if result then (outcome_on TheBiu engine.old window.now received).state
+              else engine.old.state;
+        } }
     ensures shown { (received : List Received) → HoldsArrivals inbox.old received
-        → shown.new ≡ (if result then (outcome_on TheBiu engine.old window.now received).closed else shown.old) }
+        → shown.new ≡ (if result then (outcome_on TheBiu engine.old window.now received).closed
+        else shown.old) }
     ensures stays { result ≡ false → shown.new ≡ shown.old }
     ensures inbox { (received : List Received) → HoldsArrivals inbox.old received
         → HoldsArrivals inbox.new (if result then [] else received) }

@@ -6,7 +6,8 @@ use rb_base::{NodeId, NodeSet, Rmu, Shape};
 use rb_plan::Feasible;
 use rb_rules::{Message, Tag};
 
-/// A call to resynchronise that an RMU sent to the BIUs: the number of its frame, modulo 65536, and the stamp with which it came.
+/// A call to resynchronise that an RMU sent to the BIUs: the number of its frame, modulo 65536, and
+/// the stamp with which it came.
 #[derive(Clone, Copy, Debug, PartialEq, Eq)]
 pub struct Call {
     pub frame: u16,

@@ -13,8 +13,9 @@ use rb_frame::decode;
 use rb_plan::Feasible;
 use rb_rules::Message;
 
-/// What a listener heard while it seeks and learns: how many ticks it has had, the newest call of each RMU, and what is recorded of the
-/// frame that it learns. Where it seeks, and learns none, the lesson says nothing.
+/// What a listener heard while it seeks and learns: how many ticks it has had, the newest call of
+/// each RMU, and what is recorded of the frame that it learns. Where it seeks, and learns none, the
+/// lesson says nothing.
 #[derive(Drop)]
 pub struct Search {
     pub had: u64,
@@ -150,7 +151,8 @@ fn learn_next(search: &mut Search)
     learn(search, next);
 }
 
-// The listener decides by its lesson: it waits for the first frame, where that begins after the decision. Else it learns the next.
+// The listener decides by its lesson: it waits for the first frame, where that begins after the
+// decision. Else it learns the next.
 fn decide(search: &mut Search, plan: &Feasible) -> Stage
     requires soon { AreSoon search.old.lesson.records }
     requires had { search.old.had < 2 ^ 31 }
@@ -170,7 +172,8 @@ fn wait(search: &mut Search, first: First) -> Stage
     requires soon { AreSoon search.old.lesson.records }
     requires had { search.old.had < 2 ^ 31 }
     requires frame { first.frame < 65536 }
-    ensures { ComesTo search.old (if_after search.old first (nat_lt search.old.had first.epoch)) result search.new }
+    ensures { ComesTo search.old (if_after search.old first (nat_lt search.old.had first.epoch))
+        result search.new }
 {
     if search.had < first.epoch {
         search.had += 1;
@@ -197,7 +200,8 @@ pub(crate) fn search_on(search: &mut Search, plan: &Feasible) -> Stage
     requires soon { AreSoon search.old.lesson.records }
     requires had { search.old.had < 2 ^ 31 }
     requires ahead { IsAhead search.old.had (decision_of search.old) }
-    ensures { ComesTo search.old (search_on plan.now.sizes plan.now.plan search.old) result search.new }
+    ensures { ComesTo search.old (search_on plan.now.sizes plan.now.plan search.old) result
+        search.new }
 {
     if is_deciding(search) {
         decide(search, plan)

@@ -32,7 +32,8 @@ impl<'a> Cursor<'a> {
     fn take_entry(&mut self) -> Entry
         requires { IsSound self.old }
         ensures sound { IsSound self.new }
-        ensures events { events_behind self.old ≡ events_of self.old.bytes.now self.old.place result ++ events_behind self.new }
+        ensures events { events_behind self.old
+            ≡ events_of self.old.bytes.now self.old.place result ++ events_behind self.new }
         ensures end { is_end result ≡ true → events_behind self.old ≡ [] }
         ensures zeros { self.new.zeros ≡ self.old.zeros }
         ensures bytes { self.new.bytes ≡ self.old.bytes }
@@ -76,13 +77,15 @@ impl<'a> Cursor<'a> {
         }
     }
 
-    // Passes what is left of the ticks with word 0 of the record before, at most so many, and gives their number.
+    // Passes what is left of the ticks with word 0 of the record before, at most so many, and gives
+    // their number.
     fn pass_zeros(&mut self, most: u64) -> u64
         requires { IsSound self.old }
         ensures sound { IsSound self.new }
         ensures most { result ≤ most }
         ensures rest { events_left self.new ≡ drop result (events_left self.old) }
-        ensures front { quiet_in_front (events_left self.old) ≡ result + quiet_in_front (events_left self.new) }
+        ensures front { quiet_in_front (events_left self.old)
+            ≡ result + quiet_in_front (events_left self.new) }
         ensures all { result < most → self.new.zeros ≡ 0 }
         ensures bytes { self.new.bytes ≡ self.old.bytes }
         ensures place { self.new.place ≡ self.old.place }
@@ -115,8 +118,8 @@ impl<'a> Cursor<'a> {
         true
     }
 
-    /// Passes the ticks with word 0 that stand in a row at the front, at most so many, and gives their number. A record of
-    /// many ticks is passed in one step.
+    /// Passes the ticks with word 0 that stand in a row at the front, at most so many, and gives
+    /// their number. A record of many ticks is passed in one step.
     pub fn skip(&mut self, most: u64) -> u64
         requires { IsSound self.old }
         ensures sound { IsSound self.new }

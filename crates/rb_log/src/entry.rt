@@ -144,7 +144,8 @@ fn advance(
     requires senders { 1 ≤ senders }
     requires place { place ≤ length bytes.now }
     requires ticks { ticks ≤ 2147483648 }
-    ensures fault { IfErr result (λ e. fault_of (events_at senders bytes.now place ticks) ≡ Some e) }
+    ensures fault { IfErr result (λ e. fault_of (events_at senders bytes.now place ticks)
+        ≡ Some e) }
     ensures end { IfOk result (λ o. IfNone o (fault_of (events_at senders bytes.now place ticks) ≡ None)) }
     ensures next { IfOk result (λ o. IfSome o (GoesOn senders bytes.now place ticks)) }
 {

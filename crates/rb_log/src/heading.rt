@@ -116,7 +116,8 @@ fn extended_in(plan: &Plan, bytes: &[u8]) -> Result<Plan, LogRefusal>
     requires { IsPlan plan.now }
     ensures value { result ≡ extended_in plan.now bytes.now }
     ensures plan { IfOk result IsPlan }
-    ensures same { IfOk result (λ p. (sizes : Sizes) → first_failing sizes p ≡ first_failing sizes plan.now) }
+    ensures same { IfOk result (λ p. (sizes : Sizes)
+        → first_failing sizes p ≡ first_failing sizes plan.now) }
     ensures inside { OnOk result (54 ≤ length bytes.now) }
 {
     let version = field(bytes, 50, 1, 1, 2)?;
@@ -138,7 +139,8 @@ fn whole_in(second: bool, plan: &Plan, bytes: &[u8]) -> Result<Plan, LogRefusal>
     requires { IsPlan plan.now }
     ensures value { result ≡ whole_in second plan.now bytes.now }
     ensures plan { IfOk result IsPlan }
-    ensures same { IfOk result (λ p. (sizes : Sizes) → first_failing sizes p ≡ first_failing sizes plan.now) }
+    ensures same { IfOk result (λ p. (sizes : Sizes)
+        → first_failing sizes p ≡ first_failing sizes plan.now) }
     ensures inside { OnOk result (second ≡ true → 54 ≤ length bytes.now) }
 {
     if second {

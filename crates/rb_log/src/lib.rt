@@ -1,8 +1,9 @@
 //! Logs of what one node was given.
 //!
-//! A log is a header, records and an end. The header has the sizes and the plan of the bus and the name of the node. A record
-//! is one tick and its word, a number of ticks with word 0, or the arrival of a message. All numbers have the most significant
-//! byte first. A log may come from anywhere: a reader looks at all of it before it gives the first event.
+//! A log is a header, records and an end. The header has the sizes and the plan of the bus and the
+//! name of the node. A record is one tick and its word, a number of ticks with word 0, or the
+//! arrival of a message. All numbers have the most significant byte first. A log may come from
+//! anywhere: a reader looks at all of it before it gives the first event.
 #![tactic(auto)]
 
 mod cursor;

@@ -27,7 +27,8 @@ fn senders_of(plan: &Feasible, node: NodeName) -> u8
     }
 }
 
-/// A log whose bytes were all looked at: the numbers of the bus, the node whose log it is, and the events that are left.
+/// A log whose bytes were all looked at: the numbers of the bus, the node whose log it is, and the
+/// events that are left.
 #[derive(Drop)]
 pub struct LogReader<'a> {
     plan: Feasible,
@@ -43,7 +44,11 @@ impl<'a> Model for LogReader<'a> {
 
     ghost Value = { Log };
 
-    ghost view = { λ r. record { timetable = r.plan; node = r.node; events = events_left r.cursor } };
+    ghost view = { λ r. record {
+      timetable = r.plan;
+      node = r.node;
+      events = events_left r.cursor;
+    } };
 
     ghost invariant = { λ r. IsSound r.cursor × IsNodeOf r.plan.sizes r.node };
 }
@@ -74,9 +79,10 @@ fn open_behind<'a>(header: &Header, bytes: &'a [u8]) -> Result<LogReader<'a>, Lo
 }
 
 impl<'a> LogReader<'a> {
-    /// Looks at a whole log, from the front to its end, and gives its reader, or else the first fault and its place: BadMagic
-    /// where the first four bytes are those of no log, BadField where a field that is there whole has a number that it may not
-    /// have, Truncated where the bytes end too early, AfterEnd where a byte follows the end.
+    /// Looks at a whole log, from the front to its end, and gives its reader, or else the first
+    /// fault and its place: BadMagic where the first four bytes are those of no log, BadField where
+    /// a field that is there whole has a number that it may not have, Truncated where the bytes end
+    /// too early, AfterEnd where a byte follows the end.
     pub fn open(bytes: &'a [u8]) -> Result<LogReader<'a>, LogRefusal>
         ensures log { IfOk result (λ log. log_in bytes.now ≡ Ok log) }
         ensures refused { IfErr result (λ fault. log_in bytes.now ≡ Err fault) }
@@ -112,8 +118,9 @@ impl<'a> LogReader<'a> {
         self.cursor.next()
     }
 
-    /// Passes the ticks with word 0 that stand in a row at the front of the events, at most so many, and gives their number.
-    /// It costs a step a record, however many ticks the record tells of.
+    /// Passes the ticks with word 0 that stand in a row at the front of the events, at most so
+    /// many, and gives their number. It costs a step a record, however many ticks the record tells
+    /// of.
     pub fn skip(&mut self, most: u64) -> u64
         ensures value { result ≡ min most (quiet_in_front self.old.events) }
         ensures passed { self.old.events ≡ replicate result (Tick 0) ++ self.new.events }

@@ -1,7 +1,8 @@
 //! Why bytes are no log.
 use thiserror::Error;
 
-/// Why bytes are no log: the first fault from the front. All but the first have a place, in bytes from the front.
+/// Why bytes are no log: the first fault from the front. All but the first have a place, in bytes
+/// from the front.
 #[derive(Clone, Copy, Debug, PartialEq, Eq, Error)]
 pub enum LogRefusal {
     /// The first four bytes are those of no log.

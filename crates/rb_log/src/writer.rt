@@ -116,17 +116,21 @@ impl LogWriter {
         }
     }
 
-    /// The bytes that are complete with this event. A tick whose word was wanted and an arrival are complete at once, with the
-    /// ticks that gathered before them; the event's quiet ticks, and a tick whose word was not wanted, wait. A log has at most
-    /// 2^31 ticks, and a message that arrives has at least one byte.
+    /// The bytes that are complete with this event. A tick whose word was wanted and an arrival are
+    /// complete at once, with the ticks that gathered before them; the event's quiet ticks, and a
+    /// tick whose word was not wanted, wait. A log has at most 2^31 ticks, and a message that
+    /// arrives has at least one byte.
     ///
-    /// For a log that a reader takes, each sender is a node of the bus, and a tick whose word was not wanted has word 0.
+    /// For a log that a reader takes, each sender is a node of the bus, and a tick whose word was
+    /// not wanted has word 0.
     pub fn event(&mut self, event: &Event) -> ArrayVec<u8, 64>
         requires ticks { self.old.ticks + ticks_given event.now ≤ 2147483648 }
         requires bytes { HasBytes event.now.kind }
-        ensures bytes { result.items ≡ bytes_with (self.old.waiting + event.now.quiet) event.now.kind }
+        ensures bytes { result.items
+            ≡ bytes_with (self.old.waiting + event.now.quiet) event.now.kind }
         ensures written { (others : List Event)
-            → written self.old.waiting (event.now ∷ others) ≡ result.items ++ written self.new.waiting others }
+            → written self.old.waiting (event.now ∷ others)
+            ≡ result.items ++ written self.new.waiting others }
         ensures ticks { self.new.ticks ≡ self.old.ticks + ticks_given event.now }
     {
         let Event { quiet, kind, .. } = event;

@@ -31,7 +31,8 @@ impl Default for Reader {
     }
 }
 
-// Adds a byte below the letter's end. Past it the byte must be 0, and the answer says whether it is.
+// Adds a byte below the letter's end. Past it the byte must be 0, and the answer says whether it
+// is.
 fn push_byte(bytes: &mut ArrayVec<u8, 255>, wanted: u8, byte: u8) -> bool
     requires { length bytes.old.items ≤ wanted }
     ensures bytes { bytes.new.items ≡ take wanted (bytes.old.items ++ byte ∷ []) }

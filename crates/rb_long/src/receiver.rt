@@ -40,7 +40,8 @@ impl LongReceiver {
         requires { sender < 16 }
         ensures given { letter_in result ≡ (with_value value (get_or self.old sender None)).given }
         ensures some { IfSome result (λ (letter : Letter ℕ). 1 ≤ length letter.items) }
-        ensures after { self.new ≡ slice_set self.old sender (with_value value (get_or self.old sender None)).after }
+        ensures after { self.new ≡ slice_set self.old sender
+            (with_value value (get_or self.old sender None)).after }
     {
         hear(&mut self.readers[usize::from(sender)], value)
     }

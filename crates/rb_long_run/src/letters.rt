@@ -17,7 +17,8 @@ use rb_run::Ending;
 use rb_world::{Drive, World};
 use rb_world_book::Turn;
 
-// Hears what a turn says was delivered, and writes what it says, the newest block before it being that of frame `newest`.
+// Hears what a turn says was delivered, and writes what it says, the newest block before it being
+// that of frame `newest`.
 fn write_turn<K: Sink>(
     turn: &Turn,
     newest: u32,
@@ -42,9 +43,10 @@ fn write_turn<K: Sink>(
     }
 }
 
-/// Takes a run from its begin to its end, and writes a line for each letter that a port receives whole, by slot and receiver, and then how
-/// the run ends: a line at a time, each write asking for the rest of one line. `Failed` comes only where a write failed; a first part of
-/// the text has then been written. The world must be as `World::open` gives it.
+/// Takes a run from its begin to its end, and writes a line for each letter that a port receives
+/// whole, by slot and receiver, and then how the run ends: a line at a time, each write asking for
+/// the rest of one line. `Failed` comes only where a write failed; a first part of the text has
+/// then been written. The world must be as `World::open` gives it.
 pub fn write_letters<K: Sink, D: Drive>(
     world: &mut World,
     apps: &Apps,

@@ -3,7 +3,8 @@ use arrayvec::ArrayVec;
 use rb_base::{Delivery, Place};
 use rb_rules::{Closed, Epoch, Message};
 
-/// What a node wants to be handed for a tick: nothing, its request in its own schedule slot, or its word in a data slot.
+/// What a node wants to be handed for a tick: nothing, its request in its own schedule slot, or its
+/// word in a data slot.
 #[derive(Clone, Copy, Debug, PartialEq, Eq)]
 pub enum Want {
     Nothing,
@@ -11,8 +12,8 @@ pub enum Want {
     Data { slot: u16 },
 }
 
-/// What a node gives at a tick: the message that it sends as bytes, what it delivers, the window that it closes, and the frame
-/// that it begins.
+/// What a node gives at a tick: the message that it sends as bytes, what it delivers, the window
+/// that it closes, and the frame that it begins.
 #[derive(Clone, Debug, PartialEq, Eq, Drop)]
 pub struct Act {
     pub send: Option<ArrayVec<u8, 12>>,
@@ -21,8 +22,8 @@ pub struct Act {
     pub epoch: Option<Epoch>,
 }
 
-/// The same in small: the frame that begins, the message that is sent, and whether a window was closed. What was seen in the
-/// window stays with the node.
+/// The same in small: the frame that begins, the message that is sent, and whether a window was
+/// closed. What was seen in the window stays with the node.
 #[derive(Clone, Copy, Debug, PartialEq, Eq)]
 pub struct Step {
     pub epoch: Option<Epoch>,

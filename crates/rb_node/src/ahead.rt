@@ -14,7 +14,8 @@ use rb_base::{Kind, MOST_TICKS, Shape};
 use rb_plan::{Feasible, Plan, Window};
 use rb_slot::Engine;
 
-/// A tick that isn't quiet, and the stage of the message that the node says then; 0 where it says none.
+/// A tick that isn't quiet, and the stage of the message that the node says then; 0 where it says
+/// none.
 #[derive(Clone, Copy)]
 pub struct Busy {
     pub(crate) tick: u64,
@@ -34,7 +35,8 @@ pub struct Ahead {
     pub(crate) alone: bool,
 }
 
-// The sizes and the plan are within their bounds. It does nothing: a proof that needs a bound reads it at its call.
+// The sizes and the plan are within their bounds. It does nothing: a proof that needs a bound reads
+// it at its call.
 pub(crate) fn bounds<K: Kind>(engine: &Engine<K>)
     ensures shape { IsShape engine.now.sizes }
     ensures plan { IsPlan engine.now.plan }
@@ -56,7 +58,8 @@ fn tail_start(plan: &Feasible) -> u64
 // The tail of the node's frame.
 fn tail<K: Kind>(engine: &Engine<K>) -> Window
     requires { engine.now.state.epoch ≤ 2 ^ 31 }
-    ensures value { result ≡ tail_at engine.now.sizes engine.now.plan (side_of K.CODE) engine.now.state }
+    ensures value { result ≡ tail_at engine.now.sizes engine.now.plan (side_of K.CODE)
+        engine.now.state }
     ensures first { result.first ≤ 400000 }
     ensures fits { engine.now.state.epoch + result.last < 2 ^ 64 }
 {
@@ -113,7 +116,8 @@ pub(crate) fn following(plan: &Plan, window: &Window) -> Window
     }
 }
 
-// The window of the tick before becomes that of the next tick, where it was closed; else it goes on.
+// The window of the tick before becomes that of the next tick, where it was closed; else it goes
+// on.
 #[inline(always)]
 pub(crate) fn go_on<K: Kind>(engine: &Engine<K>, window: &mut Window, closed: bool, next: u64)
     requires epoch { engine.now.state.epoch ≤ next }
@@ -143,8 +147,8 @@ fn sooner(before: u64, had: u64, candidate: Option<u64>) -> u64
     }
 }
 
-// The same with the tick at which a message of the stage is sent, if the node has one to send. It comes before those of later
-// stages at the same tick.
+// The same with the tick at which a message of the stage is sent, if the node has one to send. It
+// comes before those of later stages at the same tick.
 #[inline(always)]
 fn sooner_due<K: Kind>(
     before: Busy,
@@ -156,7 +160,8 @@ fn sooner_due<K: Kind>(
 ) -> Busy
     requires had { had ≤ before.tick }
     requires index { engine.now.index < 16 }
-    requires tick { send_tick_of engine.now.sizes engine.now.plan engine.now.state slot stage ≡ Some tick }
+    requires tick { send_tick_of engine.now.sizes engine.now.plan engine.now.state slot stage
+        ≡ Some tick }
     ensures { IsChosen had (tick_said (side_of K.CODE) engine.now slot stage) stage before result }
 {
     if tick < had {
@@ -187,7 +192,8 @@ fn sooner_send<K: Kind>(before: Busy, had: u64, engine: &Engine<K>, slot: u16, s
     }
 }
 
-// The same in a window below the sync slot, where only the message of the window's own stage can be due.
+// The same in a window below the sync slot, where only the message of the window's own stage can be
+// due.
 #[inline(always)]
 fn sooner_word<K: Kind>(before: Busy, had: u64, engine: &Engine<K>, window: &Window) -> Busy
     requires had { had ≤ before.tick }
@@ -224,7 +230,8 @@ fn sooner_said<K: Kind>(before: Busy, had: u64, engine: &Engine<K>, window: &Win
     requires epoch { engine.now.state.epoch ≤ had }
     requires most { had ≤ 2 ^ 31 }
     requires window { IsWindowOf (side_of K.CODE) engine.now had window.now }
-    requires ends { had ≤ engine.now.state.epoch + window.now.last → before.tick ≤ engine.now.state.epoch + window.now.last }
+    requires ends { had ≤ engine.now.state.epoch + window.now.last
+        → before.tick ≤ engine.now.state.epoch + window.now.last }
     ensures { IsSaidNext (side_of K.CODE) engine.now window.now.slot had before result }
 {
     bounds(engine);
@@ -307,7 +314,8 @@ fn want_ahead<K: Kind>(engine: &Engine<K>, window: &Window, busy: Busy) -> Want
     }
 }
 
-// Whether all that happens at this tick of the window is that the window ends, which is one of a slot before the sync slot.
+// Whether all that happens at this tick of the window is that the window ends, which is one of a
+// slot before the sync slot.
 #[inline(always)]
 fn is_alone<K: Kind>(engine: &Engine<K>, window: &Window, busy: Busy) -> bool
     requires { engine.now.state.epoch + window.now.last < 2 ^ 64 }
@@ -320,8 +328,9 @@ fn is_alone<K: Kind>(engine: &Engine<K>, window: &Window, busy: Busy) -> bool
         && !is_tick(engine.new_epoch(), busy.tick)
 }
 
-// Whether this tick of the window lies after the first of the frame and before the window's last, which a node can have, the window
-// being one of a slot before the sync slot, and the tick of the next epoch is not known yet. Then a message is all that can happen.
+// Whether this tick of the window lies after the first of the frame and before the window's last,
+// which a node can have, the window being one of a slot before the sync slot, and the tick of the
+// next epoch is not known yet. Then a message is all that can happen.
 #[inline(always)]
 pub(crate) fn is_within<K: Kind>(engine: &Engine<K>, window: &Window, tick: u64) -> bool
     requires { engine.now.state.epoch + window.now.last < 2 ^ 64 }
@@ -376,7 +385,8 @@ fn look_anew<K: Kind>(engine: &Engine<K>, ahead: &mut Ahead, had: u64)
     look_ahead(engine, ahead, had);
 }
 
-// The tick of what is said next in a window below the sync slot, else its last tick, where no frame begins in it.
+// The tick of what is said next in a window below the sync slot, else its last tick, where no frame
+// begins in it.
 #[inline(always)]
 fn word_or_end<K: Kind>(engine: &Engine<K>, window: &Window, had: u64, last: u64) -> Busy
     requires index { engine.now.index < 16 }
@@ -386,7 +396,8 @@ fn word_or_end<K: Kind>(engine: &Engine<K>, window: &Window, had: u64, last: u64
     requires last { last ≡ engine.now.state.epoch + window.now.last }
     requires soon { last < 2 ^ 31 }
     requires slot { window.now.slot < sync_slot_of engine.now.sizes }
-    requires stays { is_some (new_epoch_of engine.now.plan (side_of K.CODE) engine.now.state) ≡ false }
+    requires stays { is_some (new_epoch_of engine.now.plan (side_of K.CODE) engine.now.state)
+        ≡ false }
     ensures next { IsNextBusy (side_of K.CODE) engine.now had result.tick }
     ensures stage { SaysIn (side_of K.CODE) engine.now window.now.slot result.tick result.stage }
     ensures alone { (result.stage == 0) ≡ is_alone (side_of K.CODE) engine.now window.now result }
@@ -403,8 +414,8 @@ fn word_or_end<K: Kind>(engine: &Engine<K>, window: &Window, had: u64, last: u64
     )
 }
 
-// The same as `look_ahead` once the first tick of the frame is over. Before the sync slot only what is said in the window, and its
-// end, can be next.
+// The same as `look_ahead` once the first tick of the frame is over. Before the sync slot only what
+// is said in the window, and its end, can be next.
 #[inline(always)]
 pub(crate) fn look_on<K: Kind>(engine: &Engine<K>, ahead: &mut Ahead, had: u64)
     requires index { engine.now.index < 16 }

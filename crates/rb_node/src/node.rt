@@ -30,8 +30,9 @@ use rb_rules::{Closed, Message};
 use rb_slot::{Engine, Shown};
 use std::marker::Model;
 
-/// One node of a bus, for both kinds by one code: its engine, the ticks that it has had, what came since its last close, what it
-/// showed of the window that it closed last, and what is ahead of it. Ticks are those of the node's own clock.
+/// One node of a bus, for both kinds by one code: its engine, the ticks that it has had, what came
+/// since its last close, what it showed of the window that it closed last, and what is ahead of it.
+/// Ticks are those of the node's own clock.
 #[derive(Drop)]
 pub struct Node<K: Kind> {
     engine: Engine<K>,
@@ -54,7 +55,8 @@ impl<K: Kind> Model for Node<K> {
 }
 
 impl<K: Kind> Node<K> {
-    /// A node of the plan's bus, of kind K with this number among those of its kind, before its first tick.
+    /// A node of the plan's bus, of kind K with this number among those of its kind, before its
+    /// first tick.
     pub fn new(plan: &Feasible, index: u8) -> Node<K>
         requires { index < count_of (side_of K.CODE) plan.now.sizes }
         ensures core { IsCore result (first_core plan.now.sizes (side_of K.CODE)) }
@@ -79,7 +81,8 @@ impl<K: Kind> Node<K> {
         }
     }
 
-    /// How many ticks the node has had, which is the number of its next tick. A node stands for some core, whatever came.
+    /// How many ticks the node has had, which is the number of its next tick. A node stands for
+    /// some core, whatever came.
     pub fn had(&self) -> u64
         ensures value { result ≡ self.now.had }
         ensures most { result ≤ 2 ^ 31 }
@@ -89,32 +92,36 @@ impl<K: Kind> Node<K> {
         self.had
     }
 
-    /// The node between windows: its frame and epoch, whom it trusts, the owners of the slots, the tick of its next epoch.
+    /// The node between windows: its frame and epoch, whom it trusts, the owners of the slots, the
+    /// tick of its next epoch.
     pub fn engine(&self) -> &Engine<K>
         ensures { result.now ≡ self.now.seat }
     {
         &self.engine
     }
 
-    /// What the node showed of the window that it closed last, the tail among them. Before its first close nothing is in it.
+    /// What the node showed of the window that it closed last, the tail among them. Before its
+    /// first close nothing is in it.
     pub fn shown(&self) -> &Closed
         ensures { result.now ≡ self.now.shown }
     {
         self.shown.closed()
     }
 
-    /// The tick with which the next frame begins. None exactly until the close in this frame that fixes it: at a BIU that of
-    /// stage 2 of the sync slot, at an RMU that of stage 3.
+    /// The tick with which the next frame begins. None exactly until the close in this frame that
+    /// fixes it: at a BIU that of stage 2 of the sync slot, at an RMU that of stage 3.
     pub fn new_epoch(&self) -> Option<u64>
         ensures { result ≡ new_epoch_of self.now.seat.plan (side_of K.CODE) self.now.seat.state }
     {
         self.engine.new_epoch()
     }
 
-    /// The number of the first tick from the next on that isn't quiet: a frame begins with it, the node sends a message, or it
-    /// closes a window. None exactly where that number would not be below 2^31. It is kept at hand.
+    /// The number of the first tick from the next on that isn't quiet: a frame begins with it, the
+    /// node sends a message, or it closes a window. None exactly where that number would not be
+    /// below 2^31. It is kept at hand.
     pub fn next_tick(&self) -> Option<u64>
-        ensures core { (c : Core) → IsCore self.now c → result ≡ next_of (side_of K.CODE) self.now c }
+        ensures core { (c : Core) → IsCore self.now c
+            → result ≡ next_of (side_of K.CODE) self.now c }
         ensures passing { passing_end (side_of K.CODE) self.now ≡ unwrap_or result (2 ^ 31) }
         ensures later { IfSome result (λ k. self.now.had ≤ k) }
         ensures below { IfSome result (λ k. k < 2 ^ 31) }
@@ -126,16 +133,23 @@ impl<K: Kind> Node<K> {
         }
     }
 
-    /// Whether its next tick that isn't quiet is the last of a window of a slot before the sync slot, and no frame begins with it.
+    /// Whether its next tick that isn't quiet is the last of a window of a slot before the sync
+    /// slot, and no frame begins with it.
     #[inline(always)]
     pub fn ends_exact_window(&self) -> bool
-        ensures ends { (c : Core) (k : ℕ) → IsCore self.now c → next_of (side_of K.CODE) self.now c ≡ Some k
-            → IsTrue result → EndsExactWindow self.now.seat.sizes self.now.seat.plan (side_of K.CODE) c.state k }
-        ensures stays { (c : Core) (k : ℕ) → IsCore self.now c → next_of (side_of K.CODE) self.now c ≡ Some k
-            → IsTrue result → is_tick (new_epoch_of self.now.seat.plan (side_of K.CODE) c.state) k ≡ false }
-        ensures otherwise { (c : Core) (k : ℕ) → IsCore self.now c → next_of (side_of K.CODE) self.now c ≡ Some k
+        ensures ends { (c : Core) (k : ℕ) → IsCore self.now c
+            → next_of (side_of K.CODE) self.now c ≡ Some k
+            → IsTrue result → EndsExactWindow self.now.seat.sizes self.now.seat.plan
+            (side_of K.CODE) c.state k }
+        ensures stays { (c : Core) (k : ℕ) → IsCore self.now c
+            → next_of (side_of K.CODE) self.now c ≡ Some k
+            → IsTrue result → is_tick (new_epoch_of self.now.seat.plan (side_of K.CODE) c.state) k
+            ≡ false }
+        ensures otherwise { (c : Core) (k : ℕ) → IsCore self.now c
+            → next_of (side_of K.CODE) self.now c ≡ Some k
             → is_tick (new_epoch_of self.now.seat.plan (side_of K.CODE) c.state) k ≡ false
-            → EndsExactWindow self.now.seat.sizes self.now.seat.plan (side_of K.CODE) c.state k → IsTrue result }
+            → EndsExactWindow self.now.seat.sizes self.now.seat.plan (side_of K.CODE) c.state k
+            → IsTrue result }
     {
         if self.ahead.alone {
             return true;
@@ -157,7 +171,8 @@ impl<K: Kind> Node<K> {
         }
     }
 
-    /// What it wants for its next tick that isn't quiet, once the ticks before that have passed. Nothing where there is none.
+    /// What it wants for its next tick that isn't quiet, once the ticks before that have passed.
+    /// Nothing where there is none.
     pub fn wants_then(&self) -> Want
         ensures { (c : Core) → IsCore self.now c
             → result ≡ want_then (side_of K.CODE) self.now c (next_of (side_of K.CODE) self.now c) }
@@ -165,11 +180,13 @@ impl<K: Kind> Node<K> {
         self.ahead.want
     }
 
-    /// The window that begins with the next tick. None exactly where none does. Where a frame begins with that tick, it is the
-    /// first window of that frame, in which the node does not stand yet.
+    /// The window that begins with the next tick. None exactly where none does. Where a frame
+    /// begins with that tick, it is the first window of that frame, in which the node does not
+    /// stand yet.
     pub fn entering(&self) -> Option<Span>
         ensures { option_map span_in result
-            ≡ span_from self.now.seat.sizes self.now.seat.plan (side_of K.CODE) self.now.seat.state self.now.had }
+            ≡ span_from self.now.seat.sizes self.now.seat.plan (side_of K.CODE) self.now.seat.state
+            self.now.had }
     {
         let now = self.had;
         if is_tick(self.engine.new_epoch(), now) {
@@ -189,12 +206,13 @@ impl<K: Kind> Node<K> {
         }
     }
 
-    /// A message comes, or other bytes: any number of any bytes, with the number of their source among the nodes of the other
-    /// kind. They are stamped with the number of the next tick. A number that no node has changes nothing, and a node that has
-    /// had 2^31 ticks does not change.
+    /// A message comes, or other bytes: any number of any bytes, with the number of their source
+    /// among the nodes of the other kind. They are stamped with the number of the next tick. A
+    /// number that no node has changes nothing, and a node that has had 2^31 ticks does not change.
     #[inline(always)]
     pub fn arrive(&mut self, from: u8, bytes: &[u8])
-        ensures core { (c : Core) → IsCore self.old c → IsCore self.new (arrive_of (side_of K.CODE) self.old c from bytes.now) }
+        ensures core { (c : Core) → IsCore self.old c
+            → IsCore self.new (arrive_of (side_of K.CODE) self.old c from bytes.now) }
         ensures rest { self.new ≡ record self.old { inbox = self.new.inbox } }
         ensures spent { 2 ^ 31 ≤ self.old.had → self.new ≡ self.old }
     {
@@ -212,7 +230,8 @@ impl<K: Kind> Node<K> {
     /// The same with the bytes as numbers.
     #[inline(always)]
     pub fn hear(&mut self, from: u8, bytes: &Spelling)
-        ensures core { (c : Core) → IsCore self.old c → IsCore self.new (arrive_of (side_of K.CODE) self.old c from bytes.now) }
+        ensures core { (c : Core) → IsCore self.old c
+            → IsCore self.new (arrive_of (side_of K.CODE) self.old c from bytes.now) }
         ensures rest { self.new ≡ record self.old { inbox = self.new.inbox } }
         ensures spent { 2 ^ 31 ≤ self.old.had → self.new ≡ self.old }
     {
@@ -227,14 +246,17 @@ impl<K: Kind> Node<K> {
         }
     }
 
-    /// A tick of the node's clock, with the request or the word for the case that one is wanted; else the word counts for
-    /// nothing. At the tick of its next epoch the node first turns to the next frame; then it says its message, if this is the
-    /// tick of one; then it closes the window, if this is its last tick, on what came since the last close. What it saw is
-    /// then `shown`. A node that has had 2^31 ticks gives nothing and does not change.
+    /// A tick of the node's clock, with the request or the word for the case that one is wanted;
+    /// else the word counts for nothing. At the tick of its next epoch the node first turns to the
+    /// next frame; then it says its message, if this is the tick of one; then it closes the window,
+    /// if this is its last tick, on what came since the last close. What it saw is then `shown`. A
+    /// node that has had 2^31 ticks gives nothing and does not change.
     #[inline(always)]
     pub fn step(&mut self, word: u32) -> Step
-        ensures core { (c : Core) → IsCore self.old c → IsCore self.new (tick_of (side_of K.CODE) self.old c word).core }
-        ensures act { (c : Core) → IsCore self.old c → IsAct self.new.shown result (tick_of (side_of K.CODE) self.old c word) }
+        ensures core { (c : Core) → IsCore self.old c
+            → IsCore self.new (tick_of (side_of K.CODE) self.old c word).core }
+        ensures act { (c : Core) → IsCore self.old c
+            → IsAct self.new.shown result (tick_of (side_of K.CODE) self.old c word) }
         ensures shown { result.closed ≡ false → self.new.shown ≡ self.old.shown }
         ensures message { IfSome result.message IsSendable }
         ensures same { IsSameNode self.old self.new }
@@ -274,11 +296,14 @@ impl<K: Kind> Node<K> {
         }
     }
 
-    /// The same as a whole: the message as bytes of the plan's version, 11 or 12, and what was seen of each source.
+    /// The same as a whole: the message as bytes of the plan's version, 11 or 12, and what was seen
+    /// of each source.
     pub fn tick(&mut self, word: u32) -> Act
-        ensures core { (c : Core) → IsCore self.old c → IsCore self.new (tick_of (side_of K.CODE) self.old c word).core }
+        ensures core { (c : Core) → IsCore self.old c
+            → IsCore self.new (tick_of (side_of K.CODE) self.old c word).core }
         ensures act { (c : Core) → IsCore self.old c
-            → IsWholeAct self.old.seat.plan.version result (tick_of (side_of K.CODE) self.old c word) }
+            → IsWholeAct self.old.seat.plan.version result
+            (tick_of (side_of K.CODE) self.old c word) }
         ensures shown { self.new.shown ≡ unwrap_or result.closed self.old.shown }
         ensures same { IsSameNode self.old self.new }
         ensures spent { 2 ^ 31 ≤ self.old.had → self.new ≡ self.old }
@@ -294,19 +319,23 @@ impl<K: Kind> Node<K> {
         }
     }
 
-    /// If all that happens at its next tick that isn't quiet is that a window of a slot before the sync slot ends, the node has
-    /// its quiet ticks and then that tick, and the result is true: it says nothing, no frame begins, and what it saw is then
-    /// `shown`. Else nothing changes.
+    /// If all that happens at its next tick that isn't quiet is that a window of a slot before the
+    /// sync slot ends, the node has its quiet ticks and then that tick, and the result is true: it
+    /// says nothing, no frame begins, and what it saw is then `shown`. Else nothing changes.
     #[inline(always)]
     pub fn end_window(&mut self) -> bool
-        ensures core { IsTrue result → (c : Core) (k word : ℕ) → IsCore self.old c → next_of (side_of K.CODE) self.old c ≡ Some k
+        ensures core { IsTrue result → (c : Core) (k word : ℕ) → IsCore self.old c
+            → next_of (side_of K.CODE) self.old c ≡ Some k
             → IsCore self.new (tick_of (side_of K.CODE) self.old (pass_to k c) word).core }
-        ensures act { IsTrue result → (c : Core) (k word : ℕ) → IsCore self.old c → next_of (side_of K.CODE) self.old c ≡ Some k
+        ensures act { IsTrue result → (c : Core) (k word : ℕ) → IsCore self.old c
+            → next_of (side_of K.CODE) self.old c ≡ Some k
             → IsAct self.new.shown (record { epoch = None; message = None; closed = true })
             (tick_of (side_of K.CODE) self.old (pass_to k c) word) }
-        ensures only { IsTrue result → (c : Core) → IsCore self.old c → (k : ℕ) × ((next_of (side_of K.CODE) self.old c ≡ Some k)
+        ensures only { IsTrue result → (c : Core) → IsCore self.old c
+            → (k : ℕ) × ((next_of (side_of K.CODE) self.old c ≡ Some k)
             × EndsExactWindow self.old.seat.sizes self.old.seat.plan (side_of K.CODE) c.state k) }
-        ensures otherwise { (c : Core) (k : ℕ) → IsCore self.old c → next_of (side_of K.CODE) self.old c ≡ Some k
+        ensures otherwise { (c : Core) (k : ℕ) → IsCore self.old c
+            → next_of (side_of K.CODE) self.old c ≡ Some k
             → is_tick (new_epoch_of self.old.seat.plan (side_of K.CODE) c.state) k ≡ false
             → EndsExactWindow self.old.seat.sizes self.old.seat.plan (side_of K.CODE) c.state k
             → (tick_of (side_of K.CODE) self.old (pass_to k c) 0).message ≡ None → IsTrue result }
@@ -327,23 +356,30 @@ impl<K: Kind> Node<K> {
         true
     }
 
-    /// If its next tick that isn't quiet lies within a window of a slot before the sync slot, all that happens at it is that the node
-    /// says a message. Then the node has its quiet ticks and that tick with this word, and the result is the message. Else nothing
-    /// changes, and it is None.
+    /// If its next tick that isn't quiet lies within a window of a slot before the sync slot, all
+    /// that happens at it is that the node says a message. Then the node has its quiet ticks and
+    /// that tick with this word, and the result is the message. Else nothing changes, and it is
+    /// None.
     #[inline(always)]
     pub fn say_alone(&mut self, word: u32) -> Option<Message>
-        ensures core { is_some result ≡ true → (c : Core) (k : ℕ) → IsCore self.old c → next_of (side_of K.CODE) self.old c ≡ Some k
+        ensures core { is_some result ≡ true → (c : Core) (k : ℕ) → IsCore self.old c
+            → next_of (side_of K.CODE) self.old c ≡ Some k
             → IsCore self.new (tick_of (side_of K.CODE) self.old (pass_to k c) word).core }
-        ensures act { is_some result ≡ true → (c : Core) (k : ℕ) → IsCore self.old c → next_of (side_of K.CODE) self.old c ≡ Some k
+        ensures act { is_some result ≡ true → (c : Core) (k : ℕ) → IsCore self.old c
+            → next_of (side_of K.CODE) self.old c ≡ Some k
             → IsAct self.new.shown (record { epoch = None; message = result; closed = false })
             (tick_of (side_of K.CODE) self.old (pass_to k c) word) }
         ensures only { is_some result ≡ true → (c : Core) → IsCore self.old c → (k : ℕ)
             × ((next_of (side_of K.CODE) self.old c ≡ Some k)
-            × IsWithinExactWindow self.old.seat.sizes self.old.seat.plan (side_of K.CODE) c.state k) }
-        ensures otherwise { (c : Core) (k : ℕ) → IsCore self.old c → next_of (side_of K.CODE) self.old c ≡ Some k
-            → IsWithinExactWindow self.old.seat.sizes self.old.seat.plan (side_of K.CODE) c.state k → is_some result ≡ true }
+            × IsWithinExactWindow self.old.seat.sizes self.old.seat.plan (side_of K.CODE) c.state
+            k) }
+        ensures otherwise { (c : Core) (k : ℕ) → IsCore self.old c
+            → next_of (side_of K.CODE) self.old c ≡ Some k
+            → IsWithinExactWindow self.old.seat.sizes self.old.seat.plan (side_of K.CODE) c.state k
+            → is_some result ≡ true }
         ensures inside { is_some result ≡ true
-            → span_from self.new.seat.sizes self.new.seat.plan (side_of K.CODE) self.new.seat.state self.new.had ≡ None }
+            → span_from self.new.seat.sizes self.new.seat.plan (side_of K.CODE) self.new.seat.state
+            self.new.had ≡ None }
         ensures stays { is_some result ≡ false → self.new ≡ self.old }
         ensures shown { self.new.shown ≡ self.old.shown }
         ensures message { IfSome result IsSendable }
@@ -361,21 +397,25 @@ impl<K: Kind> Node<K> {
         message
     }
 
-    /// So many quiet ticks pass, at once: at most up to the tick that `next_tick` gives, which is not among them, and where it
-    /// gives none, up to the last that a node can have. It leaves what so many calls of `tick` leave, which give nothing.
+    /// So many quiet ticks pass, at once: at most up to the tick that `next_tick` gives, which is
+    /// not among them, and where it gives none, up to the last that a node can have. It leaves what
+    /// so many calls of `tick` leave, which give nothing.
     pub fn pass(&mut self, ticks: u64)
         requires { self.old.had + ticks ≤ passing_end (side_of K.CODE) self.old }
         ensures value { self.new ≡ record self.old { had = self.old.had + ticks } }
-        ensures core { (c : Core) → IsCore self.old c → IsCore self.new (ticks_of (side_of K.CODE) self.old ticks c) }
-        ensures counted { (c : Core) → IsCore self.old c → IsCore self.new (pass_to (self.old.had + ticks) c) }
+        ensures core { (c : Core) → IsCore self.old c
+            → IsCore self.new (ticks_of (side_of K.CODE) self.old ticks c) }
+        ensures counted { (c : Core) → IsCore self.old c
+            → IsCore self.new (pass_to (self.old.had + ticks) c) }
     {
         self.had += ticks;
     }
 }
 
-/// A list of events may be given to a node in parts: what the core is after them, and their acts, don't depend on where the list
-/// is cut, and ticks that pass are so many events with word 0. So whoever feeds a node one event after another has, after each,
-/// the core after all of them, and their acts.
+/// A list of events may be given to a node in parts: what the core is after them, and their acts,
+/// don't depend on where the list is cut, and ticks that pass are so many events with word 0. So
+/// whoever feeds a node one event after another has, after each, the core after all of them, and
+/// their acts.
 pub fn events_come_in_parts()
     ensures { EventsComeInParts }
 {}

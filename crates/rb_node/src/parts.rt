@@ -24,19 +24,22 @@ use rb_plan::{Feasible, Window};
 use rb_rules::{Closed, Epoch, Message, Version};
 use rb_slot::{Engine, Shown};
 
-// The node turns, if this is the tick of its next epoch. Then the tick's window is the first of a frame, and nothing is said in it.
+// The node turns, if this is the tick of its next epoch. Then the tick's window is the first of a
+// frame, and nothing is said in it.
 #[inline(always)]
 pub(crate) fn turn_at<K: Kind>(engine: &mut Engine<K>, ahead: &mut Ahead, now: u64)
     requires now { now < 2 ^ 31 }
     requires frame { engine.old.state.frame < 2 ^ 31 }
     requires epoch { engine.old.state.epoch ≤ now }
     requires window { IsWindowOf (side_of K.CODE) engine.old now ahead.old.window }
-    requires stage { SaysIn (side_of K.CODE) engine.old ahead.old.window.slot now ahead.old.busy.stage }
+    requires stage { SaysIn (side_of K.CODE) engine.old ahead.old.window.slot now
+        ahead.old.busy.stage }
     ensures state { engine.new ≡ record engine.old {
       state = state_at engine.old.sizes engine.old.plan (side_of K.CODE) engine.old.state now;
     } }
     ensures window { IsWindowOf (side_of K.CODE) engine.new now ahead.new.window }
-    ensures stage { SaysIn (side_of K.CODE) engine.new ahead.new.window.slot now ahead.new.busy.stage }
+    ensures stage { SaysIn (side_of K.CODE) engine.new ahead.new.window.slot now
+        ahead.new.busy.stage }
 {
     if is_tick(engine.new_epoch(), now) {
         engine.turn();
@@ -66,7 +69,8 @@ pub(crate) fn epoch_at<K: Kind>(engine: &Engine<K>, now: u64) -> Option<Epoch>
     })
 }
 
-// The node says its message of a stage of the slot, if this is the tick of one; else the stage is 0.
+// The node says its message of a stage of the slot, if this is the tick of one; else the stage is
+// 0.
 #[inline(always)]
 pub(crate) fn say_at<K: Kind>(
     engine: &mut Engine<K>,
@@ -80,7 +84,8 @@ pub(crate) fn say_at<K: Kind>(
     requires stage { SaysIn (side_of K.CODE) engine.old slot now stage }
     ensures message { result ≡ said_in (side_of K.CODE) engine.old slot now word }
     ensures keeps { engine.new ≡ record engine.old {
-      state = state_kept engine.old.sizes (side_of K.CODE) engine.old.index engine.old.state word result;
+      state = state_kept engine.old.sizes (side_of K.CODE) engine.old.index engine.old.state word
+          result;
     } }
     ensures sendable { IfSome result IsSendable }
 {
@@ -104,11 +109,14 @@ pub(crate) fn close_at<K: Kind>(
     requires fits { engine.old.state.epoch + window.now.last < 2 ^ 64 }
     requires stamps { StampsUpTo (2 ^ 32) inbox.old }
     ensures closes { result ≡ (now == engine.old.state.epoch + window.now.last) }
-    ensures state { (received : List Received) → HoldsArrivals inbox.old received → engine.new ≡ record engine.old {
-      state = if result then (outcome_on (side_of K.CODE) engine.old window.now received).state else engine.old.state;
-    } }
+    ensures state { (received : List Received) → HoldsArrivals inbox.old received
+        → engine.new ≡ record engine.old {
+          state = if result then (outcome_on (side_of K.CODE) engine.old window.now received).state
+              else engine.old.state;
+        } }
     ensures shown { (received : List Received) → HoldsArrivals inbox.old received
-        → shown.new ≡ (if result then (outcome_on (side_of K.CODE) engine.old window.now received).closed else shown.old) }
+        → shown.new ≡ (if result
+        then (outcome_on (side_of K.CODE) engine.old window.now received).closed else shown.old) }
     ensures stays { result ≡ false → shown.new ≡ shown.old }
     ensures keeps { result ≡ false → engine.new ≡ engine.old }
     ensures inbox { (received : List Received) → HoldsArrivals inbox.old received

@@ -47,8 +47,9 @@ impl Supply {
     }
 }
 
-/// A source over bytes in memory. It gives as many bytes as there are and as fit. Those of its calls
-/// fail whose numbers, from 1, are listed, and no others; a call after call 2^64-1 has no number.
+/// A source over bytes in memory. It gives as many bytes as there are and as fit. Those of its
+/// calls fail whose numbers, from 1, are listed, and no others; a call after call 2^64-1 has no
+/// number.
 #[derive(Drop)]
 pub struct MemSource {
     supply: Supply,

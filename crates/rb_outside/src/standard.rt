@@ -122,11 +122,11 @@ impl<R: Read> Source for StdSource<R> {
     }
 }
 
-/// A sink over a writer. It does not tell what it holds. Each call flushes what it wrote, so no fault
-/// is left for the end of the program; after a flush that failed the writer may have passed on a
-/// part of the bytes. A write or a flush that a signal interrupts is made again, as the standard
-/// library does; every other error of the writer is a fault, and so is a write that takes none of
-/// some bytes.
+/// A sink over a writer. It does not tell what it holds. Each call flushes what it wrote, so no
+/// fault is left for the end of the program; after a flush that failed the writer may have passed
+/// on a part of the bytes. A write or a flush that a signal interrupts is made again, as the
+/// standard library does; every other error of the writer is a fault, and so is a write that takes
+/// none of some bytes.
 #[derive(Drop)]
 pub struct StdSink<W: Write> {
     inner: W,

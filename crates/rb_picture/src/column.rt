@@ -16,7 +16,8 @@ pub enum Outcome {
     Differ,
 }
 
-/// A slot of a frame in which something is delivered: a number for both, its owner, and what is delivered.
+/// A slot of a frame in which something is delivered: a number for both, its owner, and what is
+/// delivered.
 #[derive(Clone, Copy, Debug, PartialEq, Eq)]
 pub struct Column {
     pub mark: u64,
@@ -111,7 +112,8 @@ fn column_of(l: DeliveryLine, lines: &[Line]) -> Column
     }
 }
 
-/// The column of a line, which is the first of these lines: another one where it is the first delivery in its slot.
+/// The column of a line, which is the first of these lines: another one where it is the first
+/// delivery in its slot.
 pub(crate) fn column_with(column: Column, line: Line, lines: &[Line]) -> Column
     ensures { result ≡ column_with column line lines.now }
 {

@@ -64,7 +64,8 @@ fn asked_of(alloc: Global, lines: &[Line], first: u32, last: u32) -> Result<Vec<
 
 // The picture of these frames.
 fn picture_of_frames(alloc: Global, lines: &[Line], frames: Frames) -> Result<Vec<u8>, OutOfMemory>
-    ensures { IfOk result (λ v. v.items ≡ picture_of frames (asked_of (first_of frames) (last_of frames) lines.now)) }
+    ensures { IfOk result (λ v. v.items
+        ≡ picture_of frames (asked_of (first_of frames) (last_of frames) lines.now)) }
 {
     let asked = asked_of(alloc, lines, first_of(frames), last_of(frames))?;
     picture_of(alloc, sheet_of(frames, &asked), &asked)
@@ -72,8 +73,10 @@ fn picture_of_frames(alloc: Global, lines: &[Line], frames: Frames) -> Result<Ve
 
 // Writes the line that says where and why bytes are no report.
 fn refuse<K: Sink>(fault: Fault, number: u64, output: &mut K) -> Status
-    ensures refused { result ≡ Status.Refused → Appends (K.held output.old) (K.held output.new) (fault_text fault number) }
-    ensures part { result ≡ Status.WriteFault → AppendsPart (K.held output.old) (K.held output.new) (fault_text fault number) }
+    ensures refused { result ≡ Status.Refused
+        → Appends (K.held output.old) (K.held output.new) (fault_text fault number) }
+    ensures part { result ≡ Status.WriteFault
+        → AppendsPart (K.held output.old) (K.held output.new) (fault_text fault number) }
     ensures cause { result ≡ Status.WriteFault → Rose (K.faults output.old) (K.faults output.new) }
     ensures either { (result ≡ Status.Refused) ⊎ (result ≡ Status.WriteFault) }
 {
@@ -83,11 +86,15 @@ fn refuse<K: Sink>(fault: Fault, number: u64, output: &mut K) -> Status
     }
 }
 
-// Draws the frames of the report that the bytes are, or writes the line that says why they are none.
+// Draws the frames of the report that the bytes are, or writes the line that says why they are
+// none.
 fn draw_bytes<K: Sink>(alloc: Global, bytes: &[u8], frames: Frames, output: &mut K) -> Status
-    ensures done { result ≡ Status.Done → Draws frames bytes.now (K.held output.old) (K.held output.new) }
-    ensures refused { result ≡ Status.Refused → Refuses bytes.now (K.held output.old) (K.held output.new) }
-    ensures part { result ≡ Status.WriteFault → FailsToWrite frames bytes.now (K.held output.old) (K.held output.new) }
+    ensures done { result ≡ Status.Done
+        → Draws frames bytes.now (K.held output.old) (K.held output.new) }
+    ensures refused { result ≡ Status.Refused
+        → Refuses bytes.now (K.held output.old) (K.held output.new) }
+    ensures part { result ≡ Status.WriteFault
+        → FailsToWrite frames bytes.now (K.held output.old) (K.held output.new) }
     ensures cause { result ≡ Status.WriteFault → Rose (K.faults output.old) (K.faults output.new) }
     ensures memory { result ≡ Status.OutOfMemory → output.new ≡ output.old }
     ensures one_of { IsOfReport result }
@@ -115,12 +122,19 @@ fn draw_frames<S: Source, K: Sink>(
     output: &mut K,
 ) -> Status
     ensures known { result ≢ Status.Usage }
-    ensures done { result ≡ Status.Done → IsDrawn frames (S.left input.old) (S.left input.new) (K.held output.old) (K.held output.new) }
-    ensures refused { result ≡ Status.Refused → IsRefused (S.left input.old) (S.left input.new) (K.held output.old) (K.held output.new) }
-    ensures part { result ≡ Status.WriteFault → IsDrawnInPart frames (S.left input.old) (S.left input.new) (K.held output.old) (K.held output.new) }
+    ensures done { result ≡ Status.Done
+        → IsDrawn frames (S.left input.old) (S.left input.new) (K.held output.old)
+        (K.held output.new) }
+    ensures refused { result ≡ Status.Refused
+        → IsRefused (S.left input.old) (S.left input.new) (K.held output.old) (K.held output.new) }
+    ensures part { result ≡ Status.WriteFault
+        → IsDrawnInPart frames (S.left input.old) (S.left input.new) (K.held output.old)
+        (K.held output.new) }
     ensures cause { result ≡ Status.WriteFault → Rose (K.faults output.old) (K.faults output.new) }
-    ensures too_long { result ≡ Status.TooLong → Gave (S.left input.old) (S.left input.new) (λ n. report_limit < n) }
-    ensures read_fault { result ≡ Status.ReadFault → Rose (S.faults input.old) (S.faults input.new) }
+    ensures too_long { result ≡ Status.TooLong
+        → Gave (S.left input.old) (S.left input.new) (λ n. report_limit < n) }
+    ensures read_fault { result ≡ Status.ReadFault
+        → Rose (S.faults input.old) (S.faults input.new) }
     ensures nothing { WritesNothing result → output.new ≡ output.old }
 {
     match read_all(alloc, input, REPORT_LIMIT) {
@@ -131,17 +145,19 @@ fn draw_frames<S: Source, K: Sink>(
     }
 }
 
-/// Reads a report of `robus run` and writes one SVG picture of it, or writes a page about the program.
+/// Reads a report of `robus run` and writes one SVG picture of it, or writes a page about the
+/// program.
 ///
-/// With no words all frames are drawn: up to 12 whole frames in panels, more as an overview. With two,
-/// decimal numbers FIRST and LAST in order and below 2^32, the frames from one to the other are drawn
-/// in panels. With `--help`, `-h` or `--version` nothing is read, and the page is written.
+/// With no words all frames are drawn: up to 12 whole frames in panels, more as an overview. With
+/// two, decimal numbers FIRST and LAST in order and below 2^32, the frames from one to the other
+/// are drawn in panels. With `--help`, `-h` or `--version` nothing is read, and the page is
+/// written.
 ///
-/// `Done`: the picture or the page is written. `Usage`: the words are of no form; nothing was read or
-/// written. `Refused`: the input is no report; one line `refused CODE NAME LINE` says where and why.
-/// `TooLong`: the source gave more than 67,108,864 bytes. `ReadFault`, `WriteFault`: the source or the
-/// sink failed; what a failing sink took is a first part of what was due. `OutOfMemory`: an allocation
-/// failed before anything was written.
+/// `Done`: the picture or the page is written. `Usage`: the words are of no form; nothing was read
+/// or written. `Refused`: the input is no report; one line `refused CODE NAME LINE` says where and
+/// why. `TooLong`: the source gave more than 67,108,864 bytes. `ReadFault`, `WriteFault`: the
+/// source or the sink failed; what a failing sink took is a first part of what was due.
+/// `OutOfMemory`: an allocation failed before anything was written.
 pub fn draw<S: Source, K: Sink>(
     alloc: Global,
     words: &[String],
@@ -150,12 +166,19 @@ pub fn draw<S: Source, K: Sink>(
 ) -> Status
     ensures usage { UsageExactly result words.now }
     ensures untouched { Untouched words.now result input.old input.new output.old output.new }
-    ensures done { result ≡ Status.Done → IsDone words.now (S.left input.old) (S.left input.new) (K.held output.old) (K.held output.new) }
-    ensures refused { result ≡ Status.Refused → IsRefused (S.left input.old) (S.left input.new) (K.held output.old) (K.held output.new) }
-    ensures write_fault { result ≡ Status.WriteFault → IsCutOff words.now (S.left input.old) (S.left input.new) (K.held output.old) (K.held output.new)
+    ensures done { result ≡ Status.Done
+        → IsDone words.now (S.left input.old) (S.left input.new) (K.held output.old)
+        (K.held output.new) }
+    ensures refused { result ≡ Status.Refused
+        → IsRefused (S.left input.old) (S.left input.new) (K.held output.old) (K.held output.new) }
+    ensures write_fault { result ≡ Status.WriteFault
+        → IsCutOff words.now (S.left input.old) (S.left input.new) (K.held output.old)
+        (K.held output.new)
         × Rose (K.faults output.old) (K.faults output.new) }
-    ensures too_long { result ≡ Status.TooLong → Gave (S.left input.old) (S.left input.new) (λ n. report_limit < n) }
-    ensures read_fault { result ≡ Status.ReadFault → Rose (S.faults input.old) (S.faults input.new) }
+    ensures too_long { result ≡ Status.TooLong
+        → Gave (S.left input.old) (S.left input.new) (λ n. report_limit < n) }
+    ensures read_fault { result ≡ Status.ReadFault
+        → Rose (S.faults input.old) (S.faults input.new) }
 {
     match form_in(words) {
         Some(Form::Draw(frames)) => draw_frames(alloc, frames, input, output),

@@ -182,7 +182,8 @@ fn push_name(
     number: u16,
 ) -> Result<(), OutOfMemory>
     requires { row ≤ 131070 }
-    ensures { OnOk result (out.new.items ≡ with_name extent frame out.old.items letter.now row number) }
+    ensures { OnOk result (out.new.items
+        ≡ with_name extent frame out.old.items letter.now row number) }
 {
     let y = row_top(extent, frame, row) + 15;
     push_label(out, 20, y, "name", letter, Buffer::new().format(number))?;
@@ -202,7 +203,8 @@ fn push_names_of(
     above: u16,
     count: u16,
 ) -> Result<(), OutOfMemory>
-    ensures { OnOk result (out.new.items ≡ with_names_of extent frame letter.now above count out.old.items) }
+    ensures { OnOk result (out.new.items
+        ≡ with_names_of extent frame letter.now above count out.old.items) }
 {
     for number in 0..count {
         let row = u64::from(above) + u64::from(number);

@@ -17,7 +17,8 @@ use crate::style::STYLE;
 use rb_base::OutOfMemory;
 use std::alloc::Global;
 
-/// The frame that is drawn: one more than its number, or 0 before the first, and what its lines say.
+/// The frame that is drawn: one more than its number, or 0 before the first, and what its lines
+/// say.
 #[derive(Clone, Copy, Debug, PartialEq, Eq)]
 pub struct Panel {
     pub mark: u64,
@@ -88,7 +89,8 @@ fn push_ground_of(
     before: Panel,
     after: Panel,
 ) -> Result<(), OutOfMemory>
-    ensures { OnOk result (out.new.items ≡ with_pieces sheet out.old.items (ground_of before after)) }
+    ensures { OnOk result (out.new.items
+        ≡ with_pieces sheet out.old.items (ground_of before after)) }
 {
     if after.mark == before.mark {
         return Ok(());
@@ -125,7 +127,9 @@ fn push_in_panel(
     facts: Facts,
     line: Line,
 ) -> Result<(), OutOfMemory>
-    ensures { OnOk result (out.new.items ≡ with_pieces (record { view = View.Panels; extent = extent }) out.old.items (pieces_of_line facts line)) }
+    ensures { OnOk result (out.new.items
+        ≡ with_pieces (record { view = View.Panels; extent = extent }) out.old.items
+        (pieces_of_line facts line)) }
 {
     match line {
         Line::Epoch(l) => {
@@ -149,7 +153,9 @@ fn push_in_overview(
     facts: Facts,
     line: Line,
 ) -> Result<(), OutOfMemory>
-    ensures { OnOk result (out.new.items ≡ with_pieces (record { view = View.Overview; extent = extent }) out.old.items (pieces_of_line facts line)) }
+    ensures { OnOk result (out.new.items
+        ≡ with_pieces (record { view = View.Overview; extent = extent }) out.old.items
+        (pieces_of_line facts line)) }
 {
     match line {
         Line::Epoch(_) | Line::Convicted(_) | Line::Port(_) | Line::Delivery(_) => Ok(()),
@@ -160,7 +166,8 @@ fn push_in_overview(
 
 // What a line shows.
 fn push_line(out: &mut Vec<u8>, sheet: Sheet, facts: Facts, line: Line) -> Result<(), OutOfMemory>
-    ensures { OnOk result (out.new.items ≡ with_pieces sheet out.old.items (pieces_of_line facts line)) }
+    ensures { OnOk result (out.new.items
+        ≡ with_pieces sheet out.old.items (pieces_of_line facts line)) }
 {
     match sheet.view {
         View::Panels => push_in_panel(out, sheet.extent, facts, line),

@@ -5,8 +5,9 @@ ghost use Rattle.rb_picture.specs.Extents.{begins_after, biu_rows, both, extent_
 use crate::line::Line;
 use rb_base::{Biu, Heard, NodeId, NodeName, NodeSet};
 
-/// Frames, nodes, slots, and the greatest word and spread: what a picture has to have room for. Of the frames the first and the last, of
-/// the nodes of a kind one more than the greatest number, of the slots the lowest and one more than the highest.
+/// Frames, nodes, slots, and the greatest word and spread: what a picture has to have room for. Of
+/// the frames the first and the last, of the nodes of a kind one more than the greatest number, of
+/// the slots the lowest and one more than the highest.
 #[derive(Clone, Copy, Debug, PartialEq, Eq)]
 pub struct Extent {
     pub first: u32,
@@ -54,7 +55,8 @@ pub struct Nodes {
     pub rmu: u16,
 }
 
-/// What the lines of a frame say: when it begins, whom any node holds convicted, and of which nodes they are.
+/// What the lines of a frame say: when it begins, whom any node holds convicted, and of which nodes
+/// they are.
 #[derive(Clone, Copy, Debug, PartialEq, Eq)]
 pub struct Facts {
     pub begins: Begins,
@@ -62,7 +64,8 @@ pub struct Facts {
     pub present: Nodes,
 }
 
-/// The rows of the nodes of a kind: how many rows stand above them, how many they are, and which nodes are convicted and present.
+/// The rows of the nodes of a kind: how many rows stand above them, how many they are, and which
+/// nodes are convicted and present.
 #[derive(Clone, Copy, Debug, PartialEq, Eq)]
 pub struct Rows {
     pub above: u16,

@@ -130,7 +130,8 @@ pub(crate) fn node_in(text: &str) -> Option<NodeName>
 
 /// What a delivery brings.
 pub(crate) fn heard_in(text: &str) -> Option<Heard>
-    ensures { (heard : Heard) → HeardFits heard → text.now ≡ heard_text heard → result ≡ Some heard }
+    ensures { (heard : Heard) → HeardFits heard → text.now ≡ heard_text heard
+        → result ≡ Some heard }
 {
     if text == "none" {
         return Some(Heard::Fault);

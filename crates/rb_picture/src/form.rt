@@ -63,8 +63,10 @@ fn number_in(text: &str) -> Option<u32>
 // The frames from one number to another.
 #[tactic(auto, using(crate::proofs::Words::not_in_order))]
 fn ordered(first: u32, last: u32) -> Option<Form>
-    ensures some { IfSome result (λ form. (words_of form ≡ decimal first ∷ decimal last ∷ []) × IsInRange form) }
-    ensures none { IfNone result ((form : Form) → IsInRange form → words_of form ≢ decimal first ∷ decimal last ∷ []) }
+    ensures some { IfSome result (λ form. (words_of form ≡ decimal first ∷ decimal last ∷ [])
+        × IsInRange form) }
+    ensures none { IfNone result ((form : Form) → IsInRange form
+        → words_of form ≢ decimal first ∷ decimal last ∷ []) }
 {
     if first <= last {
         Some(Form::Draw(Frames::Between(first, last)))
@@ -75,8 +77,10 @@ fn ordered(first: u32, last: u32) -> Option<Form>
 
 // The frames from one text to another.
 fn between(first: &str, last: &str) -> Option<Form>
-    ensures some { IfSome result (λ form. (words_of form ≡ first.now ∷ last.now ∷ []) × IsInRange form) }
-    ensures none { IfNone result ((form : Form) → IsInRange form → words_of form ≢ first.now ∷ last.now ∷ []) }
+    ensures some { IfSome result (λ form. (words_of form ≡ first.now ∷ last.now ∷ [])
+        × IsInRange form) }
+    ensures none { IfNone result ((form : Form) → IsInRange form
+        → words_of form ≢ first.now ∷ last.now ∷ []) }
 {
     match (number_in(first), number_in(last)) {
         (Some(first), Some(last)) => ordered(first, last),

@@ -7,12 +7,14 @@ pub fn one_cell_each()
     ensures { OneCellEach }
 {}
 
-/// The text of a picture is one element, in which all others nest and close and all text is escaped.
+/// The text of a picture is one element, in which all others nest and close and all text is
+/// escaped.
 pub fn a_picture_is_well_formed()
     ensures { IsWellFormed }
 {}
 
-/// An overview of up to 4,800 frames and 320 slots is no wider than 2,000 pixels and no higher than 4,000.
+/// An overview of up to 4,800 frames and 320 slots is no wider than 2,000 pixels and no higher than
+/// 4,000.
 pub fn an_overview_is_small()
     ensures { IsSmall }
 {}

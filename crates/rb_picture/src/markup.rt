@@ -90,7 +90,8 @@ pub(crate) fn push_label(
     before: &str,
     after: &str,
 ) -> Result<(), OutOfMemory>
-    ensures { OnOk result (out.new.items ≡ with_label out.old.items x y look.now before.now after.now) }
+    ensures { OnOk result (out.new.items
+        ≡ with_label out.old.items x y look.now before.now after.now) }
 {
     push(out, "<text")?;
     push_number(out, "x", x)?;

@@ -153,7 +153,8 @@ fn size_of(set: u16) -> u8
     NodeSet::<Biu>::from_bits(set).count()
 }
 
-/// Nodes of a kind whose names stand in a row: how many other names stand before theirs, and which they are.
+/// Nodes of a kind whose names stand in a row: how many other names stand before theirs, and which
+/// they are.
 #[derive(Clone, Copy, Debug, PartialEq, Eq)]
 pub struct Newcomers {
     pub before: u8,
@@ -170,7 +171,8 @@ fn push_newcomer(
     number: u8,
 ) -> Result<(), OutOfMemory>
     requires { number ≤ 15 }
-    ensures { OnOk result (out.new.items ≡ with_newcomer extent frame letter.now who.before who.set out.old.items number) }
+    ensures { OnOk result (out.new.items
+        ≡ with_newcomer extent frame letter.now who.before who.set out.old.items number) }
 {
     if NodeSet::<Biu>::from_bits(who.set).has(number) {
         let x = row_end(extent, frame) + 24 * (u64::from(who.before) + rank(who.set, number));
@@ -188,7 +190,8 @@ fn push_newcomers_of(
     letter: &str,
     who: Newcomers,
 ) -> Result<(), OutOfMemory>
-    ensures { OnOk result (out.new.items ≡ with_newcomers_of extent frame letter.now who.before who.set out.old.items) }
+    ensures { OnOk result (out.new.items
+        ≡ with_newcomers_of extent frame letter.now who.before who.set out.old.items) }
 {
     for number in 0..16 {
         push_newcomer(out, extent, frame, letter, who, number)?;

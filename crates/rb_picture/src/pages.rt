@@ -45,8 +45,10 @@ fn page_text(flag: Flag) -> &'static str
 
 /// Writes what the flag asks for.
 pub(crate) fn write_page<K: Sink>(flag: Flag, output: &mut K) -> Status
-    ensures done { result ≡ Status.Done → Appends (K.held output.old) (K.held output.new) (page_text flag) }
-    ensures part { result ≡ Status.WriteFault → AppendsPart (K.held output.old) (K.held output.new) (page_text flag) }
+    ensures done { result ≡ Status.Done
+        → Appends (K.held output.old) (K.held output.new) (page_text flag) }
+    ensures part { result ≡ Status.WriteFault
+        → AppendsPart (K.held output.old) (K.held output.new) (page_text flag) }
     ensures cause { result ≡ Status.WriteFault → Rose (K.faults output.old) (K.faults output.new) }
     ensures either { (result ≡ Status.Done) ⊎ (result ≡ Status.WriteFault) }
 {

@@ -47,7 +47,8 @@ fn epoch_of(
     tick: Option<u64>,
     time: Option<u64>,
 ) -> Option<Line>
-    ensures { (l : EpochLine) → frame ≡ Some l.frame → node ≡ Some l.node → tick ≡ Some l.tick → time ≡ Some l.time → result ≡ Some (Line.Epoch l) }
+    ensures { (l : EpochLine) → frame ≡ Some l.frame → node ≡ Some l.node → tick ≡ Some l.tick
+        → time ≡ Some l.time → result ≡ Some (Line.Epoch l) }
 {
     Some(Line::Epoch(EpochLine {
         frame: frame?,
@@ -58,7 +59,8 @@ fn epoch_of(
 }
 
 fn epoch_in(text: &str) -> Option<Line>
-    ensures { (l : EpochLine) → EpochFits l → text.now ≡ line_body (Line.Epoch l) → result ≡ Some (Line.Epoch l) }
+    ensures { (l : EpochLine) → EpochFits l → text.now ≡ line_body (Line.Epoch l)
+        → result ≡ Some (Line.Epoch l) }
 {
     epoch_of(
         u32_in(second_field(text)),
@@ -74,7 +76,8 @@ fn convicted_of(
     biu: Option<u16>,
     rmu: Option<u16>,
 ) -> Option<Line>
-    ensures { (l : ConvictedLine) → frame ≡ Some l.frame → node ≡ Some l.node → biu ≡ Some l.biu → rmu ≡ Some l.rmu → result ≡ Some (Line.Convicted l) }
+    ensures { (l : ConvictedLine) → frame ≡ Some l.frame → node ≡ Some l.node → biu ≡ Some l.biu
+        → rmu ≡ Some l.rmu → result ≡ Some (Line.Convicted l) }
 {
     Some(Line::Convicted(ConvictedLine {
         frame: frame?,
@@ -85,7 +88,8 @@ fn convicted_of(
 }
 
 fn convicted_in(text: &str) -> Option<Line>
-    ensures { (l : ConvictedLine) → ConvictedFits l → text.now ≡ line_body (Line.Convicted l) → result ≡ Some (Line.Convicted l) }
+    ensures { (l : ConvictedLine) → ConvictedFits l → text.now ≡ line_body (Line.Convicted l)
+        → result ≡ Some (Line.Convicted l) }
 {
     convicted_of(
         u32_in(second_field(text)),
@@ -101,7 +105,8 @@ fn port_of(
     state: Option<u64>,
     losses: Option<u8>,
 ) -> Option<Line>
-    ensures { (l : FramePort) → frame ≡ Some l.frame → biu ≡ Some l.biu → state ≡ Some l.state → losses ≡ Some l.losses → result ≡ Some (Line.Port l) }
+    ensures { (l : FramePort) → frame ≡ Some l.frame → biu ≡ Some l.biu → state ≡ Some l.state
+        → losses ≡ Some l.losses → result ≡ Some (Line.Port l) }
 {
     Some(Line::Port(FramePort {
         frame: frame?,
@@ -112,7 +117,8 @@ fn port_of(
 }
 
 fn port_in(text: &str) -> Option<Line>
-    ensures { (l : FramePort) → PortFits l → text.now ≡ line_body (Line.Port l) → result ≡ Some (Line.Port l) }
+    ensures { (l : FramePort) → PortFits l → text.now ≡ line_body (Line.Port l)
+        → result ≡ Some (Line.Port l) }
 {
     port_of(
         u32_in(second_field(text)),
@@ -129,7 +135,8 @@ fn delivery_of(
     sender: Option<u8>,
     value: Option<Heard>,
 ) -> Option<Line>
-    ensures { (l : DeliveryLine) → frame ≡ Some l.frame → slot ≡ Some l.slot → receiver ≡ Some l.receiver → sender ≡ Some l.sender → value ≡ Some l.value
+    ensures { (l : DeliveryLine) → frame ≡ Some l.frame → slot ≡ Some l.slot
+        → receiver ≡ Some l.receiver → sender ≡ Some l.sender → value ≡ Some l.value
         → result ≡ Some (Line.Delivery l) }
 {
     Some(Line::Delivery(DeliveryLine {
@@ -142,7 +149,8 @@ fn delivery_of(
 }
 
 fn delivery_in(text: &str) -> Option<Line>
-    ensures { (l : DeliveryLine) → DeliveryFits l → text.now ≡ line_body (Line.Delivery l) → result ≡ Some (Line.Delivery l) }
+    ensures { (l : DeliveryLine) → DeliveryFits l → text.now ≡ line_body (Line.Delivery l)
+        → result ≡ Some (Line.Delivery l) }
 {
     delivery_of(
         u32_in(second_field(text)),
@@ -160,7 +168,8 @@ fn end_of(frames: Option<u32>) -> Option<Line>
 }
 
 fn end_in(text: &str) -> Option<Line>
-    ensures { (frames : ℕ) → frames < 2 ^ 32 → text.now ≡ line_body (Line.End frames) → result ≡ Some (Line.End frames) }
+    ensures { (frames : ℕ) → frames < 2 ^ 32 → text.now ≡ line_body (Line.End frames)
+        → result ≡ Some (Line.End frames) }
 {
     end_of(u32_in(second_field(text)))
 }
@@ -171,7 +180,8 @@ fn breach_of(
     stage: Option<u8>,
     cause: Option<Cause>,
 ) -> Option<Line>
-    ensures { (place : Place) (cause_found : Cause) → frame ≡ Some place.frame → slot ≡ Some place.slot → stage ≡ Some place.stage → cause ≡ Some cause_found
+    ensures { (place : Place) (cause_found : Cause) → frame ≡ Some place.frame
+        → slot ≡ Some place.slot → stage ≡ Some place.stage → cause ≡ Some cause_found
         → result ≡ Some (Line.Breach place cause_found) }
 {
     Some(Line::Breach(
@@ -185,7 +195,8 @@ fn breach_of(
 }
 
 fn breach_in(text: &str) -> Option<Line>
-    ensures { (place : Place) (cause : Cause) → PlaceFits place → text.now ≡ line_body (Line.Breach place cause) → result ≡ Some (Line.Breach place cause) }
+    ensures { (place : Place) (cause : Cause) → PlaceFits place
+        → text.now ≡ line_body (Line.Breach place cause) → result ≡ Some (Line.Breach place cause) }
 {
     breach_of(
         u32_in(second_field(text)),
@@ -249,7 +260,8 @@ fn spelled_by(bytes: &[u8]) -> Option<Line>
 #[tactic(auto, using(crate::proofs::Spaces::line_feeds))]
 fn line_length(bytes: &[u8]) -> Option<usize>
     ensures some { IfSome result (λ n. (0 < n) × (n ≤ length bytes.now)) }
-    ensures first { (xs tail : List ℕ) → above 31 xs ≡ true → bytes.now ≡ xs ++ 10 ∷ tail → result ≡ Some (length xs + 1) }
+    ensures first { (xs tail : List ℕ) → above 31 xs ≡ true → bytes.now ≡ xs ++ 10 ∷ tail
+        → result ≡ Some (length xs + 1) }
 {
     for index in 0..bytes.len() {
         if bytes[index] == b'\n' {
@@ -259,7 +271,8 @@ fn line_length(bytes: &[u8]) -> Option<usize>
     None
 }
 
-// What stands first in the bytes, behind the place where the lines before end: a line, and how many bytes it has.
+// What stands first in the bytes, behind the place where the lines before end: a line, and how many
+// bytes it has.
 #[tactic(auto, using(crate::proofs::Orders::reading_steps))]
 fn next_line(bytes: &[u8], newest: u64) -> Result<(Line, usize), Fault>
     requires { 0 < length bytes.now }
@@ -279,7 +292,8 @@ fn next_line(bytes: &[u8], newest: u64) -> Result<(Line, usize), Fault>
     Ok((line, length))
 }
 
-/// The lines of the report that the bytes are. Else the number of the line, from 1, with which they cease to be one, and the cause.
+/// The lines of the report that the bytes are. Else the number of the line, from 1, with which they
+/// cease to be one, and the cause.
 #[tactic(auto, using(crate::proofs::Orders::reading_steps, crate::proofs::Whole::whole_steps))]
 pub(crate) fn lines_in(alloc: Global, bytes: &[u8]) -> Result<Vec<Line>, Unreadable>
     ensures report { IfOk result (λ v. IsReport bytes.now v.items) }

@@ -187,7 +187,8 @@ impl Model for Feasible {
 }
 
 impl Feasible {
-    /// The shape with the plan, where all seven inequalities hold, else the number of the first that fails.
+    /// The shape with the plan, where all seven inequalities hold, else the number of the first
+    /// that fails.
     pub fn new(shape: &Shape, plan: &Plan) -> Result<Feasible, u8>
         requires { IsPlan plan.now }
         ensures value { IfOk result (λ f. f ≡ record { sizes = shape.now; plan = plan.now }) }
@@ -230,7 +231,8 @@ impl Feasible {
         f0(&self.shape, &self.plan)
     }
 
-    /// The window in which an offset lies. None exactly from the tail on, after the sync slot's third stage.
+    /// The window in which an offset lies. None exactly from the tail on, after the sync slot's
+    /// third stage.
     pub fn window(&self, offset: u64) -> Option<Window>
         ensures value { result ≡ window_at self.now.sizes self.now.plan offset }
         ensures none { IsNone result ↔ (tail_start_of self.now.sizes self.now.plan ≤ offset) }
@@ -238,7 +240,8 @@ impl Feasible {
         window(&self.shape, &self.plan, offset)
     }
 
-    /// The offset at which the message of a stage is sent, for a slot below the sync slot and a stage from 1 to 3.
+    /// The offset at which the message of a stage is sent, for a slot below the sync slot and a
+    /// stage from 1 to 3.
     pub fn send_offset(&self, slot: u16, stage: u8) -> u64
         requires slot { slot < sync_slot_of self.now.sizes }
         requires first { 1 ≤ stage }

@@ -6,7 +6,8 @@ ghost use Rattle.rb_port.specs.Answering.{LearnsAs, OffersAs};
 /// Answers the word that an application with this state offers for a slot.
 pub type Offer = Box<dyn Fn(u64, u16) -> u32>;
 
-/// Answers the state of an application that had this state, after the slot's delivery from that sender. None stands for Fault.
+/// Answers the state of an application that had this state, after the slot's delivery from that
+/// sender. None stands for Fault.
 pub type Learn = Box<dyn Fn(u64, u16, u8, Option<u32>) -> u64>;
 
 /// An application, as what it offers and what it learns.
@@ -72,7 +73,8 @@ pub struct Apps {
 }
 
 impl Apps {
-    /// Keeps the three. On all arguments within the ranges of their types each entry may be called and answers its row.
+    /// Keeps the three. On all arguments within the ranges of their types each entry may be called
+    /// and answers its row.
     pub fn new(table: App, counter: App, follow: App) -> Apps
         requires table_offers { OffersAs 0 (Offer.pre table.offer) (Offer.post table.offer) }
         requires table_learns { LearnsAs 0 (Learn.pre table.learn) (Learn.post table.learn) }
@@ -125,8 +127,9 @@ impl Apps {
     }
 }
 
-/// The three applications, in boxes that this allocator gives; where it gives none, its error leaves by `?`. They are made in the
-/// function that calls this, since a function may not hand out a boxed closure.
+/// The three applications, in boxes that this allocator gives; where it gives none, its error
+/// leaves by `?`. They are made in the function that calls this, since a function may not hand out
+/// a boxed closure.
 #[macro_export]
 macro_rules! applications {
     ($alloc:expr) => {

@@ -1,4 +1,5 @@
-//! What stands behind a BIU: its application, and the port that hands words over. Both are this project's own.
+//! What stands behind a BIU: its application, and the port that hands words over. Both are this
+//! project's own.
 #![tactic(auto)]
 
 pub mod apps;

@@ -12,7 +12,8 @@ use std::marker::Model;
 // How many of the latest deliveries are kept.
 const KEPT: usize = 64;
 
-/// The port of a BIU: which application stands behind it, that one's state, and the latest 64 deliveries.
+/// The port of a BIU: which application stands behind it, that one's state, and the latest 64
+/// deliveries.
 #[derive(Drop)]
 pub struct Port {
     app: u8,
@@ -28,7 +29,8 @@ impl Model for Port {
 
     ghost view = { λ p. record { app = p.app; state = p.state; latest = p.latest.items } };
 
-    ghost invariant = { λ p. (p.app < 3) × (p.latest.capacity ≡ 64) × (length p.latest.items ≤ 64) };
+    ghost invariant = { λ p. (p.app < 3) × (p.latest.capacity ≡ 64)
+        × (length p.latest.items ≤ 64) };
 }
 
 fn word_in(value: Heard) -> Option<u32>
@@ -68,7 +70,8 @@ impl Port {
 
     /// The application learns a delivery.
     pub fn deliver(&mut self, apps: &Apps, delivery: Delivery)
-        ensures { (port : PortState) → HoldsPort self.old port → HoldsPort self.new (delivered_to port delivery.value) }
+        ensures { (port : PortState) → HoldsPort self.old port
+            → HoldsPort self.new (delivered_to port delivery.value) }
     {
         self.state = apps.learn(
             self.app,
@@ -89,7 +92,8 @@ impl Port {
 
     /// Sets the application's state, and changes nothing else.
     pub fn set(&mut self, state: u64)
-        ensures { (port : PortState) → HoldsPort self.old port → HoldsPort self.new (record port { state = state }) }
+        ensures { (port : PortState) → HoldsPort self.old port
+            → HoldsPort self.new (record port { state = state }) }
     {
         self.state = state;
     }

@@ -9,7 +9,8 @@ use rb_base::{Event, EventKind, NodeName};
 use rb_frame::Spelling;
 use std::marker::Model;
 
-/// What comes to a node: the time at which it is due, in reference units, its sender's number and its bytes.
+/// What comes to a node: the time at which it is due, in reference units, its sender's number and
+/// its bytes.
 #[derive(Drop)]
 pub struct Arrival {
     time: u64,

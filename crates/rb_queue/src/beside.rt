@@ -1,4 +1,5 @@
-//! What is looked up among all that is pending at one node, where something is kept beside the lane.
+//! What is looked up among all that is pending at one node, where something is kept beside the
+//! lane.
 ghost use Rattle.std.specs.Prelude.{◌≡◌, ◌+◌, ◌<◌, ◌≤◌, ◌++◌, length, map, MatchResult, Option, option_to_list, Some};
 ghost use Rattle.rb_base.specs.Counting.{count_if};
 ghost use Rattle.rb_rules.specs.WorldStep.{least};
@@ -9,7 +10,8 @@ use crate::lane::Lane;
 use crate::pending::Pending;
 use crate::scan::{count, count_tick, place_among};
 
-/// Where something that is pending stands: at a place among the arrivals, in the place of the tick, or at a place of what is kept beside.
+/// Where something that is pending stands: at a place among the arrivals, in the place of the tick,
+/// or at a place of what is kept beside.
 pub enum Spot {
     Arrival(usize),
     Tick,
@@ -27,7 +29,8 @@ fn sooner(ahead: Option<u64>, time: u64) -> u64
 
 // The least time of all.
 pub(crate) fn least_time(lane: &Lane, more: &[Pending]) -> Option<u64>
-    ensures { result ≡ least ((option_to_list lane.now.tick ++ map (λ c. c.time) lane.now.arrivals) ++ map (λ p. p.time) more.now) }
+    ensures { result ≡ least ((option_to_list lane.now.tick ++ map (λ c. c.time) lane.now.arrivals)
+        ++ map (λ p. p.time) more.now) }
 {
     let mut first = lane.head();
     for pending in more {
@@ -36,7 +39,8 @@ pub(crate) fn least_time(lane: &Lane, more: &[Pending]) -> Option<u64>
     first
 }
 
-// How many are kept beside that are of a time and of the sources that begin with the first and stand before the end.
+// How many are kept beside that are of a time and of the sources that begin with the first and
+// stand before the end.
 fn count_beside(more: &[Pending], time: u64, first: u16, end: u16) -> usize
     ensures value { result ≡ count_if (is_sent_between time first end) more.now }
     ensures few { result ≤ length more.now }
@@ -61,8 +65,8 @@ pub(crate) fn count_takeable(lane: &Lane, more: &[Pending], time: u64) -> usize
     count_tick(lane.tick(), time) + count_beside(more, time, 256, 257)
 }
 
-// The place of what is kept beside of a source and a time after so many others. Where there is none, how many of those others are
-// still to be found elsewhere.
+// The place of what is kept beside of a source and a time after so many others. Where there is
+// none, how many of those others are still to be found elsewhere.
 fn beside_among(more: &[Pending], time: u64, source: u16, others: usize) -> Result<usize, usize>
     ensures { MatchResult result (λ place. IsBeside (beside_at time more.now source) others more.now place)
         (λ left. left + length (beside_at time more.now source) ≡ others) }
@@ -99,7 +103,8 @@ fn spot_among(
     }
 }
 
-// The spot of the i-th arrival of a time, by sender and then in the order of pushing. Where there is none, how many places are left.
+// The spot of the i-th arrival of a time, by sender and then in the order of pushing. Where there
+// is none, how many places are left.
 fn spot_by_sender(lane: &Lane, more: &[Pending], time: u64, i: usize) -> Result<Spot, usize>
     ensures { MatchResult result (λ spot. IsSpot (senders_at time lane.now more.now) i lane.now more.now spot)
         (λ left. left + length (senders_at time lane.now more.now) ≡ i) }

@@ -13,8 +13,8 @@ use rb_base::{Event, EventKind, NodeName, OutOfMemory};
 use std::alloc::Global;
 use std::marker::Model;
 
-// The arrivals in the order of pushing, those before the start being gone, and the time of the tick. The room is taken from memory
-// at the start.
+// The arrivals in the order of pushing, those before the start being gone, and the time of the
+// tick. The room is taken from memory at the start.
 #[derive(Drop)]
 pub(crate) struct Lane {
     kept: Vec<Arrival>,
@@ -34,12 +34,18 @@ impl Model for Lane {
 
     ghost Value = { Held };
 
-    ghost view = { λ l. record { arrivals = drop l.start l.kept.items; tick = l.tick; room = l.room } };
+    ghost view = { λ l. record {
+      arrivals = drop l.start l.kept.items;
+      tick = l.tick;
+      room = l.room;
+    } };
 
-    ghost invariant = { λ l. IsLane l.kept.items l.start l.room (vec_capacity l.kept) l.sorted l.latest };
+    ghost invariant = { λ l. IsLane l.kept.items l.start l.room (vec_capacity l.kept) l.sorted
+        l.latest };
 }
 
-// Where those before the start are gone, and there is no room behind, the others move to the front. Returns the new start.
+// Where those before the start are gone, and there is no room behind, the others move to the front.
+// Returns the new start.
 #[inline(always)]
 fn make_room(kept: &mut Vec<Arrival>, start: usize, room: usize) -> usize
     requires begins { start ≤ length kept.old.items }

@@ -12,9 +12,10 @@ use rb_base::{Event, EventKind, NodeName, OutOfMemory, Shape};
 use std::alloc::Global;
 use std::marker::Model;
 
-/// The pending events of the nodes of a bus, a lane for each node, with room for a fixed number of events. A lane holds what comes to the
-/// node in the order of pushing, and the time of the node's tick. Beside it stands what it doesn't hold whole: a further tick, a tick with
-/// a word, what has quiet ticks before it, and all that `push` is given after such an event.
+/// The pending events of the nodes of a bus, a lane for each node, with room for a fixed number of
+/// events. A lane holds what comes to the node in the order of pushing, and the time of the node's
+/// tick. Beside it stands what it doesn't hold whole: a further tick, a tick with a word, what has
+/// quiet ticks before it, and all that `push` is given after such an event.
 #[derive(Drop)]
 pub struct Lanes {
     bius: Vec<Queue>,
@@ -48,8 +49,8 @@ fn empty_queues(alloc: Global, count: u8, room: usize) -> Result<Vec<Queue>, Out
 }
 
 impl Lanes {
-    /// A lane with no event for each node of the shape. Each has room for `room` events, all of it taken from memory here:
-    /// no other call takes memory.
+    /// A lane with no event for each node of the shape. Each has room for `room` events, all of it
+    /// taken from memory here: no other call takes memory.
     pub fn new(alloc: Global, shape: &Shape, room: usize) -> Result<Lanes, OutOfMemory>
         ensures { IfOk result (λ lanes. lanes ≡ each_of shape.now (λ side i. empty_queue room)) }
     {
@@ -77,13 +78,17 @@ impl Lanes {
         self.queue(node).spare()
     }
 
-    /// Adds an event to its node's events, due at this time in reference units. There is room for it. It comes back as it is given here,
-    /// and stands behind all that was pushed of its sender, or of the node's own ticks, before it.
+    /// Adds an event to its node's events, due at this time in reference units. There is room for
+    /// it. It comes back as it is given here, and stands behind all that was pushed of its sender,
+    /// or of the node's own ticks, before it.
     pub fn push(&mut self, time: u64, event: Event)
         requires in_shape { HasQueue self.old event.node }
         requires spare { 1 ≤ room_left (queue_of self.old event.node) }
-        ensures after { self.new ≡ with_queue event.node (with_pushed time event (queue_of self.old event.node)) self.old }
-        ensures last { IsLastOf time event (queue_of self.old event.node) (queue_of self.new event.node) }
+        ensures after { self.new
+            ≡ with_queue event.node (with_pushed time event (queue_of self.old event.node))
+            self.old }
+        ensures last { IsLastOf time event (queue_of self.old event.node)
+            (queue_of self.new event.node) }
     {
         match event.node {
             NodeName::Biu(i) => self.bius[usize::from(i)].push(time, event),
@@ -91,8 +96,9 @@ impl Lanes {
         }
     }
 
-    /// Adds what comes to a node from a sender, due at this time in reference units, to its lane. There is room for it. It comes before what
-    /// `push` kept beside the lane of that sender and that time.
+    /// Adds what comes to a node from a sender, due at this time in reference units, to its lane.
+    /// There is room for it. It comes before what `push` kept beside the lane of that sender and
+    /// that time.
     #[inline(always)]
     pub fn push_arrival(&mut self, node: NodeName, time: u64, from: u8, bytes: ArrayVec<u8, 32>)
         requires in_shape { HasQueue self.old node }
@@ -108,8 +114,9 @@ impl Lanes {
         }
     }
 
-    /// Adds what comes to a node, due at this time in reference units, with the sender and the bytes of another arrival, to its lane: for a
-    /// message that comes to many. There is room for it. It comes before what `push` kept beside the lane of that sender and that time.
+    /// Adds what comes to a node, due at this time in reference units, with the sender and the
+    /// bytes of another arrival, to its lane: for a message that comes to many. There is room for
+    /// it. It comes before what `push` kept beside the lane of that sender and that time.
     #[inline(always)]
     pub fn push_like(&mut self, node: NodeName, time: u64, like: &Arrival)
         requires in_shape { HasQueue self.old node }
@@ -125,12 +132,13 @@ impl Lanes {
         }
     }
 
-    /// The tick of the node's lane is pending, due at this time in reference units, in place of the one that was. A tick that `push` kept
-    /// beside the lane stays.
+    /// The tick of the node's lane is pending, due at this time in reference units, in place of the
+    /// one that was. A tick that `push` kept beside the lane stays.
     #[inline(always)]
     pub fn push_tick(&mut self, node: NodeName, time: u64)
         requires in_shape { HasQueue self.old node }
-        ensures after { self.new ≡ with_lane_at node (with_tick time (queue_of self.old node).lane) self.old }
+        ensures after { self.new ≡ with_lane_at node (with_tick time (queue_of self.old node).lane)
+            self.old }
     {
         match node {
             NodeName::Biu(i) => self.bius[usize::from(i)].push_tick(time),
@@ -138,7 +146,8 @@ impl Lanes {
         }
     }
 
-    /// The least time, in reference units, at which an event of the node is due. None exactly where the node has no event.
+    /// The least time, in reference units, at which an event of the node is due. None exactly where
+    /// the node has no event.
     pub fn head(&self, node: NodeName) -> Option<u64>
         requires in_shape { HasQueue self.now node }
         ensures value { result ≡ least_time_of (queue_of self.now node) }
@@ -147,7 +156,8 @@ impl Lanes {
         self.queue(node).head()
     }
 
-    /// How many events of the node are ready: the arrivals of its least time or, where there are none, its ticks of that time.
+    /// How many events of the node are ready: the arrivals of its least time or, where there are
+    /// none, its ticks of that time.
     pub fn ready(&self, node: NodeName) -> usize
         requires in_shape { HasQueue self.now node }
         ensures value { result ≡ length (takeable_of (queue_of self.now node)) }
@@ -156,8 +166,8 @@ impl Lanes {
         self.queue(node).ready()
     }
 
-    /// The ready event at place `i`, counted from 0. They are listed by sender and then in the order of pushing, and ticks in
-    /// the order of pushing. It is the event as it was pushed.
+    /// The ready event at place `i`, counted from 0. They are listed by sender and then in the
+    /// order of pushing, and ticks in the order of pushing. It is the event as it was pushed.
     pub fn event(&self, node: NodeName, i: usize) -> Event
         requires in_shape { HasQueue self.now node }
         requires below { i < length (takeable_of (queue_of self.now node)) }
@@ -171,7 +181,8 @@ impl Lanes {
         requires in_shape { HasQueue self.old node }
         requires below { i < length (takeable_of (queue_of self.old node)) }
         ensures value { takeable_event node i (queue_of self.old node) ≡ Some result }
-        ensures after { self.new ≡ with_queue node (without_takeable i (queue_of self.old node)) self.old }
+        ensures after { self.new ≡ with_queue node (without_takeable i (queue_of self.old node))
+            self.old }
     {
         match node {
             NodeName::Biu(index) => self.bius[usize::from(index)].take(node, i),
@@ -179,8 +190,9 @@ impl Lanes {
         }
     }
 
-    /// The place, among the arrivals of the node's lane in the order of pushing, of the first that is ready there, where it is due before
-    /// this time. None exactly where nothing that the lane holds is due before then but its tick. What `push` kept beside is not looked at.
+    /// The place, among the arrivals of the node's lane in the order of pushing, of the first that
+    /// is ready there, where it is due before this time. None exactly where nothing that the lane
+    /// holds is due before then but its tick. What `push` kept beside is not looked at.
     #[inline(always)]
     pub fn first_before(&self, node: NodeName, until: u64) -> Option<usize>
         requires in_shape { HasQueue self.now node }
@@ -199,12 +211,14 @@ impl Lanes {
         self.queue(node).arrival(place)
     }
 
-    /// Drops the arrival at this place among those of the node's lane, in the order of pushing, and nothing else.
+    /// Drops the arrival at this place among those of the node's lane, in the order of pushing, and
+    /// nothing else.
     #[inline(always)]
     pub fn drop_at(&mut self, node: NodeName, place: usize)
         requires in_shape { HasQueue self.old node }
         requires below { place < length (queue_of self.old node).lane.arrivals }
-        ensures after { self.new ≡ with_lane_at node (without_place place (queue_of self.old node).lane) self.old }
+        ensures after { self.new
+            ≡ with_lane_at node (without_place place (queue_of self.old node).lane) self.old }
     {
         match node {
             NodeName::Biu(i) => self.bius[usize::from(i)].drop_at(place),
@@ -221,11 +235,13 @@ impl Lanes {
         self.queue(node).waiting()
     }
 
-    /// Drops the arrivals of the node's lane that are due before this time, and nothing else. The others stay in the order of pushing.
+    /// Drops the arrivals of the node's lane that are due before this time, and nothing else. The
+    /// others stay in the order of pushing.
     #[inline(always)]
     pub fn drop_before(&mut self, node: NodeName, until: u64)
         requires in_shape { HasQueue self.old node }
-        ensures after { self.new ≡ with_lane_at node (without_before until (queue_of self.old node).lane) self.old }
+        ensures after { self.new
+            ≡ with_lane_at node (without_before until (queue_of self.old node).lane) self.old }
     {
         match node {
             NodeName::Biu(i) => self.bius[usize::from(i)].drop_before(until),
@@ -246,7 +262,8 @@ impl Lanes {
     #[inline(always)]
     pub fn take_tick(&mut self, node: NodeName)
         requires in_shape { HasQueue self.old node }
-        ensures after { self.new ≡ with_lane_at node (without_tick (queue_of self.old node).lane) self.old }
+        ensures after { self.new ≡ with_lane_at node (without_tick (queue_of self.old node).lane)
+            self.old }
     {
         match node {
             NodeName::Biu(i) => self.bius[usize::from(i)].take_tick(),

@@ -12,7 +12,8 @@ use rb_base::{Event, EventKind, NodeName, OutOfMemory};
 use std::alloc::Global;
 use std::marker::Model;
 
-// What the node's lane holds and, in the order of pushing, all else that was pushed. The room is taken from memory at the start.
+// What the node's lane holds and, in the order of pushing, all else that was pushed. The room is
+// taken from memory at the start.
 #[derive(Drop)]
 pub(crate) struct Queue {
     lane: Lane,

@@ -112,7 +112,8 @@ pub(crate) fn count_tick(tick: Option<u64>, time: u64) -> usize
 
 // How many are ready at a time.
 pub(crate) fn count_ready(arrivals: &[Arrival], tick: Option<u64>, time: u64) -> usize
-    ensures value { result ≡ length (unless_any (arrivals_at time arrivals.now) (tick_at time tick)) }
+    ensures value { result
+        ≡ length (unless_any (arrivals_at time arrivals.now) (tick_at time tick)) }
     ensures few { result ≤ length arrivals.now + 1 }
 {
     let arriving = count(arrivals, time, 0, 256);
@@ -129,7 +130,8 @@ fn is_between(arrival: &Arrival, time: u64, first: u16, end: u16) -> bool
     first <= source && source < end && arrival.time() == time
 }
 
-// How many arrivals come at a time from the sources that begin with the first and stand before the end.
+// How many arrivals come at a time from the sources that begin with the first and stand before the
+// end.
 pub(crate) fn count(arrivals: &[Arrival], time: u64, first: u16, end: u16) -> usize
     ensures value { result ≡ count_if (is_between time first end) arrivals.now }
     ensures few { result ≤ length arrivals.now }
@@ -141,7 +143,8 @@ pub(crate) fn count(arrivals: &[Arrival], time: u64, first: u16, end: u16) -> us
     count
 }
 
-// The lowest source, from this one on, of which something comes at a time. 256, where there is none.
+// The lowest source, from this one on, of which something comes at a time. 256, where there is
+// none.
 fn lowest_source(arrivals: &[Arrival], time: u64, first: u16) -> u16
     requires { first ≤ 256 }
     ensures low { first ≤ result }
@@ -157,8 +160,8 @@ fn lowest_source(arrivals: &[Arrival], time: u64, first: u16) -> u16
     lowest
 }
 
-// The place of the arrival that comes from a source at a time after so many others. Where there is none, how many of those others
-// are still to be found elsewhere.
+// The place of the arrival that comes from a source at a time after so many others. Where there is
+// none, how many of those others are still to be found elsewhere.
 pub(crate) fn place_among(
     arrivals: &[Arrival],
     time: u64,

@@ -45,7 +45,8 @@ impl Buffer {
         Ok(())
     }
 
-    /// Puts bytes behind those that wait. Where there is no room for them, what waits is written first.
+    /// Puts bytes behind those that wait. Where there is no room for them, what waits is written
+    /// first.
     pub(crate) fn push<K: Sink>(
         &mut self,
         bytes: &ArrayVec<u8, 64>,

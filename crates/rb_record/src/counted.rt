@@ -59,7 +59,8 @@ impl CountedLog {
         }
     }
 
-    /// Whether the log has room for an event: with it it has at most 2^31 ticks, and what arrives has bytes.
+    /// Whether the log has room for an event: with it it has at most 2^31 ticks, and what arrives
+    /// has bytes.
     pub(crate) fn has_room(&self, event: &Event) -> bool
         ensures { IsTrue result ↔ HasRoom self.now.ticks event.now }
     {
@@ -69,7 +70,9 @@ impl CountedLog {
     /// The bytes that are complete with this event, as `LogWriter::event` gives them.
     pub(crate) fn event(&mut self, event: &Event) -> ArrayVec<u8, 64>
         requires { HasRoom self.old.ticks event.now }
-        ensures written { (others : List Given) → written self.old.waiting (event.now ∷ others) ≡ result.items ++ written self.new.waiting others }
+        ensures written { (others : List Given)
+            → written self.old.waiting (event.now ∷ others)
+            ≡ result.items ++ written self.new.waiting others }
         ensures ticks { self.new.ticks ≡ self.old.ticks + ticks_given event.now }
     {
         self.ticks += ticks_given(event);

@@ -13,8 +13,8 @@ use rb_base::Event;
 use rb_outside::{Failed, Sink};
 use rb_world::{Observer, Turn};
 
-// Passes on what is complete of the log with this event. Where the log has no room for it, it is left out: so it is with no event of
-// a run.
+// Passes on what is complete of the log with this event. Where the log has no room for it, it is
+// left out: so it is with no event of a run.
 fn pass_event<K: Sink>(
     log: &mut CountedLog,
     event: &Event,
@@ -32,8 +32,9 @@ fn pass_event<K: Sink>(
     waiting.push(&log.event(event), output)
 }
 
-/// Takes down each event of a node that it is told, up to the node's first tick of the frame after the last. What is complete of the
-/// log waits until a frame begins, or until there is no room for more. After a write that failed it writes nothing more.
+/// Takes down each event of a node that it is told, up to the node's first tick of the frame after
+/// the last. What is complete of the log waits until a frame begins, or until there is no room for
+/// more. After a write that failed it writes nothing more.
 #[derive(Drop)]
 pub(crate) struct Recorder<'a, K> {
     output: &'a mut K,
@@ -62,7 +63,8 @@ impl<'a, K: Sink> Recorder<'a, K> {
         }
     }
 
-    /// Writes what waits, where a frame begins with this turn, and tells whether each write succeeded so far.
+    /// Writes what waits, where a frame begins with this turn, and tells whether each write
+    /// succeeded so far.
     pub(crate) fn settle(&mut self, turn: &Turn) -> Result<(), Failed>
         ensures settles { Settles K.held K.faults self.old self.new }
         ensures told { result ≡ self.new.written }
@@ -80,7 +82,8 @@ impl<'a, K: Sink> Recorder<'a, K> {
             (self.old.waiting ++ written self.old.log.waiting [])) }
         ensures part { OnErr result (AppendsPart (K.held self.old.output.now) (K.held self.new.output.now)
             (self.old.waiting ++ written self.old.log.waiting [])) }
-        ensures cause { HasCause (K.faults self.old.output.now) (K.faults self.new.output.now) result }
+        ensures cause { HasCause (K.faults self.old.output.now) (K.faults self.new.output.now)
+            result }
     {
         self.waiting.push(&self.log.end(), self.output)?;
         self.waiting.flush(self.output)

@@ -41,7 +41,8 @@ fn ending_at(turn: &Turn) -> Option<Ending>
     }
 }
 
-// Takes a run to its last record, and has written down what the node is given. A run has fewer than 2^64 - 1 records.
+// Takes a run to its last record, and has written down what the node is given. A run has fewer than
+// 2^64 - 1 records.
 fn record_run<K: Sink>(
     world: &mut World,
     apps: &Apps,
@@ -58,7 +59,8 @@ fn record_run<K: Sink>(
         (λ _. IsRecordedWhole world.old.bus node world.new recorder.new.log recorder.new.waiting (K.held recorder.old.output.now) (K.held recorder.new.output.now))
         (λ _. IsRecordedInPart world.old.bus node (K.held recorder.old.output.now) (K.held recorder.new.output.now)) }
     ensures ending { IfOk result (EndsWith world.old.bus) }
-    ensures cause { HasCause (K.faults recorder.old.output.now) (K.faults recorder.new.output.now) result }
+    ensures cause { HasCause (K.faults recorder.old.output.now) (K.faults recorder.new.output.now)
+        result }
     ensures same_output { recorder.new.output.ghost_name ≡ recorder.old.output.ghost_name }
     ensures bus { world.new.bus ≡ world.old.bus }
 {
@@ -72,12 +74,14 @@ fn record_run<K: Sink>(
     unreachable!()
 }
 
-/// Takes a run from its begin to its end, each time the event that is due first, and writes the log of what a node of the bus is
-/// given in it: the header, the records of the events, and the end. What is complete of the log waits until a frame of the run begins,
-/// or until it is more than 4,096 bytes, and is then written at once. The log has the node's events up to its first tick of the frame
-/// after the last; with a breach, and at a node that turns faulty, it ends where those end before. `Failed` comes only where a write
-/// failed; a first part of the log has then been written. The world must be as `World::open` gives it. Nothing is kept of what is
-/// written, and no memory is taken.
+/// Takes a run from its begin to its end, each time the event that is due first, and writes the log
+/// of what a node of the bus is given in it: the header, the records of the events, and the end.
+/// What is complete of the log waits until a frame of the run begins, or until it is more than
+/// 4,096 bytes, and is then written at once. The log has the node's events up to its first tick of
+/// the frame after the last; with a breach, and at a node that turns faulty, it ends where those
+/// end before. `Failed` comes only where a write failed; a first part of the log has then been
+/// written. The world must be as `World::open` gives it. Nothing is kept of what is written, and no
+/// memory is taken.
 pub fn record<K: Sink>(
     world: &mut World,
     apps: &Apps,

@@ -1,4 +1,5 @@
-//! A log that is given to its node once more, or that of a BIU to a listener: what either tells is written as text.
+//! A log that is given to its node once more, or that of a BIU to a listener: what either tells is
+//! written as text.
 #![tactic(auto)]
 
 mod lines;

@@ -31,7 +31,8 @@ fn write_two<S: Sink>(
     write_line(output, second)
 }
 
-// Writes the begin of a frame, where one begins: its first tick, and whom the node or the listener holds convicted.
+// Writes the begin of a frame, where one begins: its first tick, and whom the node or the listener
+// holds convicted.
 #[inline(always)]
 fn write_epoch<S: Sink>(node: NodeName, epoch: Option<Epoch>, output: &mut S) -> Result<(), Failed>
     ensures all { OnOk result (Appends (S.held output.old) (S.held output.new) (epoch_lines node epoch)) }
@@ -77,7 +78,8 @@ fn write_delivery<S: Sink>(
     }
 }
 
-/// Writes what a node tells at a tick: the frame that begins, and what it delivers in the window that it closes, which is `shown`.
+/// Writes what a node tells at a tick: the frame that begins, and what it delivers in the window
+/// that it closes, which is `shown`.
 #[tactic(auto, using(crate::proofs::Written::in_turn))]
 #[inline(always)]
 pub(crate) fn write_step<S: Sink>(
@@ -86,8 +88,10 @@ pub(crate) fn write_step<S: Sink>(
     shown: &Closed,
     output: &mut S,
 ) -> Result<(), Failed>
-    ensures all { (x : Act) → IsAct shown.now step.now x → OnOk result (Appends (S.held output.old) (S.held output.new) (act_lines node x)) }
-    ensures part { (x : Act) → IsAct shown.now step.now x → OnErr result (AppendsPart (S.held output.old) (S.held output.new) (act_lines node x)) }
+    ensures all { (x : Act) → IsAct shown.now step.now x
+        → OnOk result (Appends (S.held output.old) (S.held output.new) (act_lines node x)) }
+    ensures part { (x : Act) → IsAct shown.now step.now x
+        → OnErr result (AppendsPart (S.held output.old) (S.held output.new) (act_lines node x)) }
     ensures cause { HasCause (S.faults output.old) (S.faults output.new) result }
 {
     write_epoch(node, step.epoch, output)?;

@@ -28,7 +28,8 @@ fn quiet_ahead(listener: &Listener) -> u64
 
 // Passes the quiet ticks at the front of the log, at once.
 fn pass_quiet(listener: &mut Listener, log: &mut LogReader<'_>)
-    ensures due { (name : NodeName) (begun : ℕ) (due : List ℕ) → IsDue listener.old name begun log.old.events due
+    ensures due { (name : NodeName) (begun : ℕ) (due : List ℕ)
+        → IsDue listener.old name begun log.old.events due
         → IsDue listener.new name begun log.new.events due }
     ensures shorter { length log.new.events ≤ length log.old.events }
 {
@@ -44,12 +45,15 @@ fn give_tick<S: Sink>(
 ) -> Result<u32, Failed>
     ensures stands { (l : Listening) → IsListening listener.old l
         → IsListening listener.new (heed listener.old.sizes listener.old.plan l).listening }
-    ensures all { (l : Listening) → IsListening listener.old l → OnOk result (Appends (S.held output.old) (S.held output.new)
+    ensures all { (l : Listening) → IsListening listener.old l
+        → OnOk result (Appends (S.held output.old) (S.held output.new)
         (heed_lines name (heed listener.old.sizes listener.old.plan l).heed)) }
-    ensures part { (l : Listening) → IsListening listener.old l → OnErr result (AppendsPart (S.held output.old) (S.held output.new)
+    ensures part { (l : Listening) → IsListening listener.old l
+        → OnErr result (AppendsPart (S.held output.old) (S.held output.new)
         (heed_lines name (heed listener.old.sizes listener.old.plan l).heed)) }
     ensures begun { (l : Listening) → IsListening listener.old l
-        → IfOk result (λ n. n ≡ begun_with (heed listener.old.sizes listener.old.plan l).heed.epoch) }
+        → IfOk result (λ n. n
+        ≡ begun_with (heed listener.old.sizes listener.old.plan l).heed.epoch) }
     ensures most { IfOk result (λ n. n ≤ 1) }
     ensures cause { HasCause (S.faults output.old) (S.faults output.new) result }
     ensures same { IsSameBus listener.old listener.new }
@@ -66,9 +70,11 @@ fn give_ticks<S: Sink>(
     name: NodeName,
     output: &mut S,
 ) -> Result<u32, Failed>
-    ensures advances { (word begun : ℕ) (due : List ℕ) → IsDue listener.old name begun (Tick word ∷ log.old.events) due
+    ensures advances { (word begun : ℕ) (due : List ℕ)
+        → IsDue listener.old name begun (Tick word ∷ log.old.events) due
         → IfOk result (λ n. Advances (IsDue listener.new name (begun + n) log.new.events) due (S.held output.old) (S.held output.new)) }
-    ensures part { (word begun : ℕ) (due : List ℕ) → IsDue listener.old name begun (Tick word ∷ log.old.events) due
+    ensures part { (word begun : ℕ) (due : List ℕ)
+        → IsDue listener.old name begun (Tick word ∷ log.old.events) due
         → OnErr result (AppendsPart (S.held output.old) (S.held output.new) due) }
     ensures most { IfOk result (λ n. n ≤ 1) }
     ensures shorter { length log.new.events ≤ length log.old.events }
@@ -79,8 +85,8 @@ fn give_ticks<S: Sink>(
     Ok(begun)
 }
 
-// Gives the listener the event that comes before those that are left in the log, and quiet ticks behind it, and writes what it
-// tells; gives the number of frames that begin.
+// Gives the listener the event that comes before those that are left in the log, and quiet ticks
+// behind it, and writes what it tells; gives the number of frames that begin.
 fn give<S: Sink>(
     listener: &mut Listener,
     log: &mut LogReader<'_>,
@@ -88,9 +94,11 @@ fn give<S: Sink>(
     event: LogEvent<'_>,
     output: &mut S,
 ) -> Result<u32, Failed>
-    ensures advances { (begun : ℕ) (due : List ℕ) → IsDue listener.old name begun (shown event.entry ∷ log.old.events) due
+    ensures advances { (begun : ℕ) (due : List ℕ)
+        → IsDue listener.old name begun (shown event.entry ∷ log.old.events) due
         → IfOk result (λ n. Advances (IsDue listener.new name (begun + n) log.new.events) due (S.held output.old) (S.held output.new)) }
-    ensures part { (begun : ℕ) (due : List ℕ) → IsDue listener.old name begun (shown event.entry ∷ log.old.events) due
+    ensures part { (begun : ℕ) (due : List ℕ)
+        → IsDue listener.old name begun (shown event.entry ∷ log.old.events) due
         → OnErr result (AppendsPart (S.held output.old) (S.held output.new) due) }
     ensures most { IfOk result (λ n. n ≤ 1) }
     ensures shorter { length log.new.events ≤ length log.old.events }
@@ -107,7 +115,8 @@ fn give<S: Sink>(
 
 // Goes on in the log up to and with the tick of this number, and says whether there is one.
 fn find_tick(log: &mut LogReader<'_>, skip: u32) -> bool
-    ensures found { result ≡ true → (word : ℕ) × (from_tick skip log.old.events ≡ Tick word ∷ log.new.events) }
+    ensures found { result ≡ true
+        → (word : ℕ) × (from_tick skip log.old.events ≡ Tick word ∷ log.new.events) }
     ensures none { result ≡ false → from_tick skip log.old.events ≡ [] }
 {
     let mut left = u64::from(skip);
@@ -126,7 +135,8 @@ fn find_tick(log: &mut LogReader<'_>, skip: u32) -> bool
     }
 }
 
-// Gives the listener what is left of the log and writes what it tells, and then the end. So many frames have begun.
+// Gives the listener what is left of the log and writes what it tells, and then the end. So many
+// frames have begun.
 fn listen_on<S: Sink>(
     mut listener: Listener,
     mut log: LogReader<'_>,
@@ -158,11 +168,13 @@ pub fn is_biu(log: &LogReader<'_>) -> bool
     }
 }
 
-/// Gives what the log of a BIU tells to a listener that has heard nothing, from the tick of this number on, and writes what the listener
-/// tells, line by line, as it comes: for each frame that begins `e FRAME NODE TICK` and `c FRAME NODE BIUS RMUS`, for each delivery
-/// `d FRAME SLOT NODE SENDER WORD`, under the name of the log's node, with ticks in the listener's own count. Last is `end FRAMES`,
-/// the number of frames that began less one, or 0. What comes before that tick in the log is dropped. `Failed` comes only where the
-/// sink failed, and then a first part of the text was taken. Quiet ticks in a row are passed at once, however many.
+/// Gives what the log of a BIU tells to a listener that has heard nothing, from the tick of this
+/// number on, and writes what the listener tells, line by line, as it comes: for each frame that
+/// begins `e FRAME NODE TICK` and `c FRAME NODE BIUS RMUS`, for each delivery `d FRAME SLOT NODE
+/// SENDER WORD`, under the name of the log's node, with ticks in the listener's own count. Last is
+/// `end FRAMES`, the number of frames that began less one, or 0. What comes before that tick in the
+/// log is dropped. `Failed` comes only where the sink failed, and then a first part of the text was
+/// taken. Quiet ticks in a row are passed at once, however many.
 pub fn listen<S: Sink>(log: LogReader<'_>, skip: u32, output: &mut S) -> Result<(), Failed>
     ensures all { OnOk result (Appends (S.held output.old) (S.held output.new)
         (overheard_text log.entry.timetable.sizes log.entry.timetable.plan log.entry.node skip log.entry.events)) }

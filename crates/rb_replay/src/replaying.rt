@@ -29,7 +29,8 @@ fn quiet_ahead<K: Kind>(node: &Node<K>) -> u64
 
 // Passes the quiet ticks at the front of the log, at once.
 fn pass_quiet<K: Kind>(node: &mut Node<K>, log: &mut LogReader<'_>)
-    ensures due { (name : NodeName) (frames : ℕ) (due : List ℕ) → IsDue (side_of K.CODE) node.old name frames log.old.events due
+    ensures due { (name : NodeName) (frames : ℕ) (due : List ℕ)
+        → IsDue (side_of K.CODE) node.old name frames log.old.events due
         → IsDue (side_of K.CODE) node.new name frames log.new.events due }
     ensures most { node.new.had ≤ 2 ^ 31 }
     ensures shorter { length log.new.events ≤ length log.old.events }
@@ -45,10 +46,14 @@ fn give_tick<K: Kind, S: Sink>(
     word: u32,
     output: &mut S,
 ) -> Result<u32, Failed>
-    ensures core { (c : Core) → IsCore node.old c → IsCore node.new (tick_of (side_of K.CODE) node.old c word).core }
-    ensures all { (c : Core) → IsCore node.old c → OnOk result (Appends (S.held output.old) (S.held output.new) (act_lines name (tick_of (side_of K.CODE) node.old c word))) }
-    ensures part { (c : Core) → IsCore node.old c → OnErr result (AppendsPart (S.held output.old) (S.held output.new) (act_lines name (tick_of (side_of K.CODE) node.old c word))) }
-    ensures begun { (c : Core) → IsCore node.old c → IfOk result (λ n. n ≡ frames_with (tick_of (side_of K.CODE) node.old c word).epoch) }
+    ensures core { (c : Core) → IsCore node.old c
+        → IsCore node.new (tick_of (side_of K.CODE) node.old c word).core }
+    ensures all { (c : Core) → IsCore node.old c
+        → OnOk result (Appends (S.held output.old) (S.held output.new) (act_lines name (tick_of (side_of K.CODE) node.old c word))) }
+    ensures part { (c : Core) → IsCore node.old c
+        → OnErr result (AppendsPart (S.held output.old) (S.held output.new) (act_lines name (tick_of (side_of K.CODE) node.old c word))) }
+    ensures begun { (c : Core) → IsCore node.old c
+        → IfOk result (λ n. n ≡ frames_with (tick_of (side_of K.CODE) node.old c word).epoch) }
     ensures most { IfOk result (λ n. n ≤ 1) }
     ensures cause { HasCause (S.faults output.old) (S.faults output.new) result }
     ensures same { IsSameNode node.old node.new }
@@ -66,9 +71,11 @@ fn give_ticks<K: Kind, S: Sink>(
     word: u32,
     output: &mut S,
 ) -> Result<u32, Failed>
-    ensures advances { (frames : ℕ) (due : List ℕ) → IsDue (side_of K.CODE) node.old name frames (Tick word ∷ log.old.events) due
+    ensures advances { (frames : ℕ) (due : List ℕ)
+        → IsDue (side_of K.CODE) node.old name frames (Tick word ∷ log.old.events) due
         → IfOk result (λ n. Advances (IsDue (side_of K.CODE) node.new name (frames + n) log.new.events) due (S.held output.old) (S.held output.new)) }
-    ensures part { (frames : ℕ) (due : List ℕ) → IsDue (side_of K.CODE) node.old name frames (Tick word ∷ log.old.events) due
+    ensures part { (frames : ℕ) (due : List ℕ)
+        → IsDue (side_of K.CODE) node.old name frames (Tick word ∷ log.old.events) due
         → OnErr result (AppendsPart (S.held output.old) (S.held output.new) due) }
     ensures most { IfOk result (λ n. n ≤ 1) }
     ensures had { OnOk result (node.new.had ≤ 2 ^ 31) }
@@ -80,8 +87,8 @@ fn give_ticks<K: Kind, S: Sink>(
     Ok(begun)
 }
 
-// Gives the node the event that comes before those that are left in the log, and quiet ticks behind it, and writes what it
-// tells; gives the number of frames above 0 that begin.
+// Gives the node the event that comes before those that are left in the log, and quiet ticks behind
+// it, and writes what it tells; gives the number of frames above 0 that begin.
 fn give<K: Kind, S: Sink>(
     node: &mut Node<K>,
     log: &mut LogReader<'_>,
@@ -89,9 +96,11 @@ fn give<K: Kind, S: Sink>(
     event: LogEvent<'_>,
     output: &mut S,
 ) -> Result<u32, Failed>
-    ensures advances { (frames : ℕ) (due : List ℕ) → IsDue (side_of K.CODE) node.old name frames (shown event.entry ∷ log.old.events) due
+    ensures advances { (frames : ℕ) (due : List ℕ)
+        → IsDue (side_of K.CODE) node.old name frames (shown event.entry ∷ log.old.events) due
         → IfOk result (λ n. Advances (IsDue (side_of K.CODE) node.new name (frames + n) log.new.events) due (S.held output.old) (S.held output.new)) }
-    ensures part { (frames : ℕ) (due : List ℕ) → IsDue (side_of K.CODE) node.old name frames (shown event.entry ∷ log.old.events) due
+    ensures part { (frames : ℕ) (due : List ℕ)
+        → IsDue (side_of K.CODE) node.old name frames (shown event.entry ∷ log.old.events) due
         → OnErr result (AppendsPart (S.held output.old) (S.held output.new) due) }
     ensures most { IfOk result (λ n. n ≤ 1) }
     ensures had { OnOk result (node.old.had ≤ 2 ^ 31 → node.new.had ≤ 2 ^ 31) }
@@ -130,10 +139,11 @@ fn replay_at<K: Kind, S: Sink>(
     write_line(output, &end_line(frames))
 }
 
-/// Gives what a log tells to the node whose log it is, from its first tick on, and writes what the node tells, line by line, as
-/// it comes: for each frame that begins `e FRAME NODE TICK` and `c FRAME NODE BIUS RMUS`, for each delivery
-/// `d FRAME SLOT NODE SENDER WORD`, and last `end FRAMES`, the number of frames above 0 that began. `Failed` comes only where the
-/// sink failed, and then a first part of the text was taken. Quiet ticks in a row are passed at once, however many.
+/// Gives what a log tells to the node whose log it is, from its first tick on, and writes what the
+/// node tells, line by line, as it comes: for each frame that begins `e FRAME NODE TICK` and `c
+/// FRAME NODE BIUS RMUS`, for each delivery `d FRAME SLOT NODE SENDER WORD`, and last `end FRAMES`,
+/// the number of frames above 0 that began. `Failed` comes only where the sink failed, and then a
+/// first part of the text was taken. Quiet ticks in a row are passed at once, however many.
 pub fn replay<S: Sink>(log: LogReader<'_>, output: &mut S) -> Result<(), Failed>
     ensures all { OnOk result (Appends (S.held output.old) (S.held output.new)
         (replay_text log.entry.timetable.sizes log.entry.timetable.plan log.entry.node log.entry.events)) }

@@ -1,5 +1,6 @@
-//! The lines of a report, one function a kind of line. Their form is this project's own: fields that one space separates,
-//! decimal numbers without leading zeros, and a line feed, which comes with the line. A node is `B` or `R` and its number.
+//! The lines of a report, one function a kind of line. Their form is this project's own: fields
+//! that one space separates, decimal numbers without leading zeros, and a line feed, which comes
+//! with the line. A node is `B` or `R` and its number.
 #![tactic(auto)]
 
 ghost use Rattle.std.specs.Prelude.{◌≡◌, ◌≤◌, length};
@@ -15,8 +16,8 @@ use rb_rules::Cause;
 mod fields;
 mod names;
 
-/// The begin of a frame at a node, as `e FRAME NODE TICK TIME`: the tick of its clock with which the frame begins, and the
-/// reference time of that tick where it is known.
+/// The begin of a frame at a node, as `e FRAME NODE TICK TIME`: the tick of its clock with which
+/// the frame begins, and the reference time of that tick where it is known.
 pub fn epoch_line(frame: u32, node: NodeName, tick: u64, time: Option<u64>) -> ArrayString<96>
     ensures bytes { result.bytes ≡ epoch_text frame node tick time }
 {
@@ -30,8 +31,8 @@ pub fn epoch_line(frame: u32, node: NodeName, tick: u64, time: Option<u64>) -> A
     line
 }
 
-/// Whom a node has convicted when a frame begins, as `c FRAME NODE BIUS RMUS`: a mask of BIUs and one of RMUs, in which bit
-/// i is node i.
+/// Whom a node has convicted when a frame begins, as `c FRAME NODE BIUS RMUS`: a mask of BIUs and
+/// one of RMUs, in which bit i is node i.
 pub fn convicted_line(frame: u32, node: NodeName, biu: u16, rmu: u16) -> ArrayString<96>
     ensures bytes { result.bytes ≡ convicted_text frame node biu rmu }
 {
@@ -45,8 +46,8 @@ pub fn convicted_line(frame: u32, node: NodeName, biu: u16, rmu: u16) -> ArraySt
     line
 }
 
-/// The port of a BIU when a frame begins, as `p FRAME BIU STATE LOSSES`: the state of its application, and how many of its
-/// latest deliveries were Fault.
+/// The port of a BIU when a frame begins, as `p FRAME BIU STATE LOSSES`: the state of its
+/// application, and how many of its latest deliveries were Fault.
 pub fn port_line(frame: u32, biu: u8, state: u64, losses: u8) -> ArrayString<96>
     ensures bytes { result.bytes ≡ port_text frame biu state losses }
 {
@@ -60,8 +61,8 @@ pub fn port_line(frame: u32, biu: u8, state: u64, losses: u8) -> ArrayString<96>
     line
 }
 
-/// A delivery, as `d FRAME SLOT RECEIVER SENDER WORD`: BIU `receiver` delivers the word of BIU `sender` in that slot of the
-/// frame. The word is `none` where `value` is Fault.
+/// A delivery, as `d FRAME SLOT RECEIVER SENDER WORD`: BIU `receiver` delivers the word of BIU
+/// `sender` in that slot of the frame. The word is `none` where `value` is Fault.
 pub fn delivery_line(
     frame: u32,
     slot: u16,
@@ -93,8 +94,8 @@ pub fn end_line(frames: u32) -> ArrayString<96>
     line
 }
 
-/// The end of a run at a breach of the fault premise, as `breach FRAME SLOT STAGE CAUSE`: the place, and which part of the
-/// premise fails there.
+/// The end of a run at a breach of the fault premise, as `breach FRAME SLOT STAGE CAUSE`: the
+/// place, and which part of the premise fails there.
 pub fn breach_line(place: Place, cause: Cause) -> ArrayString<96>
     ensures bytes { result.bytes ≡ breach_text place cause }
 {
@@ -108,8 +109,9 @@ pub fn breach_line(place: Place, cause: Cause) -> ArrayString<96>
     line
 }
 
-/// Why an input is refused, as `refused CODE NAME`: the rule that it breaks, a log's where `of_log` and else a scenario's.
-/// A last field is the number of the inequality that a plan fails, or the place in a log, where the rule has one.
+/// Why an input is refused, as `refused CODE NAME`: the rule that it breaks, a log's where `of_log`
+/// and else a scenario's. A last field is the number of the inequality that a plan fails, or the
+/// place in a log, where the rule has one.
 pub fn refused_line(code: u8, detail: Option<u64>, of_log: bool) -> ArrayString<96>
     requires { IsRefusal code detail of_log }
     ensures bytes { result.bytes ≡ refused_text code detail of_log }
@@ -138,8 +140,8 @@ pub fn side_line(n: u8, left: i128, right: i128) -> ArrayString<96>
     line
 }
 
-/// A line of the summary of a run, as `NAME VALUE`. The names are `frames`, `deliveries`, `convicted` and `spread`, with the
-/// numbers 0 to 3.
+/// A line of the summary of a run, as `NAME VALUE`. The names are `frames`, `deliveries`,
+/// `convicted` and `spread`, with the numbers 0 to 3.
 pub fn summary_line(which: u8, value: u64) -> ArrayString<96>
     requires { which ≤ 3 }
     ensures bytes { result.bytes ≡ summary_text which value }
@@ -151,8 +153,8 @@ pub fn summary_line(which: u8, value: u64) -> ArrayString<96>
     line
 }
 
-/// A letter that a port has received whole, as `m FRAME SLOT RECEIVER SENDER BYTES`: the slot with its last word, and its 1
-/// to 255 bytes, each as two hexadecimal digits in lower case.
+/// A letter that a port has received whole, as `m FRAME SLOT RECEIVER SENDER BYTES`: the slot with
+/// its last word, and its 1 to 255 bytes, each as two hexadecimal digits in lower case.
 pub fn letter_line(
     frame: u32,
     slot: u16,
@@ -186,8 +188,8 @@ pub fn word_line(word: u64) -> ArrayString<96>
     line
 }
 
-/// The value that BIU `receiver` finds for a group of replicas in a frame, as `g FRAME RECEIVER WORD`. The word is `none`
-/// where `value` is Fault.
+/// The value that BIU `receiver` finds for a group of replicas in a frame, as `g FRAME RECEIVER
+/// WORD`. The word is `none` where `value` is Fault.
 pub fn group_line(frame: u32, receiver: u8, value: Heard) -> ArrayString<96>
     ensures bytes { result.bytes ≡ group_text frame receiver value }
 {

@@ -22,7 +22,8 @@ pub use rb_rules::SyncClosing;
 // What is taken of a source: its stamp, if it is one of those of which a message is taken.
 fn taken<K: Copy>(inbox: &Inbox<K>, takers: NodeSet<K>, source: u8) -> Option<u64>
     requires { source < 16 }
-    ensures { result ≡ (if has takers source then Some (sole_at inbox.now.soles source).at else None) }
+    ensures { result ≡ (if has takers source then Some (sole_at inbox.now.soles source).at
+        else None) }
 {
     let id = NodeId::of(source);
     if takers.contains(id) {
@@ -42,14 +43,16 @@ fn add(stamps: &mut ArrayVec<u64, 16>, taken: Option<u64>)
     }
 }
 
-/// Closes a stage of the sync slot, or the tail. Of each source that is expected and eligible the stamp is taken with which
-/// its call came, if exactly one message came and it is meant for the window. Then each trusted source is accused that was
-/// expected and of which not exactly that came, or that wasn't expected and of which something came. The middle is that of the
-/// stamps, the lower of two, and `first`, the window's first tick, where none was taken. So it is not above `first` and all
-/// stamps. Stamps, the middle and `first` are ticks of the node's own clock.
+/// Closes a stage of the sync slot, or the tail. Of each source that is expected and eligible the
+/// stamp is taken with which its call came, if exactly one message came and it is meant for the
+/// window. Then each trusted source is accused that was expected and of which not exactly that
+/// came, or that wasn't expected and of which something came. The middle is that of the stamps, the
+/// lower of two, and `first`, the window's first tick, where none was taken. So it is not above
+/// `first` and all stamps. Stamps, the middle and `first` are ticks of the node's own clock.
 ///
-/// This is the receiving end of a stage of clock synchronisation by the unified protocol of Miner, Geser, Pike and Maddalon
-/// (FORMATS 2004): local error detection, then the middle value. The rules of evidence are this project's own.
+/// This is the receiving end of a stage of clock synchronisation by the unified protocol of Miner,
+/// Geser, Pike and Maddalon (FORMATS 2004): local error detection, then the middle value. The rules
+/// of evidence are this project's own.
 pub fn close_sync<K: Copy>(
     inbox: &Inbox<K>,
     standing: &mut Standing<K>,
@@ -58,8 +61,10 @@ pub fn close_sync<K: Copy>(
     first: u64,
 ) -> SyncClosing
     ensures closing { (received : List Received) → HoldsArrivals inbox.now received
-        → result ≡ sync_closing_of (standing_of standing.old) (has expected) (sense_in expect.now received) first }
-    ensures accused { AccusesBy inbox.now (standing_of standing.old) expect.now expected (standing_of standing.new) }
+        → result ≡ sync_closing_of (standing_of standing.old) (has expected)
+        (sense_in expect.now received) first }
+    ensures accused { AccusesBy inbox.now (standing_of standing.old) expect.now expected
+        (standing_of standing.new) }
     ensures soon { (n : ℕ) → StampsUpTo n inbox.now → first ≤ n → result.middle ≤ n }
 {
     let mut sheet = Sheet::new();
@@ -78,23 +83,26 @@ pub fn close_sync<K: Copy>(
     }
 }
 
-/// The tick with which a BIU's next frame begins, by the middle of stage 2 of the sync slot, a tick of at most 2^32: the lengths
-/// of stages 2 and 3 later, and `c` ticks. The lengths are this project's own.
+/// The tick with which a BIU's next frame begins, by the middle of stage 2 of the sync slot, a tick
+/// of at most 2^32: the lengths of stages 2 and 3 later, and `c` ticks. The lengths are this
+/// project's own.
 pub fn epoch_biu(plan: &Feasible, k2: u64) -> u64
     requires { k2 ≤ 2 ^ 32 }
     ensures sum { result ≡ k2 + plan.now.plan.v + plan.now.plan.z + plan.now.plan.c }
-    ensures epoch { (st : NodeState) → st.k2 ≡ Some k2 → new_epoch_of plan.now.plan Biu st ≡ Some result }
+    ensures epoch { (st : NodeState) → st.k2 ≡ Some k2
+        → new_epoch_of plan.now.plan Biu st ≡ Some result }
 {
     let plan = plan.plan();
     k2 + u64::from(plan.v) + u64::from(plan.z) + u64::from(plan.c)
 }
 
-/// The tick with which an RMU's next frame begins, by the middle of stage 3 of the sync slot, a tick of at most 2^32: the length
-/// of that stage later. The lengths are this project's own.
+/// The tick with which an RMU's next frame begins, by the middle of stage 3 of the sync slot, a
+/// tick of at most 2^32: the length of that stage later. The lengths are this project's own.
 pub fn epoch_rmu(plan: &Feasible, k3: u64) -> u64
     requires { k3 ≤ 2 ^ 32 }
     ensures sum { result ≡ k3 + plan.now.plan.z }
-    ensures epoch { (st : NodeState) → st.k3 ≡ Some k3 → new_epoch_of plan.now.plan Rmu st ≡ Some result }
+    ensures epoch { (st : NodeState) → st.k3 ≡ Some k3
+        → new_epoch_of plan.now.plan Rmu st ≡ Some result }
 {
     k3 + u64::from(plan.plan().z)
 }

@@ -27,7 +27,8 @@ fn blank_first(taken: &mut [Option<Heard>; 16], sees: &mut [See; 16])
 fn wipe<K: Copy>(sheet: &mut Sheet<K>)
     requires { IsWritten sheet.old }
     ensures written { sheet.new.written ≡ 0 }
-    ensures closing { sheet.new.closing ≡ record { taken = replicate 16 None; voted = Heard.Fault } }
+    ensures closing { sheet.new.closing
+        ≡ record { taken = replicate 16 None; voted = Heard.Fault } }
     ensures sees { sheet.new.closed.sees ≡ replicate 16 See.Nothing }
 {
     let bits = sheet.written.bits();
@@ -45,7 +46,8 @@ fn wipe<K: Copy>(sheet: &mut Sheet<K>)
 #[inline(always)]
 fn leave_blank<K: Copy>(sheet: &mut Sheet<K>)
     requires { IsWritten sheet.old }
-    ensures closing { sheet.new.closing ≡ record { taken = replicate 16 None; voted = Heard.Fault } }
+    ensures closing { sheet.new.closing
+        ≡ record { taken = replicate 16 None; voted = Heard.Fault } }
     ensures sheet { IsWritten sheet.new }
 {
     if sheet.written.is_empty() {
@@ -55,8 +57,9 @@ fn leave_blank<K: Copy>(sheet: &mut Sheet<K>)
     }
 }
 
-/// Closes a stage as `close_stage` does, in place: what was taken in it and what is shown of it is written over that of an
-/// earlier stage. Where nothing came and no trusted source is expected, that costs a few instructions.
+/// Closes a stage as `close_stage` does, in place: what was taken in it and what is shown of it is
+/// written over that of an earlier stage. Where nothing came and no trusted source is expected,
+/// that costs a few instructions.
 #[inline(always)]
 pub fn close_on_sheet<K: Copy>(
     inbox: &Inbox<K>,
@@ -66,8 +69,10 @@ pub fn close_on_sheet<K: Copy>(
     sheet: &mut Sheet<K>,
 )
     requires { IsWritten sheet.old }
-    ensures closing { ClosesBy inbox.now (standing_of standing.old) expect.now expected sheet.new.closing }
-    ensures accused { AccusesBy inbox.now (standing_of standing.old) expect.now expected (standing_of standing.new) }
+    ensures closing { ClosesBy inbox.now (standing_of standing.old) expect.now expected
+        sheet.new.closing }
+    ensures accused { AccusesBy inbox.now (standing_of standing.old) expect.now expected
+        (standing_of standing.new) }
     ensures sheet { IsWritten sheet.new }
 {
     if is_quiet(inbox, standing, expected) {

@@ -29,13 +29,15 @@ fn vote(taken: &[Option<Heard>; 16], alike: bool, value: Heard) -> Heard
     if alike { value } else { majority_taken(taken) }
 }
 
-/// Closes a stage below the sync slot. Of each source that is expected and eligible the value is taken that came of it, if
-/// exactly one message came and it is meant for the window; a relayed Fault is a value too. Then each trusted source is accused
-/// that was expected and of which not exactly that came, or that wasn't expected and of which something came. The vote is the
-/// majority of what was taken, and Fault over nothing. A mismatch accusation takes no part in any of this.
+/// Closes a stage below the sync slot. Of each source that is expected and eligible the value is
+/// taken that came of it, if exactly one message came and it is meant for the window; a relayed
+/// Fault is a value too. Then each trusted source is accused that was expected and of which not
+/// exactly that came, or that wasn't expected and of which something came. The vote is the majority
+/// of what was taken, and Fault over nothing. A mismatch accusation takes no part in any of this.
 ///
-/// This is the receiving end of a communication stage of the unified protocol of Miner, Geser, Pike and Maddalon (FORMATS
-/// 2004): local error detection, then the hybrid majority. The rules of evidence are this project's own.
+/// This is the receiving end of a communication stage of the unified protocol of Miner, Geser, Pike
+/// and Maddalon (FORMATS 2004): local error detection, then the hybrid majority. The rules of
+/// evidence are this project's own.
 pub fn close_stage<K: Copy>(
     inbox: &Inbox<K>,
     standing: &mut Standing<K>,
@@ -43,7 +45,8 @@ pub fn close_stage<K: Copy>(
     expected: NodeSet<K>,
 ) -> Closing
     ensures closing { ClosesBy inbox.now (standing_of standing.old) expect.now expected result }
-    ensures accused { AccusesBy inbox.now (standing_of standing.old) expect.now expected (standing_of standing.new) }
+    ensures accused { AccusesBy inbox.now (standing_of standing.old) expect.now expected
+        (standing_of standing.new) }
 {
     let mut sheet = Sheet::new();
     close_on_sheet(inbox, standing, expect, expected, &mut sheet);
@@ -60,8 +63,10 @@ fn close_busy<K: Copy>(
     sheet: &mut Sheet<K>,
 )
     requires { IsWritten sheet.old }
-    ensures closing { ClosesBy inbox.now (standing_of standing.old) expect.now expected sheet.new.closing }
-    ensures accused { AccusesBy inbox.now (standing_of standing.old) expect.now expected (standing_of standing.new) }
+    ensures closing { ClosesBy inbox.now (standing_of standing.old) expect.now expected
+        sheet.new.closing }
+    ensures accused { AccusesBy inbox.now (standing_of standing.old) expect.now expected
+        (standing_of standing.new) }
     ensures sheet { IsWritten sheet.new }
 {
     let taking = take_with_evidence(inbox, standing, expect, expected, sheet);
@@ -98,9 +103,11 @@ fn with_differing<K: Copy>(
     }
 }
 
-/// Accuses by mismatch each source of which something other than the value was taken. They stay eligible.
+/// Accuses by mismatch each source of which something other than the value was taken. They stay
+/// eligible.
 pub fn accuse_unlike<K: Copy>(closing: &Closing, value: Heard, standing: &mut Standing<K>)
-    ensures { standing_of standing.new ≡ with_unlike value closing.now.taken (standing_of standing.old) }
+    ensures { standing_of standing.new
+        ≡ with_unlike value closing.now.taken (standing_of standing.old) }
 {
     let mut differing = NodeSet::empty();
     for source in 0..16u8 {
@@ -109,15 +116,16 @@ pub fn accuse_unlike<K: Copy>(closing: &Closing, value: Heard, standing: &mut St
     standing.accuse_differing(differing);
 }
 
-/// What a node says as a relay that took this of the slot's sender in stage 1: Fault where it took nothing.
+/// What a node says as a relay that took this of the slot's sender in stage 1: Fault where it took
+/// nothing.
 pub fn relay_of(taken: Option<Heard>) -> Heard
     ensures { result ≡ unwrap_or taken Heard.Fault }
 {
     taken.unwrap_or(Heard::Fault)
 }
 
-/// What a node says as a relay of the slot's sender, a node below 16: what it took of it in stage 1, and Fault where it took
-/// nothing.
+/// What a node says as a relay of the slot's sender, a node below 16: what it took of it in stage
+/// 1, and Fault where it took nothing.
 pub fn relay(closing: &Closing, sender: u8) -> Heard
     requires { sender < 16 }
     ensures { result ≡ unwrap_or (at_source closing.now.taken sender) Heard.Fault }

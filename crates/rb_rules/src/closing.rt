@@ -8,15 +8,16 @@ pub struct Closing {
     pub voted: Heard,
 }
 
-/// The stamps that were taken of each source in a stage of the sync slot, in ticks, and the middle of them.
+/// The stamps that were taken of each source in a stage of the sync slot, in ticks, and the middle
+/// of them.
 #[derive(Clone, Copy, Debug, PartialEq, Eq)]
 pub struct SyncClosing {
     pub taken: [Option<u64>; 16],
     pub middle: u64,
 }
 
-/// What a node shows of a window that it has closed: what it saw of each source, a time being a stamp in its own ticks, and
-/// what it delivers.
+/// What a node shows of a window that it has closed: what it saw of each source, a time being a
+/// stamp in its own ticks, and what it delivers.
 #[derive(Clone, Copy, Debug, PartialEq, Eq)]
 pub struct Closed {
     pub place: Place,

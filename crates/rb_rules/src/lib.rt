@@ -1,4 +1,5 @@
-//! The rules of the bus, as definitions: `specs/` has them, a module a subject, and `src/` the plain types that they speak of.
+//! The rules of the bus, as definitions: `specs/` has them, a module a subject, and `src/` the
+//! plain types that they speak of.
 #![tactic(auto)]
 
 pub mod cause;

@@ -9,8 +9,8 @@ pub enum Pattern {
     AllRmu,
 }
 
-/// The delay, in reference units, of the messages between these nodes whose header has a frame, a slot and a stage in these
-/// ranges. Both ends belong to a range.
+/// The delay, in reference units, of the messages between these nodes whose header has a frame, a
+/// slot and a stage in these ranges. Both ends belong to a range.
 #[derive(Clone, Copy, Debug, PartialEq, Eq)]
 pub struct Rule {
     pub from: Pattern,

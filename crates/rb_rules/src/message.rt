@@ -8,8 +8,8 @@ pub enum Tag {
     Sync,
 }
 
-/// A message, with the window that it is meant for: the frame's number modulo 65536, the slot and its stage, 1 to 3.
-/// The value is 0 unless the tag is `Word`.
+/// A message, with the window that it is meant for: the frame's number modulo 65536, the slot and
+/// its stage, 1 to 3. The value is 0 unless the tag is `Word`.
 #[derive(Clone, Copy, Debug, PartialEq, Eq)]
 pub struct Message {
     pub tag: Tag,

@@ -1,7 +1,8 @@
 //! The timing plan of a bus, and the windows of a frame.
 use crate::message::Version;
 
-/// The numbers that all nodes of a bus agree on. Times are in reference units, lengths of windows in ticks.
+/// The numbers that all nodes of a bus agree on. Times are in reference units, lengths of windows
+/// in ticks.
 #[derive(Clone, Copy, Debug, PartialEq, Eq)]
 pub struct Plan {
     /// The nominal length of a tick, and by how much a tick may be longer or shorter.
@@ -16,7 +17,8 @@ pub struct Plan {
     /// The ticks of the windows of the sync slot's stages 2 and 3.
     pub v: u32,
     pub z: u32,
-    /// A BIU's next frame begins `z + c` ticks after its own last call, an RMU's `z` ticks after the middle stamp of those calls.
+    /// A BIU's next frame begins `z + c` ticks after its own last call, an RMU's `z` ticks after
+    /// the middle stamp of those calls.
     pub c: u32,
     /// The bound on the skew of the nodes' epochs.
     pub p: u32,
@@ -26,7 +28,8 @@ pub struct Plan {
     pub probation: u16,
 }
 
-/// A window of a frame: its slot, its stage, and its first and last offset in ticks from the frame's first tick.
+/// A window of a frame: its slot, its stage, and its first and last offset in ticks from the
+/// frame's first tick.
 #[derive(Clone, Copy, Debug, PartialEq, Eq)]
 pub struct Window {
     pub slot: u16,

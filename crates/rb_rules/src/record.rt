@@ -1,8 +1,8 @@
 //! What is told of the begin of a frame and of deliveries.
 use rb_base::{Heard, NodeName};
 
-/// What a node tells of a frame that it begins: its number, its first tick, and the convicted nodes of both kinds as the
-/// node holds them, as masks.
+/// What a node tells of a frame that it begins: its number, its first tick, and the convicted nodes
+/// of both kinds as the node holds them, as masks.
 #[derive(Clone, Copy, Debug, PartialEq, Eq)]
 pub struct Epoch {
     pub frame: u32,
@@ -11,8 +11,8 @@ pub struct Epoch {
     pub rmu: u16,
 }
 
-/// A node at the begin of a frame: the first tick and its reference time, and the convicted nodes of both kinds as the node
-/// holds them, as masks.
+/// A node at the begin of a frame: the first tick and its reference time, and the convicted nodes
+/// of both kinds as the node holds them, as masks.
 #[derive(Clone, Copy, Debug, PartialEq, Eq, Default)]
 pub struct NodeLine {
     pub node: NodeName,
@@ -22,7 +22,8 @@ pub struct NodeLine {
     pub rmu: u16,
 }
 
-/// The port of a BIU at the begin of a frame: its application's state, and how many of its last 64 deliveries were Fault.
+/// The port of a BIU at the begin of a frame: its application's state, and how many of its last 64
+/// deliveries were Fault.
 #[derive(Clone, Copy, Debug, PartialEq, Eq, Default)]
 pub struct PortLine {
     pub biu: u8,

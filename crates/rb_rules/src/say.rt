@@ -3,7 +3,8 @@ use crate::link::Pattern;
 use arrayvec::ArrayVec;
 use rb_base::NodeName;
 
-/// What one entry says: a message with the header of the window in which it comes, or 1 to 32 bytes as they are.
+/// What one entry says: a message with the header of the window in which it comes, or 1 to 32 bytes
+/// as they are.
 #[derive(Clone, Debug, PartialEq, Eq, Drop)]
 pub enum Content {
     Word(u32),
@@ -12,8 +13,9 @@ pub enum Content {
     Raw(ArrayVec<u8, 32>),
 }
 
-/// What a node that is not good says to each good receiver, in each window of the ranges; both ends belong to a range. It comes
-/// at the time of the tick with this offset in the receiver's window, `early` reference units before it.
+/// What a node that is not good says to each good receiver, in each window of the ranges; both ends
+/// belong to a range. It comes at the time of the tick with this offset in the receiver's window,
+/// `early` reference units before it.
 #[derive(Clone, Debug, PartialEq, Eq, Drop)]
 pub struct Say {
     pub from: NodeName,

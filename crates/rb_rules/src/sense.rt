@@ -1,8 +1,9 @@
 //! What a node makes of the arrivals of one source in a window.
 use crate::message::{Message, Version};
 
-/// What a message must have to be meant for a window: the frame's number modulo 65536, the slot and the stage. In the sync
-/// slot it must be a call to resynchronise, in every other slot a word or a fault.
+/// What a message must have to be meant for a window: the frame's number modulo 65536, the slot and
+/// the stage. In the sync slot it must be a call to resynchronise, in every other slot a word or a
+/// fault.
 #[derive(Clone, Copy, Debug, PartialEq, Eq)]
 pub struct Expect {
     pub frame: u16,
@@ -12,7 +13,8 @@ pub struct Expect {
     pub version: Version,
 }
 
-/// Nothing came, one message came that is meant for the window, `at` being its stamp in ticks, or anything else.
+/// Nothing came, one message came that is meant for the window, `at` being its stamp in ticks, or
+/// anything else.
 #[derive(Clone, Copy, Debug, PartialEq, Eq)]
 pub enum Sense {
     Silent,

@@ -66,11 +66,13 @@ fn count(totals: &Totals, turn: &Turn) -> Totals
     }
 }
 
-/// Takes a run from its begin to its end, and counts what the drive's turns say; nothing is kept of them. The numbers of a run that
-/// ends with a breach are those up to it. The world must be as `World::open` gives it.
+/// Takes a run from its begin to its end, and counts what the drive's turns say; nothing is kept of
+/// them. The numbers of a run that ends with a breach are those up to it. The world must be as
+/// `World::open` gives it.
 pub fn tally<D: Drive>(world: &mut World, apps: &Apps, drive: &mut D) -> (Ending, Totals)
     requires { HasGivenNothing world.old }
-    ensures totals { TalliesAll world.old.bus (D.is_plain drive.old) (D.told drive.old) (D.told drive.new) result.1 }
+    ensures totals { TalliesAll world.old.bus (D.is_plain drive.old) (D.told drive.old)
+        (D.told drive.new) result.1 }
     ensures ending { EndsWith world.old.bus result.0 }
     ensures bus { world.new.bus ≡ world.old.bus }
     ensures stays { D.is_plain drive.new ≡ D.is_plain drive.old }

@@ -1,4 +1,5 @@
-//! A run that is taken to its end by a drive: its report, written a line at a time, or its four numbers.
+//! A run that is taken to its end by a drive: its report, written a line at a time, or its four
+//! numbers.
 #![tactic(auto)]
 
 mod counting;

@@ -25,8 +25,10 @@ use toml::Table;
 pub(crate) fn scenario_on(alloc: Global, bus: &Bus, table: &Table) -> Result<Scenario, Refusal>
     requires bus { IsBus bus.now }
     requires fits { fits_bus bus.now (table_view table.now) ≡ true }
-    ensures scenario { IfOk result (λ s. as_scenario s ≡ scenario_on bus.now (table_view table.now)) }
-    ensures unbroken { IfOk result (λ _. broken_by (scenario_on bus.now (table_view table.now)) ≡ None) }
+    ensures scenario { IfOk result (λ s. as_scenario s
+        ≡ scenario_on bus.now (table_view table.now)) }
+    ensures unbroken { IfOk result (λ _. broken_by (scenario_on bus.now (table_view table.now))
+        ≡ None) }
     ensures refused { IfErr result (IsBrokenBy (scenario_on bus.now (table_view table.now))) }
 {
     let plan = match Feasible::new(&bus.shape, &bus.plan) {
@@ -71,12 +73,14 @@ pub(crate) fn scenario_on(alloc: Global, bus: &Bus, table: &Table) -> Result<Sce
     })
 }
 
-/// The bus of a document that keeps the rules on keys, forms and ranges, or the first of them that it breaks.
+/// The bus of a document that keeps the rules on keys, forms and ranges, or the first of them that
+/// it breaks.
 fn bus_for(table: &Table) -> Result<Bus, Refusal>
     ensures bus { IfOk result IsBus }
     ensures value { IfOk result (λ b. b ≡ bus_of (table_view table.now)) }
     ensures fits { IfOk result (λ b. fits_bus b (table_view table.now) ≡ true) }
-    ensures first { IfOk result (λ _. first_broken (table_view table.now) ≡ broken_by (scenario_of (table_view table.now))) }
+    ensures first { IfOk result (λ _. first_broken (table_view table.now)
+        ≡ broken_by (scenario_of (table_view table.now))) }
     ensures refused { IfErr result (λ e. first_broken (table_view table.now) ≡ Some e) }
 {
     if lacks_key(table) {
@@ -103,7 +107,8 @@ fn bus_for(table: &Table) -> Result<Bus, Refusal>
 fn read_table(alloc: Global, table: &Table) -> Result<Scenario, Refusal>
     ensures says { IfOk result (Says (table_view table.now)) }
     ensures lawful { IfOk result (λ s. IsLawful (as_scenario s)) }
-    ensures refused { IfErr result (λ e. (e ≡ Refusal.OutOfMemory) ⊎ (first_broken (table_view table.now) ≡ Some e)) }
+    ensures refused { IfErr result (λ e. (e ≡ Refusal.OutOfMemory)
+        ⊎ (first_broken (table_view table.now) ≡ Some e)) }
 {
     match bus_for(table) {
         Ok(bus) => scenario_on(alloc, &bus, table),
@@ -111,8 +116,9 @@ fn read_table(alloc: Global, table: &Table) -> Result<Scenario, Refusal>
     }
 }
 
-/// The scenario that the bytes of a TOML document say, or why there is none: the first rule of `Refusal` that is broken
-/// anywhere in the document. Want of memory may come at any time. The rules and the form are this project's own.
+/// The scenario that the bytes of a TOML document say, or why there is none: the first rule of
+/// `Refusal` that is broken anywhere in the document. Want of memory may come at any time. The
+/// rules and the form are this project's own.
 pub fn read(alloc: Global, bytes: &[u8]) -> Result<Scenario, Refusal>
     ensures accepted { IfOk result (IsAccepted bytes.now) }
     ensures lawful { IfOk result (λ s. IsLawful (as_scenario s)) }

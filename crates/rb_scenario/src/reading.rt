@@ -45,7 +45,8 @@ pub(crate) fn fits_bus(bus: &Bus, table: &Table) -> bool
 
 /// The rules of a document's link entries.
 fn rules_of(alloc: Global, bus: &Bus, table: &Table) -> Result<Vec<Rule>, AllocError>
-    requires { list_all (is_link bus.now) (entries_at (codes "link") (table_view table.now)) ≡ true }
+    requires { list_all (is_link bus.now) (entries_at (codes "link") (table_view table.now))
+        ≡ true }
     ensures { IfOk result (λ v. v.items ≡ rules_of bus.now (table_view table.now)) }
 {
     rules_in(alloc, bus, member(table, "link"))
@@ -54,7 +55,8 @@ fn rules_of(alloc: Global, bus: &Bus, table: &Table) -> Result<Vec<Rule>, AllocE
 /// What a document's say entries say.
 fn says_of(alloc: Global, bus: &Bus, table: &Table) -> Result<Vec<Say>, AllocError>
     requires bus { IsBus bus.now }
-    requires says { list_all (is_say bus.now) (entries_at (codes "say") (table_view table.now)) ≡ true }
+    requires says { list_all (is_say bus.now) (entries_at (codes "say") (table_view table.now))
+        ≡ true }
     ensures { IfOk result (λ v. v.items ≡ says_of bus.now (table_view table.now)) }
 {
     says_in(alloc, bus, member(table, "say"))
@@ -78,8 +80,10 @@ pub(crate) fn delays_of(
 ) -> Result<(u32, Vec<Rule>), Refusal>
     requires bus { IsBus bus.now }
     requires delay { may_have_number (codes "delay") 1 1000000000 (table_view table.now) ≡ true }
-    requires links { list_all (is_link bus.now) (entries_at (codes "link") (table_view table.now)) ≡ true }
-    ensures delays { IfOk result (λ d. record { base = d.0; rules = d.1.items } ≡ delays_on bus.now (table_view table.now)) }
+    requires links { list_all (is_link bus.now) (entries_at (codes "link") (table_view table.now))
+        ≡ true }
+    ensures delays { IfOk result (λ d. record { base = d.0; rules = d.1.items }
+        ≡ delays_on bus.now (table_view table.now)) }
     ensures kept { IfOk result (λ _. are_delays bus.now.plan (delays_on bus.now (table_view table.now)) ≡ true) }
     ensures refused { IfErr result (IsRefusalBy Refusal.DelayBounds
         (are_delays bus.now.plan (delays_on bus.now (table_view table.now)))) }
@@ -93,7 +97,8 @@ pub(crate) fn delays_of(
     }
 }
 
-/// What a document's say entries say. `SayOfGood` comes exactly where a node says something that is good at its first place.
+/// What a document's say entries say. `SayOfGood` comes exactly where a node says something that is
+/// good at its first place.
 pub(crate) fn sayings_of(
     alloc: Global,
     bus: &Bus,
@@ -102,7 +107,8 @@ pub(crate) fn sayings_of(
     rmu: &[Option<(u32, u16)>; 16],
 ) -> Result<Vec<Say>, Refusal>
     requires bus { IsBus bus.now }
-    requires says { list_all (is_say bus.now) (entries_at (codes "say") (table_view table.now)) ≡ true }
+    requires says { list_all (is_say bus.now) (entries_at (codes "say") (table_view table.now))
+        ≡ true }
     ensures says { IfOk result (λ v. v.items ≡ says_of bus.now (table_view table.now)) }
     ensures kept { IfOk result (λ _. list_all (λ say. not (is_good_by bus.now.shape biu.now rmu.now say.from say.frames.0 say.slots.0))
         (says_of bus.now (table_view table.now)) ≡ true) }

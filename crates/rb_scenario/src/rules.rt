@@ -103,7 +103,8 @@ pub(crate) fn are_sayers_faulty(
     rmu: &[Option<(u32, u16)>; 16],
     says: &[Say],
 ) -> bool
-    ensures { result ≡ list_all (λ say. not (is_good_by shape.now biu.now rmu.now say.from say.frames.0 say.slots.0)) says.now }
+    ensures { result
+        ≡ list_all (λ say. not (is_good_by shape.now biu.now rmu.now say.from say.frames.0 say.slots.0)) says.now }
 {
     for say in says {
         if is_node_good(shape, biu, rmu, say.from, say.frames.0, say.slots.0) {

@@ -152,7 +152,8 @@ fn is_known(fields: &[Field], key: &str) -> bool
 }
 
 fn any_key_unknown(fields: &[Field], table: &Table) -> bool
-    ensures { result ≡ list_any (λ k. not (is_known (fields_shown fields.now) (string_bytes k))) (keys_in table.now) }
+    ensures { result ≡ list_any (λ k. not (is_known (fields_shown fields.now) (string_bytes k)))
+        (keys_in table.now) }
 {
     table.keys().any(|key| !is_known(fields, key.as_str()))
 }
@@ -240,7 +241,8 @@ impl<R: Rule> EntryTest for Breaks<R> {
 
 /// Whether the table at a key breaks the rule.
 fn breaks_plan<R: Rule>(rule: R, value: Option<&Value>) -> bool
-    ensures { result ≡ passes (on_table (R.breaks rule plan_fields)) (option_map (λ x. view x.now) value.entry) }
+    ensures { result ≡ passes (on_table (R.breaks rule plan_fields))
+        (option_map (λ x. view x.now) value.entry) }
 {
     match value {
         Some(value) => on_table(
@@ -256,7 +258,8 @@ fn breaks_plan<R: Rule>(rule: R, value: Option<&Value>) -> bool
 
 /// Whether some entry at a key breaks the rule.
 fn breaks_at<R: Rule>(rule: R, fields: &'static [Field], table: &Table, key: &str) -> bool
-    ensures { result ≡ list_any (R.breaks rule (fields_shown fields.now)) (entries_at key.now (table_view table.now)) }
+    ensures { result ≡ list_any (R.breaks rule (fields_shown fields.now))
+        (entries_at key.now (table_view table.now)) }
 {
     any_entry(&Breaks { rule, fields }, member(table, key))
 }
@@ -297,8 +300,8 @@ impl EntryTest for SaysNothing {
     }
 }
 
-/// Whether a key that must be there isn't: at the root, or in a table that stands where one is asked for. A say entry must
-/// have one of the keys that say something.
+/// Whether a key that must be there isn't: at the root, or in a table that stands where one is
+/// asked for. A say entry must have one of the keys that say something.
 #[tactic(auto, unfolding(crate::specs::Forms::lacks_key))]
 pub fn lacks_key(table: &Table) -> bool
     ensures { result ≡ lacks_key (table_view table.now) }

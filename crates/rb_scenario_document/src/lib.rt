@@ -1,4 +1,5 @@
-//! TOML documents of scenarios: which keys a table may have and in which form, and what stands at them.
+//! TOML documents of scenarios: which keys a table may have and in which form, and what stands at
+//! them.
 #![tactic(auto)]
 
 pub mod fields;

@@ -1,4 +1,5 @@
-//! Names of nodes: B for a BIU or R for an RMU, and the node's number in decimal without leading zero.
+//! Names of nodes: B for a BIU or R for an RMU, and the node's number in decimal without leading
+//! zero.
 ghost use Rattle.std.specs.Prelude.{ℕ, ◌≡◌, ◌≢◌, ◌<◌, ◌≤◌, IfNone, IfSome, decimal};
 ghost use Rattle.toml.specs.View.{table_view};
 ghost use Rattle.rb_scenario_document.specs.Names.{IsNumbered, is_of_bius, named, node_at, node_named, pattern_at, pattern_named};

@@ -90,7 +90,8 @@ pub fn number_else(table: &Table, key: &str, default: u64, low: u64, high: u64) 
     number_or(member(table, key), default)
 }
 
-/// The pairs of numbers from `low` to `high`, both included, of which the first is at most the second.
+/// The pairs of numbers from `low` to `high`, both included, of which the first is at most the
+/// second.
 #[derive(Clone, Copy)]
 pub struct Range {
     pub low: u64,

@@ -101,7 +101,8 @@ fn any_table<T: EntryTest>(test: &T, values: &Array) -> bool
 
 /// Whether some entry passes the test: a table of the array that the value is.
 pub fn any_entry<T: EntryTest>(test: &T, value: Option<&Value>) -> bool
-    ensures { result ≡ list_any (T.holds test.now) (entries_in (option_map (λ x. view x.now) value.entry)) }
+    ensures { result ≡ list_any (T.holds test.now)
+        (entries_in (option_map (λ x. view x.now) value.entry)) }
 {
     match value {
         Some(value) => match value.as_array() {
@@ -136,7 +137,8 @@ fn every_table<T: EntryTest>(test: &T, values: &Array) -> bool
 
 /// Whether each entry passes the test: each table of the array that the value is.
 pub fn every_entry<T: EntryTest>(test: &T, value: Option<&Value>) -> bool
-    ensures { result ≡ list_all (T.holds test.now) (entries_in (option_map (λ x. view x.now) value.entry)) }
+    ensures { result ≡ list_all (T.holds test.now)
+        (entries_in (option_map (λ x. view x.now) value.entry)) }
 {
     match value {
         Some(value) => match value.as_array() {

@@ -117,7 +117,8 @@ fn segments_in(
     value: Option<&Value>,
 ) -> Result<Vec<(u64, u32)>, AllocError>
     requires { absent_or (is_array_of is_segment) (option_map (λ x. view x.now) value) ≡ true }
-    ensures { IfOk result (λ v. v.items ≡ pairs_or ((0, unit) ∷ []) (option_map (λ x. view x.now) value.entry)) }
+    ensures { IfOk result (λ v. v.items
+        ≡ pairs_or ((0, unit) ∷ []) (option_map (λ x. view x.now) value.entry)) }
 {
     match value {
         Some(value) => match value.as_array() {
@@ -137,7 +138,8 @@ fn whole_run(alloc: Global, unit: u32) -> Result<Vec<(u64, u32)>, AllocError>
     Ok(segments)
 }
 
-/// The clock with these segments. `ClockBounds` comes exactly where it does not keep the plan's time.
+/// The clock with these segments. `ClockBounds` comes exactly where it does not keep the plan's
+/// time.
 fn make_clock(
     alloc: Global,
     bus: &Bus,
@@ -233,7 +235,8 @@ fn add_clocks<K: Kind>(
     Ok(())
 }
 
-/// The clocks of all nodes, BIUs first. `ClockBounds` comes exactly where one does not keep the plan's time.
+/// The clocks of all nodes, BIUs first. `ClockBounds` comes exactly where one does not keep the
+/// plan's time.
 #[tactic(auto, unfolding(crate::specs::Clocks::clocks_of))]
 pub fn clocks_of(alloc: Global, bus: &Bus, table: &Table) -> Result<Vec<Clock>, Refusal>
     requires plan { IsPlan bus.now.plan }

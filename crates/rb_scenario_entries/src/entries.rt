@@ -28,7 +28,8 @@ struct Seen {
 fn note_node(seen: &mut Seen, name: NodeName) -> bool
     requires { IsNumbered name }
     ensures new { result ≡ not (was_seen seen.old name) }
-    ensures noted { (n : NodeName) → IsNumbered n → was_seen seen.new n ≡ (was_seen seen.old n || same_node name n) }
+    ensures noted { (n : NodeName) → IsNumbered n
+        → was_seen seen.new n ≡ (was_seen seen.old n || same_node name n) }
 {
     match name {
         NodeName::Biu(index) => match NodeId::new(index) {
@@ -50,10 +51,12 @@ fn note_node(seen: &mut Seen, name: NodeName) -> bool
     }
 }
 
-/// Notes the node that an entry is for, where the value is one. Whether no node that was seen is named again.
+/// Notes the node that an entry is for, where the value is one. Whether no node that was seen is
+/// named again.
 fn note_entry(shape: &Shape, value: &Value, seen: &mut Seen) -> bool
     ensures { (names : List NodeName) → All IsNumbered names
-        → are_new seen.old (nodes_in shape.now (option_to_list (as_table (view value.now))) ++ names)
+        → are_new seen.old (nodes_in shape.now (option_to_list (as_table (view value.now)))
+        ++ names)
         ≡ (result && are_new seen.new names) }
 {
     match value.as_table() {
@@ -84,7 +87,8 @@ fn are_distinct_among(shape: &Shape, values: &Array) -> bool
 /// Whether no node is named by two entries.
 pub(crate) fn are_distinct(shape: &Shape, value: Option<&Value>) -> bool
     requires { IsShape shape.now }
-    ensures { result ≡ are_distinct (nodes_in shape.now (entries_in (option_map (λ x. view x.now) value.entry))) }
+    ensures { result
+        ≡ are_distinct (nodes_in shape.now (entries_in (option_map (λ x. view x.now) value.entry))) }
 {
     match value {
         Some(value) => match value.as_array() {
@@ -130,7 +134,8 @@ fn entry_if<'a>(shape: &Shape, value: &'a Value, name: NodeName) -> Option<&'a T
 }
 
 fn entry_among<'a>(shape: &Shape, values: &'a Array, name: NodeName) -> Option<&'a Table>
-    ensures { option_map (λ x. table_view x.now) result ≡ entry_for shape.now (tables_in (array_view values.now)) name }
+    ensures { option_map (λ x. table_view x.now) result
+        ≡ entry_for shape.now (tables_in (array_view values.now)) name }
 {
     for value in values {
         if let Some(entry) = entry_if(shape, value, name) {

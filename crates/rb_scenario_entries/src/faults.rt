@@ -61,7 +61,8 @@ fn onset_of(bus: &Bus, entry: &Table) -> (u32, u16)
 
 /// From where on the node is not good, if it ever is not.
 fn onset_for(bus: &Bus, table: &Table, name: NodeName) -> Option<(u32, u16)>
-    requires { list_all (is_fault bus.now) (entries_at (codes "fault") (table_view table.now)) ≡ true }
+    requires { list_all (is_fault bus.now) (entries_at (codes "fault") (table_view table.now))
+        ≡ true }
     ensures { result ≡ onset_for bus.now (table_view table.now) name }
 {
     match entry_for(&bus.shape, member(table, "fault"), name) {
@@ -72,7 +73,8 @@ fn onset_for(bus: &Bus, table: &Table, name: NodeName) -> Option<(u32, u16)>
 
 /// The onsets of 16 nodes of a kind.
 pub fn onsets_of<K: Kind>(bus: &Bus, table: &Table) -> [Option<(u32, u16)>; 16]
-    requires { list_all (is_fault bus.now) (entries_at (codes "fault") (table_view table.now)) ≡ true }
+    requires { list_all (is_fault bus.now) (entries_at (codes "fault") (table_view table.now))
+        ≡ true }
     ensures { result ≡ onsets_of (side_of K.CODE) bus.now (table_view table.now) }
 {
     let mut onsets = [None; 16];

@@ -1,4 +1,5 @@
-//! What a document says entry by entry: of clocks, links, faults, and what faulty nodes say; and of the bus that they are for.
+//! What a document says entry by entry: of clocks, links, faults, and what faulty nodes say; and of
+//! the bus that they are for.
 #![tactic(auto)]
 
 pub mod bus;

@@ -97,7 +97,8 @@ fn take_rule(bus: &Bus, value: &Value, rules: &mut Vec<Rule>) -> Result<(), Allo
 
 fn rules_among(alloc: Global, bus: &Bus, values: &Array) -> Result<Vec<Rule>, AllocError>
     requires { list_all (is_link bus.now) (tables_in (array_view values.now)) ≡ true }
-    ensures { IfOk result (λ v. v.items ≡ map (rule_of bus.now) (tables_in (array_view values.now))) }
+    ensures { IfOk result (λ v. v.items
+        ≡ map (rule_of bus.now) (tables_in (array_view values.now))) }
 {
     let mut rules = Vec::new(alloc);
     for value in values {
@@ -109,7 +110,8 @@ fn rules_among(alloc: Global, bus: &Bus, values: &Array) -> Result<Vec<Rule>, Al
 /// The rules of the entries in range.
 pub fn rules_in(alloc: Global, bus: &Bus, value: Option<&Value>) -> Result<Vec<Rule>, AllocError>
     requires { list_all (is_link bus.now) (entries_in (option_map (λ x. view x.now) value)) ≡ true }
-    ensures { IfOk result (λ v. v.items ≡ map (rule_of bus.now) (entries_in (option_map (λ x. view x.now) value.entry))) }
+    ensures { IfOk result (λ v. v.items
+        ≡ map (rule_of bus.now) (entries_in (option_map (λ x. view x.now) value.entry))) }
 {
     match value {
         Some(value) => match value.as_array() {

@@ -17,7 +17,8 @@ pub enum Refusal {
     /// A value is of another form than is asked for.
     #[error("a value is of another form")]
     WrongType,
-    /// A number, a name, a pair, a length or an offset is out of its range, or a node has two entries.
+    /// A number, a name, a pair, a length or an offset is out of its range, or a node has two
+    /// entries.
     #[error("a value is out of range")]
     OutOfRange,
     /// The plan is not feasible: this inequality, from 1 to 7, is the first that fails.
@@ -71,7 +72,8 @@ impl Refusal {
         }
     }
 
-    /// The number that is printed after the name: that of the inequality that fails, and none for every other refusal.
+    /// The number that is printed after the name: that of the inequality that fails, and none for
+    /// every other refusal.
     pub fn detail(&self) -> Option<u64>
         ensures { result ≡ detail_of self.now }
     {

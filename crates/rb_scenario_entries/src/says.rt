@@ -53,7 +53,8 @@ fn ticks_in_sync(plan: &Plan, stage: u64) -> u64
     }
 }
 
-/// Whether the offset lies in the window of this stage of the sync slot, where the range has the stage.
+/// Whether the offset lies in the window of this stage of the sync slot, where the range has the
+/// stage.
 fn lies_in_stage(plan: &Plan, stages: (u64, u64), offset: u64, stage: u64) -> bool
     ensures { result ≡ lies_in_stage plan.now stages offset stage }
 {
@@ -110,7 +111,8 @@ fn most_early(bus: &Bus) -> u64
     u64::from(bus.plan.u.saturating_sub(bus.plan.r).saturating_sub(1))
 }
 
-/// Whether it comes in the tail or early only in the sync slot, and at an offset that its windows have.
+/// Whether it comes in the tail or early only in the sync slot, and at an offset that its windows
+/// have.
 fn has_times(bus: &Bus, entry: &Table) -> bool
     ensures { result ≡ has_times bus.now (table_view entry.now) }
 {
@@ -282,7 +284,8 @@ fn take_say(bus: &Bus, value: &Value, says: &mut Vec<Say>) -> Result<(), AllocEr
 fn says_among(alloc: Global, bus: &Bus, values: &Array) -> Result<Vec<Say>, AllocError>
     requires bus { bus.now.plan.h < 2 ^ 32 }
     requires says { list_all (is_say bus.now) (tables_in (array_view values.now)) ≡ true }
-    ensures { IfOk result (λ v. v.items ≡ map (say_of bus.now) (tables_in (array_view values.now))) }
+    ensures { IfOk result (λ v. v.items
+        ≡ map (say_of bus.now) (tables_in (array_view values.now))) }
 {
     let mut says = Vec::new(alloc);
     for value in values {
@@ -294,8 +297,10 @@ fn says_among(alloc: Global, bus: &Bus, values: &Array) -> Result<Vec<Say>, Allo
 /// What the entries in range say.
 pub fn says_in(alloc: Global, bus: &Bus, value: Option<&Value>) -> Result<Vec<Say>, AllocError>
     requires bus { bus.now.plan.h < 2 ^ 32 }
-    requires says { list_all (is_say bus.now) (entries_in (option_map (λ x. view x.now) value)) ≡ true }
-    ensures { IfOk result (λ v. v.items ≡ map (say_of bus.now) (entries_in (option_map (λ x. view x.now) value.entry))) }
+    requires says { list_all (is_say bus.now) (entries_in (option_map (λ x. view x.now) value))
+        ≡ true }
+    ensures { IfOk result (λ v. v.items
+        ≡ map (say_of bus.now) (entries_in (option_map (λ x. view x.now) value.entry))) }
 {
     match value {
         Some(value) => match value.as_array() {

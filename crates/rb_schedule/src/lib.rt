@@ -9,7 +9,8 @@ use arrayvec::ArrayVec;
 use rb_base::{Biu, Heard, NodeSet, Shape};
 use std::marker::Model;
 
-/// The owners of a frame's data slots in order, at most 64: each the number of a BIU. A data slot past their end has none.
+/// The owners of a frame's data slots in order, at most 64: each the number of a BIU. A data slot
+/// past their end has none.
 #[derive(Clone, Debug, Drop)]
 pub struct Owners {
     bius: ArrayVec<u8, 64>,
@@ -31,7 +32,8 @@ impl Owners {
         }
     }
 
-    /// The number of the BIU that owns the data slot with this number, counted from 0. None exactly where it has no owner.
+    /// The number of the BIU that owns the data slot with this number, counted from 0. None exactly
+    /// where it has no owner.
     pub fn owner(&self, number: u16) -> Option<u8>
         ensures { result ≡ slice_get self.now number }
     {
@@ -93,9 +95,10 @@ fn add_pass(
     }
 }
 
-/// The owners of the data slots by the voted requests, that of BIU i at index i. A word is the number of slots that its BIU
-/// asks for, and Fault asks for none. The slots are given in passes: in each pass every trusted BIU that hasn't as many as it
-/// asks for gets one, in order of the BIUs, until all slots are given or nobody asks. More passes than slots change nothing.
+/// The owners of the data slots by the voted requests, that of BIU i at index i. A word is the
+/// number of slots that its BIU asks for, and Fault asks for none. The slots are given in passes:
+/// in each pass every trusted BIU that hasn't as many as it asks for gets one, in order of the
+/// BIUs, until all slots are given or nobody asks. More passes than slots change nothing.
 pub fn owners_of(requests: &[Heard; 16], trusted: NodeSet<Biu>, shape: &Shape) -> Owners
     ensures owners { result ≡ owners_of shape.now trusted requests.now }
     ensures passes { (passes : ℕ) → shape.now.data_slots ≤ passes

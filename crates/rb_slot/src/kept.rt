@@ -13,8 +13,8 @@ use crate::slots::{has_third_stage, role_of, sends_first};
 use rb_base::{Kind, Shape};
 use rb_rules::Role;
 
-// What is kept of one slot, so that it is not worked out again in each stage: what it is for, who sends in stage 1, and by
-// stage whether this node speaks.
+// What is kept of one slot, so that it is not worked out again in each stage: what it is for, who
+// sends in stage 1, and by stage whether this node speaks.
 #[derive(Clone, Copy)]
 pub(crate) struct KeptSlot {
     pub(crate) slot: u16,
@@ -25,7 +25,8 @@ pub(crate) struct KeptSlot {
 
 // What is kept where no slot is: that of a slot past all others, in which nobody speaks.
 pub(crate) fn no_slot(shape: &Shape) -> KeptSlot
-    ensures { (me : Side) (index near far : ℕ) (owners : List ℕ) → IsKeptSlot shape.now me index near far owners result }
+    ensures { (me : Side) (index near far : ℕ) (owners : List ℕ)
+        → IsKeptSlot shape.now me index near far owners result }
 {
     let _biu = shape.biu();
     KeptSlot {
@@ -49,8 +50,8 @@ pub(crate) fn is_spoken(spoken: &[bool; 4], stage: u8) -> bool
 }
 
 impl<K: Kind> Engine<K> {
-    // By stage whether this node speaks in a slot below the sync slot. The kind that sends in stage 1 sends in stage 3 too,
-    // the other kind in stage 2.
+    // By stage whether this node speaks in a slot below the sync slot. The kind that sends in stage
+    // 1 sends in stage 3 too, the other kind in stage 2.
     #[inline(always)]
     fn stages_spoken(&self, role: Role, sender: Sender) -> [bool; 4]
         ensures { (stage : ℕ) → get_or result stage false

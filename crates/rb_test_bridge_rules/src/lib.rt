@@ -1,4 +1,5 @@
-//! Bridges of two buses, computed from the definitions alone: each function does nothing, and its contract is a case.
+//! Bridges of two buses, computed from the definitions alone: each function does nothing, and its
+//! contract is a case.
 #![tactic(auto, unfolding(rb_base::specs::Nodes::set_of, rb_base::specs::Nodes::set_below, rb_base::specs::Nodes::size, rb_rules::specs::Spelling::message_in, rb_rules::specs::ExactStage::close_exact, rb_rules::specs::ExactStage::outcome_of, rb_rules::specs::SyncStage::close_sync, rb_rules::specs::SyncStage::sync_outcome_of, rb_rules::specs::Conviction::convicted_by, rb_rules::specs::Conviction::turn, rb_rules::specs::Links::delay_of, rb_rules::specs::Judging::classes_of, rb_rules::specs::Judging::verdict_of, rb_rules::specs::Hearing::sending, rb_rules::specs::Hearing::heard_from, rb_rules::specs::Hearing::row_of, rb_rules::specs::Book::with_stage, rb_rules::specs::Book::with_frame, rb_rules::specs::Rounds::sent_in, rb_rules::specs::Rounds::close_on, rb_rules::specs::Rounds::go_through, rb_rules::specs::Rounds::results_of, rb_rules::specs::Rounds::after_window, rb_rules::specs::Rounds::begin_frame, rb_rules::specs::Rounds::step, rb_group::specs::Groups::values_of))]
 
 ghost use Rattle.std.specs.Prelude.{◌≡◌};
@@ -9,7 +10,8 @@ ghost use Rattle.rb_rules_bridge.specs.Crossings.{hands_of};
 ghost use Rattle.rb_rules_bridge.specs.Texts.{bridge_text};
 ghost use Rattle.rb_test_bridge_rules.specs.Bridges.{both_break, both_break_text, idle_slot, idle_slot_text, last_data_slot, last_data_slot_text, left_breaks, left_breaks_text, no_majority, no_majority_text, other_slots, other_slots_text, outvoted, outvoted_text, right_breaks, right_breaks_text, slot_each, three_frames, three_frames_text};
 
-/// Each finds the other's word in the second frame, and in the third its own, which the other has handed back.
+/// Each finds the other's word in the second frame, and in the third its own, which the other has
+/// handed back.
 pub fn three_frames()
     ensures { bridge_text three_frames ≡ three_frames_text }
 {}
@@ -19,7 +21,8 @@ pub fn idle_slot()
     ensures { bridge_text idle_slot ≡ idle_slot_text }
 {}
 
-/// Pairs of BIUs with unlike numbers: all carry the word of the one slot, and receivers outside of the bridge find it too.
+/// Pairs of BIUs with unlike numbers: all carry the word of the one slot, and receivers outside of
+/// the bridge find it too.
 pub fn other_slots()
     ensures { bridge_text other_slots ≡ other_slots_text }
 {}
@@ -39,7 +42,8 @@ pub fn last_data_slot()
     ensures { bridge_text last_data_slot ≡ last_data_slot_text }
 {}
 
-/// The right bus breaks the premise in the second frame, before the left one does: the second frame has no lines.
+/// The right bus breaks the premise in the second frame, before the left one does: the second frame
+/// has no lines.
 pub fn right_breaks()
     ensures { bridge_text right_breaks ≡ right_breaks_text }
 {}
@@ -54,8 +58,9 @@ pub fn both_break()
     ensures { bridge_text both_break ≡ both_break_text }
 {}
 
-/// The premise of the law that words cross, of the bridge whose left BIU is outvoted: two pairs are sound in the frames that follow each
-/// other, and one is not, and both buses come through the second frame.
+/// The premise of the law that words cross, of the bridge whose left BIU is outvoted: two pairs are
+/// sound in the frames that follow each other, and one is not, and both buses come through the
+/// second frame.
 pub fn sound_pairs_outnumber()
     ensures schedule { IsSchedule outvoted.right (hands_of outvoted).right 1 slot_each }
     ensures outnumber { SoundPairsOutnumber outvoted Right slot_each 0 }

@@ -12,7 +12,8 @@ pub(crate) const DRIFTING: &str =
 pub(crate) const TWO_WORDS: &str =
     "biu = 4\nrmu = 3\nslots = 8\nframes = 1\nwords = [10, 20, 30, 40]\nfault = [{ node = 'B1', frame = 0, slot = 5 }]\nsay = [\n{ from = 'B1', to = 'R0', frames = [0, 0], slots = [5, 5], stages = [1, 1], word = 1 },\n{ from = 'B1', to = 'R1', frames = [0, 0], slots = [5, 5], stages = [1, 1], word = 2 },\n{ from = 'B1', to = 'R2', frames = [0, 0], slots = [5, 5], stages = [1, 1], word = 2 },\n]\n";
 
-/// The clock of B1 is 30000 late. B2 is silent from slot 3 of frame 0 on: its request was heard before, and its data slot comes after.
+/// The clock of B1 is 30000 late. B2 is silent from slot 3 of frame 0 on: its request was heard
+/// before, and its data slot comes after.
 pub(crate) const LATE_AND_SILENT: &str =
     "biu = 3\nrmu = 2\nslots = 3\nframes = 2\nrequests = [1, 1, 1]\nwords = [7, 8, 9]\napps = ['table', 'counter', 'follow']\n[[clock]]\nnode = 'B1'\nstart = 30000\n[[fault]]\nnode = 'B2'\nframe = 0\nslot = 3\n";
 

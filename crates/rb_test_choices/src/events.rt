@@ -33,7 +33,8 @@ fn arrival(node: NodeName, quiet: u32, from: u8, message: &[u8]) -> Event {
     }
 }
 
-// The first events of the smallest bus: both nodes begin frame 0, and B0 sends its request at tick 6, which comes to R0 by tick 7.
+// The first events of the smallest bus: both nodes begin frame 0, and B0 sends its request at tick
+// 6, which comes to R0 by tick 7.
 #[test]
 fn events_one_by_one(rt: HostRuntime) -> Result<(), Fail> {
     let alloc = rt.alloc();
@@ -83,8 +84,8 @@ fn state_of_b0(turn: &Turn) -> Option<u64> {
     }
 }
 
-// A state that is handed to B0 at the begin of frame 1 is delivered in its slots of that frame, and shown at the next begin. All other
-// records of the frame are as they are without it.
+// A state that is handed to B0 at the begin of frame 1 is delivered in its slots of that frame, and
+// shown at the next begin. All other records of the frame are as they are without it.
 #[test]
 fn state_is_handed_in(rt: HostRuntime) -> Result<(), Fail> {
     let alloc = rt.alloc();

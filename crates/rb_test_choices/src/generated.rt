@@ -85,7 +85,8 @@ fn numbers_of(records: &[Turn]) -> Numbers {
     numbers
 }
 
-// The text has 414 lines, and a run in which the last event that is due is taken has the four numbers that are known of it.
+// The text has 414 lines, and a run in which the last event that is due is taken has the four
+// numbers that are known of it.
 #[test]
 fn generated_text_is_run(rt: HostRuntime) -> Result<(), Fail> {
     let alloc = rt.alloc();

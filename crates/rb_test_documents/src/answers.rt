@@ -61,7 +61,8 @@ impl Answerer {
         }
     }
 
-    /// How the program answers these words and this input, of which the first read fails where there is none.
+    /// How the program answers these words and this input, of which the first read fails where
+    /// there is none.
     pub(crate) fn answer(
         &self,
         alloc: Global,

@@ -11,7 +11,8 @@ use std::test::Fail;
 const SMALLEST_MASKED: &str =
     "e 0 B0 0 0\ne 0 R0 0 0\nc 0 B0 0 0\nc 0 R0 0 0\np 0 B0 7 0\nd 0 1 B0 B0 none\ne 1 B0 242 2420000\ne 1 R0 242 2420000\nc 1 B0 0 0\nc 1 R0 0 0\np 1 B0 7 0\nend 1\n";
 
-/// What came of a run: how it ended, the bytes that were written, and how many turns the drive keeps.
+/// What came of a run: how it ended, the bytes that were written, and how many turns the drive
+/// keeps.
 #[derive(Drop)]
 struct Outcome {
     status: Status,

@@ -1,5 +1,6 @@
-//! Edges of the outside: sources and sinks that fail, that give and take a few bytes at a time, readers and writers of std behind them, and
-//! inputs that are too long; and drives that keep what they gave.
+//! Edges of the outside: sources and sinks that fail, that give and take a few bytes at a time,
+//! readers and writers of std behind them, and inputs that are too long; and drives that keep what
+//! they gave.
 #![tactic(auto)]
 
 #[cfg(test)]

@@ -1,4 +1,5 @@
-//! An input of as many bytes as there may be, and of one more; and as many rules for delays as have a number, and one more.
+//! An input of as many bytes as there may be, and of one more; and as many rules for delays as have
+//! a number, and one more.
 use crate::calls::run_first;
 use rb_base::{NodeName, Place};
 use rb_link::{Delays, Pattern, Rule};

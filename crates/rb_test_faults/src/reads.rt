@@ -6,7 +6,8 @@ use rb_top::Status;
 use std::alloc::Global;
 use std::test::Fail;
 
-// How a run ends, and the calls that the sink had, where this read fails, counted from 1, and a read gives seven bytes.
+// How a run ends, and the calls that the sink had, where this read fails, counted from 1, and a
+// read gives seven bytes.
 fn outcome_of(alloc: Global, failing: u64) -> Result<(Status, u64), Fail> {
     let mut source = ShortSource::new(bytes_of(alloc, ORDINARY)?, 7, vec![in alloc; failing]?);
     let Ok(mut sink) = ShortSink::new(alloc, 2000, 7, Vec::new(alloc)) else {

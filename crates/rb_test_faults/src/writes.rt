@@ -84,7 +84,8 @@ fn a_refusal_is_not_taken(rt: HostRuntime) -> Result<(), Fail> {
     Ok(())
 }
 
-// Which write of R0's log fails, and how many bytes are held then: none, the header, all but the end.
+// Which write of R0's log fails, and how many bytes are held then: none, the header, all but the
+// end.
 const HELD_OF_A_LOG: [(u64, usize); 3] = [(1, 0), (2, 50), (3, 202)];
 
 #[test]

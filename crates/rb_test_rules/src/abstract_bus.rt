@@ -14,11 +14,13 @@ ghost use Rattle.rb_test_rules.specs.Lies.{asymmetric_sender, two_sided};
 ghost use Rattle.rb_test_rules.specs.Ordinary.{greatest_drift, ordinary_use, smallest_bus};
 ghost use Rattle.rb_test_rules.specs.Parts.{biu, plan, rmu, sizes};
 
-/// The schedule stands with the last schedule slot, and stays. Where each BIU asks for one slot, the last four are idle.
+/// The schedule stands with the last schedule slot, and stays. Where each BIU asks for one slot,
+/// the last four are idle.
 pub fn slots_of_the_bus()
     ensures owners { map (λ bus. bus.owners) (at_first ∷ scheduled ∷ bus_after_slot sizes Fault scheduled ∷ [])
         ≡ ([] ∷ (0 ∷ 1 ∷ 2 ∷ 3 ∷ 0 ∷ 1 ∷ 2 ∷ 3 ∷ []) ∷ (0 ∷ 1 ∷ 2 ∷ 3 ∷ 0 ∷ 1 ∷ 2 ∷ 3 ∷ []) ∷ []) }
-    ensures slots { map (λ bus. bus.slot) (at_first ∷ scheduled ∷ at_the_end ∷ []) ≡ (0 ∷ 4 ∷ 19 ∷ []) }
+    ensures slots { map (λ bus. bus.slot) (at_first ∷ scheduled ∷ at_the_end ∷ [])
+        ≡ (0 ∷ 4 ∷ 19 ∷ []) }
     ensures senders { map (sender_on sizes) (at_first ∷ scheduled ∷ record half_scheduled { slot = 8 } ∷ at_the_end ∷ [])
         ≡ (Node 0 ∷ Node 0 ∷ Nobody ∷ EachTrusted ∷ []) }
 {}
@@ -27,31 +29,40 @@ pub fn slots_of_the_bus()
 pub fn frames_of_the_bus()
     ensures bius { (bus_after_frame sizes 9170000 at_the_end).bius ≡ 13 }
     ensures rmus { (bus_after_frame sizes 9170000 at_the_end).rmus ≡ 3 }
-    ensures anew { map (λ bus. bus.owners) (bus_after_frame sizes 9170000 at_the_end ∷ []) ≡ ([] ∷ []) }
+    ensures anew { map (λ bus. bus.owners) (bus_after_frame sizes 9170000 at_the_end ∷ [])
+        ≡ ([] ∷ []) }
     ensures next { (bus_after_frame sizes 9170000 at_the_end).frame ≡ 1 }
 {}
 
-/// Steps of the bus: a good BIU's request and its word, an idle slot, and the step to the next frame, which takes 908 of the shortest
-/// ticks at least.
+/// Steps of the bus: a good BIU's request and its word, an idle slot, and the step to the next
+/// frame, which takes 908 of the shortest ticks at least.
 pub fn steps_of_the_bus()
-    ensures request { IsStep ordinary_use offered at_first (bus_after_slot sizes (Word 2) at_first) }
-    ensures word { IsStep ordinary_use offered scheduled (bus_after_slot sizes (Word 10) scheduled) }
+    ensures request { IsStep ordinary_use offered at_first
+        (bus_after_slot sizes (Word 2) at_first) }
+    ensures word { IsStep ordinary_use offered scheduled
+        (bus_after_slot sizes (Word 10) scheduled) }
     ensures idle { IsStep ordinary_use offered (record half_scheduled { slot = 8 }) (bus_after_slot sizes Fault (record half_scheduled { slot = 8 })) }
-    ensures frame { IsStep ordinary_use offered at_a_quiet_end (bus_after_frame sizes 9079092 at_a_quiet_end) }
+    ensures frame { IsStep ordinary_use offered at_a_quiet_end
+        (bus_after_frame sizes 9079092 at_a_quiet_end) }
     ensures run { IsRun ordinary_use offered 2 first_slots }
     ensures counted { map (steps_to sizes 1) (0 ∷ 19 ∷ []) ≡ (20 ∷ 39 ∷ []) }
 {}
 
-/// Values that a slot cannot have: Fault, or another word than it is offered, where its sender is good, and a word where it is idle.
+/// Values that a slot cannot have: Fault, or another word than it is offered, where its sender is
+/// good, and a word where it is idle.
 pub fn values_that_cannot_be()
-    ensures fault_of_a_good_sender { ¬ MayHave ordinary_use scheduled (offered 0 4) (Data 0) (Node 0) Fault }
-    ensures another_word { ¬ MayHave ordinary_use scheduled (offered 0 4) (Data 0) (Node 0) (Word 11) }
-    ensures another_request { ¬ MayHave ordinary_use at_first (offered 0 0) (Schedule 0) (Node 0) (Word 3) }
-    ensures word_of_nobody { ¬ MayHave ordinary_use half_scheduled (offered 0 8) (Data 4) Nobody (Word 10) }
+    ensures fault_of_a_good_sender { ¬ MayHave ordinary_use scheduled (offered 0 4) (Data 0)
+        (Node 0) Fault }
+    ensures another_word { ¬ MayHave ordinary_use scheduled (offered 0 4) (Data 0) (Node 0)
+        (Word 11) }
+    ensures another_request { ¬ MayHave ordinary_use at_first (offered 0 0) (Schedule 0) (Node 0)
+        (Word 3) }
+    ensures word_of_nobody { ¬ MayHave ordinary_use half_scheduled (offered 0 8) (Data 4) Nobody
+        (Word 10) }
 {}
 
-/// The bands of the bus at their edges: BIU 0, which starts as late and ticks as slowly as the plan allows, and all others. One unit
-/// later at the start, or one unit less a tick, is out of them.
+/// The bands of the bus at their edges: BIU 0, which starts as late and ticks as slowly as the plan
+/// allows, and all others. One unit later at the start, or one unit less a tick, is out of them.
 pub fn bands_of_the_bus()
     ensures latest { IsInBand greatest_drift at_first Biu 0 biu 855 }
     ensures earliest { IsInBand greatest_drift at_first Biu 1 biu 855 }
@@ -75,12 +86,15 @@ pub fn nodes_of_the_bus()
 
 /// What is delivered in a data slot: the value, at the BIUs that are good there.
 pub fn lines_of_the_bus()
-    ensures all { map (λ line. line.receiver) (lines_on ordinary_use 0 4 (Node 0) (Word 10)) ≡ (0 ∷ 1 ∷ 2 ∷ 3 ∷ []) }
-    ensures good { map (λ line. line.receiver) (lines_on asymmetric_sender 0 5 (Node 1) Fault) ≡ (0 ∷ 2 ∷ 3 ∷ []) }
+    ensures all { map (λ line. line.receiver) (lines_on ordinary_use 0 4 (Node 0) (Word 10))
+        ≡ (0 ∷ 1 ∷ 2 ∷ 3 ∷ []) }
+    ensures good { map (λ line. line.receiver) (lines_on asymmetric_sender 0 5 (Node 1) Fault)
+        ≡ (0 ∷ 2 ∷ 3 ∷ []) }
     ensures idle { lines_on ordinary_use 0 4 Nobody Fault ≡ [] }
 {}
 
-/// Which slots are complete: all of a frame without a breach, so that the next one is reached, and those before a breach.
+/// Which slots are complete: all of a frame without a breach, so that the next one is reached, and
+/// those before a breach.
 pub fn complete_slots()
     ensures last_of_a_frame { IsComplete smallest_bus [] 0 4 }
     ensures next_frame { IsReached smallest_bus [] 1 }

@@ -19,7 +19,8 @@ pub fn longest_probation()
     ensures counted_no_further { slice_index (standing_at_end 0 (calm_for 4096)).calm 0 ≡ 4096 }
 {}
 
-/// A sender compares the relays with what it sent, and not with its vote, which is Fault here: two RMUs differ.
+/// A sender compares the relays with what it sent, and not with its vote, which is Fault here: two
+/// RMUs differ.
 pub fn sender_among_unlike_relays()
     ensures kept_after_stage_1 { after_stage_1.sent ≡ Some (Word 2) }
     ensures voted { take 1 sender_of_unlike.votes ≡ (Fault ∷ []) }
@@ -38,8 +39,9 @@ pub fn invalid_vectors()
     ensures sparing { convicted 7 (Word 8 ∷ Word 2 ∷ Fault ∷ []) ≡ 2 }
 {}
 
-/// Nodes of both kinds are convicted at once, by the trusted sets of the frame that ends: the vector of RMU 2, which is convicted
-/// too, is needed to convict BIU 1. In the frame after, the vectors of both count no more.
+/// Nodes of both kinds are convicted at once, by the trusted sets of the frame that ends: the
+/// vector of RMU 2, which is convicted too, is needed to convict BIU 1. In the frame after, the
+/// vectors of both count no more.
 pub fn convictions_of_both_kinds()
     ensures bius { next_frame.near ≡ 13 }
     ensures rmus { next_frame.far.trusted ≡ 3 }

@@ -11,7 +11,8 @@ ghost use Rattle.rb_test_rules.specs.Frames.{late_onset};
 ghost use Rattle.rb_test_rules.specs.Lies.{asymmetric_sender, silent_rmu};
 ghost use Rattle.rb_test_rules.specs.Told.{none, word};
 
-/// An RMU is silent: all good BIUs hold the word that was sent, and all accuse the RMU and nobody else.
+/// An RMU is silent: all good BIUs hold the word that was sent, and all accuse the RMU and nobody
+/// else.
 pub fn agreement_beside_a_silent_rmu()
     ensures lawful { IsLawful silent_rmu }
     ensures complete { IsComplete silent_rmu [] 0 19 }
@@ -20,7 +21,8 @@ pub fn agreement_beside_a_silent_rmu()
     ensures by_rmus { accused_by silent_rmu 0 19 Rmu ≡ 0 ∷ 0 ∷ [] }
 {}
 
-/// A BIU says another word to one RMU: all good BIUs hold that of the two others, and all good RMUs accuse the BIU.
+/// A BIU says another word to one RMU: all good BIUs hold that of the two others, and all good RMUs
+/// accuse the BIU.
 pub fn agreement_on_an_asymmetric_sender()
     ensures lawful { IsLawful asymmetric_sender }
     ensures complete { IsComplete asymmetric_sender [] 0 19 }
@@ -29,7 +31,8 @@ pub fn agreement_on_an_asymmetric_sender()
     ensures by_rmus { accused_by asymmetric_sender 0 19 Rmu ≡ 2 ∷ 2 ∷ 2 ∷ [] }
 {}
 
-/// An RMU names a good BIU in its vector: all good nodes hold that vector, and nobody convicts the BIU.
+/// An RMU names a good BIU in its vector: all good nodes hold that vector, and nobody convicts the
+/// BIU.
 pub fn agreement_on_a_false_vector()
     ensures lawful { IsLawful false_accuser }
     ensures complete { IsComplete false_accuser [] 0 19 }
@@ -46,8 +49,9 @@ pub fn agreement_after_a_late_onset()
     ensures by_rmus { accused_by late_onset 3 6 Rmu ≡ 4 ∷ 4 ∷ 4 ∷ [] }
 {}
 
-/// Of two BIUs one says another vote in stage 3: the RMU takes two values, its vote is Fault, and it accuses the good BIU too. This is
-/// the stage of the breach. So no good node is accused after complete slots alone.
+/// Of two BIUs one says another vote in stage 3: the RMU takes two values, its vote is Fault, and
+/// it accuses the good BIU too. This is the stage of the breach. So no good node is accused after
+/// complete slots alone.
 pub fn a_good_node_is_accused_at_the_breach()
     ensures lawful { IsLawful other_vote }
     ensures breach { records_of other_vote [] ≡ other_vote_records }

@@ -4,7 +4,8 @@
 ghost use Rattle.std.specs.Prelude.{◌≡◌, [], ◌∷◌, Some};
 ghost use Rattle.rb_test_rules.specs.Cores.{after_tick, begun_at, biu_0, busy_next, epochs_of, frame_of_rmu, frame_with_a_wrong_check};
 
-/// A fresh BIU begins frame 0 at tick 0, sends its request at tick 6, and closes its first windows at ticks 14 and 29.
+/// A fresh BIU begins frame 0 at tick 0, sends its request at tick 6, and closes its first windows
+/// at ticks 14 and 29.
 pub fn busy_ticks_of_a_biu()
     ensures epoch { busy_next biu_0 ≡ Some 0 }
     ensures request { busy_next (after_tick 0 biu_0) ≡ Some 6 }
@@ -17,8 +18,8 @@ pub fn replayed_frame()
     ensures { epochs_of frame_of_rmu ≡ (begun_at 0 0 ∷ begun_at 1 242 ∷ []) }
 {}
 
-/// Where the request comes with a wrong byte the RMU accuses the BIU and takes nothing more of it: both middles are the first
-/// ticks of their windows.
+/// Where the request comes with a wrong byte the RMU accuses the BIU and takes nothing more of it:
+/// both middles are the first ticks of their windows.
 pub fn replayed_frame_with_a_wrong_check()
     ensures { epochs_of frame_with_a_wrong_check ≡ (begun_at 0 0 ∷ begun_at 1 233 ∷ []) }
 {}

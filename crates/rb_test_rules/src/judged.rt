@@ -7,7 +7,8 @@ ghost use Rattle.rb_rules.specs.declared.cause.Cause.TheVariants.{FewGoodBiu, Fe
 ghost use Rattle.rb_rules.specs.Judging.{are_few_good, cause_of, classes_of, verdict_of};
 ghost use Rattle.rb_test_rules.specs.Judged.{calls_at, silence, word_of, word_of_for_one};
 
-/// Symmetric and asymmetric nodes both count against the good, benign ones do not, and a tie is too few.
+/// Symmetric and asymmetric nodes both count against the good, benign ones do not, and a tie is too
+/// few.
 pub fn few_good_nodes()
     ensures against_asymmetric { are_few_good (record { good = 1; benign = 0; symmetric = 0; asymmetric = 6 }) ≡ true }
     ensures against_symmetric { are_few_good (record { good = 1; benign = 0; symmetric = 6; asymmetric = 0 }) ≡ true }
@@ -16,17 +17,20 @@ pub fn few_good_nodes()
     ensures against_benign { are_few_good (record { good = 1; benign = 6; symmetric = 0; asymmetric = 0 }) ≡ false }
 {}
 
-/// What was taken and what was seen unlike in any stage of the frame counts: two BIUs lie, each in a stage of its own.
+/// What was taken and what was seen unlike in any stage of the frame counts: two BIUs lie, each in
+/// a stage of its own.
 pub fn lies_of_earlier_stages()
     ensures one_lies { verdict_of (word_of 2 ∷ []) ≡ None }
     ensures both_lie { verdict_of (word_of 2 ∷ word_of 3 ∷ []) ≡ Some FewGoodBiu }
-    ensures long_ago { verdict_of (silence ∷ word_of 2 ∷ silence ∷ word_of 3 ∷ []) ≡ Some FewGoodBiu }
+    ensures long_ago { verdict_of (silence ∷ word_of 2 ∷ silence ∷ word_of 3 ∷ [])
+        ≡ Some FewGoodBiu }
     ensures symmetric { (classes_of Biu (silence ∷ word_of 2 ∷ [])).symmetric ≡ 4 }
     ensures asymmetric { (classes_of Biu (word_of 2 ∷ word_of_for_one 2 ∷ [])).asymmetric ≡ 4 }
     ensures benign { (classes_of Biu (word_of 2 ∷ [])).benign ≡ 8 }
 {}
 
-/// Times of one message may lie as far apart as the delays of a link, and no further, whichever comes first.
+/// Times of one message may lie as far apart as the delays of a link, and no further, whichever
+/// comes first.
 pub fn times_of_one_call()
     ensures as_far { map (λ s. (classes_of Biu (s ∷ [])).asymmetric) (calls_at 100 110 ∷ calls_at 110 100 ∷ []) ≡ (0 ∷ 0 ∷ []) }
     ensures further { map (λ s. (classes_of Biu (s ∷ [])).asymmetric) (calls_at 100 111 ∷ calls_at 111 100 ∷ []) ≡ (4 ∷ 4 ∷ []) }

@@ -35,26 +35,30 @@ pub fn apart_in_time_is_lawful()
     ensures { IsLawful apart_in_time }
 {}
 
-/// An RMU calls as early and as late as may be, and fills the tail's last offset with as many bytes as a message may have.
+/// An RMU calls as early and as late as may be, and fills the tail's last offset with as many bytes
+/// as a message may have.
 pub fn lies_at_the_edge_are_lawful()
     ensures { IsLawful lies_at_the_edge }
 {}
 
-/// Beyond each edge nothing is lawful: a tick early or more, after the window's last tick, early or in the tail in other slots,
-/// to nodes of the own kind, no bytes, and by a node that is good at the first place.
+/// Beyond each edge nothing is lawful: a tick early or more, after the window's last tick, early or
+/// in the tail in other slots, to nodes of the own kind, no bytes, and by a node that is good at
+/// the first place.
 pub fn beyond_the_edge()
     ensures a_tick_early { ¬ IsLawful (saying (record call { early = 9999 })) }
     ensures after_the_window { ¬ IsLawful (saying (record call { offset = 18 })) }
     ensures after_the_tail { ¬ IsLawful (saying (record call { stages = (4, 4); offset = 39 })) }
-    ensures early_in_another_slot { ¬ IsLawful (saying (record call { slots = (18, 19); early = 1 })) }
+    ensures early_in_another_slot { ¬ IsLawful
+        (saying (record call { slots = (18, 19); early = 1 })) }
     ensures tail_of_another_slot { ¬ IsLawful (saying (record call { slots = (18, 19); stages = (3, 4) })) }
     ensures to_its_own_kind { ¬ IsLawful (saying (record call { to = AllRmu })) }
     ensures no_bytes { ¬ IsLawful (saying (record call { content = raw [] })) }
     ensures by_a_good_node { ¬ IsLawful (saying (record call { from = r 0 })) }
 {}
 
-/// A bus that no document says: of no frame, a request or a clock less than it has nodes, a request past the greatest, clocks that
-/// start further apart than the skew or tick too slowly, a delay above the greatest, and an onset after the run.
+/// A bus that no document says: of no frame, a request or a clock less than it has nodes, a request
+/// past the greatest, clocks that start further apart than the skew or tick too slowly, a delay
+/// above the greatest, and an onset after the run.
 pub fn beyond_the_bus()
     ensures no_frame { ¬ IsLawful (record ordinary_use { frames = 0 }) }
     ensures request_missing { ¬ IsLawful (record ordinary_use { requests = 2 ∷ 2 ∷ 2 ∷ [] }) }
@@ -66,15 +70,17 @@ pub fn beyond_the_bus()
     ensures onset_after_the_run { ¬ IsLawful (record ordinary_use { biu_onsets = Some (1, 0) ∷ None ∷ None ∷ None ∷ [] }) }
 {}
 
-/// A rule of delay that no link has: within a kind, to an RMU that there is not, below the least delay, in the tail, after the run or
-/// after the sync slot. And what nobody says: more bytes than 32, and a call to a BIU that there is not.
+/// A rule of delay that no link has: within a kind, to an RMU that there is not, below the least
+/// delay, in the tail, after the run or after the sync slot. And what nobody says: more bytes than
+/// 32, and a call to a BIU that there is not.
 pub fn beyond_the_links()
     ensures within_a_kind { ¬ IsLawful (ruled_by (record rule_of_calls { to = AllBiu })) }
     ensures to_nobody { ¬ IsLawful (ruled_by (record rule_of_calls { to = One (r 3) })) }
     ensures short_delay { ¬ IsLawful (ruled_by (record rule_of_calls { delay = 4999 })) }
     ensures in_the_tail { ¬ IsLawful (ruled_by (record rule_of_calls { stages = (1, 4) })) }
     ensures after_the_run { ¬ IsLawful (ruled_by (record rule_of_calls { frames = (0, 1) })) }
-    ensures after_the_sync_slot { ¬ IsLawful (ruled_by (record rule_of_calls { slots = (19, 20) })) }
+    ensures after_the_sync_slot { ¬ IsLawful
+        (ruled_by (record rule_of_calls { slots = (19, 20) })) }
     ensures many_bytes { ¬ IsLawful (saying (record call { content = raw (replicate 33 255) })) }
     ensures said_to_nobody { ¬ IsLawful (saying (record call { to = One (b 4) })) }
 {}

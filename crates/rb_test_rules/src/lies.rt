@@ -10,12 +10,14 @@ pub fn silent_rmu()
     ensures { records_of silent_rmu [] ≡ silent_rmu_records }
 {}
 
-/// An RMU relays a wrong word alike to all: the words come all the same, each sender accuses it, and all convict it.
+/// An RMU relays a wrong word alike to all: the words come all the same, each sender accuses it,
+/// and all convict it.
 pub fn symmetric_rmu()
     ensures { records_of symmetric_rmu [] ≡ symmetric_rmu_records }
 {}
 
-/// A BIU says another word to one RMU in its data slot: all good BIUs deliver what the other RMUs relay, and all convict it.
+/// A BIU says another word to one RMU in its data slot: all good BIUs deliver what the other RMUs
+/// relay, and all convict it.
 pub fn asymmetric_sender()
     ensures { records_of asymmetric_sender [] ≡ asymmetric_sender_records }
 {}
@@ -30,29 +32,33 @@ pub fn two_sided()
     ensures { records_of two_sided [] ≡ two_sided_records }
 {}
 
-/// Two of three RMUs lie: the run ends with the breach, in the stage in which something is taken of them.
+/// Two of three RMUs lie: the run ends with the breach, in the stage in which something is taken of
+/// them.
 pub fn too_few_good()
     ensures { records_of too_few_good [] ≡ too_few_good_records }
 {}
 
-/// An RMU of which all else is right relays a request in the last tick of the window: nobody accuses it.
+/// An RMU of which all else is right relays a request in the last tick of the window: nobody
+/// accuses it.
 pub fn message_in_time()
     ensures { records_of message_in_time [] ≡ message_in_time_records }
 {}
 
-/// The relay comes in that tick at one BIU, and one tick later at the three others: these accuse the RMU, and all convict it.
+/// The relay comes in that tick at one BIU, and one tick later at the three others: these accuse
+/// the RMU, and all convict it.
 pub fn message_too_late()
     ensures { records_of message_too_late [] ≡ message_too_late_records }
 {}
 
-/// Of two faulty RMUs one is silent, and the other sends two messages, too few bytes, a wrong check and a Fault with a value: if one
-/// BIU took any of it, the good RMU would not outnumber it, and the run would end there. All convict both.
+/// Of two faulty RMUs one is silent, and the other sends two messages, too few bytes, a wrong check
+/// and a Fault with a value: if one BIU took any of it, the good RMU would not outnumber it, and
+/// the run would end there. All convict both.
 pub fn ill_formed_messages()
     ensures { records_of ill_formed_messages [] ≡ ill_formed_messages_records }
 {}
 
-/// A BIU asks for more slots than there are, and falls silent: the others have their slots, and deliver none in those of the greedy
-/// one.
+/// A BIU asks for more slots than there are, and falls silent: the others have their slots, and
+/// deliver none in those of the greedy one.
 pub fn greedy_biu()
     ensures { records_of greedy_biu [] ≡ greedy_biu_records }
 {}

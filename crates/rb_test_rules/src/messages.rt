@@ -15,19 +15,27 @@ ghost use Rattle.rb_test_rules.specs.Parts.{expected, in_frame_65537, sizes, wor
 
 /// Bytes that are no message of version One, each by one thing that is wrong.
 pub fn bytes_without_a_message()
-    ensures fault_with_a_value { message_in version.One (2 ∷ 0 ∷ 0 ∷ 0 ∷ 0 ∷ 2 ∷ 0 ∷ 0 ∷ 0 ∷ 1 ∷ 1 ∷ []) ≡ None }
+    ensures fault_with_a_value { message_in version.One
+        (2 ∷ 0 ∷ 0 ∷ 0 ∷ 0 ∷ 2 ∷ 0 ∷ 0 ∷ 0 ∷ 1 ∷ 1 ∷ []) ≡ None }
     ensures call_with_a_value { message_in version.One (3 ∷ 0 ∷ 0 ∷ 0 ∷ 19 ∷ 2 ∷ 0 ∷ 0 ∷ 0 ∷ 1 ∷ 19 ∷ []) ≡ None }
-    ensures no_tag { message_in version.One (0 ∷ 0 ∷ 0 ∷ 0 ∷ 4 ∷ 1 ∷ 0 ∷ 0 ∷ 0 ∷ 0 ∷ 5 ∷ []) ≡ None }
-    ensures tag_past_the_last { message_in version.One (4 ∷ 0 ∷ 0 ∷ 0 ∷ 4 ∷ 1 ∷ 0 ∷ 0 ∷ 0 ∷ 0 ∷ 1 ∷ []) ≡ None }
-    ensures stage_0 { message_in version.One (1 ∷ 0 ∷ 0 ∷ 0 ∷ 4 ∷ 0 ∷ 0 ∷ 0 ∷ 0 ∷ 10 ∷ 15 ∷ []) ≡ None }
-    ensures stage_4 { message_in version.One (1 ∷ 0 ∷ 0 ∷ 0 ∷ 4 ∷ 4 ∷ 0 ∷ 0 ∷ 0 ∷ 10 ∷ 11 ∷ []) ≡ None }
-    ensures wrong_check { message_in version.One (1 ∷ 0 ∷ 0 ∷ 0 ∷ 4 ∷ 1 ∷ 0 ∷ 0 ∷ 0 ∷ 10 ∷ 15 ∷ []) ≡ None }
-    ensures too_long { message_in version.One (1 ∷ 0 ∷ 0 ∷ 0 ∷ 4 ∷ 1 ∷ 0 ∷ 0 ∷ 0 ∷ 10 ∷ 14 ∷ 0 ∷ []) ≡ None }
+    ensures no_tag { message_in version.One (0 ∷ 0 ∷ 0 ∷ 0 ∷ 4 ∷ 1 ∷ 0 ∷ 0 ∷ 0 ∷ 0 ∷ 5 ∷ [])
+        ≡ None }
+    ensures tag_past_the_last { message_in version.One
+        (4 ∷ 0 ∷ 0 ∷ 0 ∷ 4 ∷ 1 ∷ 0 ∷ 0 ∷ 0 ∷ 0 ∷ 1 ∷ []) ≡ None }
+    ensures stage_0 { message_in version.One (1 ∷ 0 ∷ 0 ∷ 0 ∷ 4 ∷ 0 ∷ 0 ∷ 0 ∷ 0 ∷ 10 ∷ 15 ∷ [])
+        ≡ None }
+    ensures stage_4 { message_in version.One (1 ∷ 0 ∷ 0 ∷ 0 ∷ 4 ∷ 4 ∷ 0 ∷ 0 ∷ 0 ∷ 10 ∷ 11 ∷ [])
+        ≡ None }
+    ensures wrong_check { message_in version.One (1 ∷ 0 ∷ 0 ∷ 0 ∷ 4 ∷ 1 ∷ 0 ∷ 0 ∷ 0 ∷ 10 ∷ 15 ∷ [])
+        ≡ None }
+    ensures too_long { message_in version.One (1 ∷ 0 ∷ 0 ∷ 0 ∷ 4 ∷ 1 ∷ 0 ∷ 0 ∷ 0 ∷ 10 ∷ 14 ∷ 0 ∷ [])
+        ≡ None }
 {}
 
 /// Messages for another window, and a message whose check leaves out the bus.
 pub fn messages_for_another_window()
-    ensures of_another_frame { sense_of (record expected { frame = 2 }) (word_10 70 5 10 ∷ []) ≡ Bad }
+    ensures of_another_frame { sense_of (record expected { frame = 2 }) (word_10 70 5 10 ∷ [])
+        ≡ Bad }
     ensures of_another_slot { sense_of (record expected { slot = 5 }) (word_10 70 5 10 ∷ []) ≡ Bad }
     ensures call_below_the_sync_slot { sense_of (record expected { version = version.One }) (record { stamp = 70; bytes = 3 ∷ 0 ∷ 1 ∷ 0 ∷ 4 ∷ 1 ∷ 0 ∷ 0 ∷ 0 ∷ 0 ∷ 7 ∷ [] } ∷ []) ≡ Bad }
     ensures fault_in_the_sync_slot { sense_of (record expected { sync = true; version = version.One }) (record { stamp = 70; bytes = 2 ∷ 0 ∷ 1 ∷ 0 ∷ 4 ∷ 1 ∷ 0 ∷ 0 ∷ 0 ∷ 0 ∷ 6 ∷ [] } ∷ []) ≡ Bad }
@@ -36,8 +44,11 @@ pub fn messages_for_another_window()
 
 /// A message has the frame's number modulo 65536, whether it is a word, a fault or a call.
 pub fn frames_past_the_last_number()
-    ensures word { message_of in_frame_65537 4 1 (Word 10) ≡ record { tag = tag.Word; frame = 1; slot = 4; stage = 1; value = 10 } }
-    ensures fault { message_of in_frame_65537 4 2 Fault ≡ record { tag = tag.Fault; frame = 1; slot = 4; stage = 2; value = 0 } }
-    ensures call { call_of sizes in_frame_65537 1 ≡ record { tag = tag.Sync; frame = 1; slot = 19; stage = 1; value = 0 } }
+    ensures word { message_of in_frame_65537 4 1 (Word 10)
+        ≡ record { tag = tag.Word; frame = 1; slot = 4; stage = 1; value = 10 } }
+    ensures fault { message_of in_frame_65537 4 2 Fault
+        ≡ record { tag = tag.Fault; frame = 1; slot = 4; stage = 2; value = 0 } }
+    ensures call { call_of sizes in_frame_65537 1
+        ≡ record { tag = tag.Sync; frame = 1; slot = 19; stage = 1; value = 0 } }
     ensures meant_for { expect_of sizes (version.Two 5) in_frame_65537 4 1 ≡ expected }
 {}

@@ -1,4 +1,5 @@
-//! Premises of the laws of one slot and of one stage, and of laws on whole runs, met by an instance each.
+//! Premises of the laws of one slot and of one stage, and of laws on whole runs, met by an instance
+//! each.
 #![tactic(auto, unfolding(rb_base::specs::Nodes::set_of, rb_base::specs::Nodes::set_below, rb_rules::specs::ExactStage::close_exact, rb_rules::specs::ExactStage::outcome_of, rb_rules::specs::SyncStage::close_sync, rb_rules::specs::SyncStage::sync_outcome_of, rb_laws_agreement::specs::OneSlot::state_after))]
 
 ghost use Rattle.std.specs.Prelude.{◌≡◌, ◌∷◌, [], map, Some};
@@ -17,18 +18,21 @@ ghost use Rattle.rb_test_rules.specs.Premises.{handed_to_both};
 ghost use Rattle.rb_rules.specs.Lawful.{IsLawful};
 ghost use Rattle.rb_rules.specs.Moments.{IsComplete};
 
-/// A slot in which an RMU lies asymmetrically: the premise holds, all vote for the request, and both BIUs accuse the RMU, one by mismatch
-/// and one directly.
+/// A slot in which an RMU lies asymmetrically: the premise holds, all vote for the request, and
+/// both BIUs accuse the RMU, one by mismatch and one directly.
 pub fn slot_with_a_lying_relay()
     ensures exchange { IsExchange lying_relay all_trusted [] }
     ensures premise { KeepsPremise lying_relay }
     ensures bius { map (vote_after lying_relay Biu) (0 ∷ 1 ∷ []) ≡ (Word 2 ∷ Word 2 ∷ []) }
     ensures rmus { map (vote_after lying_relay Rmu) (0 ∷ 1 ∷ []) ≡ (Word 2 ∷ Word 2 ∷ []) }
-    ensures mismatch { map (λ i. (state_after lying_relay 3 Biu i).far.mismatch) (0 ∷ 1 ∷ []) ≡ (4 ∷ 0 ∷ []) }
-    ensures direct { map (λ i. (state_after lying_relay 3 Biu i).far.direct) (0 ∷ 1 ∷ []) ≡ (0 ∷ 4 ∷ []) }
+    ensures mismatch { map (λ i. (state_after lying_relay 3 Biu i).far.mismatch) (0 ∷ 1 ∷ [])
+        ≡ (4 ∷ 0 ∷ []) }
+    ensures direct { map (λ i. (state_after lying_relay 3 Biu i).far.direct) (0 ∷ 1 ∷ [])
+        ≡ (0 ∷ 4 ∷ []) }
 {}
 
-/// Two BIUs hear the calls of two good RMUs, and those of a third at other times, near each other: they keep middles that are near.
+/// Two BIUs hear the calls of two good RMUs, and those of a third at other times, near each other:
+/// they keep middles that are near.
 pub fn stage_with_near_calls()
     ensures premise { HearNear plan first_two 8770000 8784000 early_listener late_listener }
     ensures early { middle_kept early_listener ≡ Some 878 }

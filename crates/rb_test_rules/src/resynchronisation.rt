@@ -15,12 +15,14 @@ pub fn call_at_the_first_tick()
     ensures { records_of call_at_the_first_tick [] ≡ call_at_the_first_tick_records }
 {}
 
-/// An RMU calls at the first tick at two BIUs and at the last at the others: the middles stand, and the premise holds.
+/// An RMU calls at the first tick at two BIUs and at the last at the others: the middles stand, and
+/// the premise holds.
 pub fn calls_at_both_edges()
     ensures { records_of calls_at_both_edges [] ≡ calls_at_both_edges_records }
 {}
 
-/// Both kinds have a liar, but the calls of the RMU are as close as two good ones may be: they are alike.
+/// Both kinds have a liar, but the calls of the RMU are as close as two good ones may be: they are
+/// alike.
 pub fn alike_in_time()
     ensures { records_of alike_in_time [] ≡ alike_in_time_records }
 {}

@@ -5,7 +5,8 @@ ghost use Rattle.rb_rules.specs.Rounds.{IsTimely};
 ghost use Rattle.rb_test_rules.specs.Ordinary.{smallest_bus};
 ghost use Rattle.rb_test_rules.specs.Timely.{first_window};
 
-/// The first window of the smallest bus: the BIU sends its request at a tick of it, and at the RMU it is stamped with one.
+/// The first window of the smallest bus: the BIU sends its request at a tick of it, and at the RMU
+/// it is stamped with one.
 pub fn first_window_of_the_smallest_bus()
     ensures { IsTimely smallest_bus first_window }
 {}

@@ -21,7 +21,8 @@ pub fn inequalities_of_the_usual_plan()
     ensures none_fails { first_failing sizes plan ≡ None }
 {}
 
-/// Those of a plan in which each term weighs: a BIU's next epoch comes by its ticks where that is later, and where that is sooner.
+/// Those of a plan in which each term weighs: a BIU's next epoch comes by its ticks where that is
+/// later, and where that is sooner.
 pub fn inequalities_of_an_uneven_plan()
     ensures left { map (λ s. s.left) (inequalities_of sizes uneven_plan)
         ≡ (pos 1200 ∷ pos 2500 ∷ pos 10900 ∷ pos 3100 ∷ pos 11600 ∷ pos 3700 ∷ pos 90000 ∷ []) }
@@ -37,7 +38,8 @@ pub fn plans_in_range()
     ensures longest_windows { IsPlan (record plan { l = 1000; h = 1000; v = 1000; z = 1000; c = 1000 }) }
 {}
 
-/// Numbers that no plan has: a tick of one unit, a drift as long as a tick, a least delay past the greatest, a window of no tick.
+/// Numbers that no plan has: a tick of one unit, a drift as long as a tick, a least delay past the
+/// greatest, a window of no tick.
 pub fn plans_out_of_range()
     ensures tick { ¬ IsPlan (record plan { u = 1; r = 0 }) }
     ensures drift { ¬ IsPlan (record plan { r = 10000 }) }
@@ -45,19 +47,24 @@ pub fn plans_out_of_range()
     ensures window { ¬ IsPlan (record plan { z = 0 }) }
 {}
 
-/// The windows of a frame: each stage of the sync slot has its own length, and the tail ends before the next epoch.
+/// The windows of a frame: each stage of the sync slot has its own length, and the tail ends before
+/// the next epoch.
 pub fn last_ticks_of_windows()
-    ensures first_slots { map (λ n. (exact_window plan n).last) (0 ∷ 1 ∷ 3 ∷ 56 ∷ []) ≡ (14 ∷ 29 ∷ 59 ∷ 854 ∷ []) }
+    ensures first_slots { map (λ n. (exact_window plan n).last) (0 ∷ 1 ∷ 3 ∷ 56 ∷ [])
+        ≡ (14 ∷ 29 ∷ 59 ∷ 854 ∷ []) }
     ensures sync_slot { map (λ w. w.last) (sync_windows sizes plan) ≡ (869 ∷ 887 ∷ 907 ∷ []) }
     ensures tail { (tail_of sizes plan 917).last ≡ 916 }
     ensures after_the_windows { window_at sizes plan 908 ≡ None }
 {}
 
-/// A clock whose ticks become longer: the length of each tick, its time, and which tick comes next at a time.
+/// A clock whose ticks become longer: the length of each tick, its time, and which tick comes next
+/// at a time.
 pub fn ticks_of_a_clock()
-    ensures lengths { map (tick_length quick_then_slow) (0 ∷ 1 ∷ 2 ∷ 3 ∷ []) ≡ (10 ∷ 10 ∷ 12 ∷ 12 ∷ []) }
+    ensures lengths { map (tick_length quick_then_slow) (0 ∷ 1 ∷ 2 ∷ 3 ∷ [])
+        ≡ (10 ∷ 10 ∷ 12 ∷ 12 ∷ []) }
     ensures times { map (time_of quick_then_slow) (0 ∷ 1 ∷ 2 ∷ 3 ∷ []) ≡ (3 ∷ 13 ∷ 23 ∷ 35 ∷ []) }
-    ensures stamps { map (stamp_of quick_then_slow) (0 ∷ 3 ∷ 4 ∷ 13 ∷ 14 ∷ 23 ∷ 24 ∷ 35 ∷ []) ≡ (0 ∷ 0 ∷ 1 ∷ 1 ∷ 2 ∷ 2 ∷ 3 ∷ 3 ∷ []) }
+    ensures stamps { map (stamp_of quick_then_slow) (0 ∷ 3 ∷ 4 ∷ 13 ∷ 14 ∷ 23 ∷ 24 ∷ 35 ∷ [])
+        ≡ (0 ∷ 0 ∷ 1 ∷ 1 ∷ 2 ∷ 2 ∷ 3 ∷ 3 ∷ []) }
     ensures comes_at_its_tick { ComesBy 3 quick_then_slow 35 }
     ensures comes_before { ComesBy 2147483648 quick_then_slow 24 }
     ensures comes_later { ¬ ComesBy 2 quick_then_slow 24 }
@@ -65,7 +72,8 @@ pub fn ticks_of_a_clock()
 
 /// Of two rules for a link the later one counts, and only for the way that it names.
 pub fn delays_of_links()
-    ensures of_the_last_rule { map (λ i. delay_of two_rules (node.Biu i) (node.Rmu 1) data_place) (0 ∷ 1 ∷ []) ≡ (7 ∷ 6 ∷ []) }
+    ensures of_the_last_rule { map (λ i. delay_of two_rules (node.Biu i) (node.Rmu 1) data_place)
+        (0 ∷ 1 ∷ []) ≡ (7 ∷ 6 ∷ []) }
     ensures of_no_rule { delay_of two_rules (node.Rmu 1) (node.Biu 0) data_place ≡ 5 }
     ensures to_an_rmu { (coming_of with_two_rules Rmu 1 0 0 word_sent).time ≡ 7 }
     ensures to_a_biu { (coming_of with_two_rules Biu 0 1 0 word_sent).time ≡ 5 }

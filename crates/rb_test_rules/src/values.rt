@@ -17,7 +17,8 @@ ghost use Rattle.rb_test_rules.specs.Told.{at};
 /// A majority is more than half, and Fault counts as a value.
 pub fn majorities()
     ensures half { majority_of (Word 1 ∷ Word 1 ∷ Word 2 ∷ Word 2 ∷ []) ≡ Fault }
-    ensures more_than_half { majority_of (Word 2 ∷ Word 1 ∷ Word 1 ∷ Word 2 ∷ Word 1 ∷ []) ≡ Word 1 }
+    ensures more_than_half { majority_of (Word 2 ∷ Word 1 ∷ Word 1 ∷ Word 2 ∷ Word 1 ∷ [])
+        ≡ Word 1 }
     ensures against_faults { majority_of (Fault ∷ Word 1 ∷ Fault ∷ Word 1 ∷ []) ≡ Fault }
     ensures of_most { majority_of (Word 1 ∷ Word 1 ∷ Word 2 ∷ Word 3 ∷ []) ≡ Fault }
     ensures of_none { majority_of [] ≡ Fault }
@@ -25,10 +26,13 @@ pub fn majorities()
 
 /// What the applications offer, and their states after a delivery; None is Fault.
 pub fn applications()
-    ensures offered { map (λ app. offered_by app 4294967303 5) (0 ∷ 1 ∷ 2 ∷ []) ≡ (7 ∷ 7 ∷ 12 ∷ []) }
+    ensures offered { map (λ app. offered_by app 4294967303 5) (0 ∷ 1 ∷ 2 ∷ [])
+        ≡ (7 ∷ 7 ∷ 12 ∷ []) }
     ensures learned { map (λ app. learned_by app 5 (Some 9)) (0 ∷ 1 ∷ 2 ∷ []) ≡ (5 ∷ 6 ∷ 164 ∷ []) }
-    ensures learned_of_a_fault { map (λ app. learned_by app 5 None) (0 ∷ 1 ∷ 2 ∷ []) ≡ (5 ∷ 6 ∷ 155 ∷ []) }
-    ensures past_the_greatest { map (λ app. learned_by app 18446744073709551615 (Some 30)) (1 ∷ 2 ∷ []) ≡ (0 ∷ 18446744073709551615 ∷ []) }
+    ensures learned_of_a_fault { map (λ app. learned_by app 5 None) (0 ∷ 1 ∷ 2 ∷ [])
+        ≡ (5 ∷ 6 ∷ 155 ∷ []) }
+    ensures past_the_greatest { map (λ app. learned_by app 18446744073709551615 (Some 30))
+        (1 ∷ 2 ∷ []) ≡ (0 ∷ 18446744073709551615 ∷ []) }
 {}
 
 /// Losses are counted among the last 64 deliveries.
@@ -45,7 +49,8 @@ pub fn hand_ins_of_a_frame()
     ensures losses { map losses_of (hand_over 1 (record { frame = 1; biu = 0; state = 6 } ∷ []) (record { app = 0; state = 1; faults = true ∷ [] } ∷ [])) ≡ (1 ∷ []) }
 {}
 
-/// Three stages a slot; the frame's record comes after stage 3 of the sync slot, and that slot has none of its own.
+/// Three stages a slot; the frame's record comes after stage 3 of the sync slot, and that slot has
+/// none of its own.
 pub fn milestones_in_order()
     ensures within_a_slot { after_stage sizes (at 0 5 1) ≡ Stage (at 0 5 2) }
     ensures next_slot { after_stage sizes (at 0 18 3) ≡ Stage (at 0 19 1) }
@@ -59,15 +64,19 @@ pub fn milestones_in_order()
 /// Who owns a slot: data slots have owners, once the schedule stands.
 pub fn owners_of_slots()
     ensures before_the_schedule { owner_at sizes biu 4 ≡ None }
-    ensures with_the_schedule { map (owner_at sizes (record biu { owners = 0 ∷ 3 ∷ [] })) (0 ∷ 4 ∷ 5 ∷ 6 ∷ 12 ∷ 16 ∷ 19 ∷ [])
+    ensures with_the_schedule { map (owner_at sizes (record biu { owners = 0 ∷ 3 ∷ [] }))
+        (0 ∷ 4 ∷ 5 ∷ 6 ∷ 12 ∷ 16 ∷ 19 ∷ [])
         ≡ (None ∷ Some 0 ∷ Some 3 ∷ None ∷ None ∷ None ∷ None ∷ []) }
 {}
 
 /// In a book that has ended nothing is settled any more: no stage, no frame, no end.
 pub fn book_that_has_ended()
-    ensures stage { (with_stage ordinary_use (at 0 18 3) nothing_told ended_book).given ≡ ended_book.given }
-    ensures upcoming { (with_stage ordinary_use (at 0 18 3) nothing_told ended_book).upcoming ≡ End }
-    ensures still_ended { (with_stage ordinary_use (at 0 18 3) nothing_told ended_book).ended ≡ true }
+    ensures stage { (with_stage ordinary_use (at 0 18 3) nothing_told ended_book).given
+        ≡ ended_book.given }
+    ensures upcoming { (with_stage ordinary_use (at 0 18 3) nothing_told ended_book).upcoming
+        ≡ End }
+    ensures still_ended { (with_stage ordinary_use (at 0 18 3) nothing_told ended_book).ended
+        ≡ true }
     ensures frame { (with_frame ordinary_use 0 (begun ∷ []) ended_book).given ≡ ended_book.given }
     ensures end { (with_end ended_book).given ≡ ended_book.given }
 {}

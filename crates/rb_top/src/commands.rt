@@ -26,9 +26,11 @@ use std::alloc::Global;
 
 /// `run`: reads a scenario, runs it and writes the report of the drive's turns, a line at a time.
 ///
-/// Times in the report are in units, ticks are of a node's own clock. `Done`, and `Breach` where the run ends with a breach of the fault premise:
-/// all is written. `Refused`: the input breaks a rule of scenarios, and one line says which. `TooLong`: the source gave more than 4,194,304 bytes.
-/// `ReadFault`, `WriteFault`: the source or the sink failed. `OutOfMemory`: an allocation failed before anything was written. `Usage` never comes.
+/// Times in the report are in units, ticks are of a node's own clock. `Done`, and `Breach` where
+/// the run ends with a breach of the fault premise: all is written. `Refused`: the input breaks a
+/// rule of scenarios, and one line says which. `TooLong`: the source gave more than 4,194,304
+/// bytes. `ReadFault`, `WriteFault`: the source or the sink failed. `OutOfMemory`: an allocation
+/// failed before anything was written. `Usage` never comes.
 pub fn run<S: Source, K: Sink, D: Drive>(
     alloc: Global,
     input: &mut S,
@@ -37,11 +39,14 @@ pub fn run<S: Source, K: Sink, D: Drive>(
     drive: &mut D,
 ) -> Status
     ensures promise { IsTrue (D.is_plain drive.old) → HasEnded result
-        → KeepsTheHeadline told_by_run result (S.left input.old) (S.left input.new) (K.held output.old) (K.held output.new) }
-    ensures answers { CommandAnswers run_command result (S.left input.old) (S.left input.new) (S.faults input.old) (S.faults input.new)
+        → KeepsTheHeadline told_by_run result (S.left input.old) (S.left input.new)
+        (K.held output.old) (K.held output.new) }
+    ensures answers { CommandAnswers run_command result (S.left input.old) (S.left input.new)
+        (S.faults input.old) (S.faults input.new)
         (K.held output.old) (K.held output.new) (K.faults output.old) (K.faults output.new)
         (D.is_plain drive.old) (D.told drive.old) (D.told drive.new) }
-    ensures complete { CommandCompletes run_command result (S.left input.old) (S.faults input.old) (S.faults input.new)
+    ensures complete { CommandCompletes run_command result (S.left input.old) (S.faults input.old)
+        (S.faults input.new)
         (K.faults output.old) (K.faults output.new) }
     ensures unwritten { WritesNothing result → output.new ≡ output.old }
     ensures not_driven { RunsNothing result → drive.new ≡ drive.old }
@@ -52,14 +57,18 @@ pub fn run<S: Source, K: Sink, D: Drive>(
     }
 }
 
-/// `check`: reads a scenario and writes both sides of the seven inequalities of its timing plan, in units, a line each.
+/// `check`: reads a scenario and writes both sides of the seven inequalities of its timing plan, in
+/// units, a line each.
 ///
 /// Answers come as those of `run`; `Breach` and `Usage` never come.
 pub fn check<S: Source, K: Sink>(alloc: Global, input: &mut S, output: &mut K) -> Status
     ensures answers { (is_plain : Bool) (told : Option (List Turn))
-        → CommandAnswers check_command result (S.left input.old) (S.left input.new) (S.faults input.old) (S.faults input.new)
-        (K.held output.old) (K.held output.new) (K.faults output.old) (K.faults output.new) is_plain told told }
-    ensures complete { CommandCompletes check_command result (S.left input.old) (S.faults input.old) (S.faults input.new)
+        → CommandAnswers check_command result (S.left input.old) (S.left input.new)
+        (S.faults input.old) (S.faults input.new)
+        (K.held output.old) (K.held output.new) (K.faults output.old) (K.faults output.new) is_plain
+        told told }
+    ensures complete { CommandCompletes check_command result (S.left input.old) (S.faults input.old)
+        (S.faults input.new)
         (K.faults output.old) (K.faults output.new) }
     ensures unwritten { WritesNothing result → output.new ≡ output.old }
 {
@@ -69,10 +78,11 @@ pub fn check<S: Source, K: Sink>(alloc: Global, input: &mut S, output: &mut K) -
     }
 }
 
-/// `record NODE`: reads a scenario, runs it by first choices and writes the log of all that the node is given.
+/// `record NODE`: reads a scenario, runs it by first choices and writes the log of all that the
+/// node is given.
 ///
-/// `Done` and `Breach`: the log is written whole. `Refused`: the input breaks a rule of scenarios, or its bus has no such node. Other answers come
-/// as those of `run`.
+/// `Done` and `Breach`: the log is written whole. `Refused`: the input breaks a rule of scenarios,
+/// or its bus has no such node. Other answers come as those of `run`.
 pub fn record<S: Source, K: Sink>(
     alloc: Global,
     node: NodeName,
@@ -81,9 +91,12 @@ pub fn record<S: Source, K: Sink>(
     apps: &Apps,
 ) -> Status
     ensures answers { (is_plain : Bool) (told : Option (List Turn))
-        → CommandAnswers (record_command node) result (S.left input.old) (S.left input.new) (S.faults input.old) (S.faults input.new)
-        (K.held output.old) (K.held output.new) (K.faults output.old) (K.faults output.new) is_plain told told }
-    ensures complete { CommandCompletes (record_command node) result (S.left input.old) (S.faults input.old) (S.faults input.new)
+        → CommandAnswers (record_command node) result (S.left input.old) (S.left input.new)
+        (S.faults input.old) (S.faults input.new)
+        (K.held output.old) (K.held output.new) (K.faults output.old) (K.faults output.new) is_plain
+        told told }
+    ensures complete { CommandCompletes (record_command node) result (S.left input.old)
+        (S.faults input.old) (S.faults input.new)
         (K.faults output.old) (K.faults output.new) }
     ensures unwritten { WritesNothing result → output.new ≡ output.old }
 {
@@ -99,13 +112,17 @@ pub fn record<S: Source, K: Sink>(
 
 /// `replay`: reads a log, gives it to its node and writes what that tells.
 ///
-/// `Done`: all is written. `Refused`: the input spells no log, and one line says why and at which byte. `TooLong`: the source gave more than
-/// 67,108,864 bytes. Other answers come as those of `run`; `Breach` and `Usage` never come.
+/// `Done`: all is written. `Refused`: the input spells no log, and one line says why and at which
+/// byte. `TooLong`: the source gave more than 67,108,864 bytes. Other answers come as those of
+/// `run`; `Breach` and `Usage` never come.
 pub fn replay<S: Source, K: Sink>(alloc: Global, input: &mut S, output: &mut K) -> Status
     ensures answers { (is_plain : Bool) (told : Option (List Turn))
-        → CommandAnswers replay_command result (S.left input.old) (S.left input.new) (S.faults input.old) (S.faults input.new)
-        (K.held output.old) (K.held output.new) (K.faults output.old) (K.faults output.new) is_plain told told }
-    ensures complete { CommandCompletes replay_command result (S.left input.old) (S.faults input.old) (S.faults input.new)
+        → CommandAnswers replay_command result (S.left input.old) (S.left input.new)
+        (S.faults input.old) (S.faults input.new)
+        (K.held output.old) (K.held output.new) (K.faults output.old) (K.faults output.new) is_plain
+        told told }
+    ensures complete { CommandCompletes replay_command result (S.left input.old)
+        (S.faults input.old) (S.faults input.new)
         (K.faults output.old) (K.faults output.new) }
     ensures unwritten { WritesNothing result → output.new ≡ output.old }
 {
@@ -115,14 +132,18 @@ pub fn replay<S: Source, K: Sink>(alloc: Global, input: &mut S, output: &mut K) 
     }
 }
 
-/// `listen SKIP`: reads the log of a BIU, gives it to a passive listener from this tick of the BIU's clock on and writes what that tells.
+/// `listen SKIP`: reads the log of a BIU, gives it to a passive listener from this tick of the
+/// BIU's clock on and writes what that tells.
 ///
 /// Answers come as those of `replay`; `Refused` comes of the log of an RMU, too.
 pub fn listen<S: Source, K: Sink>(alloc: Global, skip: u32, input: &mut S, output: &mut K) -> Status
     ensures answers { (is_plain : Bool) (told : Option (List Turn))
-        → CommandAnswers (listen_command skip) result (S.left input.old) (S.left input.new) (S.faults input.old) (S.faults input.new)
-        (K.held output.old) (K.held output.new) (K.faults output.old) (K.faults output.new) is_plain told told }
-    ensures complete { CommandCompletes (listen_command skip) result (S.left input.old) (S.faults input.old) (S.faults input.new)
+        → CommandAnswers (listen_command skip) result (S.left input.old) (S.left input.new)
+        (S.faults input.old) (S.faults input.new)
+        (K.held output.old) (K.held output.new) (K.faults output.old) (K.faults output.new) is_plain
+        told told }
+    ensures complete { CommandCompletes (listen_command skip) result (S.left input.old)
+        (S.faults input.old) (S.faults input.new)
         (K.faults output.old) (K.faults output.new) }
     ensures unwritten { WritesNothing result → output.new ≡ output.old }
 {
@@ -132,7 +153,8 @@ pub fn listen<S: Source, K: Sink>(alloc: Global, skip: u32, input: &mut S, outpu
     }
 }
 
-/// `letters`: reads a scenario, runs it and writes each letter that a port receives whole in the drive's turns, a line each.
+/// `letters`: reads a scenario, runs it and writes each letter that a port receives whole in the
+/// drive's turns, a line each.
 ///
 /// Answers come as those of `run`.
 pub fn letters<S: Source, K: Sink, D: Drive>(
@@ -143,11 +165,14 @@ pub fn letters<S: Source, K: Sink, D: Drive>(
     drive: &mut D,
 ) -> Status
     ensures promise { IsTrue (D.is_plain drive.old) → HasEnded result
-        → KeepsTheHeadline told_by_letters result (S.left input.old) (S.left input.new) (K.held output.old) (K.held output.new) }
-    ensures answers { CommandAnswers letters_command result (S.left input.old) (S.left input.new) (S.faults input.old) (S.faults input.new)
+        → KeepsTheHeadline told_by_letters result (S.left input.old) (S.left input.new)
+        (K.held output.old) (K.held output.new) }
+    ensures answers { CommandAnswers letters_command result (S.left input.old) (S.left input.new)
+        (S.faults input.old) (S.faults input.new)
         (K.held output.old) (K.held output.new) (K.faults output.old) (K.faults output.new)
         (D.is_plain drive.old) (D.told drive.old) (D.told drive.new) }
-    ensures complete { CommandCompletes letters_command result (S.left input.old) (S.faults input.old) (S.faults input.new)
+    ensures complete { CommandCompletes letters_command result (S.left input.old)
+        (S.faults input.old) (S.faults input.new)
         (K.faults output.old) (K.faults output.new) }
     ensures unwritten { WritesNothing result → output.new ≡ output.old }
     ensures not_driven { RunsNothing result → drive.new ≡ drive.old }
@@ -158,10 +183,11 @@ pub fn letters<S: Source, K: Sink, D: Drive>(
     }
 }
 
-/// `group most MASK`, `group mid MASK`: reads a scenario, runs it and writes what the good BIUs find for a group of replicas, by its voter, in each
-/// complete frame of the drive's turns.
+/// `group most MASK`, `group mid MASK`: reads a scenario, runs it and writes what the good BIUs
+/// find for a group of replicas, by its voter, in each complete frame of the drive's turns.
 ///
-/// `Refused`: the input breaks a rule of scenarios, or its bus lacks a member. Other answers come as those of `run`.
+/// `Refused`: the input breaks a rule of scenarios, or its bus lacks a member. Other answers come
+/// as those of `run`.
 pub fn group<S: Source, K: Sink, D: Drive>(
     alloc: Global,
     asked: &Asked,

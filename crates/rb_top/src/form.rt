@@ -35,9 +35,11 @@ pub enum Form {
     Spell(ArrayVec<u8, 255>),
     /// To run a scenario and write the letters that its ports receive.
     Letters,
-    /// To run a scenario and write what its good BIUs find for a group, by a voter, of the members in a mask that is not 0.
+    /// To run a scenario and write what its good BIUs find for a group, by a voter, of the members
+    /// in a mask that is not 0.
     Group(Which, u16),
-    /// To give the log of a BIU to a passive listener, from the tick of this number on, which is below 2^31.
+    /// To give the log of a BIU to a passive listener, from the tick of this number on, which is
+    /// below 2^31.
     Listen(u32),
     /// To write what the flag asks for.
     Show(Flag),
@@ -161,8 +163,10 @@ fn is_spelled(bytes: &[u8], text: &str) -> bool
 
 // The letter that the text is, in hexadecimal digits of lower case.
 fn letter_in(text: &str) -> Option<ArrayVec<u8, 255>>
-    ensures some { IfSome result (λ letter. IsLetter letter.items × (text.now ≡ encode_lower letter.items)) }
-    ensures none { IfNone result ((letter : List ℕ) → IsLetter letter → text.now ≢ encode_lower letter) }
+    ensures some { IfSome result (λ letter. IsLetter letter.items
+        × (text.now ≡ encode_lower letter.items)) }
+    ensures none { IfNone result ((letter : List ℕ) → IsLetter letter
+        → text.now ≢ encode_lower letter) }
 {
     let letter = match bytes_in(text) {
         Some(letter) => letter,
@@ -225,8 +229,10 @@ fn form_named(word: &str) -> Option<Form>
 
 // `record` of this node.
 fn record_of(node: &str) -> Option<Form>
-    ensures some { IfSome result (λ form. (words_of form ≡ codes "record" ∷ node.now ∷ []) × IsInRange form) }
-    ensures none { IfNone result ((form : Form) → IsInRange form → words_of form ≢ codes "record" ∷ node.now ∷ []) }
+    ensures some { IfSome result (λ form. (words_of form ≡ codes "record" ∷ node.now ∷ [])
+        × IsInRange form) }
+    ensures none { IfNone result ((form : Form) → IsInRange form
+        → words_of form ≢ codes "record" ∷ node.now ∷ []) }
 {
     match node_in(node) {
         Some(node) => Some(Form::Record(node)),
@@ -236,8 +242,10 @@ fn record_of(node: &str) -> Option<Form>
 
 // `spell` of this letter.
 fn spell_of(digits: &str) -> Option<Form>
-    ensures some { IfSome result (λ form. (words_of form ≡ codes "spell" ∷ digits.now ∷ []) × IsInRange form) }
-    ensures none { IfNone result ((form : Form) → IsInRange form → words_of form ≢ codes "spell" ∷ digits.now ∷ []) }
+    ensures some { IfSome result (λ form. (words_of form ≡ codes "spell" ∷ digits.now ∷ [])
+        × IsInRange form) }
+    ensures none { IfNone result ((form : Form) → IsInRange form
+        → words_of form ≢ codes "spell" ∷ digits.now ∷ []) }
 {
     match letter_in(digits) {
         Some(letter) => Some(Form::Spell(letter)),
@@ -247,8 +255,10 @@ fn spell_of(digits: &str) -> Option<Form>
 
 // `listen` from this tick on.
 fn listen_of(skip: &str) -> Option<Form>
-    ensures some { IfSome result (λ form. (words_of form ≡ codes "listen" ∷ skip.now ∷ []) × IsInRange form) }
-    ensures none { IfNone result ((form : Form) → IsInRange form → words_of form ≢ codes "listen" ∷ skip.now ∷ []) }
+    ensures some { IfSome result (λ form. (words_of form ≡ codes "listen" ∷ skip.now ∷ [])
+        × IsInRange form) }
+    ensures none { IfNone result ((form : Form) → IsInRange form
+        → words_of form ≢ codes "listen" ∷ skip.now ∷ []) }
 {
     match tick_in(skip) {
         Some(skip) => Some(Form::Listen(skip)),
@@ -258,8 +268,10 @@ fn listen_of(skip: &str) -> Option<Form>
 
 // The form of two words.
 fn form_with_one(word: &str, other: &str) -> Option<Form>
-    ensures some { IfSome result (λ form. (words_of form ≡ word.now ∷ other.now ∷ []) × IsInRange form) }
-    ensures none { IfNone result ((form : Form) → IsInRange form → words_of form ≢ word.now ∷ other.now ∷ []) }
+    ensures some { IfSome result (λ form. (words_of form ≡ word.now ∷ other.now ∷ [])
+        × IsInRange form) }
+    ensures none { IfNone result ((form : Form) → IsInRange form
+        → words_of form ≢ word.now ∷ other.now ∷ []) }
 {
     match word {
         "record" => record_of(other),
@@ -271,8 +283,10 @@ fn form_with_one(word: &str, other: &str) -> Option<Form>
 
 // `gen` of these numbers.
 fn gen_of(seed: &str, frames: &str) -> Option<Form>
-    ensures some { IfSome result (λ form. (words_of form ≡ codes "gen" ∷ seed.now ∷ frames.now ∷ []) × IsInRange form) }
-    ensures none { IfNone result ((form : Form) → IsInRange form → words_of form ≢ codes "gen" ∷ seed.now ∷ frames.now ∷ []) }
+    ensures some { IfSome result (λ form. (words_of form ≡ codes "gen" ∷ seed.now ∷ frames.now ∷ [])
+        × IsInRange form) }
+    ensures none { IfNone result ((form : Form) → IsInRange form
+        → words_of form ≢ codes "gen" ∷ seed.now ∷ frames.now ∷ []) }
 {
     match (number_in(seed), frames_in(frames)) {
         (Some(seed), Some(frames)) => Some(Form::Gen(seed, frames)),
@@ -283,7 +297,8 @@ fn gen_of(seed: &str, frames: &str) -> Option<Form>
 // `stress` of these numbers.
 fn stress_of(seed: &str, frames: &str) -> Option<Form>
     ensures some { IfSome result (λ form. (words_of form ≡ codes "stress" ∷ seed.now ∷ frames.now ∷ []) × IsInRange form) }
-    ensures none { IfNone result ((form : Form) → IsInRange form → words_of form ≢ codes "stress" ∷ seed.now ∷ frames.now ∷ []) }
+    ensures none { IfNone result ((form : Form) → IsInRange form
+        → words_of form ≢ codes "stress" ∷ seed.now ∷ frames.now ∷ []) }
 {
     match (number_in(seed), frames_in(frames)) {
         (Some(seed), Some(frames)) => Some(Form::Stress(seed, frames)),
@@ -294,7 +309,8 @@ fn stress_of(seed: &str, frames: &str) -> Option<Form>
 // `group` of this voter and these members.
 fn group_of(voter: &str, members: &str) -> Option<Form>
     ensures some { IfSome result (λ form. (words_of form ≡ codes "group" ∷ voter.now ∷ members.now ∷ []) × IsInRange form) }
-    ensures none { IfNone result ((form : Form) → IsInRange form → words_of form ≢ codes "group" ∷ voter.now ∷ members.now ∷ []) }
+    ensures none { IfNone result ((form : Form) → IsInRange form
+        → words_of form ≢ codes "group" ∷ voter.now ∷ members.now ∷ []) }
 {
     match (voter_in(voter), mask_in(members)) {
         (Some(which), Some(members)) => Some(Form::Group(which, members)),
@@ -304,8 +320,10 @@ fn group_of(voter: &str, members: &str) -> Option<Form>
 
 // The form of three words.
 fn form_with_two(word: &str, first: &str, second: &str) -> Option<Form>
-    ensures some { IfSome result (λ form. (words_of form ≡ word.now ∷ first.now ∷ second.now ∷ []) × IsInRange form) }
-    ensures none { IfNone result ((form : Form) → IsInRange form → words_of form ≢ word.now ∷ first.now ∷ second.now ∷ []) }
+    ensures some { IfSome result (λ form. (words_of form ≡ word.now ∷ first.now ∷ second.now ∷ [])
+        × IsInRange form) }
+    ensures none { IfNone result ((form : Form) → IsInRange form
+        → words_of form ≢ word.now ∷ first.now ∷ second.now ∷ []) }
 {
     match word {
         "gen" => gen_of(first, second),

@@ -33,14 +33,17 @@ pub(crate) fn write_generated<K: Sink>(scenario: &Scenario, output: &mut K) -> R
     Ok(())
 }
 
-/// `gen SEED FRAMES`: writes the text of the scenario that a seed fixes, of 1 to 4096 frames, a line at a time.
+/// `gen SEED FRAMES`: writes the text of the scenario that a seed fixes, of 1 to 4096 frames, a
+/// line at a time.
 ///
-/// `Done`: all is written. `WriteFault`: the sink failed; what it took is a first part of the text. `OutOfMemory`: an allocation failed, and
-/// nothing was written.
+/// `Done`: all is written. `WriteFault`: the sink failed; what it took is a first part of the text.
+/// `OutOfMemory`: an allocation failed, and nothing was written.
 pub fn generate<K: Sink>(alloc: Global, seed: u64, frames: u32, output: &mut K) -> Status
     requires { AreNumbers seed frames }
-    ensures done { result ≡ Status.Done → Appends (K.held output.old) (K.held output.new) (generated_text seed frames) }
-    ensures part { result ≡ Status.WriteFault → AppendsPart (K.held output.old) (K.held output.new) (generated_text seed frames) }
+    ensures done { result ≡ Status.Done
+        → Appends (K.held output.old) (K.held output.new) (generated_text seed frames) }
+    ensures part { result ≡ Status.WriteFault
+        → AppendsPart (K.held output.old) (K.held output.new) (generated_text seed frames) }
     ensures cause { result ≡ Status.WriteFault → Rose (K.faults output.old) (K.faults output.new) }
     ensures unwritten { result ≡ Status.OutOfMemory → output.new ≡ output.old }
     ensures one_of { IsOfText result }

@@ -1,4 +1,5 @@
-//! The top call: words, input and output of the program as values; and each of its commands as a call of its own.
+//! The top call: words, input and output of the program as values; and each of its commands as a
+//! call of its own.
 #![tactic(auto)]
 
 mod checking;

@@ -17,8 +17,10 @@ use rb_report::refused_line;
 
 // Refuses a log that is not that of a BIU.
 fn refuse_rmu<K: Sink>(output: &mut K) -> Status
-    ensures refused { result ≡ Status.Refused → Appends (K.held output.old) (K.held output.new) rmu_text }
-    ensures part { result ≡ Status.WriteFault → AppendsPart (K.held output.old) (K.held output.new) rmu_text }
+    ensures refused { result ≡ Status.Refused
+        → Appends (K.held output.old) (K.held output.new) rmu_text }
+    ensures part { result ≡ Status.WriteFault
+        → AppendsPart (K.held output.old) (K.held output.new) rmu_text }
     ensures cause { result ≡ Status.WriteFault → Rose (K.faults output.old) (K.faults output.new) }
     ensures either { (result ≡ Status.Refused) ⊎ (result ≡ Status.WriteFault) }
 {
@@ -26,12 +28,16 @@ fn refuse_rmu<K: Sink>(output: &mut K) -> Status
     refuse_with(&line, output)
 }
 
-/// Gives the log that the bytes spell to a passive listener, from the tick of this number on, and writes what that tells, or the
-/// line that says why they spell no log of a BIU.
+/// Gives the log that the bytes spell to a passive listener, from the tick of this number on, and
+/// writes what that tells, or the line that says why they spell no log of a BIU.
 pub(crate) fn listen_to<K: Sink>(bytes: &[u8], skip: u32, output: &mut K) -> Status
-    ensures done { result ≡ Status.Done → WritesOf (IsOverheard skip) bytes.now (K.held output.old) (K.held output.new) }
-    ensures refused { result ≡ Status.Refused → WritesOf IsNotForListeners bytes.now (K.held output.old) (K.held output.new) }
-    ensures part { result ≡ Status.WriteFault → WritesPartOf (Either IsNotForListeners (IsOverheard skip)) bytes.now (K.held output.old) (K.held output.new) }
+    ensures done { result ≡ Status.Done
+        → WritesOf (IsOverheard skip) bytes.now (K.held output.old) (K.held output.new) }
+    ensures refused { result ≡ Status.Refused
+        → WritesOf IsNotForListeners bytes.now (K.held output.old) (K.held output.new) }
+    ensures part { result ≡ Status.WriteFault
+        → WritesPartOf (Either IsNotForListeners (IsOverheard skip)) bytes.now (K.held output.old)
+        (K.held output.new) }
     ensures cause { result ≡ Status.WriteFault → Rose (K.faults output.old) (K.faults output.new) }
     ensures one_of { IsOfLog result }
 {

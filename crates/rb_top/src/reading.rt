@@ -26,8 +26,10 @@ const NO_SUCH_MEMBER: u8 = 14;
 
 /// Refuses the input with this line.
 pub(crate) fn refuse_with<K: Sink, const N: usize>(line: &ArrayString<N>, output: &mut K) -> Status
-    ensures refused { result ≡ Status.Refused → Appends (K.held output.old) (K.held output.new) line.now.bytes }
-    ensures part { result ≡ Status.WriteFault → AppendsPart (K.held output.old) (K.held output.new) line.now.bytes }
+    ensures refused { result ≡ Status.Refused
+        → Appends (K.held output.old) (K.held output.new) line.now.bytes }
+    ensures part { result ≡ Status.WriteFault
+        → AppendsPart (K.held output.old) (K.held output.new) line.now.bytes }
     ensures cause { result ≡ Status.WriteFault → Rose (K.faults output.old) (K.faults output.new) }
     ensures either { (result ≡ Status.Refused) ⊎ (result ≡ Status.WriteFault) }
 {
@@ -40,8 +42,10 @@ pub(crate) fn refuse_with<K: Sink, const N: usize>(line: &ArrayString<N>, output
 /// Refuses the input for a rule that it breaks.
 pub(crate) fn refuse<K: Sink>(rule: Refusal, output: &mut K) -> Status
     requires { HasCode rule }
-    ensures refused { result ≡ Status.Refused → Appends (K.held output.old) (K.held output.new) (rule_text rule) }
-    ensures part { result ≡ Status.WriteFault → AppendsPart (K.held output.old) (K.held output.new) (rule_text rule) }
+    ensures refused { result ≡ Status.Refused
+        → Appends (K.held output.old) (K.held output.new) (rule_text rule) }
+    ensures part { result ≡ Status.WriteFault
+        → AppendsPart (K.held output.old) (K.held output.new) (rule_text rule) }
     ensures cause { result ≡ Status.WriteFault → Rose (K.faults output.old) (K.faults output.new) }
     ensures either { (result ≡ Status.Refused) ⊎ (result ≡ Status.WriteFault) }
 {
@@ -51,8 +55,10 @@ pub(crate) fn refuse<K: Sink>(rule: Refusal, output: &mut K) -> Status
 
 /// Refuses the input for a member that its bus has not.
 pub(crate) fn refuse_member<K: Sink>(output: &mut K) -> Status
-    ensures refused { result ≡ Status.Refused → Appends (K.held output.old) (K.held output.new) member_text }
-    ensures part { result ≡ Status.WriteFault → AppendsPart (K.held output.old) (K.held output.new) member_text }
+    ensures refused { result ≡ Status.Refused
+        → Appends (K.held output.old) (K.held output.new) member_text }
+    ensures part { result ≡ Status.WriteFault
+        → AppendsPart (K.held output.old) (K.held output.new) member_text }
     ensures cause { result ≡ Status.WriteFault → Rose (K.faults output.old) (K.faults output.new) }
     ensures either { (result ≡ Status.Refused) ⊎ (result ≡ Status.WriteFault) }
 {
@@ -60,7 +66,8 @@ pub(crate) fn refuse_member<K: Sink>(output: &mut K) -> Status
     refuse_with(&line, output)
 }
 
-// The bytes that the source has left, or the answer where they are more than the limit or can't be had.
+// The bytes that the source has left, or the answer where they are more than the limit or can't be
+// had.
 fn read_within<S: Source>(alloc: Global, input: &mut S, limit: usize) -> Result<Vec<u8>, Status>
     requires { limit < 2 ^ 32 }
     ensures whole { IfOk result (λ v. ReadsToEnd (S.left input.old) (S.left input.new) v.items) }
@@ -97,7 +104,8 @@ pub(crate) fn read_scenario<S: Source, K: Sink>(
     }
 }
 
-/// The bytes of a log that the source has left, or the answer where they are too many or can't be had.
+/// The bytes of a log that the source has left, or the answer where they are too many or can't be
+/// had.
 pub(crate) fn read_log<S: Source>(alloc: Global, input: &mut S) -> Result<Vec<u8>, Status>
     ensures whole { IfOk result (λ v. ReadsToEnd (S.left input.old) (S.left input.new) v.items) }
     ensures short_enough { IfOk result (λ _. Gave (S.left input.old) (S.left input.new) (λ n. n ≤ log_limit)) }

@@ -37,8 +37,10 @@ pub(crate) fn write_log<K: Sink>(
 ) -> Status
     requires lawful { IsLawful (as_scenario scenario) }
     requires node { IsNodeOf scenario.plan.sizes node }
-    ensures ended { HasEnded result → IsLogged (as_scenario scenario) node result (K.held output.old) (K.held output.new) }
-    ensures part { result ≡ Status.WriteFault → WritesPart (as_scenario scenario) node (K.held output.old) (K.held output.new) }
+    ensures ended { HasEnded result
+        → IsLogged (as_scenario scenario) node result (K.held output.old) (K.held output.new) }
+    ensures part { result ≡ Status.WriteFault
+        → WritesPart (as_scenario scenario) node (K.held output.old) (K.held output.new) }
     ensures cause { result ≡ Status.WriteFault → Rose (K.faults output.old) (K.faults output.new) }
     ensures unopened { result ≡ Status.OutOfMemory → output.new ≡ output.old }
     ensures one_of { IsOfRun result }

@@ -39,8 +39,10 @@ fn place_of(fault: LogRefusal) -> Option<u64>
 
 /// Refuses the log for its fault.
 pub(crate) fn refuse_log<K: Sink>(fault: LogRefusal, output: &mut K) -> Status
-    ensures refused { result ≡ Status.Refused → Appends (K.held output.old) (K.held output.new) (fault_text fault) }
-    ensures part { result ≡ Status.WriteFault → AppendsPart (K.held output.old) (K.held output.new) (fault_text fault) }
+    ensures refused { result ≡ Status.Refused
+        → Appends (K.held output.old) (K.held output.new) (fault_text fault) }
+    ensures part { result ≡ Status.WriteFault
+        → AppendsPart (K.held output.old) (K.held output.new) (fault_text fault) }
     ensures cause { result ≡ Status.WriteFault → Rose (K.faults output.old) (K.faults output.new) }
     ensures either { (result ≡ Status.Refused) ⊎ (result ≡ Status.WriteFault) }
 {
@@ -48,11 +50,16 @@ pub(crate) fn refuse_log<K: Sink>(fault: LogRefusal, output: &mut K) -> Status
     refuse_with(&line, output)
 }
 
-/// Gives the log that the bytes spell to its node and writes what it tells, or the line that says why they spell none.
+/// Gives the log that the bytes spell to its node and writes what it tells, or the line that says
+/// why they spell none.
 pub(crate) fn replay_bytes<K: Sink>(bytes: &[u8], output: &mut K) -> Status
-    ensures done { result ≡ Status.Done → WritesOf IsReplay bytes.now (K.held output.old) (K.held output.new) }
-    ensures refused { result ≡ Status.Refused → WritesOf BreaksLog bytes.now (K.held output.old) (K.held output.new) }
-    ensures part { result ≡ Status.WriteFault → WritesPartOf (Either BreaksLog IsReplay) bytes.now (K.held output.old) (K.held output.new) }
+    ensures done { result ≡ Status.Done
+        → WritesOf IsReplay bytes.now (K.held output.old) (K.held output.new) }
+    ensures refused { result ≡ Status.Refused
+        → WritesOf BreaksLog bytes.now (K.held output.old) (K.held output.new) }
+    ensures part { result ≡ Status.WriteFault
+        → WritesPartOf (Either BreaksLog IsReplay) bytes.now (K.held output.old)
+        (K.held output.new) }
     ensures cause { result ≡ Status.WriteFault → Rose (K.faults output.old) (K.faults output.new) }
     ensures one_of { IsOfLog result }
 {

@@ -49,7 +49,8 @@ pub(crate) fn report<K: Sink, D: Drive>(
     ensures part { result ≡ Status.WriteFault
         → WritesPart (as_scenario scenario) (D.is_plain drive.old) (D.told drive.old) (D.told drive.new) (K.held output.old) (K.held output.new) }
     ensures cause { result ≡ Status.WriteFault → Rose (K.faults output.old) (K.faults output.new) }
-    ensures unopened { result ≡ Status.OutOfMemory → (output.new ≡ output.old) × (drive.new ≡ drive.old) }
+    ensures unopened { result ≡ Status.OutOfMemory
+        → (output.new ≡ output.old) × (drive.new ≡ drive.old) }
     ensures one_of { IsOfRun result }
 {
     let mut world = match World::open(alloc, scenario) {
@@ -84,11 +85,12 @@ fn write_summary<K: Sink>(totals: &Totals, output: &mut K) -> Result<(), Failed>
     write_number(3, totals.spread, output)
 }
 
-/// `stress SEED FRAMES`: runs the scenario that a seed fixes, of 1 to 4096 frames, and writes four numbers of the drive's turns, a line each: frames,
-/// deliveries, convictions and the greatest spread, in units.
+/// `stress SEED FRAMES`: runs the scenario that a seed fixes, of 1 to 4096 frames, and writes four
+/// numbers of the drive's turns, a line each: frames, deliveries, convictions and the greatest
+/// spread, in units.
 ///
-/// `Done`: all is written. `Breach`: the run ended with a breach of the fault premise, and nothing was written. `WriteFault`: the sink failed.
-/// `OutOfMemory`: an allocation failed before the run.
+/// `Done`: all is written. `Breach`: the run ended with a breach of the fault premise, and nothing
+/// was written. `WriteFault`: the sink failed. `OutOfMemory`: an allocation failed before the run.
 pub fn stress<K: Sink, D: Drive>(
     alloc: Global,
     seed: u64,
@@ -101,11 +103,14 @@ pub fn stress<K: Sink, D: Drive>(
     ensures promise { IsTrue (D.is_plain drive.old) → HasEnded result
         → SumsTheHeadline seed frames result (K.held output.old) (K.held output.new) }
     ensures ended { HasEnded result
-        → IsSummed seed frames result (D.is_plain drive.old) (D.told drive.old) (D.told drive.new) (K.held output.old) (K.held output.new) }
+        → IsSummed seed frames result (D.is_plain drive.old) (D.told drive.old) (D.told drive.new)
+        (K.held output.old) (K.held output.new) }
     ensures part { result ≡ Status.WriteFault
-        → FailsToSum seed frames (D.is_plain drive.old) (D.told drive.old) (D.told drive.new) (K.held output.old) (K.held output.new) }
+        → FailsToSum seed frames (D.is_plain drive.old) (D.told drive.old) (D.told drive.new)
+        (K.held output.old) (K.held output.new) }
     ensures cause { result ≡ Status.WriteFault → Rose (K.faults output.old) (K.faults output.new) }
-    ensures unopened { result ≡ Status.OutOfMemory → (output.new ≡ output.old) × (drive.new ≡ drive.old) }
+    ensures unopened { result ≡ Status.OutOfMemory
+        → (output.new ≡ output.old) × (drive.new ≡ drive.old) }
     ensures breach { result ≡ Status.Breach → output.new ≡ output.old }
     ensures one_of { IsOfRun result }
 {

@@ -41,12 +41,14 @@ pub(crate) fn serve<S: Source, K: Sink, D: Drive>(
     voters: &Voters,
 ) -> Status
     requires { IsInRange form }
-    ensures answers { CommandAnswers (command_of form) result (S.left input.old) (S.left input.new) (S.faults input.old) (S.faults input.new)
+    ensures answers { CommandAnswers (command_of form) result (S.left input.old) (S.left input.new)
+        (S.faults input.old) (S.faults input.new)
         (K.held output.old) (K.held output.new) (K.faults output.old) (K.faults output.new)
         (D.is_plain drive.old) (D.told drive.old) (D.told drive.new) }
     ensures without_input { limit_of form ≡ None → input.new ≡ input.old }
     ensures unwritten { WritesNothing result → output.new ≡ output.old }
-    ensures stress_with_breach { (seed frames : ℕ) → form ≡ Stress seed frames → result ≡ Status.Breach → output.new ≡ output.old }
+    ensures stress_with_breach { (seed frames : ℕ) → form ≡ Stress seed frames
+        → result ≡ Status.Breach → output.new ≡ output.old }
     ensures not_driven { RunsNothing result → drive.new ≡ drive.old }
 {
     match form {

@@ -16,8 +16,10 @@ use rb_outside::{Failed, Sink};
 /// `Done`: all is written. `WriteFault`: the sink failed; what it took is a first part of the text.
 pub fn spell<K: Sink>(letter: &ArrayVec<u8, 255>, output: &mut K) -> Status
     requires { IsLetter letter.now.items }
-    ensures done { result ≡ Status.Done → Appends (K.held output.old) (K.held output.new) (spelling_text letter.now.items) }
-    ensures part { result ≡ Status.WriteFault → AppendsPart (K.held output.old) (K.held output.new) (spelling_text letter.now.items) }
+    ensures done { result ≡ Status.Done
+        → Appends (K.held output.old) (K.held output.new) (spelling_text letter.now.items) }
+    ensures part { result ≡ Status.WriteFault
+        → AppendsPart (K.held output.old) (K.held output.new) (spelling_text letter.now.items) }
     ensures cause { result ≡ Status.WriteFault → Rose (K.faults output.old) (K.faults output.new) }
     ensures one_of { (result ≡ Status.Done) ⊎ (result ≡ Status.WriteFault) }
 {

@@ -35,7 +35,8 @@ pub(crate) fn tell_letters<K: Sink, D: Drive>(
     ensures part { result ≡ Status.WriteFault
         → WritesSome (as_scenario scenario) (D.is_plain drive.old) (D.told drive.old) (D.told drive.new) (K.held output.old) (K.held output.new) }
     ensures cause { result ≡ Status.WriteFault → Rose (K.faults output.old) (K.faults output.new) }
-    ensures unopened { result ≡ Status.OutOfMemory → (output.new ≡ output.old) × (drive.new ≡ drive.old) }
+    ensures unopened { result ≡ Status.OutOfMemory
+        → (output.new ≡ output.old) × (drive.new ≡ drive.old) }
     ensures one_of { IsOfRun result }
 {
     let mut world = match World::open(alloc, scenario) {
@@ -71,7 +72,8 @@ pub(crate) fn tell_group<K: Sink, D: Drive>(
     ensures part { result ≡ Status.WriteFault
         → WritesPart (as_scenario scenario) asked.now (D.is_plain drive.old) (D.told drive.old) (D.told drive.new) (K.held output.old) (K.held output.new) }
     ensures cause { result ≡ Status.WriteFault → Rose (K.faults output.old) (K.faults output.new) }
-    ensures unopened { result ≡ Status.OutOfMemory → (output.new ≡ output.old) × (drive.new ≡ drive.old) }
+    ensures unopened { result ≡ Status.OutOfMemory
+        → (output.new ≡ output.old) × (drive.new ≡ drive.old) }
     ensures one_of { IsOfRun result }
 {
     let scope = scope_of(&scenario);

@@ -32,12 +32,15 @@ use std::alloc::Global;
 /// | `--help`, `-h` | writes a page with these words and the statuses, at once; reads nothing |
 /// | `--version` | writes the name of the program and its version; reads nothing |
 ///
-/// The members of a group are the bits of MASK, 1 to 65535. `Done`: all is written. `Breach`: the run of `run`, `stress`, `record`, `letters`
-/// or `group` ended with a breach of the fault premise; `run`, `letters` and `group` have written what they tell up to it, `record` the log,
-/// `stress` nothing. `Usage`: the words are of no known form; nothing was read or written. `Refused`: the input breaks a rule, has no such
-/// node or member, is no log, or for `listen` is that of an RMU; one line with the code says why. `TooLong`: the source gave more than 4,194,304 bytes
-/// of a scenario, or 67,108,864 of a log. `ReadFault`, `WriteFault`: the source or the sink failed; what a failing sink took is a first part
-/// of what was due. `OutOfMemory`: an allocation failed before anything was written.
+/// The members of a group are the bits of MASK, 1 to 65535. `Done`: all is written. `Breach`: the
+/// run of `run`, `stress`, `record`, `letters` or `group` ended with a breach of the fault premise;
+/// `run`, `letters` and `group` have written what they tell up to it, `record` the log, `stress`
+/// nothing. `Usage`: the words are of no known form; nothing was read or written. `Refused`: the
+/// input breaks a rule, has no such node or member, is no log, or for `listen` is that of an RMU;
+/// one line with the code says why. `TooLong`: the source gave more than 4,194,304 bytes of a
+/// scenario, or 67,108,864 of a log. `ReadFault`, `WriteFault`: the source or the sink failed; what
+/// a failing sink took is a first part of what was due. `OutOfMemory`: an allocation failed before
+/// anything was written.
 pub fn run_robus<S: Source, K: Sink, D: Drive>(
     alloc: Global,
     words: &[String],
@@ -48,21 +51,30 @@ pub fn run_robus<S: Source, K: Sink, D: Drive>(
     voters: &Voters,
 ) -> Status
     ensures usage { UsageExactly result words.now }
-    ensures untouched { Untouched words.now result input.old input.new output.old output.new drive.old drive.new }
+    ensures untouched { Untouched words.now result input.old input.new output.old output.new
+        drive.old drive.new }
     ensures ended { HasEnded result → (form : Form) → AskFor words.now form
-        → Ends form result (S.left input.old) (S.left input.new) (K.held output.old) (K.held output.new)
+        → Ends form result (S.left input.old) (S.left input.new) (K.held output.old)
+        (K.held output.new)
         (D.is_plain drive.old) (D.told drive.old) (D.told drive.new) }
-    ensures promise { IsTrue (D.is_plain drive.old) → HasEnded result → (form : Form) → AskFor words.now form
-        → KeepsItsPromise form result (S.left input.old) (S.left input.new) (K.held output.old) (K.held output.new) }
+    ensures promise { IsTrue (D.is_plain drive.old) → HasEnded result → (form : Form)
+        → AskFor words.now form
+        → KeepsItsPromise form result (S.left input.old) (S.left input.new) (K.held output.old)
+        (K.held output.new) }
     ensures refused { result ≡ Status.Refused → (form : Form) → AskFor words.now form
-        → Refuses form (S.left input.old) (S.left input.new) (K.held output.old) (K.held output.new) }
+        → Refuses form (S.left input.old) (S.left input.new) (K.held output.old)
+        (K.held output.new) }
     ensures unread { (form : Form) → AskFor words.now form
-        → IsUnread form result (S.left input.old) (S.left input.new) (S.faults input.old) (S.faults input.new) }
+        → IsUnread form result (S.left input.old) (S.left input.new) (S.faults input.old)
+        (S.faults input.new) }
     ensures write_fault { result ≡ Status.WriteFault → (form : Form) → AskFor words.now form
-        → FailsToWrite form (S.left input.old) (S.left input.new) (K.held output.old) (K.held output.new)
-        (K.faults output.old) (K.faults output.new) (D.is_plain drive.old) (D.told drive.old) (D.told drive.new) }
+        → FailsToWrite form (S.left input.old) (S.left input.new) (K.held output.old)
+        (K.held output.new)
+        (K.faults output.old) (K.faults output.new) (D.is_plain drive.old) (D.told drive.old)
+        (D.told drive.new) }
     ensures complete { (form : Form) → AskFor words.now form
-        → Completes form result (S.left input.old) (S.faults input.old) (S.faults input.new) (K.faults output.old) (K.faults output.new) }
+        → Completes form result (S.left input.old) (S.faults input.old) (S.faults input.new)
+        (K.faults output.old) (K.faults output.new) }
 {
     match form_of(words) {
         Some(form) => serve(alloc, form, input, output, apps, drive, voters),

@@ -23,13 +23,15 @@ use rb_queue::Arrival;
 use std::alloc::Global;
 use std::marker::Model;
 
-/// The pending events of the nodes of a bus, and which of them may be taken next: those of the least time, node by node.
+/// The pending events of the nodes of a bus, and which of them may be taken next: those of the
+/// least time, node by node.
 #[derive(Drop)]
 pub struct Agenda {
     lanes: RunLanes,
     keys: Vec<u64>,
-    // For each node, by its position, the mark of its tick: the time times 32 and the position where the time is below 2^59,
-    // else 2^64 - 1. All 32 are there, also of positions without a node. Once a place is kept in them the keys are stale.
+    // For each node, by its position, the mark of its tick: the time times 32 and the position
+    // where the time is below 2^59, else 2^64 - 1. All 32 are there, also of positions without a
+    // node. Once a place is kept in them the keys are stale.
     ticks: Marks,
     bius: usize,
     // Where the least of the keys stands. Neither is kept once they are stale.
@@ -49,7 +51,10 @@ impl Model for Agenda {
 
     ghost view = { λ a. a.lanes };
 
-    ghost invariant = { λ a. AreKeptUnless a.stale a.lanes a.keys.items a.bius × (a.stale ≡ false → IsFront a.keys.items a.front) × AreTicks a.lanes a.ticks.all × AreKnown a.lanes × AreFours a.ticks.all a.ticks.leasts a.ticks.opened a.ticks.at × (a.stale ≡ false → a.ticks.at ≡ 32) };
+    ghost invariant = { λ a. AreKeptUnless a.stale a.lanes a.keys.items a.bius
+        × (a.stale ≡ false → IsFront a.keys.items a.front) × AreTicks a.lanes a.ticks.all
+        × AreKnown a.lanes × AreFours a.ticks.all a.ticks.leasts a.ticks.opened a.ticks.at
+        × (a.stale ≡ false → a.ticks.at ≡ 32) };
 }
 
 // So many least times of nodes at which nothing is pending.
@@ -60,7 +65,8 @@ fn no_times(alloc: Global, count: usize) -> Result<Vec<u64>, OutOfMemory>
 }
 
 impl Agenda {
-    /// No event, and at each node of the shape room for `room` events, at most 65536. All memory is taken here.
+    /// No event, and at each node of the shape room for `room` events, at most 65536. All memory is
+    /// taken here.
     pub fn new(alloc: Global, shape: &Shape, room: usize) -> Result<Agenda, OutOfMemory>
         requires { room ≤ 65536 }
         ensures { IfOk result (λ a. a ≡ each_of shape.now (λ side i. empty_lane room)) }
@@ -87,7 +93,8 @@ impl Agenda {
         self.lanes.spare(node)
     }
 
-    /// Adds what comes to a node from a sender, due at this time in reference units. There is room for it.
+    /// Adds what comes to a node from a sender, due at this time in reference units. There is room
+    /// for it.
     #[inline(always)]
     pub fn push_arrival(&mut self, node: NodeName, time: u64, from: u8, bytes: ArrayVec<u8, 32>)
         requires in_shape { HasLane self.old node }
@@ -107,8 +114,8 @@ impl Agenda {
         );
     }
 
-    /// Adds what comes to a node, due at this time in reference units, with the sender and the bytes of another arrival: for a message that
-    /// comes to many. There is room for it.
+    /// Adds what comes to a node, due at this time in reference units, with the sender and the
+    /// bytes of another arrival: for a message that comes to many. There is room for it.
     #[inline(always)]
     pub fn push_like(&mut self, node: NodeName, time: u64, like: &Arrival)
         requires in_shape { HasLane self.old node }
@@ -133,7 +140,8 @@ impl Agenda {
     #[inline(always)]
     pub fn push_tick(&mut self, node: NodeName, time: u64)
         requires in_shape { HasLane self.old node }
-        ensures after { self.new ≡ with_lane node (with_tick time (lane_of self.old node)) self.old }
+        ensures after { self.new ≡ with_lane node (with_tick time (lane_of self.old node))
+            self.old }
     {
         self.lanes.push_tick(node, time);
         let place = position_of(self.bius, node);
@@ -163,17 +171,20 @@ impl Agenda {
     /// How many events are due: those of the least time that may be taken.
     pub fn due(&self) -> usize
         ensures value { result ≡ how_many self.now }
-        ensures world { (sc : Scenario) → (w : World) → HoldsSites sc.sizes self.now w.sites → result ≡ length (due_now sc w) }
+        ensures world { (sc : Scenario) → (w : World) → HoldsSites sc.sizes self.now w.sites
+            → result ≡ length (due_now sc w) }
     {
         let front = front_now(&self.lanes, &self.keys, self.bius, self.front, self.stale);
         due_count(&self.lanes, &self.keys, self.bius, self.stale, front.least)
     }
 
-    /// The node at which the i-th due event waits, counted from 0, and the event's place among those that are ready there.
+    /// The node at which the i-th due event waits, counted from 0, and the event's place among
+    /// those that are ready there.
     pub fn locate(&self, i: usize) -> (NodeName, usize)
         requires below { i < how_many self.now }
         ensures stands { StandsAt self.now (first_time self.now) i result.0 result.1 }
-        ensures world { (sc : Scenario) → (w : World) → HoldsSites sc.sizes self.now w.sites → IsDue sc w self.now i result.0 result.1 }
+        ensures world { (sc : Scenario) → (w : World) → HoldsSites sc.sizes self.now w.sites
+            → IsDue sc w self.now i result.0 result.1 }
     {
         let front = front_now(&self.lanes, &self.keys, self.bius, self.front, self.stale);
         locate(&self.lanes, &self.keys, self.bius, self.stale, front, i)
@@ -211,11 +222,12 @@ impl Agenda {
         (node, event)
     }
 
-    /// The node whose tick is the first of all, in time and then in the order of nodes, and the tick's time in reference units. Where no
-    /// tick is pending the time is 2^64 - 1.
+    /// The node whose tick is the first of all, in time and then in the order of nodes, and the
+    /// tick's time in reference units. Where no tick is pending the time is 2^64 - 1.
     #[inline(always)]
     pub fn first_tick(&mut self) -> (NodeName, u64)
-        ensures world { (sizes : Sizes) (sites : Each Site) → HoldsSites sizes self.old sites → (me : Side) (i time : ℕ) → IsFirstAhead sites me i time
+        ensures world { (sizes : Sizes) (sites : Each Site) → HoldsSites sizes self.old sites
+            → (me : Side) (i time : ℕ) → IsFirstAhead sites me i time
             → (result.0 ≡ name_of me i) × (result.1 ≡ time) }
         ensures time { result.1 ≡ first_tick_time self.old }
         ensures lanes { self.new ≡ self.old }
@@ -225,8 +237,9 @@ impl Agenda {
         (node_at(self.bius, front.first), front.least)
     }
 
-    /// The place, among the arrivals of the node in the order of pushing, of the first that is ready, where it is due before this time.
-    /// None exactly where nothing is due at the node before then but its tick.
+    /// The place, among the arrivals of the node in the order of pushing, of the first that is
+    /// ready, where it is due before this time. None exactly where nothing is due at the node
+    /// before then but its tick.
     #[inline(always)]
     pub fn first_before(&self, node: NodeName, until: u64) -> Option<usize>
         requires in_shape { HasLane self.now node }
@@ -245,12 +258,14 @@ impl Agenda {
         self.lanes.arrival(node, place)
     }
 
-    /// Drops the arrival at this place among those of the node, in the order of pushing, and nothing else.
+    /// Drops the arrival at this place among those of the node, in the order of pushing, and
+    /// nothing else.
     #[inline(always)]
     pub fn drop_at(&mut self, node: NodeName, place: usize)
         requires in_shape { HasLane self.old node }
         requires below { place < length (lane_of self.old node).arrivals }
-        ensures after { self.new ≡ with_lane node (without_place place (lane_of self.old node)) self.old }
+        ensures after { self.new ≡ with_lane node (without_place place (lane_of self.old node))
+            self.old }
     {
         self.lanes.drop_at(node, place);
         self.stale = true;
@@ -265,11 +280,13 @@ impl Agenda {
         self.lanes.waiting(node)
     }
 
-    /// Drops the arrivals of the node that are due before this time, and nothing else. The others stay in the order of pushing.
+    /// Drops the arrivals of the node that are due before this time, and nothing else. The others
+    /// stay in the order of pushing.
     #[inline(always)]
     pub fn drop_before(&mut self, node: NodeName, until: u64)
         requires in_shape { HasLane self.old node }
-        ensures after { self.new ≡ with_lane node (without_before until (lane_of self.old node)) self.old }
+        ensures after { self.new ≡ with_lane node (without_before until (lane_of self.old node))
+            self.old }
     {
         self.lanes.drop_before(node, until);
         self.stale = true;
@@ -299,7 +316,8 @@ impl Agenda {
     /// Drops all events of the node, and no others.
     pub fn drop_all(&mut self, node: NodeName)
         requires in_shape { HasLane self.old node }
-        ensures after { self.new ≡ with_lane node (without_events (lane_of self.old node)) self.old }
+        ensures after { self.new ≡ with_lane node (without_events (lane_of self.old node))
+            self.old }
     {
         self.lanes.drop_all(node);
         keep_key(

@@ -9,8 +9,8 @@ use rb_queue::{Arrival, Lanes};
 use std::alloc::Global;
 use std::marker::Model;
 
-/// What is pending in a run: each node's arrivals, and the time of its tick. A run pushes nothing else, so at each node nothing is kept
-/// beside the lane.
+/// What is pending in a run: each node's arrivals, and the time of its tick. A run pushes nothing
+/// else, so at each node nothing is kept beside the lane.
 #[derive(Drop)]
 pub struct RunLanes {
     all: Lanes,
@@ -75,7 +75,8 @@ impl RunLanes {
     #[inline(always)]
     pub(crate) fn push_tick(&mut self, node: NodeName, time: u64)
         requires in_shape { HasLane self.old node }
-        ensures after { self.new ≡ with_lane node (with_tick time (lane_of self.old node)) self.old }
+        ensures after { self.new ≡ with_lane node (with_tick time (lane_of self.old node))
+            self.old }
     {
         self.all.push_tick(node, time);
     }
@@ -111,7 +112,8 @@ impl RunLanes {
         requires in_shape { HasLane self.old node }
         requires below { i < length (ready_of (lane_of self.old node)) }
         ensures value { ready_event node i (lane_of self.old node) ≡ Some result }
-        ensures after { self.new ≡ with_lane node (without_ready i (lane_of self.old node)) self.old }
+        ensures after { self.new ≡ with_lane node (without_ready i (lane_of self.old node))
+            self.old }
     {
         self.all.take(node, i)
     }
@@ -137,7 +139,8 @@ impl RunLanes {
     pub(crate) fn drop_at(&mut self, node: NodeName, place: usize)
         requires in_shape { HasLane self.old node }
         requires below { place < length (lane_of self.old node).arrivals }
-        ensures after { self.new ≡ with_lane node (without_place place (lane_of self.old node)) self.old }
+        ensures after { self.new ≡ with_lane node (without_place place (lane_of self.old node))
+            self.old }
     {
         self.all.drop_at(node, place);
     }
@@ -153,7 +156,8 @@ impl RunLanes {
     #[inline(always)]
     pub(crate) fn drop_before(&mut self, node: NodeName, until: u64)
         requires in_shape { HasLane self.old node }
-        ensures after { self.new ≡ with_lane node (without_before until (lane_of self.old node)) self.old }
+        ensures after { self.new ≡ with_lane node (without_before until (lane_of self.old node))
+            self.old }
     {
         self.all.drop_before(node, until);
     }
@@ -177,7 +181,8 @@ impl RunLanes {
     #[inline(always)]
     pub(crate) fn drop_all(&mut self, node: NodeName)
         requires in_shape { HasLane self.old node }
-        ensures after { self.new ≡ with_lane node (without_events (lane_of self.old node)) self.old }
+        ensures after { self.new ≡ with_lane node (without_events (lane_of self.old node))
+            self.old }
     {
         self.all.drop_all(node);
     }

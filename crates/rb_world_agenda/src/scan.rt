@@ -51,7 +51,8 @@ pub struct Front {
 
 // One key more is looked at.
 fn with_key(front: Front, place: usize, key: u64) -> Front
-    ensures { result ≡ (if nat_lt key front.least then record { first = place; least = key } else front) }
+    ensures { result ≡ (if nat_lt key front.least then record { first = place; least = key }
+        else front) }
 {
     if key < front.least {
         Front {
@@ -165,8 +166,10 @@ pub(crate) fn keep_key(
     requires lane { HasLane lanes.now node }
     requires within { position_of bius node < length keys.old.items }
     requires front { stale ≡ false → IsFront keys.old.items front.old }
-    ensures kept { (before : Each Held) (lane : Held) → AreKeptUnless stale before keys.old.items bius → HasLane before node
-        → lanes.now ≡ with_lane node lane before → lane.room ≤ 65536 → AreKeptUnless stale lanes.now keys.new.items bius }
+    ensures kept { (before : Each Held) (lane : Held)
+        → AreKeptUnless stale before keys.old.items bius → HasLane before node
+        → lanes.now ≡ with_lane node lane before → lane.room ≤ 65536
+        → AreKeptUnless stale lanes.now keys.new.items bius }
     ensures front { stale ≡ false → IsFront keys.new.items front.new }
 {
     if stale {
@@ -274,7 +277,8 @@ fn key_now(lanes: &RunLanes, node: NodeName, kept: u64, stale: bool) -> u64
     kept
 }
 
-// How many events of a node are due at a time, where this is the least time of the node unless it is stale.
+// How many events of a node are due at a time, where this is the least time of the node unless it
+// is stale.
 fn due_in(lanes: &RunLanes, node: NodeName, kept: u64, stale: bool, time: u64) -> usize
     requires lane { HasLane lanes.now node }
     requires kept { stale ≡ false → kept ≡ key_of (lane_of lanes.now node) }
@@ -305,7 +309,8 @@ pub(crate) fn due_count(
     count
 }
 
-// The node of the i-th event that is due, and the event's place among those that are ready there. The first is mostly looked for.
+// The node of the i-th event that is due, and the event's place among those that are ready there.
+// The first is mostly looked for.
 #[inline(always)]
 pub(crate) fn locate(
     lanes: &RunLanes,

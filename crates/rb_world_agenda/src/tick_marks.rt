@@ -8,7 +8,8 @@ ghost use Rattle.rb_world_agenda.specs.Fours.{AreFours, four_at};
 #[derive(Drop)]
 pub struct Marks {
     pub(crate) all: [u64; 32],
-    // The least of each four marks. Of the four that are open it is not kept: the last number stands there.
+    // The least of each four marks. Of the four that are open it is not kept: the last number
+    // stands there.
     pub(crate) leasts: [u64; 8],
     // Which four are open.
     pub(crate) opened: usize,
@@ -30,7 +31,8 @@ fn four_at(all: &[u64], i: usize) -> u64
 // The least of those that are kept. Mostly the first four suffice.
 #[inline(always)]
 fn least_kept(leasts: &[u64; 8], count: usize) -> u64
-    ensures { result ≡ (if nat_le count 16 then four_at leasts.now 0 else min (four_at leasts.now 0) (four_at leasts.now 4)) }
+    ensures { result ≡ (if nat_le count 16 then four_at leasts.now 0
+        else min (four_at leasts.now 0) (four_at leasts.now 4)) }
 {
     let first = four_at(leasts, 0);
     if count <= 16 {
@@ -44,7 +46,8 @@ fn least_kept(leasts: &[u64; 8], count: usize) -> u64
 fn put_leasts(leasts: &mut [u64; 8], before: usize, least: u64, after: usize)
     requires before { before < 8 }
     requires after { after < 8 }
-    ensures { leasts.new ≡ slice_set (slice_set leasts.old before least) after 18446744073709551615 }
+    ensures { leasts.new ≡ slice_set (slice_set leasts.old before least) after
+        18446744073709551615 }
 {
     leasts[before] = least;
     leasts[after] = u64::MAX;

@@ -71,8 +71,10 @@ fn good_rmu_for(onsets: &Onsets, milestone: Milestone) -> NodeSet<Rmu>
 
 // What comes after a stage.
 fn after_stage(shape: &Shape, place: Place) -> Milestone
-    ensures next { place.frame + 1 < 2 ^ 32 → place.slot + 1 < 2 ^ 16 → milestone_of result ≡ after_stage shape.now place }
-    ensures within { place.stage < 3 → result ≡ coming.Stage (record place { stage = place.stage + 1 }) }
+    ensures next { place.frame + 1 < 2 ^ 32 → place.slot + 1 < 2 ^ 16
+        → milestone_of result ≡ after_stage shape.now place }
+    ensures within { place.stage < 3
+        → result ≡ coming.Stage (record place { stage = place.stage + 1 }) }
 {
     if place.stage < 3 {
         Milestone::Stage(Place {
@@ -90,7 +92,8 @@ fn after_stage(shape: &Shape, place: Place) -> Milestone
     }
 }
 
-// The trusted nodes of both kinds, as masks, as the first good node held them that told of a stage, BIUs before RMUs.
+// The trusted nodes of both kinds, as masks, as the first good node held them that told of a stage,
+// BIUs before RMUs.
 fn trusted(shape: &Shape, place: Place, bius: &Group<Biu>, rmus: &Group<Rmu>) -> (u16, u16)
     ensures biu { result.0 ≡ trusted_by biu (rows_found shape.now place bius.now rmus.now) }
     ensures rmu { result.1 ≡ trusted_by rmu (rows_found shape.now place bius.now rmus.now) }
@@ -133,7 +136,8 @@ fn judge_stage(
 // What was delivered in a slot so far, after a stage. Deliveries come in stage 2.
 fn keep_lines(lines: &mut ArrayVec<SlotLine, 16>, shape: &Shape, place: Place, bius: &Group<Biu>)
     ensures { lines.new.items ≡ (if place.stage == 2
-        then found_of (λ i t. line_of place (has bius.now.good i) t) shape.now.bius bius.now.told else lines.old.items) }
+        then found_of (λ i t. line_of place (has bius.now.good i) t) shape.now.bius bius.now.told
+        else lines.old.items) }
 {
     if place.stage == 2 {
         slot_lines(lines, shape.biu(), bius.good, place, &bius.told);
@@ -186,7 +190,8 @@ fn write_slot(place: Place, lines: &ArrayVec<SlotLine, 16>, turn: &mut Turn)
 
 // The lines of a slot are written into its record, which has none yet.
 fn give_lines(lines: &ArrayVec<SlotLine, 16>, turn: &mut Turn)
-    ensures { (frame slot : ℕ) → record_of turn.old ≡ Some (Record.Slot frame slot []) → record_of turn.new ≡ Some (Record.Slot frame slot lines.now.items) }
+    ensures { (frame slot : ℕ) → record_of turn.old ≡ Some (Record.Slot frame slot [])
+        → record_of turn.new ≡ Some (Record.Slot frame slot lines.now.items) }
 {
     if let Turn::Slot(record) = turn {
         add_lines(lines, &mut record.lines);
@@ -217,9 +222,11 @@ fn is_at(upcoming: Milestone, place: Place) -> bool
 }
 
 impl Book {
-    /// The book of a run of so many frames at its begin. The times of one message may be `eps` reference units apart.
+    /// The book of a run of so many frames at its begin. The times of one message may be `eps`
+    /// reference units apart.
     pub fn new(shape: Shape, frames: u32, eps: u32, onsets: Onsets) -> Book
-        ensures holds { (sc : Scenario) → shape ≡ sc.sizes → frames ≡ sc.frames → eps ≡ sc.plan.dmax - sc.plan.dmin → onsets ≡ faults_of sc
+        ensures holds { (sc : Scenario) → shape ≡ sc.sizes → frames ≡ sc.frames
+            → eps ≡ sc.plan.dmax - sc.plan.dmin → onsets ≡ faults_of sc
             → Holds sc result (first_world sc) }
         ensures shape { result.shape ≡ shape }
     {
@@ -240,9 +247,9 @@ impl Book {
         book
     }
 
-    /// A node closes a window. What it saw of a source with a stamp is noted with the reference time of that source, in reference
-    /// units, and nothing of sources that all are good to the end of the frame; `biu` and `rmu` are the nodes that it trusts. Of the
-    /// tail nothing is noted.
+    /// A node closes a window. What it saw of a source with a stamp is noted with the reference
+    /// time of that source, in reference units, and nothing of sources that all are good to the end
+    /// of the frame; `biu` and `rmu` are the nodes that it trusts. Of the tail nothing is noted.
     #[inline(always)]
     pub fn close(
         &mut self,
@@ -253,7 +260,8 @@ impl Book {
         rmu: NodeSet<Rmu>,
     )
         requires node { number_in node < count_for node self.old.shape }
-        requires sources { (j : ℕ) → count_of (other (side_in node)) self.old.shape ≤ j → get_or closed.now.sees j Nothing ≡ Nothing }
+        requires sources { (j : ℕ) → count_of (other (side_in node)) self.old.shape ≤ j
+            → get_or closed.now.sees j Nothing ≡ Nothing }
         ensures noted { (sc : Scenario) (w : World) → Holds sc self.old w
             → Holds sc self.new (changed_at node (with_row closed.now.place.stage (row_shown (number_in node) closed.now times.now biu rmu)) w) }
         ensures shape { self.new.shape ≡ self.old.shape }
@@ -293,13 +301,15 @@ impl Book {
             .begin(i, self.upcoming, Begin { frame, line, port });
     }
 
-    /// Settles what is due in this way, up to the first record, and at most two milestones: a last stage of a frame, which gives
-    /// no record, and the begin of the next frame. The turn is `Quiet` before, and is written over by that record, if there is one.
-    /// Where nothing is due this costs next to nothing.
+    /// Settles what is due in this way, up to the first record, and at most two milestones: a last
+    /// stage of a frame, which gives no record, and the begin of the next frame. The turn is
+    /// `Quiet` before, and is written over by that record, if there is one. Where nothing is due
+    /// this costs next to nothing.
     #[inline(always)]
     pub fn settle_into(&mut self, way: Way, turn: &mut Turn)
         requires quiet { turn.old ≡ Turn.Quiet }
-        ensures settled { (sc : Scenario) (w : World) → Holds sc self.old w → Settles sc (way_of way) w self.new turn.new }
+        ensures settled { (sc : Scenario) (w : World) → Holds sc self.old w
+            → Settles sc (way_of way) w self.new turn.new }
         ensures shape { self.new.shape ≡ self.old.shape }
     {
         if self.is_due(way) {
@@ -309,7 +319,8 @@ impl Book {
 
     /// Whether the upcoming milestone needs no event: no node is good there, or it is the end.
     pub fn needs_no_event(&self) -> bool
-        ensures { (sc : Scenario) (w : World) → Holds sc self.now w → result ≡ needs_no_event sc w.book.upcoming }
+        ensures { (sc : Scenario) (w : World) → Holds sc self.now w
+            → result ≡ needs_no_event sc w.book.upcoming }
     {
         self.is_free()
     }
@@ -321,7 +332,8 @@ impl Book {
         self.ended
     }
 
-    // A node closes the stage that is the upcoming milestone. What it saw counts of sources that are not good to the end of the frame.
+    // A node closes the stage that is the upcoming milestone. What it saw counts of sources that
+    // are not good to the end of the frame.
     #[inline(always)]
     fn close_upcoming(
         &mut self,
@@ -332,7 +344,8 @@ impl Book {
         rmu: NodeSet<Rmu>,
     )
         requires node { number_in node < count_for node self.old.shape }
-        requires sources { (j : ℕ) → count_of (other (side_in node)) self.old.shape ≤ j → get_or closed.now.sees j Nothing ≡ Nothing }
+        requires sources { (j : ℕ) → count_of (other (side_in node)) self.old.shape ≤ j
+            → get_or closed.now.sees j Nothing ≡ Nothing }
         requires stage { closed.now.place.stage ≢ 4 }
         requires upcoming { is_at self.old.upcoming closed.now.place ≡ true }
         ensures noted { (sc : Scenario) (w : World) → Holds sc self.old w
@@ -366,7 +379,8 @@ impl Book {
         rmu: NodeSet<Rmu>,
     )
         requires node { number_in node < count_for node self.old.shape }
-        requires sources { (j : ℕ) → count_of (other (side_in node)) self.old.shape ≤ j → get_or closed.now.sees j Nothing ≡ Nothing }
+        requires sources { (j : ℕ) → count_of (other (side_in node)) self.old.shape ≤ j
+            → get_or closed.now.sees j Nothing ≡ Nothing }
         requires stage { closed.now.place.stage ≢ 4 }
         ensures noted { (sc : Scenario) (w : World) → Holds sc self.old w
             → Holds sc self.new (changed_at node (with_row closed.now.place.stage (row_shown (number_in node) closed.now times.now biu rmu)) w) }
@@ -388,15 +402,16 @@ impl Book {
         }
     }
 
-    // Whether the upcoming milestone may be settled in this way, and all good nodes have told of it.
+    // Whether the upcoming milestone may be settled in this way, and all good nodes have told of
+    // it.
     fn is_due(&self, way: Way) -> bool
         ensures { result ≡ is_due way self.now }
     {
         self.all_have_told() && comes_so(way, self.is_free()) && !self.ended
     }
 
-    // Whether all good nodes have told of the upcoming milestone. Both kinds are one branch: a processor guesses badly which of them it
-    // still waits for.
+    // Whether all good nodes have told of the upcoming milestone. Both kinds are one branch: a
+    // processor guesses badly which of them it still waits for.
     fn all_have_told(&self) -> bool
         ensures { result ≡ ((self.now.bius.waiting == 0) && (self.now.rmus.waiting == 0)) }
     {
@@ -415,7 +430,8 @@ impl Book {
     fn settle_due(&mut self, way: Way, turn: &mut Turn)
         requires quiet { turn.old ≡ Turn.Quiet }
         requires due { is_due way self.old ≡ true }
-        ensures settled { (sc : Scenario) (w : World) → Holds sc self.old w → Settles sc (way_of way) w self.new turn.new }
+        ensures settled { (sc : Scenario) (w : World) → Holds sc self.old w
+            → Settles sc (way_of way) w self.new turn.new }
         ensures shape { self.new.shape ≡ self.old.shape }
     {
         self.pass(turn);
@@ -427,7 +443,8 @@ impl Book {
     // The upcoming milestone is settled, of which all good nodes have told.
     fn pass(&mut self, turn: &mut Turn)
         requires { turn.old ≡ Turn.Quiet }
-        ensures passes { (sc : Scenario) (w : World) → Holds sc self.old w → self.old.ended ≡ false → self.old.bius.waiting ≡ 0 → self.old.rmus.waiting ≡ 0
+        ensures passes { (sc : Scenario) (w : World) → Holds sc self.old w → self.old.ended ≡ false
+            → self.old.bius.waiting ≡ 0 → self.old.rmus.waiting ≡ 0
             → Passes sc w self.new turn.new }
         ensures shape { self.new.shape ≡ self.old.shape }
     {
@@ -443,7 +460,8 @@ impl Book {
 
     // The begin of a frame is settled.
     fn pass_begin(&mut self, frame: u32, turn: &mut Turn)
-        ensures passes { (sc : Scenario) (w : World) → Holds sc self.old w → self.old.ended ≡ false → self.old.upcoming ≡ coming.Begin frame → Passes sc w self.new turn.new }
+        ensures passes { (sc : Scenario) (w : World) → Holds sc self.old w → self.old.ended ≡ false
+            → self.old.upcoming ≡ coming.Begin frame → Passes sc w self.new turn.new }
         ensures shape { self.new.shape ≡ self.old.shape }
     {
         let given = self.frame_turn(frame);
@@ -462,7 +480,8 @@ impl Book {
     fn frame_turn(&self, frame: u32) -> Turn
         ensures { record_of result ≡ frame_record frame
             (found_of (λ i t. node_line_of frame (has self.now.bius.good i) t) self.now.shape.bius self.now.bius.told
-            ++ found_of (λ i t. node_line_of frame (has self.now.rmus.good i) t) self.now.shape.rmus self.now.rmus.told)
+            ++ found_of (λ i t. node_line_of frame (has self.now.rmus.good i) t) self.now.shape.rmus
+            self.now.rmus.told)
             (found_of (λ i t. port_line_of frame (has self.now.bius.good i) t) self.now.shape.bius self.now.bius.told) }
     {
         let (bius, rmus) = (self.shape.biu(), self.shape.rmu());
@@ -482,8 +501,10 @@ impl Book {
     // A stage is settled, of which all good nodes have told.
     fn pass_stage(&mut self, place: Place, turn: &mut Turn)
         requires { turn.old ≡ Turn.Quiet }
-        ensures passes { (sc : Scenario) (w : World) → Holds sc self.old w → self.old.ended ≡ false → self.old.upcoming ≡ coming.Stage place
-            → self.old.bius.waiting ≡ 0 → self.old.rmus.waiting ≡ 0 → Passes sc w self.new turn.new }
+        ensures passes { (sc : Scenario) (w : World) → Holds sc self.old w → self.old.ended ≡ false
+            → self.old.upcoming ≡ coming.Stage place
+            → self.old.bius.waiting ≡ 0 → self.old.rmus.waiting ≡ 0
+            → Passes sc w self.new turn.new }
         ensures shape { self.new.shape ≡ self.old.shape }
     {
         judge_stage(
@@ -519,8 +540,8 @@ impl Book {
         }
     }
 
-    // The record of a slot, which comes with its stage 3. The turn is `Quiet` before, here and in what follows, and is written over
-    // where a record comes.
+    // The record of a slot, which comes with its stage 3. The turn is `Quiet` before, here and in
+    // what follows, and is written over where a record comes.
     fn slot_turn(&self, place: Place, turn: &mut Turn)
         requires { turn.old ≡ Turn.Quiet }
         ensures { record_of turn.new ≡ slot_record self.now.shape place self.now.lines.items }
@@ -530,8 +551,8 @@ impl Book {
         }
     }
 
-    // The next stage, where the same nodes are known to be good as at this one: it is one of the same slot, or all of them are good to
-    // the end of the frame.
+    // The next stage, where the same nodes are known to be good as at this one: it is one of the
+    // same slot, or all of them are good to the end of the frame.
     fn steady_next(&self, place: Place) -> Option<Place>
         ensures { IfSome result (IsSteady self.now place) }
     {
@@ -551,7 +572,8 @@ impl Book {
         None
     }
 
-    // A stage is the upcoming one, after another of which all good nodes have told, and the same nodes are good there.
+    // A stage is the upcoming one, after another of which all good nodes have told, and the same
+    // nodes are good there.
     fn stay_until(&mut self, next: Place)
         ensures { StaysUntil self.old self.new next }
     {

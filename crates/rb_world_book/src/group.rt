@@ -19,7 +19,8 @@ use rb_rules::Closed;
 pub struct Group<K> {
     /// What each node told last.
     pub told: [Told; 16],
-    /// The nodes that are good at the upcoming milestone, and those of them that have not told of it.
+    /// The nodes that are good at the upcoming milestone, and those of them that have not told of
+    /// it.
     pub good: NodeSet<K>,
     pub waiting: NodeSet<K>,
     /// The nodes that are good to the end of the frame.
@@ -69,7 +70,8 @@ impl<K: Copy> Group<K> {
         self.waiting = waiting_for(count, good, milestone, &self.told);
     }
 
-    /// A stage is the upcoming one, after another of which all good nodes have told, and the same nodes are good there.
+    /// A stage is the upcoming one, after another of which all good nodes have told, and the same
+    /// nodes are good there.
     pub(crate) fn await_good(&mut self)
         ensures { AwaitsGood self.old self.new }
     {
@@ -85,7 +87,8 @@ impl<K: Copy> Group<K> {
         ensures lasting { self.new.lasting ≡ self.old.lasting }
         ensures counted { self.new.counted ≡ self.old.counted }
         ensures waiting { self.new.waiting ≡ set_of (λ i. if i == node
-            then (has self.old.good node && not (has_told upcoming (told_at self.old.told node))) else has self.old.waiting i) }
+            then (has self.old.good node && not (has_told upcoming (told_at self.old.told node)))
+            else has self.old.waiting i) }
     {
         let has_told = self.told[usize::from(node)].has_told(upcoming);
         let is_awaited = self.good.has(node) && !has_told;
@@ -95,7 +98,8 @@ impl<K: Copy> Group<K> {
     // The node has told of the upcoming milestone.
     fn strike(&mut self, node: u8)
         requires { node < 16 }
-        ensures { self.new ≡ record self.old { waiting = set_of (λ i. if i == node then false else has self.old.waiting i) } }
+        ensures { self.new
+            ≡ record self.old { waiting = set_of (λ i. if i == node then false else has self.old.waiting i) } }
     {
         self.waiting = with_or_without(self.waiting, node, false);
     }
@@ -131,7 +135,8 @@ impl<K: Copy> Group<K> {
         rmu: NodeSet<Rmu>,
     )
         requires { node < 16 }
-        ensures { (upcoming : Milestone) → is_at upcoming closed.now.place ≡ true → IsNoted self.old self.new node upcoming
+        ensures { (upcoming : Milestone) → is_at upcoming closed.now.place ≡ true
+            → IsNoted self.old self.new node upcoming
             (told_closed counted closed.now times.now biu rmu (line_from node closed.now.delivered) (told_at self.old.told node)) }
     {
         self.told[usize::from(node)].close(node, closed, times, counted, biu, rmu);
@@ -141,14 +146,15 @@ impl<K: Copy> Group<K> {
     /// A node begins a frame.
     pub(crate) fn begin(&mut self, node: u8, upcoming: Milestone, begun: Begin)
         requires { node < 16 }
-        ensures { IsNoted self.old self.new node upcoming (told_begun_frame begun (told_at self.old.told node)) }
+        ensures { IsNoted self.old self.new node upcoming
+            (told_begun_frame begun (told_at self.old.told node)) }
     {
         self.told[usize::from(node)].begin(begun);
         self.note(node, upcoming);
     }
 
-    /// The sets of these nodes as sources in a stage, by what the receivers told of them. What was seen of those that are good to
-    /// the end of the frame is left out.
+    /// The sets of these nodes as sources in a stage, by what the receivers told of them. What was
+    /// seen of those that are good to the end of the frame is left out.
     pub(crate) fn stage_sets<R: Copy>(
         &self,
         count: u8,
@@ -162,9 +168,13 @@ impl<K: Copy> Group<K> {
         ensures good { result.good ≡ self.now.good }
         ensures trusted { result.trusted ≡ trusted }
         ensures taken { result.taken
-            ≡ set_of (λ j. nat_lt j count && (not (has self.now.lasting j) && was_taken receivers others.now.good others.now.told j)) }
+            ≡ set_of (λ j. nat_lt j count
+            && (not (has self.now.lasting j)
+            && was_taken receivers others.now.good others.now.told j)) }
         ensures unlike { result.unlike
-            ≡ set_of (λ j. nat_lt j count && (not (has self.now.lasting j) && was_unlike eps receivers others.now.good others.now.told j)) }
+            ≡ set_of (λ j. nat_lt j count
+            && (not (has self.now.lasting j)
+            && was_unlike eps receivers others.now.good others.now.told j)) }
     {
         let mut left = all_but(count, self.lasting);
         let mut taken = NodeSet::empty();

@@ -9,7 +9,8 @@ pub enum Milestone {
     End,
 }
 
-/// How a milestone comes to be settled: by an event, or by itself where no node is good and at the end.
+/// How a milestone comes to be settled: by an event, or by itself where no node is good and at the
+/// end.
 #[derive(Clone, Copy, Debug, PartialEq, Eq)]
 pub enum Way {
     ByAnEvent,

@@ -26,8 +26,8 @@ pub struct Told {
     /// Whether it has closed a stage. If so, the next are of the last one.
     pub has_closed: bool,
     pub place: Place,
-    /// What it saw of each source, with reference times in place of stamps. Of sources that are good to the end of the frame it is of
-    /// an earlier stage.
+    /// What it saw of each source, with reference times in place of stamps. Of sources that are
+    /// good to the end of the frame it is of an earlier stage.
     pub sees: [See; 16],
     /// The trusted nodes of both kinds, as masks.
     pub biu: u16,
@@ -52,7 +52,8 @@ fn timed(see: See, time: u64) -> See
     }
 }
 
-// What was seen of one source is kept. Mostly that is nothing, and nothing was kept of it before: then no place is written.
+// What was seen of one source is kept. Mostly that is nothing, and nothing was kept of it before:
+// then no place is written.
 #[inline(always)]
 fn keep_one(at: usize, seen: &[See; 16], times: &[u64; 16], sees: &mut [See; 16])
     requires { at < 16 }
@@ -63,7 +64,8 @@ fn keep_one(at: usize, seen: &[See; 16], times: &[u64; 16], sees: &mut [See; 16]
     }
 }
 
-// What was seen of each of these sources is kept, with its reference time. Of the others what was kept stays.
+// What was seen of each of these sources is kept, with its reference time. Of the others what was
+// kept stays.
 fn keep_seen<S: Copy>(
     counted: NodeSet<S>,
     seen: &[See; 16],
@@ -118,8 +120,8 @@ impl Told {
         }
     }
 
-    /// It, node `i`, closes a stage, having seen this of each source, some at these reference times. What was seen is kept of the sources
-    /// of which it counts.
+    /// It, node `i`, closes a stage, having seen this of each source, some at these reference
+    /// times. What was seen is kept of the sources of which it counts.
     pub(crate) fn close<S: Copy>(
         &mut self,
         i: u8,
@@ -129,7 +131,8 @@ impl Told {
         biu: NodeSet<Biu>,
         rmu: NodeSet<Rmu>,
     )
-        ensures { self.new ≡ told_closed counted closed.now times.now biu rmu (line_from i closed.now.delivered) self.old }
+        ensures { self.new ≡ told_closed counted closed.now times.now biu rmu
+            (line_from i closed.now.delivered) self.old }
     {
         self.has_closed = true;
         self.place = closed.place;

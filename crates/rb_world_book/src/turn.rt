@@ -3,8 +3,8 @@ use arrayvec::ArrayVec;
 use rb_base::Place;
 use rb_rules::{Cause, NodeLine, PortLine, SlotLine};
 
-/// What a call of a run gives: nothing, the record of a frame or of a slot, the end of the run, or the first stage at which the
-/// fault premise fails, with the cause.
+/// What a call of a run gives: nothing, the record of a frame or of a slot, the end of the run, or
+/// the first stage at which the fault premise fails, with the cause.
 #[derive(Clone, Debug, PartialEq, Eq, Drop)]
 pub enum Turn {
     Quiet,
@@ -14,7 +14,8 @@ pub enum Turn {
     Breach(Place, Cause),
 }
 
-/// A frame at its begin: a line for each good node, BIUs before RMUs, and the ports of the good BIUs.
+/// A frame at its begin: a line for each good node, BIUs before RMUs, and the ports of the good
+/// BIUs.
 #[derive(Clone, Debug, PartialEq, Eq, Drop)]
 pub struct FrameRecord {
     pub frame: u32,

@@ -107,7 +107,8 @@ pub(crate) fn add_node_lines<K: Copy>(
 )
     requires count { count ≤ 16 }
     requires room { length lines.old.items ≤ 16 }
-    ensures lines { lines.new.items ≡ lines.old.items ++ found_of (λ i t. node_line_of frame (has good i) t) count told.now }
+    ensures lines { lines.new.items
+        ≡ lines.old.items ++ found_of (λ i t. node_line_of frame (has good i) t) count told.now }
     ensures most { length lines.new.items ≤ length lines.old.items + count }
 {
     let mut left = those_below(count, good);
@@ -165,7 +166,8 @@ fn trusted_in(told: &Told, place: Place) -> Option<(u16, u16)>
     }
 }
 
-/// The trusted nodes of both kinds, as masks, as the first good one, of so many nodes, held them that told of a stage.
+/// The trusted nodes of both kinds, as masks, as the first good one, of so many nodes, held them
+/// that told of a stage.
 pub(crate) fn first_trusted<K: Copy>(
     count: u8,
     good: NodeSet<K>,

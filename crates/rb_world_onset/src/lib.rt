@@ -80,7 +80,8 @@ fn good_among<K: Copy>(
     good
 }
 
-// The earlier of two onsets, of which the second counts only where it comes after this slot of this frame.
+// The earlier of two onsets, of which the second counts only where it comes after this slot of this
+// frame.
 fn earlier_after(
     frame: u32,
     slot: u16,
@@ -95,7 +96,8 @@ fn earlier_after(
     }
 }
 
-// The first of the onsets of so many nodes that comes after this slot of this frame, or `change` if that is earlier.
+// The first of the onsets of so many nodes that comes after this slot of this frame, or `change` if
+// that is earlier.
 fn next_among(
     count: u8,
     onsets: &[Option<(u32, u16)>; 16],
@@ -114,8 +116,8 @@ fn next_among(
 }
 
 impl Onsets {
-    /// The onsets of the nodes of this shape. An onset is the frame and the slot from which on the node is not good; a node
-    /// without one is good in every slot.
+    /// The onsets of the nodes of this shape. An onset is the frame and the slot from which on the
+    /// node is not good; a node without one is good in every slot.
     pub fn new(
         shape: Shape,
         bius: [Option<(u32, u16)>; 16],
@@ -126,9 +128,11 @@ impl Onsets {
         Onsets { shape, bius, rmus }
     }
 
-    /// Whether the node is good in this slot of this frame. A node that the bus does not have is not.
+    /// Whether the node is good in this slot of this frame. A node that the bus does not have is
+    /// not.
     pub fn is_good(&self, node: NodeName, frame: u32, slot: u16) -> bool
-        ensures { (sc : Scenario) → self.now ≡ faults_of sc → result ≡ is_node_good sc node frame slot }
+        ensures { (sc : Scenario) → self.now ≡ faults_of sc
+            → result ≡ is_node_good sc node frame slot }
     {
         match node {
             NodeName::Biu(i) => is_good_among(self.shape.biu(), &self.bius, frame, slot, i),
@@ -150,8 +154,9 @@ impl Onsets {
         good_among(self.shape.rmu(), &self.rmus, frame, slot)
     }
 
-    /// The frame and the slot, after this slot of this frame, at which a node is not good any more for the first time. Until there
-    /// the same nodes are good as here. None if no node has an onset after this place.
+    /// The frame and the slot, after this slot of this frame, at which a node is not good any more
+    /// for the first time. Until there the same nodes are good as here. None if no node has an
+    /// onset after this place.
     #[tactic(auto, using(crate::proofs::Changes::next_change))]
     pub fn next_change(&self, frame: u32, slot: u16) -> Option<(u32, u16)>
         ensures { (sc : Scenario) → self.now ≡ faults_of sc → IsNextChange sc frame slot result }

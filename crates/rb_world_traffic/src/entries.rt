@@ -67,7 +67,8 @@ fn is_between(say: &Say, from: NodeName, to: NodeName) -> bool
 
 // The number comes behind those that are there, if its entry passes.
 fn add_if(places: &mut Vec<u16>, passes: bool, number: u16) -> Result<(), OutOfMemory>
-    ensures { IfOk result (λ _. places.new.items ≡ places.old.items ++ cond passes (number ∷ []) []) }
+    ensures { IfOk result (λ _. places.new.items
+        ≡ places.old.items ++ cond passes (number ∷ []) []) }
 {
     if passes {
         return places.push(number).map_err(|_| OutOfMemory);
@@ -83,8 +84,10 @@ fn add_between(
     to: NodeName,
 ) -> Result<(), OutOfMemory>
     requires { length says.now ≤ 65536 }
-    ensures entries { IfOk result (λ _. entries_at says.now places.new.items ≡ entries_at says.now places.old.items ++ filter (is_between from to) says.now) }
-    ensures many { IfOk result (λ _. length places.new.items ≡ length places.old.items + length (filter (is_between from to) says.now)) }
+    ensures entries { IfOk result (λ _. entries_at says.now places.new.items
+        ≡ entries_at says.now places.old.items ++ filter (is_between from to) says.now) }
+    ensures many { IfOk result (λ _. length places.new.items
+        ≡ length places.old.items + length (filter (is_between from to) says.now)) }
 {
     for number in 0..says.len() {
         add_if(

@@ -108,7 +108,8 @@ fn bring(
 // Whether the entry is said by its sender in a window.
 fn is_said_in(onsets: &Onsets, span: &Span, say: &Say) -> bool
     requires { span.now.first ≤ 2 ^ 31 }
-    ensures { (sc : Scenario) → onsets.now ≡ faults_of sc → result ≡ is_said_in sc (span_of span.now) say.now }
+    ensures { (sc : Scenario) → onsets.now ≡ faults_of sc
+        → result ≡ is_said_in sc (span_of span.now) say.now }
 {
     covers(say, span.place)
         && span.first + u64::from(say.offset) <= span.last
@@ -177,7 +178,8 @@ fn say_each(
     }
 }
 
-// The frames from the first to the last, once those of the entry with this number, if there is one, are among them.
+// The frames from the first to the last, once those of the entry with this number, if there is one,
+// are among them.
 fn with_frames_of(says: &SayList, number: u16, first: u64, last: u64) -> (u64, u64)
     ensures first { result.0 ≡ fold sooner_frame first (entries_at says.now (number ∷ [])) }
     ensures last { result.1 ≡ fold later_frame last (entries_at says.now (number ∷ [])) }
@@ -253,8 +255,8 @@ fn say_all(
 }
 
 impl Sayings {
-    /// What the entries say on a bus of this shape, whose nodes have these onsets. `says` are at most 65536 entries. All memory is
-    /// taken here.
+    /// What the entries say on a bus of this shape, whose nodes have these onsets. `says` are at
+    /// most 65536 entries. All memory is taken here.
     pub fn new(
         alloc: Global,
         shape: &Shape,
@@ -264,7 +266,8 @@ impl Sayings {
     ) -> Result<Sayings, OutOfMemory>
         requires sizes { onsets.sizes ≡ shape.now }
         requires few { length says ≤ 65536 }
-        ensures { IfOk result (λ s. s ≡ record { faults = onsets; version = version; says = says }) }
+        ensures { IfOk result (λ s. s
+            ≡ record { faults = onsets; version = version; says = says }) }
     {
         let to_bius = lists_for(alloc, &says, NodeName::Rmu(0), shape.biu(), shape.rmu())?;
         let to_rmus = lists_for(alloc, &says, NodeName::Biu(0), shape.rmu(), shape.biu())?;
@@ -296,7 +299,8 @@ impl Sayings {
         self.places(to).len()
     }
 
-    /// The first and the last of the frames of which the entries for the node speak. Where there are no entries these are 2^32 and 0.
+    /// The first and the last of the frames of which the entries for the node speak. Where there
+    /// are no entries these are 2^32 and 0.
     pub fn frames(&self, to: NodeName) -> (u64, u64)
         requires node { IsNodeOf self.now.faults.sizes to }
         ensures first { result.0 ≡ first_frame (entries_for self.now to) }
@@ -305,8 +309,9 @@ impl Sayings {
         frames_of(&self.says, self.places(to))
     }
 
-    /// What nodes that are not good say to the node in a window comes to it: by sender, and then in the order of the entries. `clock`
-    /// is the node's. There is room for as much as is said to it in a window at most.
+    /// What nodes that are not good say to the node in a window comes to it: by sender, and then in
+    /// the order of the entries. `clock` is the node's. There is room for as much as is said to it
+    /// in a window at most.
     #[inline(always)]
     pub fn say(&self, agenda: &mut Agenda, clock: &Clock, to: NodeName, span: &Span)
         requires node { IsNodeOf self.now.faults.sizes to }
@@ -314,9 +319,11 @@ impl Sayings {
         requires room { most_to self.now to ≤ spare_of (lane_of agenda.old to) }
         requires stage { 1 ≤ span.now.place.stage }
         requires first { span.now.first ≤ 2 ^ 31 }
-        ensures lanes { (sc : Scenario) → self.now ≡ kept_of sc → clock.now ≡ clock_of sc (kind_of to) (number_of to)
+        ensures lanes { (sc : Scenario) → self.now ≡ kept_of sc
+            → clock.now ≡ clock_of sc (kind_of to) (number_of to)
             → agenda.new ≡ with_lane to (with_arrivals (says_in sc (kind_of to) (number_of to) (span_of span.now)) (lane_of agenda.old to)) agenda.old }
-        ensures world { (sc : Scenario) → (sites : Each Site) → self.now ≡ kept_of sc → clock.now ≡ clock_of sc (kind_of to) (number_of to)
+        ensures world { (sc : Scenario) → (sites : Each Site) → self.now ≡ kept_of sc
+            → clock.now ≡ clock_of sc (kind_of to) (number_of to)
             → HoldsSites sc.sizes agenda.old sites
             → HoldsSites sc.sizes agenda.new (at_node (kind_of to) (number_of to) (hears sc to (span_of span.now)) sites) }
     {

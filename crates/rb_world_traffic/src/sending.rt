@@ -66,7 +66,9 @@ fn spread(
 )
     requires room { HaveRoom (other (kind_of from)) running agenda.old }
     requires time { time < 2 ^ 53 }
-    ensures { agenda.new ≡ lanes_with (other (kind_of from)) (coming_to delays.now from time place bytes.now) (has running) agenda.old }
+    ensures { agenda.new
+        ≡ lanes_with (other (kind_of from)) (coming_to delays.now from time place bytes.now)
+        (has running) agenda.old }
 {
     let row = delays.row(from, place);
     let message = Arrival::of(0, number_of(from), *bytes);
@@ -82,8 +84,8 @@ fn spread(
     }
 }
 
-// The same, by the row of delays and the message as all get it. Where it is called for a BIU or an RMU alone, the kind of the receivers
-// is known when it is compiled.
+// The same, by the row of delays and the message as all get it. Where it is called for a BIU or an
+// RMU alone, the kind of the receivers is known when it is compiled.
 #[inline(always)]
 fn spread_from(
     agenda: &mut Agenda,
@@ -99,7 +101,9 @@ fn spread_from(
     requires sender { message.now.from ≡ number_of from }
     requires room { HaveRoom (other (kind_of from)) running agenda.old }
     requires time { time < 2 ^ 53 }
-    ensures { agenda.new ≡ lanes_with (other (kind_of from)) (coming_to delays.now from time place message.now.bytes) (has running) agenda.old }
+    ensures { agenda.new
+        ≡ lanes_with (other (kind_of from)) (coming_to delays.now from time place message.now.bytes)
+        (has running) agenda.old }
 {
     let mut left = NodeSet::<Rmu>::from_bits(running);
     while let Some(id) = left.pop_first() {
@@ -110,8 +114,9 @@ fn spread_from(
     }
 }
 
-/// Puts a message of a good node into the lanes of the nodes of the other kind that still run, one bit of `running` for each. It
-/// comes to each at the time of the sending tick and the delay of the link, and all get the same bytes. `clock` is the sender's.
+/// Puts a message of a good node into the lanes of the nodes of the other kind that still run, one
+/// bit of `running` for each. It comes to each at the time of the sending tick and the delay of the
+/// link, and all get the same bytes. `clock` is the sender's.
 pub fn send(
     agenda: &mut Agenda,
     clock: &Clock,
@@ -125,10 +130,13 @@ pub fn send(
     requires most_stages { departure.now.message.stage ≤ 3 }
     requires value { IsZeroUnlessWord departure.now.message.tag departure.now.message.value }
     requires room { HaveRoom (other (kind_of departure.now.from)) running agenda.old }
-    ensures lanes { agenda.new ≡ with_departure clock.now delays.now version departure.now running agenda.old }
-    ensures world { (sc : Scenario) → (sites : Each Site) → IsOfScenario sc clock.now delays.now version departure.now
+    ensures lanes { agenda.new ≡ with_departure clock.now delays.now version departure.now running
+        agenda.old }
+    ensures world { (sc : Scenario) → (sites : Each Site)
+        → IsOfScenario sc clock.now delays.now version departure.now
         → AreRunning (other (kind_of departure.now.from)) running sites
-        → HoldsSites sc.sizes agenda.old sites → HoldsSites sc.sizes agenda.new (with_sent sc departure.now sites) }
+        → HoldsSites sc.sizes agenda.old sites
+        → HoldsSites sc.sizes agenda.new (with_sent sc departure.now sites) }
 {
     let Departure {
         from,

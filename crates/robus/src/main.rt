@@ -1,5 +1,5 @@
-//! The program: `run_robus` over standard input and standard output, with the three applications, the two voters and a plain drive. It
-//! ends with the number of the status.
+//! The program: `run_robus` over standard input and standard output, with the three applications,
+//! the two voters and a plain drive. It ends with the number of the status.
 #![tactic(auto)]
 
 use rb_group::voters;

@@ -1,5 +1,5 @@
-//! The program: `run_bridge` over standard input and standard output, with the three applications and a plain drive for each bus. It ends
-//! with the number of the status.
+//! The program: `run_bridge` over standard input and standard output, with the three applications
+//! and a plain drive for each bus. It ends with the number of the status.
 #![tactic(auto)]
 
 use rb_bridge_top::run_bridge;

@@ -10,8 +10,9 @@ use rb_host::handle::Handle;
 use rb_host::seat::Seat;
 use std::alloc::Global;
 
-/// Frees the node that is there, if one is, and puts the node of this seat into the handle, before its first tick. The answer is 0, or says
-/// why there is none: 7 no memory, 11 the sizes, 12 no such node, 13 a number of the plan, 21 to 27 the inequality that fails first.
+/// Frees the node that is there, if one is, and puts the node of this seat into the handle, before
+/// its first tick. The answer is 0, or says why there is none: 7 no memory, 11 the sizes, 12 no
+/// such node, 13 a number of the plan, 21 to 27 the inequality that fails first.
 #[unsafe(no_mangle)]
 pub extern "C" fn robus_node_new(alloc: Global, node: &mut Handle, seat: &Seat) -> u32
     ensures { IsAnswered seat.now (node_in node.new) result }
@@ -19,7 +20,8 @@ pub extern "C" fn robus_node_new(alloc: Global, node: &mut Handle, seat: &Seat) 
     calls::new(alloc, node, seat)
 }
 
-/// A message comes, or other bytes, with the number of their source among the nodes of the other kind. Whether there is a node.
+/// A message comes, or other bytes, with the number of their source among the nodes of the other
+/// kind. Whether there is a node.
 #[unsafe(no_mangle)]
 pub extern "C" fn robus_node_arrive(
     alloc: Global,
@@ -28,7 +30,8 @@ pub extern "C" fn robus_node_arrive(
     bytes: &[u8],
 ) -> bool
     ensures there { result ≡ is_some (node_in node.old) }
-    ensures arrives { Becomes (λ n m. Arrives n from bytes.now m) (node_in node.old) (node_in node.new) }
+    ensures arrives { Becomes (λ n m. Arrives n from bytes.now m) (node_in node.old)
+        (node_in node.new) }
 {
     calls::arrive(alloc, node, from, bytes)
 }
@@ -43,8 +46,8 @@ pub extern "C" fn robus_node_wants(alloc: Global, node: &mut Handle) -> HostWant
     calls::wants(alloc, node)
 }
 
-/// A tick of the node's clock, with the request or the word for the case that one is wanted, and what the node gives. Whether there is a
-/// node; where there is none, `act` is as it was.
+/// A tick of the node's clock, with the request or the word for the case that one is wanted, and
+/// what the node gives. Whether there is a node; where there is none, `act` is as it was.
 #[unsafe(no_mangle)]
 pub extern "C" fn robus_node_tick(
     alloc: Global,
@@ -59,7 +62,8 @@ pub extern "C" fn robus_node_tick(
     calls::tick(alloc, node, word, act)
 }
 
-/// The number of the first tick from the next on that isn't quiet; 2^31 where that would not be below 2^31, and where there is no node.
+/// The number of the first tick from the next on that isn't quiet; 2^31 where that would not be
+/// below 2^31, and where there is no node.
 #[unsafe(no_mangle)]
 pub extern "C" fn robus_node_next_tick(alloc: Global, node: &mut Handle) -> u64
     ensures next { IfSome (node_in node.old) (λ n. IsNextTick n result) }
@@ -69,11 +73,12 @@ pub extern "C" fn robus_node_next_tick(alloc: Global, node: &mut Handle) -> u64
     calls::next_tick(alloc, node)
 }
 
-/// Quiet ticks pass: as many as there are before the next that isn't quiet, and at most so many. Gives how many did; 0 where there is no
-/// node.
+/// Quiet ticks pass: as many as there are before the next that isn't quiet, and at most so many.
+/// Gives how many did; 0 where there is no node.
 #[unsafe(no_mangle)]
 pub extern "C" fn robus_node_pass(alloc: Global, node: &mut Handle, ticks: u64) -> u64
-    ensures passes { Becomes (λ n m. Passes n ticks result m) (node_in node.old) (node_in node.new) }
+    ensures passes { Becomes (λ n m. Passes n ticks result m) (node_in node.old)
+        (node_in node.new) }
     ensures none { node_in node.old ≡ None → result ≡ 0 }
 {
     calls::pass(alloc, node, ticks)

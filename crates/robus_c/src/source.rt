@@ -7,7 +7,8 @@ ghost use Rattle.rb_outside.specs.Causes.{HasCause};
 use rb_outside::{Failed, Source};
 use std::marker::Model;
 
-/// A source over bytes in memory, of which a first part has been given. It gives as many bytes as there are and as fit, and never fails.
+/// A source over bytes in memory, of which a first part has been given. It gives as many bytes as
+/// there are and as fit, and never fails.
 #[derive(Drop)]
 pub struct SliceSource<'a> {
     bytes: &'a [u8],

@@ -17,7 +17,8 @@ pub enum NoWords {
 
 // The parts of the text between NUL characters.
 fn parts_of<'a>(alloc: Global, text: &'a str) -> Result<Vec<&'a str>, AllocError>
-    ensures { IfOk result (λ v. map (λ part. part.now) v.items ≡ slice_split (λ c. c == 0) text.now) }
+    ensures { IfOk result (λ v. map (λ part. part.now) v.items
+        ≡ slice_split (λ c. c == 0) text.now) }
 {
     text.split('\0').collect(alloc)
 }
@@ -44,7 +45,8 @@ fn words_of(alloc: Global, text: &str) -> Result<Vec<String>, AllocError>
     copies_of(alloc, &parts)
 }
 
-/// The words that the bytes spell, with a NUL byte between one and the next. No bytes spell no words.
+/// The words that the bytes spell, with a NUL byte between one and the next. No bytes spell no
+/// words.
 pub fn words_in(alloc: Global, bytes: &[u8]) -> Result<Vec<String>, NoWords>
     ensures words { IfOk result (λ v. map string_bytes v.items ≡ words_in bytes.now) }
     ensures text { IsOk result → IsUtf8 bytes.now }

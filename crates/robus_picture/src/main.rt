@@ -1,4 +1,5 @@
-//! The program: `draw` over standard input and standard output. It ends with the number of the status.
+//! The program: `draw` over standard input and standard output. It ends with the number of the
+//! status.
 #![tactic(auto)]
 
 use rb_outside::{StdSink, StdSource};
