@@ -183,10 +183,6 @@ abbrev pub with_queue : NodeName → Queued → Each Queued → Each Queued
 with_queue (node.Biu i) q queues = record queues { bius = slice_set queues.bius i q }
 with_queue (node.Rmu i) q queues = record queues { rmus = slice_set queues.rmus i q }
 
--- only the lane of this node changes
-abbrev pub with_lane_at : NodeName → Held → Each Queued → Each Queued
-with_lane_at name lane queues = with_queue name (with_held lane (queue_of queues name)) queues
-
 -- How it is kept and looked through.
 
 -- of this lane and what is kept beside, all but the tick has room

@@ -27,8 +27,9 @@ impl Model for Arrival {
 }
 
 impl Arrival {
+    /// What comes at this time, in reference units, from the sender of this number.
     #[inline(always)]
-    pub(crate) fn new(time: u64, from: u8, bytes: ArrayVec<u8, 32>) -> Arrival
+    pub fn new(time: u64, from: u8, bytes: ArrayVec<u8, 32>) -> Arrival
         ensures { result ≡ record { time = time; from = from; bytes = bytes.items } }
     {
         Arrival::of(time, from, Spelling::of(bytes.as_slice()))
@@ -46,9 +47,9 @@ impl Arrival {
         }
     }
 
-    // The same at another time.
+    /// The same at another time, in reference units.
     #[inline(always)]
-    pub(crate) fn at(&self, time: u64) -> Arrival
+    pub fn at(&self, time: u64) -> Arrival
         ensures { result ≡ record self.now { time = time } }
     {
         Arrival {

@@ -13,10 +13,11 @@ use rb_base::{Event, EventKind, NodeName, OutOfMemory};
 use std::alloc::Global;
 use std::marker::Model;
 
-// The arrivals in the order of pushing, those before the start being gone, and the time of the
-// tick. The room is taken from memory at the start.
+/// What is pending at one node of a run: what comes to it, in the order of pushing, and the time of
+/// its tick. The room is taken from memory at the start.
 #[derive(Drop)]
-pub(crate) struct Lane {
+pub struct Lane {
+    // Those before the start are gone.
     kept: Vec<Arrival>,
     start: usize,
     // If so, each arrival comes no sooner than those before it.
@@ -99,7 +100,8 @@ pub(crate) fn tick_event(node: NodeName) -> Event
 }
 
 impl Lane {
-    pub(crate) fn new(alloc: Global, room: usize) -> Result<Lane, OutOfMemory>
+    /// An empty lane with room for `room` events, all of it taken from memory here.
+    pub fn new(alloc: Global, room: usize) -> Result<Lane, OutOfMemory>
         ensures { IfOk result (λ lane. lane ≡ empty_lane room) }
     {
         let kept = Vec::with_capacity(alloc, room)?;
@@ -113,22 +115,25 @@ impl Lane {
         })
     }
 
+    /// The arrivals, in the order of pushing.
     #[inline(always)]
-    pub(crate) fn waiting(&self) -> &[Arrival]
+    pub fn waiting(&self) -> &[Arrival]
         ensures { result.now ≡ self.now.arrivals }
     {
         &self.kept[self.start..]
     }
 
-    pub(crate) fn spare(&self) -> usize
+    /// How many events more there is room for: the room less the number of its events.
+    pub fn spare(&self) -> usize
         ensures { result ≡ spare_of self.now }
     {
         let ticks = usize::from(self.tick.is_some());
         self.room.saturating_sub(self.waiting().len() + ticks)
     }
 
+    /// Adds what comes to the node. There is room for it.
     #[inline(always)]
-    pub(crate) fn push(&mut self, arrival: Arrival)
+    pub fn push(&mut self, arrival: Arrival)
         requires { 1 ≤ spare_of self.old }
         ensures { self.new ≡ with_arrival arrival self.old }
     {
@@ -139,8 +144,9 @@ impl Lane {
         self.kept.push_reserved(arrival);
     }
 
+    /// The tick is pending, due at this time in reference units, in place of the one that was.
     #[inline(always)]
-    pub(crate) fn push_tick(&mut self, time: u64)
+    pub fn push_tick(&mut self, time: u64)
         ensures { self.new ≡ with_tick time self.old }
     {
         self.tick = Some(time);
@@ -157,16 +163,19 @@ impl Lane {
         first_of(self.waiting())
     }
 
+    /// The least time, in reference units, at which an event is due. None exactly where there is none.
     #[inline(never)]
     #[tactic(auto, using(crate::proofs::Idle::none_pending))]
-    pub(crate) fn head(&self) -> Option<u64>
+    pub fn head(&self) -> Option<u64>
         ensures value { result ≡ head_of self.now }
         ensures none { IsNone result ↔ IsIdle self.now }
     {
         least_time(self.waiting(), self.first(), self.tick)
     }
 
-    pub(crate) fn ready(&self) -> usize
+    /// How many events are ready: the arrivals of the least time or, where there are none, the tick of
+    /// that time.
+    pub fn ready(&self) -> usize
         ensures value { result ≡ length (ready_of self.now) }
         ensures few { result ≤ self.now.room + 1 }
     {
@@ -213,7 +222,9 @@ impl Lane {
         Some(place_of(self.waiting(), time, i))
     }
 
-    pub(crate) fn event(&self, node: NodeName, i: usize) -> Event
+    /// The ready event at place `i`, counted from 0, as an event of the node. Arrivals are listed by
+    /// sender and then in the order of pushing.
+    pub fn event(&self, node: NodeName, i: usize) -> Event
         requires { i < length (ready_of self.now) }
         ensures { ready_event node i self.now ≡ Some result }
     {
@@ -223,7 +234,8 @@ impl Lane {
         }
     }
 
-    pub(crate) fn take(&mut self, node: NodeName, i: usize) -> Event
+    /// Takes the ready event at place `i`, counted from 0, out of the lane, and no other.
+    pub fn take(&mut self, node: NodeName, i: usize) -> Event
         requires { i < length (ready_of self.old) }
         ensures event { ready_event node i self.old ≡ Some result }
         ensures after { self.new ≡ without_ready i self.old }
@@ -241,9 +253,10 @@ impl Lane {
         }
     }
 
-    // The place of the first arrival that is ready, where it is due before this time.
+    /// The place, among the arrivals in the order of pushing, of the first that is ready, where it is
+    /// due before this time. None exactly where nothing is due before then but the tick.
     #[inline(always)]
-    pub(crate) fn first_before(&self, until: u64) -> Option<usize>
+    pub fn first_before(&self, until: u64) -> Option<usize>
         ensures { IsFirstBefore until self.now result }
     {
         let first = self.first();
@@ -261,8 +274,9 @@ impl Lane {
         Some(first)
     }
 
+    /// The arrival at this place, in the order of pushing.
     #[inline(always)]
-    pub(crate) fn arrival(&self, place: usize) -> &Arrival
+    pub fn arrival(&self, place: usize) -> &Arrival
         requires { place < length self.now.arrivals }
         ensures { slice_get self.now.arrivals place ≡ Some result.now }
     {
@@ -293,8 +307,9 @@ impl Lane {
         self.drop_waiting();
     }
 
+    /// Drops the arrival at this place, in the order of pushing, and nothing else.
     #[inline(always)]
-    pub(crate) fn drop_at(&mut self, place: usize)
+    pub fn drop_at(&mut self, place: usize)
         requires { place < length self.old.arrivals }
         ensures { self.new ≡ without_place place self.old }
     {
@@ -306,9 +321,10 @@ impl Lane {
         self.sorted = false;
     }
 
-    // Mostly there are none, or all come before.
+    /// Drops the arrivals that are due before this time, and nothing else. The others stay in the order
+    /// of pushing. Mostly there are none, or all come before.
     #[inline(always)]
-    pub(crate) fn drop_before(&mut self, until: u64)
+    pub fn drop_before(&mut self, until: u64)
         ensures { self.new ≡ without_before until self.old }
     {
         if self.kept.len() == 0 {
@@ -322,21 +338,24 @@ impl Lane {
         self.start = 0;
     }
 
+    /// The time of the tick, in reference units, if one is pending.
     #[inline(always)]
-    pub(crate) fn tick(&self) -> Option<u64>
+    pub fn tick(&self) -> Option<u64>
         ensures { result ≡ self.now.tick }
     {
         self.tick
     }
 
+    /// The tick is pending no more. Nothing else changes.
     #[inline(always)]
-    pub(crate) fn take_tick(&mut self)
+    pub fn take_tick(&mut self)
         ensures { self.new ≡ without_tick self.old }
     {
         self.tick = None;
     }
 
-    pub(crate) fn clear(&mut self)
+    /// Drops all events.
+    pub fn clear(&mut self)
         ensures { self.new ≡ without_events self.old }
     {
         self.drop_waiting();

@@ -1,13 +1,10 @@
 //! The pending events of all nodes.
-ghost use Rattle.std.specs.Prelude.{◌≡◌, ◌+◌, ◌<◌, ◌≤◌, [], ◌∷◌, ◌++◌, length, map, slice_get, Some, IfOk, IsNone, ◌↔◌};
+ghost use Rattle.std.specs.Prelude.{◌≡◌, ◌+◌, ◌<◌, ◌≤◌, [], ◌∷◌, ◌++◌, length, map, Some, IfOk, IsNone, ◌↔◌};
 ghost use Rattle.rb_base.specs.Counting.{numbers};
 ghost use Rattle.rb_rules.specs.Book.{each_of};
-ghost use Rattle.rb_queue.specs.Waiting.{IsFirstBefore, with_arrival, with_tick, without_before, without_place, without_tick};
-ghost use Rattle.rb_queue.specs.Queued.{HasQueue, IsEmpty, IsLastOf, emptied, empty_queue, least_time_of, queue_of, room_left, takeable_event, takeable_of, with_lane_at, with_pushed, with_queue, without_takeable};
+ghost use Rattle.rb_queue.specs.Queued.{HasQueue, IsEmpty, IsLastOf, emptied, empty_queue, least_time_of, queue_of, room_left, takeable_event, takeable_of, with_pushed, with_queue, without_takeable};
 
-use crate::arrival::Arrival;
 use crate::queue::Queue;
-use arrayvec::ArrayVec;
 use rb_base::{Event, EventKind, NodeName, OutOfMemory, Shape};
 use std::alloc::Global;
 use std::marker::Model;
@@ -96,56 +93,6 @@ impl Lanes {
         }
     }
 
-    /// Adds what comes to a node from a sender, due at this time in reference units, to its lane.
-    /// There is room for it. It comes before what `push` kept beside the lane of that sender and
-    /// that time.
-    #[inline(always)]
-    pub fn push_arrival(&mut self, node: NodeName, time: u64, from: u8, bytes: ArrayVec<u8, 32>)
-        requires in_shape { HasQueue self.old node }
-        requires spare { 1 ≤ room_left (queue_of self.old node) }
-        ensures after { self.new ≡ with_lane_at node
-            (with_arrival (record { time = time; from = from; bytes = bytes.items }) (queue_of self.old node).lane)
-            self.old }
-    {
-        let arrival = Arrival::new(time, from, bytes);
-        match node {
-            NodeName::Biu(i) => self.bius[usize::from(i)].push_arrival(arrival),
-            NodeName::Rmu(i) => self.rmus[usize::from(i)].push_arrival(arrival),
-        }
-    }
-
-    /// Adds what comes to a node, due at this time in reference units, with the sender and the
-    /// bytes of another arrival, to its lane: for a message that comes to many. There is room for
-    /// it. It comes before what `push` kept beside the lane of that sender and that time.
-    #[inline(always)]
-    pub fn push_like(&mut self, node: NodeName, time: u64, like: &Arrival)
-        requires in_shape { HasQueue self.old node }
-        requires spare { 1 ≤ room_left (queue_of self.old node) }
-        ensures after { self.new ≡ with_lane_at node
-            (with_arrival (record like.now { time = time }) (queue_of self.old node).lane)
-            self.old }
-    {
-        let arrival = like.at(time);
-        match node {
-            NodeName::Biu(i) => self.bius[usize::from(i)].push_arrival(arrival),
-            NodeName::Rmu(i) => self.rmus[usize::from(i)].push_arrival(arrival),
-        }
-    }
-
-    /// The tick of the node's lane is pending, due at this time in reference units, in place of the
-    /// one that was. A tick that `push` kept beside the lane stays.
-    #[inline(always)]
-    pub fn push_tick(&mut self, node: NodeName, time: u64)
-        requires in_shape { HasQueue self.old node }
-        ensures after { self.new ≡ with_lane_at node (with_tick time (queue_of self.old node).lane)
-            self.old }
-    {
-        match node {
-            NodeName::Biu(i) => self.bius[usize::from(i)].push_tick(time),
-            NodeName::Rmu(i) => self.rmus[usize::from(i)].push_tick(time),
-        }
-    }
-
     /// The least time, in reference units, at which an event of the node is due. None exactly where
     /// the node has no event.
     pub fn head(&self, node: NodeName) -> Option<u64>
@@ -187,87 +134,6 @@ impl Lanes {
         match node {
             NodeName::Biu(index) => self.bius[usize::from(index)].take(node, i),
             NodeName::Rmu(index) => self.rmus[usize::from(index)].take(node, i),
-        }
-    }
-
-    /// The place, among the arrivals of the node's lane in the order of pushing, of the first that
-    /// is ready there, where it is due before this time. None exactly where nothing that the lane
-    /// holds is due before then but its tick. What `push` kept beside is not looked at.
-    #[inline(always)]
-    pub fn first_before(&self, node: NodeName, until: u64) -> Option<usize>
-        requires in_shape { HasQueue self.now node }
-        ensures first { IsFirstBefore until (queue_of self.now node).lane result }
-    {
-        self.queue(node).first_before(until)
-    }
-
-    /// The arrival at this place among those of the node's lane, in the order of pushing.
-    #[inline(always)]
-    pub fn arrival(&self, node: NodeName, place: usize) -> &Arrival
-        requires in_shape { HasQueue self.now node }
-        requires below { place < length (queue_of self.now node).lane.arrivals }
-        ensures value { slice_get (queue_of self.now node).lane.arrivals place ≡ Some result.now }
-    {
-        self.queue(node).arrival(place)
-    }
-
-    /// Drops the arrival at this place among those of the node's lane, in the order of pushing, and
-    /// nothing else.
-    #[inline(always)]
-    pub fn drop_at(&mut self, node: NodeName, place: usize)
-        requires in_shape { HasQueue self.old node }
-        requires below { place < length (queue_of self.old node).lane.arrivals }
-        ensures after { self.new
-            ≡ with_lane_at node (without_place place (queue_of self.old node).lane) self.old }
-    {
-        match node {
-            NodeName::Biu(i) => self.bius[usize::from(i)].drop_at(place),
-            NodeName::Rmu(i) => self.rmus[usize::from(i)].drop_at(place),
-        }
-    }
-
-    /// The arrivals of the node's lane, in the order of pushing.
-    #[inline(always)]
-    pub fn waiting(&self, node: NodeName) -> &[Arrival]
-        requires in_shape { HasQueue self.now node }
-        ensures value { result.now ≡ (queue_of self.now node).lane.arrivals }
-    {
-        self.queue(node).waiting()
-    }
-
-    /// Drops the arrivals of the node's lane that are due before this time, and nothing else. The
-    /// others stay in the order of pushing.
-    #[inline(always)]
-    pub fn drop_before(&mut self, node: NodeName, until: u64)
-        requires in_shape { HasQueue self.old node }
-        ensures after { self.new
-            ≡ with_lane_at node (without_before until (queue_of self.old node).lane) self.old }
-    {
-        match node {
-            NodeName::Biu(i) => self.bius[usize::from(i)].drop_before(until),
-            NodeName::Rmu(i) => self.rmus[usize::from(i)].drop_before(until),
-        }
-    }
-
-    /// The time of the tick of the node's lane, in reference units, if one is pending.
-    #[inline(always)]
-    pub fn tick(&self, node: NodeName) -> Option<u64>
-        requires in_shape { HasQueue self.now node }
-        ensures value { result ≡ (queue_of self.now node).lane.tick }
-    {
-        self.queue(node).tick()
-    }
-
-    /// The tick of the node's lane is pending no more. Nothing else changes.
-    #[inline(always)]
-    pub fn take_tick(&mut self, node: NodeName)
-        requires in_shape { HasQueue self.old node }
-        ensures after { self.new ≡ with_lane_at node (without_tick (queue_of self.old node).lane)
-            self.old }
-    {
-        match node {
-            NodeName::Biu(i) => self.bius[usize::from(i)].take_tick(),
-            NodeName::Rmu(i) => self.rmus[usize::from(i)].take_tick(),
         }
     }
 

@@ -3,11 +3,12 @@
 
 pub mod arrival;
 mod beside;
-mod lane;
+pub mod lane;
 pub mod lanes;
 mod pending;
 mod queue;
 mod scan;
 
 pub use arrival::Arrival;
+pub use lane::Lane;
 pub use lanes::Lanes;

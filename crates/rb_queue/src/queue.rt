@@ -1,7 +1,7 @@
 //! All that is pending at one node.
-ghost use Rattle.std.specs.Prelude.{◌≡◌, ◌+◌, ◌<◌, ◌≤◌, length, Some, IfOk, slice_get, IsNone, ◌↔◌};
-ghost use Rattle.rb_queue.specs.Waiting.{IsFirstBefore, spare_of, with_arrival, with_event, with_tick, without_before, without_place, without_tick};
-ghost use Rattle.rb_queue.specs.Queued.{IsEmpty, IsLastOf, IsSent, emptied, empty_queue, fits_lane, has_place, least_time_of, room_left, takeable_event, takeable_of, with_held, with_pushed, without_takeable};
+ghost use Rattle.std.specs.Prelude.{◌≡◌, ◌+◌, ◌<◌, ◌≤◌, length, Some, IfOk, IsNone, ◌↔◌};
+ghost use Rattle.rb_queue.specs.Waiting.{spare_of, with_event};
+ghost use Rattle.rb_queue.specs.Queued.{IsEmpty, IsLastOf, IsSent, emptied, empty_queue, fits_lane, has_place, least_time_of, room_left, takeable_event, takeable_of, with_pushed, without_takeable};
 ghost use Rattle.rb_queue.specs.Spots.{IsSpot};
 
 use crate::arrival::Arrival;
@@ -83,21 +83,6 @@ impl Queue {
         } else {
             self.more.push_reserved(Pending { time, event });
         }
-    }
-
-    #[inline(always)]
-    pub(crate) fn push_arrival(&mut self, arrival: Arrival)
-        requires { 1 ≤ room_left self.old }
-        ensures { self.new ≡ with_held (with_arrival arrival self.old.lane) self.old }
-    {
-        self.lane.push(arrival);
-    }
-
-    #[inline(always)]
-    pub(crate) fn push_tick(&mut self, time: u64)
-        ensures { self.new ≡ with_held (with_tick time self.old.lane) self.old }
-    {
-        self.lane.push_tick(time);
     }
 
     pub(crate) fn head(&self) -> Option<u64>
@@ -185,57 +170,6 @@ impl Queue {
             return self.lane.take(node, i);
         }
         self.take_among(node, i)
-    }
-
-    #[inline(always)]
-    pub(crate) fn first_before(&self, until: u64) -> Option<usize>
-        ensures { IsFirstBefore until self.now.lane result }
-    {
-        self.lane.first_before(until)
-    }
-
-    #[inline(always)]
-    pub(crate) fn arrival(&self, place: usize) -> &Arrival
-        requires { place < length self.now.lane.arrivals }
-        ensures { slice_get self.now.lane.arrivals place ≡ Some result.now }
-    {
-        self.lane.arrival(place)
-    }
-
-    #[inline(always)]
-    pub(crate) fn drop_at(&mut self, place: usize)
-        requires { place < length self.old.lane.arrivals }
-        ensures { self.new ≡ with_held (without_place place self.old.lane) self.old }
-    {
-        self.lane.drop_at(place);
-    }
-
-    #[inline(always)]
-    pub(crate) fn waiting(&self) -> &[Arrival]
-        ensures { result.now ≡ self.now.lane.arrivals }
-    {
-        self.lane.waiting()
-    }
-
-    #[inline(always)]
-    pub(crate) fn drop_before(&mut self, until: u64)
-        ensures { self.new ≡ with_held (without_before until self.old.lane) self.old }
-    {
-        self.lane.drop_before(until);
-    }
-
-    #[inline(always)]
-    pub(crate) fn tick(&self) -> Option<u64>
-        ensures { result ≡ self.now.lane.tick }
-    {
-        self.lane.tick()
-    }
-
-    #[inline(always)]
-    pub(crate) fn take_tick(&mut self)
-        ensures { self.new ≡ with_held (without_tick self.old.lane) self.old }
-    {
-        self.lane.take_tick();
     }
 
     pub(crate) fn clear(&mut self)

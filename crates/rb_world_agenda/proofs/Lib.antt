@@ -12,4 +12,3 @@ pub mod Taking
 pub mod Marks
 pub mod Ticks
 pub mod Known
-mod Bare

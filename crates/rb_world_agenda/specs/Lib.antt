@@ -2,4 +2,3 @@ pub mod Holding
 pub mod Agenda
 pub mod Fronts
 pub mod Fours
-pub mod Bare

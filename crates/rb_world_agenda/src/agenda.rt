@@ -103,7 +103,7 @@ impl Agenda {
             (with_arrival (record { time = time; from = from; bytes = bytes.items }) (lane_of self.old node))
             self.old }
     {
-        self.lanes.push_arrival(node, time, from, bytes);
+        self.lanes.push(node, Arrival::new(time, from, bytes));
         keep_key(
             &mut self.keys,
             &mut self.front,
@@ -125,7 +125,7 @@ impl Agenda {
             self.old }
     {
         let _from = like.from();
-        self.lanes.push_like(node, time, like);
+        self.lanes.push(node, like.at(time));
         keep_key(
             &mut self.keys,
             &mut self.front,

@@ -1,39 +1,65 @@
 //! The lanes of a run.
-ghost use Rattle.std.specs.Prelude.{◌≡◌, ◌+◌, ◌<◌, ◌≤◌, length, slice_get, IfOk, Some};
+ghost use Rattle.std.specs.Prelude.{◌≡◌, ◌+◌, ◌<◌, ◌≤◌, [], ◌∷◌, ◌++◌, length, map, slice_get, IfOk, Some};
+ghost use Rattle.rb_base.specs.Counting.{numbers};
 ghost use Rattle.rb_rules.specs.Book.{each_of};
 ghost use Rattle.rb_queue.specs.Waiting.{HasLane, IsFirstBefore, empty_lane, head_of, lane_of, ready_event, ready_of, spare_of, with_arrival, with_lane, with_tick, without_before, without_events, without_place, without_ready, without_tick};
 
-use arrayvec::ArrayVec;
 use rb_base::{Event, NodeName, OutOfMemory, Shape};
-use rb_queue::{Arrival, Lanes};
+use rb_queue::{Arrival, Lane};
 use std::alloc::Global;
 use std::marker::Model;
 
-/// What is pending in a run: each node's arrivals, and the time of its tick. A run pushes nothing
-/// else, so at each node nothing is kept beside the lane.
+/// What is pending in a run: a lane for each node.
 #[derive(Drop)]
 pub struct RunLanes {
-    all: Lanes,
+    bius: Vec<Lane>,
+    rmus: Vec<Lane>,
 }
 
 impl Model for RunLanes {
     ghost use Rattle.rb_rules.specs.Book.{Each};
     ghost use Rattle.rb_queue.specs.Waiting.{Held};
-    ghost use Rattle.rb_world_agenda.specs.Bare.{AreBare, lanes_in};
 
     ghost Value = { Each Held };
 
-    ghost view = { λ l. lanes_in l.all };
+    ghost view = { λ l. record { bius = l.bius.items; rmus = l.rmus.items } };
+}
 
-    ghost invariant = { λ l. AreBare l.all };
+fn add_lane(lanes: &mut Vec<Lane>, lane: Lane) -> Result<(), OutOfMemory>
+    ensures { IfOk result (λ _. lanes.new.items ≡ lanes.old.items ++ lane ∷ []) }
+{
+    lanes.push(lane).map_err(|_| OutOfMemory)
+}
+
+fn empty_lanes(alloc: Global, count: u8, room: usize) -> Result<Vec<Lane>, OutOfMemory>
+    ensures { IfOk result (λ lanes. lanes.items ≡ map (λ _. empty_lane room) (numbers count)) }
+{
+    let mut lanes = Vec::with_capacity(alloc, usize::from(count))?;
+    for node in 0..count {
+        let lane = Lane::new(alloc, room)?;
+        add_lane(&mut lanes, lane)?;
+    }
+    Ok(lanes)
 }
 
 impl RunLanes {
     pub(crate) fn new(alloc: Global, shape: &Shape, room: usize) -> Result<RunLanes, OutOfMemory>
         ensures { IfOk result (λ lanes. lanes ≡ each_of shape.now (λ side i. empty_lane room)) }
     {
-        let all = Lanes::new(alloc, shape, room)?;
-        Ok(RunLanes { all })
+        let bius = empty_lanes(alloc, shape.biu(), room)?;
+        let rmus = empty_lanes(alloc, shape.rmu(), room)?;
+        Ok(RunLanes { bius, rmus })
+    }
+
+    #[inline(always)]
+    fn lane(&self, node: NodeName) -> &Lane
+        requires { HasLane self.now node }
+        ensures { result.now ≡ lane_of self.now node }
+    {
+        match node {
+            NodeName::Biu(i) => &self.bius[usize::from(i)],
+            NodeName::Rmu(i) => &self.rmus[usize::from(i)],
+        }
     }
 
     #[inline(always)]
@@ -41,44 +67,32 @@ impl RunLanes {
         requires in_shape { HasLane self.now node }
         ensures value { result ≡ spare_of (lane_of self.now node) }
     {
-        self.all.spare(node)
+        self.lane(node).spare()
     }
 
     #[inline(always)]
-    pub(crate) fn push_arrival(
-        &mut self,
-        node: NodeName,
-        time: u64,
-        from: u8,
-        bytes: ArrayVec<u8, 32>,
-    )
+    pub(crate) fn push(&mut self, node: NodeName, arrival: Arrival)
         requires in_shape { HasLane self.old node }
         requires spare { 1 ≤ spare_of (lane_of self.old node) }
-        ensures after { self.new ≡ with_lane node
-            (with_arrival (record { time = time; from = from; bytes = bytes.items }) (lane_of self.old node))
-            self.old }
+        ensures after { self.new
+            ≡ with_lane node (with_arrival arrival (lane_of self.old node)) self.old }
     {
-        self.all.push_arrival(node, time, from, bytes);
-    }
-
-    #[inline(always)]
-    pub(crate) fn push_like(&mut self, node: NodeName, time: u64, like: &Arrival)
-        requires in_shape { HasLane self.old node }
-        requires spare { 1 ≤ spare_of (lane_of self.old node) }
-        ensures after { self.new ≡ with_lane node
-            (with_arrival (record like.now { time = time }) (lane_of self.old node))
-            self.old }
-    {
-        self.all.push_like(node, time, like);
+        match node {
+            NodeName::Biu(i) => self.bius[usize::from(i)].push(arrival),
+            NodeName::Rmu(i) => self.rmus[usize::from(i)].push(arrival),
+        }
     }
 
     #[inline(always)]
     pub(crate) fn push_tick(&mut self, node: NodeName, time: u64)
         requires in_shape { HasLane self.old node }
-        ensures after { self.new ≡ with_lane node (with_tick time (lane_of self.old node))
-            self.old }
+        ensures after { self.new
+            ≡ with_lane node (with_tick time (lane_of self.old node)) self.old }
     {
-        self.all.push_tick(node, time);
+        match node {
+            NodeName::Biu(i) => self.bius[usize::from(i)].push_tick(time),
+            NodeName::Rmu(i) => self.rmus[usize::from(i)].push_tick(time),
+        }
     }
 
     #[inline(always)]
@@ -86,7 +100,7 @@ impl RunLanes {
         requires in_shape { HasLane self.now node }
         ensures value { result ≡ head_of (lane_of self.now node) }
     {
-        self.all.head(node)
+        self.lane(node).head()
     }
 
     #[inline(always)]
@@ -95,7 +109,7 @@ impl RunLanes {
         ensures value { result ≡ length (ready_of (lane_of self.now node)) }
         ensures few { result ≤ (lane_of self.now node).room + 1 }
     {
-        self.all.ready(node)
+        self.lane(node).ready()
     }
 
     #[inline(always)]
@@ -104,7 +118,7 @@ impl RunLanes {
         requires below { i < length (ready_of (lane_of self.now node)) }
         ensures value { ready_event node i (lane_of self.now node) ≡ Some result }
     {
-        self.all.event(node, i)
+        self.lane(node).event(node, i)
     }
 
     #[inline(always)]
@@ -112,10 +126,13 @@ impl RunLanes {
         requires in_shape { HasLane self.old node }
         requires below { i < length (ready_of (lane_of self.old node)) }
         ensures value { ready_event node i (lane_of self.old node) ≡ Some result }
-        ensures after { self.new ≡ with_lane node (without_ready i (lane_of self.old node))
-            self.old }
+        ensures after { self.new
+            ≡ with_lane node (without_ready i (lane_of self.old node)) self.old }
     {
-        self.all.take(node, i)
+        match node {
+            NodeName::Biu(index) => self.bius[usize::from(index)].take(node, i),
+            NodeName::Rmu(index) => self.rmus[usize::from(index)].take(node, i),
+        }
     }
 
     #[inline(always)]
@@ -123,7 +140,7 @@ impl RunLanes {
         requires in_shape { HasLane self.now node }
         ensures first { IsFirstBefore until (lane_of self.now node) result }
     {
-        self.all.first_before(node, until)
+        self.lane(node).first_before(until)
     }
 
     #[inline(always)]
@@ -132,17 +149,20 @@ impl RunLanes {
         requires below { place < length (lane_of self.now node).arrivals }
         ensures value { slice_get (lane_of self.now node).arrivals place ≡ Some result.now }
     {
-        self.all.arrival(node, place)
+        self.lane(node).arrival(place)
     }
 
     #[inline(always)]
     pub(crate) fn drop_at(&mut self, node: NodeName, place: usize)
         requires in_shape { HasLane self.old node }
         requires below { place < length (lane_of self.old node).arrivals }
-        ensures after { self.new ≡ with_lane node (without_place place (lane_of self.old node))
-            self.old }
+        ensures after { self.new
+            ≡ with_lane node (without_place place (lane_of self.old node)) self.old }
     {
-        self.all.drop_at(node, place);
+        match node {
+            NodeName::Biu(i) => self.bius[usize::from(i)].drop_at(place),
+            NodeName::Rmu(i) => self.rmus[usize::from(i)].drop_at(place),
+        }
     }
 
     #[inline(always)]
@@ -150,16 +170,19 @@ impl RunLanes {
         requires in_shape { HasLane self.now node }
         ensures value { result.now ≡ (lane_of self.now node).arrivals }
     {
-        self.all.waiting(node)
+        self.lane(node).waiting()
     }
 
     #[inline(always)]
     pub(crate) fn drop_before(&mut self, node: NodeName, until: u64)
         requires in_shape { HasLane self.old node }
-        ensures after { self.new ≡ with_lane node (without_before until (lane_of self.old node))
-            self.old }
+        ensures after { self.new
+            ≡ with_lane node (without_before until (lane_of self.old node)) self.old }
     {
-        self.all.drop_before(node, until);
+        match node {
+            NodeName::Biu(i) => self.bius[usize::from(i)].drop_before(until),
+            NodeName::Rmu(i) => self.rmus[usize::from(i)].drop_before(until),
+        }
     }
 
     #[inline(always)]
@@ -167,7 +190,7 @@ impl RunLanes {
         requires in_shape { HasLane self.now node }
         ensures value { result ≡ (lane_of self.now node).tick }
     {
-        self.all.tick(node)
+        self.lane(node).tick()
     }
 
     #[inline(always)]
@@ -175,15 +198,21 @@ impl RunLanes {
         requires in_shape { HasLane self.old node }
         ensures after { self.new ≡ with_lane node (without_tick (lane_of self.old node)) self.old }
     {
-        self.all.take_tick(node);
+        match node {
+            NodeName::Biu(i) => self.bius[usize::from(i)].take_tick(),
+            NodeName::Rmu(i) => self.rmus[usize::from(i)].take_tick(),
+        }
     }
 
     #[inline(always)]
     pub(crate) fn drop_all(&mut self, node: NodeName)
         requires in_shape { HasLane self.old node }
-        ensures after { self.new ≡ with_lane node (without_events (lane_of self.old node))
-            self.old }
+        ensures after { self.new
+            ≡ with_lane node (without_events (lane_of self.old node)) self.old }
     {
-        self.all.drop_all(node);
+        match node {
+            NodeName::Biu(i) => self.bius[usize::from(i)].clear(),
+            NodeName::Rmu(i) => self.rmus[usize::from(i)].clear(),
+        }
     }
 }

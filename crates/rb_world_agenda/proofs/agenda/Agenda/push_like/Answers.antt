@@ -1,5 +1,5 @@
-use Rattle.std.proofs.Common.{refl, sym, subst, arith}
-use Rattle.rb_queue.specs.Waiting.{HasLane, Held, lane_of, with_arrival}
+use Rattle.std.proofs.Common.{◌≡◌, refl, sym, ap, ◌∙◌, subst, arith}
+use Rattle.rb_queue.specs.Waiting.{HasLane, Held, lane_of, with_arrival, with_lane}
 use Rattle.rb_world_agenda.proofs.Keeping.{has-with, room-of}
 use Rattle.rb_world_agenda.proofs.Ticks.{place-within, ticks-same}
 use Rattle.rb_world_agenda.proofs.Known.{known-more, known-of, known-with}
@@ -11,11 +11,13 @@ invariant_of-self c =
     let bius = c.self.inside.bius in
     let name = c.args.node in
     let lane : Held = with_arrival (record c.args.like.now { time = c.args.time }) (lane_of lanes name) in
-    let h : HasLane lanes name = subst (λ x. HasLane x name) (sym c.self.view_is) c.requires.in_shape in (
-      c.keep_key.ensures.kept lanes lane c.self.invariant.0 h c.push_like.ensures.after (room-of lanes bius name c.self.invariant.0.few h),
+    let h : HasLane lanes name = subst (λ x. HasLane x name) (sym c.self.view_is) c.requires.in_shape in
+    let after : c.push.new.self ≡ with_lane name (with_arrival (record c.args.like.now { time = c.args.time }) (lane_of lanes name)) lanes =
+    c.push.ensures.after ∙ ap (λ a. with_lane name (with_arrival a (lane_of lanes name)) lanes) c.at.ensures in (
+      c.keep_key.ensures.kept lanes lane c.self.invariant.0 h after (room-of lanes bius name c.self.invariant.0.few h),
       c.keep_key.ensures.front,
-      ticks-same lanes c.push_like.new.self c.self.inside.ticks.all bius name lane c.self.invariant.0.few.split c.self.invariant.2 h c.push_like.ensures.after refl,
-      known-with lanes c.push_like.new.self bius name lane c.self.invariant.0.few.split h c.push_like.ensures.after c.self.invariant.3
+      ticks-same lanes c.push.new.self c.self.inside.ticks.all bius name lane c.self.invariant.0.few.split c.self.invariant.2 h after refl,
+      known-with lanes c.push.new.self bius name lane c.self.invariant.0.few.split h after c.self.invariant.3
           (known-more (lane_of lanes name) (record c.args.like.now { time = c.args.time }) (omega (arith, c.from-from.ensures, c.from-from.type_inv)) (known-of lanes name c.self.invariant.3 h)),
       c.self.invariant.4,
       c.self.invariant.5,
@@ -29,7 +31,9 @@ keep_key-requires-clause-lane c =
     let lanes = c.self.inside.lanes in
     let name = c.args.node in
     let h : HasLane lanes name = subst (λ x. HasLane x name) (sym c.self.view_is) c.requires.in_shape in
-    subst (λ x. HasLane x name) (sym c.push_like.ensures.after)
+    let after : c.push.new.self ≡ with_lane name (with_arrival (record c.args.like.now { time = c.args.time }) (lane_of lanes name)) lanes =
+    c.push.ensures.after ∙ ap (λ a. with_lane name (with_arrival a (lane_of lanes name)) lanes) c.at.ensures in
+    subst (λ x. HasLane x name) (sym after)
     (has-with lanes name name (with_arrival (record c.args.like.now { time = c.args.time }) (lane_of lanes name)) h)
 
 pub keep_key-requires-clause-within : goal.keep_key-requires-clause-within
