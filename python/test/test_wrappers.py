@@ -36,7 +36,7 @@ class Wrappers(unittest.TestCase):
 
     def test_help(self):
         tools = ("run", "picture", "bridge", "lint", "plan", "layout", "faults", "explain", "sweep", "table",
-                 "quick", "campaign", "no_memory")
+                 "quick", "campaign", "library", "no_memory")
         for tool in tools:
             status, out, said = call("tools/" + tool, "--help")
             self.assertEqual((status, said), (0, ""), tool)
