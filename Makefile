@@ -3,13 +3,15 @@
 # make bridge SCENARIO=examples/bridges/carried_words.toml   runs a bridge of two buses
 # make build                                       proves and builds the programs, where they are not up to date
 # make test                                        the gate: every proof, must-fail edit, test and program, and the documents
-# make library                                     proves the calls for C, and builds librobus.a and librobus.so in crates/robus_c/out
+# make library                                     proves the calls for C, and builds librobus.a and librobus.so in crates/robus_c/out, where
+#                                                  they are not up to date
 # make bench                                       builds the programs and measures them
 # make examples                                    runs each example, and looks for the lines that its page names
 # make tutorial                                    runs the commands of docs/TUTORIAL.md, and compares what they print
 # make compare COUNT=1000 SEED=1                   gives so many cases to the program and to a second model of the bus
-# make install PREFIX=/usr/local                   puts the programs that were built, manual pages, documents, examples and the Python
-#                                                  package there
+# make install PREFIX=/usr/local                   puts the programs that were built, manual pages, documents, examples, the Python package
+#                                                  and, where it is up to date, the library there
+# make install-library PREFIX=/usr/local           puts the library alone there, with its header and a file for pkg-config
 # make install-python PREFIX=/usr/local            puts the Python package alone there
 
 PREFIX ?= /usr/local

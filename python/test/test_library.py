@@ -8,8 +8,8 @@ import unittest
 from pathlib import Path
 
 import robus
-from helpers import EXAMPLES, TOP, is_fast, output_of, run_model, script
-from robus import rows
+from helpers import EXAMPLES, TOP, is_fast, output_of, script
+from robus import engines, rows
 from robus.model import model
 
 SILENT = EXAMPLES / "one_silent_rmu.toml"
@@ -31,9 +31,11 @@ def line_of(row) -> str:
 
 
 def run_of(seed: int) -> tuple:
-    """A random scenario and its report; and what tools/model writes, where that isn't what ran it."""
+    """A random scenario and its report; and what each other engine that is there writes."""
     data = maker.toml_text(maker.random_scenario(random.Random(seed)))
-    return data, robus.run(data), run_model("run", data=data) if is_fast("robus") else None
+    report = robus.run(data)
+    others = [it for it in (find() for find in engines.ENGINES.values()) if it not in (None, report.engine)]
+    return data, report, {it.name: robus.run(data, engine=it).text for it in others}
 
 
 class WorkedExamples(unittest.TestCase):
@@ -128,13 +130,13 @@ class Examples(unittest.TestCase):
 
 
 class Promises(unittest.TestCase):
-    """Reports of random scenarios: a library or a program gives those of tools/model, and they have what README.md promises."""
+    """Reports of random scenarios: the library, the program and tools/model give the same, and they have what README.md promises."""
 
     def test_random_scenarios(self):
         with multiprocessing.Pool() as pool:
-            for data, report, text in pool.imap(run_of, range(200 if is_fast("robus") else 24)):
-                if text is not None:
-                    self.assertEqual(report.text, text)
+            for data, report, texts in pool.imap(run_of, range(200 if is_fast("robus") else 24)):
+                for name, text in texts.items():
+                    self.assertEqual(report.text, text, name)
                 self.keeps_the_promise(report, model.read_scenario(data))
 
     def keeps_the_promise(self, report, scenario):
