@@ -15,6 +15,7 @@
 
 None of them is proved but for the programs that they run."""
 import importlib
+import os
 import sys
 
 from robus.words import FORMS
@@ -41,9 +42,17 @@ def main() -> int:
         print(__doc__, file=sys.stderr)
         return 2
     try:
-        return run(words[0], words[1:])
-    except BrokenPipeError:
-        return 0
+        status = run(words[0], words[1:])
+        if sys.stdout:
+            sys.stdout.flush()
+        return status
+    except OSError as fault:
+        # What is left to write is given up, so that Python does not try it once more at its end
+        os.dup2(os.open(os.devnull, os.O_WRONLY), 1)
+        if isinstance(fault, BrokenPipeError):
+            return 0
+        print("robus: %s" % fault, file=sys.stderr)
+        return 6
 
 
 if __name__ == "__main__":

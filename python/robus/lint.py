@@ -3,6 +3,7 @@ from __future__ import annotations
 
 import argparse
 import json
+import re
 import sys
 from dataclasses import asdict, dataclass
 
@@ -42,6 +43,17 @@ def spelt(place: tuple) -> str:
 def short(text: str) -> str:
     text = " ".join(text.split())
     return text if len(text) <= 60 else text[:57] + "..."
+
+
+def another_kind(data: bytes) -> str | None:
+    """What the bytes are where they are no scenario, but something else that robus reads or writes."""
+    if data.startswith(b"RBL1"):
+        return "this is a log, which robus replay and robus listen read"
+    if re.match(rb"e \d+ [BR]\d+ \d+ \d+$", data, re.MULTILINE):
+        return "this is a report, which tools/table and robus_picture read"
+    if re.search(rb"^[ \t]*bridges[ \t]*=", data, re.MULTILINE) and not re.match(rb"[ \t]*biu[ \t]*=", data, re.MULTILINE):
+        return "this is a bridge of two buses, which make bridge runs"
+    return None
 
 
 def refusal_of(data: bytes) -> str | None:
@@ -87,8 +99,8 @@ def lint(data: bytes) -> tuple[str | None, list[Finding]]:
 
         return None, [Finding(0, line, spelt(place), "", why, path_of(place))
                       for line, place, why in effects.warnings(data)]
-    found = findings_in(data)
-    code = int(refusal.split()[1])
+    code, kind = int(refusal.split()[1]), another_kind(data)
+    found = [Finding(code, 1, "", "", kind)] if kind else findings_in(data)
     if code not in [it.code for it in found]:
         found.insert(0, Finding(code, 1, "", "", "the second model refuses it, and this tool finds no place for it"))
     return refusal, found

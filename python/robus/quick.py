@@ -138,17 +138,23 @@ def program_of(name: str) -> pathlib.Path | int | None:
 
 def main(words: list[str]) -> int:
     """quick PROGRAM WORDS..: runs PROGRAM (robus, robus_bridge or robus_picture) with these words as a quick build, which proves nothing.
+quick --keep PROGRAM: builds PROGRAM where it is not kept, and prints its path, or nothing where it cannot be kept.
+quick --once PROGRAM WORDS..: runs PROGRAM by `rt try`.
 
-    It ends with the program's status, and with 70 where the build or the run gives no answer."""
+It ends with the program's status, and with 70 where the build or the run gives no answer."""
     if words[:1] in (["--help"], ["-h"]):
         print("tools/%s\n\n%s" % (main.__doc__, __doc__))
         return 0
+    how, words = (words[0], words[1:]) if words[:1] in (["--keep"], ["--once"]) else ("", words)
     if not words or words[0] not in TRIALS:
         print("usage: tools/quick PROGRAM WORDS.., where PROGRAM is %s" % ", ".join(TRIALS), file=sys.stderr)
         return 2
-    program = program_of(words[0])
+    program = None if how == "--once" else program_of(words[0])
     if isinstance(program, int):
         return program
+    if how == "--keep":
+        print(program or "")
+        return 0
     if program is None:
         return run_once(words[0], words[1:])
     sys.stdout.flush()

@@ -641,8 +641,9 @@ def may_break(before, after):
 
 
 def older_parts(text):
-    """The parts of a document of TOML 1.1, each with what stands for it in TOML 1.0."""
-    found = [(it.lastgroup, it[0]) for it in TOML_PART.finditer(text)]
+    """The parts of a document of TOML 1.1, each with what stands for it in TOML 1.0: nothing for a byte order mark at its begin."""
+    mark = "\ufeff" * text.startswith("\ufeff")
+    found = [(it.lastgroup, it[0]) for it in TOML_PART.finditer(text, len(mark))]
     after, then = [], ""
     for kind, part in reversed(found):
         after.append(then)
@@ -667,7 +668,7 @@ def older_parts(text):
         if kind not in ("comment", "end", "blank"):
             before = [part, before[0]]
         parts.append(part)
-    return [(it, part) for (_, it), part in zip(found, parts)]
+    return [(mark, "")] + [(it, part) for (_, it), part in zip(found, parts)]
 
 
 def older_toml(text):

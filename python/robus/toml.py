@@ -15,7 +15,7 @@ def loads(text: bytes) -> Dict[str, Any]:
     if sys.version_info < (3, 11):
         import tomli
 
-        return tomli.loads(text.decode("utf-8"))
+        return tomli.loads(text.decode("utf-8-sig"))
     import tomllib
 
     from robus.model import model

@@ -51,6 +51,20 @@ class Spoilt(unittest.TestCase):
             self.assertIsNone(lint(path.read_bytes())[0], path)
             self.assertEqual(findings_in(path.read_bytes()), [], path)
 
+    def test_what_is_no_scenario(self):
+        bridge = (TOP / "examples/bridges/carried_words.toml").read_bytes()
+        for data, refusal, words in ((bridge, "refused 2 MissingKey", "a bridge"), (b"e 0 B0 0 0\n", "refused 1 NotToml", "a report"),
+                                     (b"RBL1\0\1", "refused 1 NotToml", "a log")):
+            said, found = lint(data)
+            self.assertEqual((said, len(found)), (refusal, 1))
+            self.assertIn(words, found[0].why)
+
+    def test_a_byte_order_mark(self):
+        mark = b"\xef\xbb\xbf"
+        self.assertEqual(lint(mark + WHOLE.encode()), (None, []))
+        self.assertEqual(lint(mark + b"biu = 1\nrmu = \n")[1][0].line, 2)
+        self.assertEqual(lint(mark + mark + WHOLE.encode())[0], "refused 1 NotToml")
+
     def test_the_keys_are_those_of_the_page(self):
         page = (TOP / "docs/SCENARIOS.md").read_text()
         for name, keys in TABLES.items():

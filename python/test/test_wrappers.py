@@ -35,12 +35,11 @@ class Wrappers(unittest.TestCase):
             self.assertIn("usage: tools/" + tool, said)
 
     def test_help(self):
-        tools = ("run", "picture", "bridge", "lint", "plan", "layout", "faults", "explain", "sweep", "table",
-                 "quick", "campaign", "library", "no_memory")
-        for tool in tools:
-            status, out, said = call("tools/" + tool, "--help")
-            self.assertEqual((status, said), (0, ""), tool)
-            self.assertIn("tools/" + tool, out)
+        for tool in sorted(str(path.relative_to(TOP)) for path in (TOP / "tools").iterdir() if path.is_file()):
+            if tool != "tools/robus":
+                status, out, said = call(tool, "--help")
+                self.assertEqual((status, said), (0, ""), tool)
+                self.assertIn(tool, out)
 
     def test_no_file(self):
         bridge = EXAMPLES / "bridges/carried_words.toml"
@@ -59,6 +58,16 @@ class Wrappers(unittest.TestCase):
 
 class Quick(unittest.TestCase):
     """A quick build that keeps nothing: each call goes through `rt try`."""
+
+    def path_of_rt(self) -> str:
+        """A PATH whose `rt` builds nothing that could be kept."""
+        folder = tempfile.TemporaryDirectory()
+        self.addCleanup(folder.cleanup)
+        rt = pathlib.Path(folder.name, "rt")
+        rt.write_text(RT)
+        rt.chmod(rt.stat().st_mode | stat.S_IXUSR)
+        pathlib.Path(folder.name, "builds").touch()
+        return folder.name + os.pathsep + os.environ["PATH"]
 
     def quick(self, out: bytes, said: str, status: int, builds: bool = True):
         with tempfile.TemporaryDirectory() as folder:
@@ -79,6 +88,16 @@ class Quick(unittest.TestCase):
         status, out, said = self.quick(b"refused 2 MissingKey\n", "checked: ended status=3\nrun=ended status=3 proved=no\n", 3)
         self.assertEqual((status, out), (3, "refused 2 MissingKey\n"))
         self.assertNotIn("run=ended", said)
+
+    def test_a_folder_as_standard_input(self):
+        folder = os.open(EXAMPLES, os.O_RDONLY)
+        try:
+            done = subprocess.run([str(TOP / "tools/quick"), "robus", "run"], stdin=folder, capture_output=True,
+                                  env=dict(os.environ, PATH=self.path_of_rt()))
+        finally:
+            os.close(folder)
+        self.assertEqual((done.returncode, done.stdout), (5, b""))
+        self.assertNotIn(b"Python", done.stderr)
 
     def test_a_build_that_fails(self):
         status, out, said = self.quick(b"half a report", "error: no such function\nrun=none\n", 1, builds=False)
