@@ -212,8 +212,8 @@ def main(words: list[str]) -> int:
         run, onset = lying(scenario, node, lies)
         unused = [lie.text for lie in lies if not lie.is_used]
         if unused:
-            raise Wrong("%s: a good %s says nothing there, or another lie or the end of the run comes first; a [[say]] entry by hand can"
-                        % (unused[0], asked.node))
+            why = "the run ends with a breach first" if run.breach else "a good %s says nothing there, or another lie comes first" % asked.node
+            raise Wrong("%s: %s; a [[say]] entry by hand can" % (unused[0], why))
     except Wrong as fault:
         print("tools/faults: %s" % fault, file=sys.stderr)
         return 2
